@@ -10,6 +10,7 @@ import sys
 import tarfile
 import tempfile
 import time
+import types
 import unittest
 
 import made
@@ -140,6 +141,30 @@ class Scan(unittest.TestCase):
                        stderr=subprocess.PIPE, timeout=120)
         self.assertEqual([os.path.basename(row['file']) for row in self.rows('r.csv')], ['interpreter', 'notes', 'sections'])
         self.assertEqual(self.rows('r.csv')[2]['sections'], str((size - 4096) // 64))
+
+    @unittest.skipUnless(distributed, 'distributed is not installed')
+    def test_a_file_that_ends_each_worker(self):
+        """As Dask reports a batch of which it has tried the last worker."""
+        self.put_many(7)
+        lost = os.path.join(self.files, '00002')
+
+        class Client:
+            @staticmethod
+            def ncores():
+                return {}
+
+            @staticmethod
+            def submit(function, batch, pure):
+                def result():
+                    if lost in batch:
+                        raise distributed.KilledWorker('examine', None, 3)
+                    return function(batch)
+                return types.SimpleNamespace(result=result)
+
+        paths = sorted(os.path.join(self.files, name) for name in os.listdir(self.files) if name != 'sub')
+        batches = iter([paths[:4], paths[4:]])
+        found = [(path, rows[0]['refused']) for result in module.results_of(Client, batches) for path, rows, _ in result]
+        self.assertEqual(found, [(path, 'WORKER_LOST' if path == lost else 'TOO_BIG' if path.endswith('6') else None) for path in paths])
 
     @unittest.skipUnless(distributed, 'distributed is not installed')
     def test_a_killed_worker(self):
