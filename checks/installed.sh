@@ -50,7 +50,7 @@ check_page() {
     page=$there/share/goblin_c/README.md
     sed -n '/^## Installed files$/,$s/^- `\([^`]*\)`.*/\1/p' "$page" > "$folder/listed"
     while read -r file; do
-        case $file in */LICENSE | */README.md | */libgoblin_c.so) continue ;; esac
+        case $file in */ | */LICENSE | */README.md | */libgoblin_c.so) continue ;; esac
         while read -r name; do
             case $file in "$name"*) continue 2 ;; esac
         done < "$folder/listed"

@@ -188,7 +188,7 @@ print_contents() {
     printf 'Nothing needs to be compiled, and all can be moved together.\n\n|file or folder|what|bytes|\n|---|---|---|\n'
     # shellcheck disable=SC2016
     each_installed | while read -r start content; do
-        printf '|`%s`|%s|%s|\n' "$start" "$content" "$(grep -F "$start" "$folder/files" | sed "s|^|$to/|" | tr '\n' '\0' | xargs -0 cat | wc -c)"
+        printf '|`%s`|%s|%s|\n' "$start" "$content" "$(grep -F "$start" "$folder/files" | grep -v '/$' | sed "s|^|$to/|" | tr '\n' '\0' | xargs -0 cat | wc -c)"
     done
 }
 

@@ -139,7 +139,8 @@ compare_needed_by() {
 }
 
 compare_needed() {
-    { cat "$folder/list"; echo "$folder/nm"; make_shared; } > "$folder/some"
+    # (c.sh has made a program without section headers)
+    { cat "$folder/list"; echo "$folder/nm"; echo "$folder/stripped"; make_shared; } > "$folder/some"
     for_each list_needed > "$folder/theirs"
     for name in interpreter needed soname rpath runpath; do
         grep -q "^$name " "$folder/theirs" || { echo "comparison: no compared file has a $name, so it is not tested"; exit 1; }

@@ -390,11 +390,11 @@ static goblin_reloc_t any_reloc(bool is_rela) {
     memset(&r, 0, sizeof r);
     r.r_offset = some(), r.r_sym = any(2) ? some() : any(0x1000000), r.r_type = any(2) ? (uint32_t)some() : (uint32_t)any(256);
     r.has_addend = any(8) ? is_rela : !is_rela;
-    if (r.has_addend) r.r_addend = any(2) ? (int64_t)some() : -(int64_t)any(0x80000001);
+    if (r.has_addend || any(4) == 0) r.r_addend = any(2) ? (int64_t)some() : -(int64_t)any(0x80000001);
     return r;
 }
 static bool fits_reloc(const goblin_reloc_t *r, bool is_rela, bool is_64) {
-    if (r->has_addend != is_rela || !is_32(r->r_sym)) return false;
+    if (r->has_addend != is_rela || (!is_rela && r->r_addend) || !is_32(r->r_sym)) return false;
     return is_64 || (is_32(r->r_offset) && r->r_sym < 0x1000000 && r->r_type < 0x100 && r->r_addend >= INT32_MIN && r->r_addend <= INT32_MAX);
 }
 

@@ -479,7 +479,7 @@ uint32_t goblin_string(const uint8_t *bytes, size_t len, const goblin_range_t *s
 
 /* As goblin_string, for a string that need not be UTF-8: never returns GOBLIN_BAD_INPUT. If goblin_string finds a string, this
    call finds the same range.
-   A zero byte closes the string if its end lies before that of the table: string.offset + string.size < names.file.offset + names.file.size.
+   A zero byte closes the string if its end lies before the table's: string.offset + string.size < names.file.offset + names.file.size.
    It is a text, here ".text", if it has its length and its bytes. It begins with the text if it has at least its length and the bytes:
      uint32_t status = goblin_string_bytes(bytes, len, &names.file, section.sh_name, &string, &why);
      bool is = status == GOBLIN_OK && string.size == 5 && memcmp(bytes + string.offset, ".text", 5) == 0;
@@ -548,8 +548,9 @@ uint32_t goblin_put_symbol(uint8_t *bytes, size_t len, const goblin_header_t *he
 #pragma clang diagnostic ignored "-Wc99-extensions"
 #endif
 
-/* Writes the relocation at an index of a relocation section. GOBLIN_INTEGER_FIT also if `is_rela` and has_addend differ. In a 32-bit file
-   r_sym has 3 bytes and r_type has 1, else each has 4. In a little-endian MIPS64 file they are written in the format of those files.
+/* Writes the relocation at an index of a relocation section. If `is_rela`, has_addend must be 1. If not, has_addend and r_addend must be 0.
+   Else GOBLIN_INTEGER_FIT. In a 32-bit file r_sym has 3 bytes and r_type has 1, else each has 4. In a little-endian MIPS64 file they are
+   written in the format of those files.
    Example: reloc.r_addend += 8; goblin_put_reloc(own, len, &header, &table.file, true, index, &reloc, &why); */
 uint32_t goblin_put_reloc(uint8_t *bytes, size_t len, const goblin_header_t *header, const goblin_range_t *table, bool is_rela,
                           uint64_t index, const goblin_reloc_t *reloc, goblin_refusal_t *why);

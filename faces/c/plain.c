@@ -96,7 +96,7 @@ static uint64_t reversed(uint64_t type) { return type >> 24 | (type >> 8 & 0xff0
    symbol comes first, and then the bytes of the type in the other order. */
 static void each_of_reloc(cursor_t *c, const goblin_header_t *h, bool is_rela, goblin_reloc_t *r) {
     bool is_pair = h->e_machine == GOBLIN_EM_MIPS && c->is_64 && !c->is_big;
-    if (!c->at && (r->has_addend != is_rela || (c->is_64 ? r->r_sym >> 32 : r->r_sym >> 24) || (!c->is_64 && r->r_type >> 8)))
+    if (!c->at && (r->has_addend != is_rela || (!is_rela && r->r_addend) || (c->is_64 ? r->r_sym >> 32 : r->r_sym >> 24) || (!c->is_64 && r->r_type >> 8)))
         c->fits = false;
     uint64_t info = !c->is_64 ? r->r_sym << 8 | r->r_type : is_pair ? reversed(r->r_type) << 32 | r->r_sym : r->r_sym << 32 | r->r_type;
     r->r_offset = wide(c, r->r_offset), info = c->is_64 ? field(c, 8, info) : field(c, 4, info & 0xffffffff);

@@ -3,11 +3,11 @@
 #include <inttypes.h>
 #include <stdio.h>
 #include <stdlib.h>
-#include <string.h>
 
 static uint8_t *bytes;
 static size_t len;
 static goblin_refusal_t why;
+static goblin_section_t none; /* (for symbols without names) */
 
 static int refused(void) {
     char text[160];
@@ -24,8 +24,7 @@ static int list(void) {
     if (goblin_header(bytes, len, &header, &why) != GOBLIN_OK) return refused();
     for (uint64_t i = 0; (status = goblin_section(bytes, len, &header, i, &table, &why)) == GOBLIN_OK; i++) {
         if (table.sh_type != GOBLIN_SHT_SYMTAB && table.sh_type != GOBLIN_SHT_DYNSYM) continue;
-        goblin_section_t strings;
-        memset(&strings, 0, sizeof strings);
+        goblin_section_t strings = none;
         if (goblin_linked_section(bytes, len, &header, table.sh_link, &strings, &why) > GOBLIN_END) return refused();
         for (uint64_t k = 0; (status = goblin_symbol(bytes, len, &header, &table.file, k, &symbol, &why)) == GOBLIN_OK; k++) {
             goblin_range_t name = {0, 0};
