@@ -23,9 +23,9 @@ sh checks/libraries.sh faces goblin_c
 echo "faces: making the library, which takes some minutes if its calls are not proved yet"
 try library
 if ! command -v cc > /dev/null; then
-    echo "cc is not installed, so the calls from C, Rust and JavaScript are not tested: install a C compiler"
+    echo "cc is not installed, so the calls from C, Rust, JavaScript and Python are not tested: install a C compiler"
     exit 0
 fi
 for subject in c rust python archive aarch64 webassembly; do try $subject; done
 try comparison "$@"
-echo "faces: the calls from C, Rust and JavaScript are as expected"
+echo "faces: the calls from C, Rust, JavaScript and Python are as expected"

@@ -1,8 +1,8 @@
 #!/bin/sh
 # Tests the Python package over the shared library: sh checks/faces/python.sh FOLDER, after library.sh
-# The unit tests are run by the Python on PATH, and by the system's if that is another one, over the package as it is installed. What needs
-# numpy, mypy, pyelftools or Dask is left out where these are missing, and a line says so. Then the wheel is installed in an environment of
-# its own, and the first lines of the page are run there.
+# The unit tests are run over the package as it is installed, by the system's Python, and first without numpy and Dask by the one on PATH if
+# that is another one. What needs numpy, mypy, pyelftools or Dask is left out where these are missing, and a line says so. Then the wheel is
+# installed in an environment of its own, and the first lines of the page are run there.
 . checks/faces/shared.sh
 package=$folder/python/share/goblin_c/python
 tests=faces/python/tests
@@ -14,20 +14,18 @@ has_module() { "$python" -c "import $1" 2> "$folder/output"; }
 # Runs a command with the installed package.
 with_package() { quietly env PYTHONPATH="$package" "$@"; }
 
-try_python() {
-    with_package "$python" -m unittest discover -s $tests
-    said=$(grep -o '^Ran [0-9]* tests' "$folder/output")
-    left=$(grep ' is not installed, so ' "$folder/output" || true)
-    echo "the Python package: $said by $("$python" -V)"
-    if [ "$left" ]; then echo "$left"; fi
+# Runs the unit tests of the files of a pattern: try_tests PATTERN
+try_tests() {
+    with_package "$python" -m unittest discover -s $tests -p "$1"
+    echo "the Python package: $(grep -o '^Ran [0-9]* tests' "$folder/output") by $("$python" -V)"
+    grep ' is not installed, so ' "$folder/output" || true
 }
 
 # Checks the types, where mypy is installed.
 check_types() {
     if ! has_module mypy; then echo "mypy is not installed for $python, so the types are not checked"; return; fi
-    with_package "$python" -m mypy --strict --cache-dir "$folder/mypy" faces/python/goblin_elf
-    with_package "$python" -m mypy --strict --cache-dir "$folder/mypy" --ignore-missing-imports --follow-imports silent \
-        faces/python/examples/scan.py
+    with_package "$python" -m mypy --strict --follow-imports skip --ignore-missing-imports --cache-dir "$folder/mypy" \
+        faces/python/goblin_elf faces/python/examples/scan.py
     echo "the Python package: mypy finds no fault in its types"
 }
 
@@ -42,24 +40,26 @@ try_wheel() {
     if ! "$python" -m venv "$folder/venv" > "$folder/output" 2>&1; then echo "venv is not installed for $python, so the wheel is not tried"; return; fi
     quietly sh faces/install.sh --archive "$folder/wheel/goblin_c.tar.gz"
     quietly "$folder/venv/bin/pip" install --no-index --disable-pip-version-check "$folder/wheel"/*.whl
+    # shellcheck disable=SC2016 # (the signs are markdown's)
     sed -n '/^```python$/,/^```$/ { /^```/d; p }' faces/python/README.md > "$folder/lines.py"
     (cd "$folder/venv" && quietly bin/python ../lines.py)
     grep -q '^0x[0-9a-f]* .' "$folder/output" || { echo "the first lines of the page list no symbols"; exit 1; }
     echo "the Python package: its wheel can be installed, and the page's $(wc -l < "$folder/lines.py") lines list symbols"
 }
 
+is_new() { "$1" -c 'import sys; sys.exit(sys.version_info < (3, 8))' 2> "$folder/output"; }
+
 quietly env SHARED=1 sh faces/install.sh "$folder/python"
 python=$(command -v python3)
-if ! "$python" -c 'import sys; sys.exit(sys.version_info < (3, 8))'; then
+if ! is_new "$python"; then
     echo "$python is older than 3.8, so the Python package is not tested"
     exit 0
 fi
-try_python
-if [ -x /usr/bin/python3 ] && [ "$(readlink -f "$python")" != "$(readlink -f /usr/bin/python3)" ] \
-    && /usr/bin/python3 -c 'import sys; sys.exit(sys.version_info < (3, 8))'; then
+if is_new /usr/bin/python3 && [ "$(readlink -f "$python")" != "$(readlink -f /usr/bin/python3)" ]; then
+    try_tests 'test_goblin_elf.py'
     python=/usr/bin/python3
-    try_python
 fi
+try_tests 'test_*.py'
 check_types
 compare_with_pyelftools
 try_wheel

@@ -92,6 +92,8 @@ def declared(name: str, codes: str) -> Any:
 
 
 FUNCTIONS = {name: declared(name, codes) for name, codes in CALLS.items()}
+# (an index makes a function of its own, here without a declaration)
+PREPARED = {name: LIBRARY[f'goblin_{name}'] for name in ('string', 'string_bytes')}
 
 
 class File:
@@ -151,7 +153,7 @@ class Finder:
     the time. Threads take them from `free`, so that no two use the same at once."""
 
     def __init__(self, name: str, file: File, strings: bytes) -> None:
-        self.function = LIBRARY[f'goblin_{name}']
+        self.function = PREPARED[name]
         self.fixed = (ctypes.c_void_p(file.address), ctypes.c_size_t(file.length), ctypes.c_char_p(strings))
         self.source = file.source
         self.free: List[Tuple[Any, Any, Any, Any]] = []

@@ -7,6 +7,8 @@ must return records or raise Refused. What pyelftools does is counted.
 """
 import argparse
 import collections
+import io
+import itertools
 import os
 import random
 import signal
@@ -157,22 +159,25 @@ def first_difference(ours, theirs):
     return ours, theirs
 
 
-def compare(paths):
-    """Compares whole files, and returns how many differ in each part."""
-    items, different = collections.Counter(), collections.Counter()
-    for path in paths:
-        with open(path, 'rb') as file:
-            content = file.read()
-            for part in PARTS:
-                file.seek(0)
-                ours, theirs = read_by(Ours, content, part), read_by(Theirs, file, part)
-                if ours == theirs:
-                    items[part] += sum(map(len, ours)) if part in PARTS[3:] else len(ours) if part != 'header' else 1
-                else:
-                    different[part] += 1
-                    print(f'{path}: {part}: ours {first_difference(ours, theirs)[0]}, theirs {first_difference(ours, theirs)[1]}')
-    print(f'{len(paths)} files: the same', ', '.join(f'{count} {part}' for part, count in items.items()))
+def compare(contents):
+    """Compares whole files, each of which has a name, and returns how many differ in each part."""
+    items, different, count = collections.Counter(), collections.Counter(), 0
+    for name, content in contents:
+        count += 1
+        for part in PARTS:
+            ours, theirs = read_by(Ours, content, part), read_by(Theirs, io.BytesIO(content), part)
+            if ours == theirs:
+                items[part] += sum(map(len, ours)) if part in PARTS[3:] else len(ours) if part != 'header' else 1
+            else:
+                different[part] += 1
+                print(f'{name}: {part}: ours {first_difference(ours, theirs)[0]}, theirs {first_difference(ours, theirs)[1]}')
+    print(f'{count} files: the same', ', '.join(f'{number} {part}' for part, number in items.items()))
     return different
+
+
+def content_of(path):
+    with open(path, 'rb') as file:
+        return file.read()
 
 
 class TooLong(Exception):
@@ -201,7 +206,6 @@ def stopped(*_):
 
 def compare_damaged(count, sources, seed):
     """Reads damaged files by both."""
-    import io
     ours, theirs, taken = collections.Counter(), collections.Counter(), [0.0, 0.0]
     signal.signal(signal.SIGALRM, stopped)
     for content in damaged(count, sources, seed):
@@ -242,12 +246,11 @@ def main():
     parser.add_argument('folders', nargs='*', default=['/usr/lib/x86_64-linux-gnu', '/usr/bin'])
     options = parser.parse_args()
     paths = elf_files(options.folders, options.files)
-    different = compare(paths)
-    sources = [file.bytes for file in made.ALL]
-    for path in paths:
-        if os.path.getsize(path) < 100000 and len(sources) < 24:
-            with open(path, 'rb') as file:
-                sources.append(file.read())
+    # (machines of x86-64, ARM and AArch64 for which both read relocations alike)
+    all_made = [made.Made(bits, order, machine) for bits in (32, 64) for order in '<>' for machine in (62, 40, 183)]
+    contents = itertools.chain(((f'made {file.bits} {file.order}', file.bytes) for file in all_made), ((path, content_of(path)) for path in paths))
+    different = compare(contents)
+    sources = [file.bytes for file in made.ALL] + [content_of(path) for path in paths if os.path.getsize(path) < 100000][:20]
     wrong = compare_damaged(options.damaged, sources, options.seed)
     return int(bool(different or wrong))
 

@@ -34,8 +34,9 @@ class Made:
         symbols = [self.symbol(place, *symbol) for place, symbol in zip(string_places, SYMBOLS)]
         self.section('.symtab', 2, b''.join(symbols), link=3, info=3, entry=len(symbols[0]))
         self.section('.strtab', 3, strings)
-        self.section('.rela.text', 4, b''.join(self.rela(*relocation) for relocation in RELOCATIONS), link=2, info=1)
-        self.section('.rel.text', 9, b''.join(self.rel(*relocation) for relocation in RELOCATIONS), link=2, info=1)
+        self.section('.rela.text', 4, b''.join(self.rela(*relocation) for relocation in RELOCATIONS), link=2, info=1,
+                     entry=self.size(RELA))
+        self.section('.rel.text', 9, b''.join(self.rel(*relocation) for relocation in RELOCATIONS), link=2, info=1, entry=self.size(REL))
         note = self.pack('III', 4, len(BUILD_ID), 3) + b'GNU\0' + BUILD_ID
         self.section('.note.gnu.build-id', 7, note, flags=2, alignment=4)
         self.section('.bss', 8, b'', flags=3, address=0x4000, size=0x100)

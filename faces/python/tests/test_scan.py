@@ -10,6 +10,7 @@ import sys
 import tarfile
 import tempfile
 import time
+import types
 import unittest
 
 import made
@@ -119,8 +120,8 @@ class Scan(unittest.TestCase):
         self.assertEqual([row['file'] for row in json.loads(whole)], [row['file'] for row in self.rows('r.csv')])
 
     def test_hostile_files(self):
-        # sparse files of 1 GB: with 16 million section headers, with notes without an end, and with a path as long
-        size = 1 << 30
+        # sparse files of 256 MiB: with 4 million section headers, with notes without an end, and with a path as long
+        size = 1 << 28
         file = made.ALL[2]
         for name, header, more in [
                 ('sections', {'e_shoff': 4096, 'e_shnum': 0}, [(4096 + 32, (size - 4096) // 64)]),
@@ -134,12 +135,36 @@ class Scan(unittest.TestCase):
                 content[offset:offset + 8] = number.to_bytes(8, 'little')
             self.put(name, content)
             os.truncate(os.path.join(self.files, name), size)
-        script = 'import resource, runpy, sys; resource.setrlimit(resource.RLIMIT_DATA, (200 << 20, 200 << 20)); ' \
+        script = 'import resource, runpy, sys; resource.setrlimit(resource.RLIMIT_DATA, (120 << 20, 120 << 20)); ' \
                  'sys.argv = sys.argv[1:]; runpy.run_path(sys.argv[0], run_name="__main__")'
         subprocess.run([sys.executable, '-c', script, SCAN, self.files, '-o', self.out('r.csv'), '--workers', '0'], check=True,
                        stderr=subprocess.PIPE, timeout=120)
         self.assertEqual([os.path.basename(row['file']) for row in self.rows('r.csv')], ['interpreter', 'notes', 'sections'])
         self.assertEqual(self.rows('r.csv')[2]['sections'], str((size - 4096) // 64))
+
+    @unittest.skipUnless(distributed, 'distributed is not installed')
+    def test_a_file_that_ends_each_worker(self):
+        """As Dask reports a batch of which it has tried the last worker."""
+        self.put_many(7)
+        lost = os.path.join(self.files, '00002')
+
+        class Client:
+            @staticmethod
+            def ncores():
+                return {}
+
+            @staticmethod
+            def submit(function, batch, pure):
+                def result():
+                    if lost in batch:
+                        raise distributed.KilledWorker('examine', None, 3)
+                    return function(batch)
+                return types.SimpleNamespace(result=result)
+
+        paths = sorted(os.path.join(self.files, name) for name in os.listdir(self.files) if name != 'sub')
+        batches = iter([paths[:4], paths[4:]])
+        found = [(path, rows[0]['refused']) for result in module.results_of(Client, batches) for path, rows, _ in result]
+        self.assertEqual(found, [(path, 'WORKER_LOST' if path == lost else 'TOO_BIG' if path.endswith('6') else None) for path in paths])
 
     @unittest.skipUnless(distributed, 'distributed is not installed')
     def test_a_killed_worker(self):
