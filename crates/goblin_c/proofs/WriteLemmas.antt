@@ -21,7 +21,7 @@ use Rattle.goblin_base.specs.declared.error.Error.{Error}
 use Rattle.goblin_base.specs.Fields.{Field, FieldsFit}
 use Rattle.goblin_base.specs.Refusal.{refusal_of}
 use Rattle.goblin.specs.declared.elf.header.Header.{Header}
-use Rattle.goblin.specs.Header.{HeaderFits, as32, as64, header32_fields, header64_fields, header_image, header_size}
+use Rattle.goblin.specs.Header.{HeaderFits, as32, as64, header32, header64, header_layout, header_size}
 use Rattle.std.proofs.lemmas.Bool.{cases_lt}
 use Rattle.goblin_c.specs.declared.refused.Refused.{Refused}
 use Rattle.goblin_c.specs.declared.types.GoblinHeader.{GoblinHeader}
@@ -80,8 +80,8 @@ fields_decided (f ∷ fields) =
     (below_by f.value (256 ^ f.width) (cases_lt f.value (256 ^ f.width))) (fields_decided fields)
 
 header_decided : (class : Container) (h : Header) → HeaderFits class h ⊎ (¬ (HeaderFits class h))
-header_decided Little h = fields_decided (header32_fields (as32 h))
-header_decided Big h = fields_decided (header64_fields (as64 h))
+header_decided Little h = fields_decided (header32.fields (as32 h))
+header_decided Big h = fields_decided (header64.fields (as64 h))
 
 -- a header whose class, byte order or room is refused
 refused_first : {Y : Type 0} (answer : Result Ctx Error) (e : Error) (next : Ctx → Result Y RefusalAt)
@@ -106,7 +106,7 @@ pub header_refused : (bytes : List ℕ) (h : GoblinHeader) (e : Error) (was : Go
 header_refused bytes h e was status why is kind stored =
     let next = λ (fits : Bool) (ctx : Ctx).
     put_if fits 0
-    (header_image ctx.container ctx.le (header_of bytes h) ++ drop (header_size ctx.container) bytes) in
+    ((header_layout ctx.container ctx.le).image (header_of bytes h) ++ drop (header_size ctx.container) bytes) in
     let P : Result (Option (List ℕ)) RefusalAt → Type 0 = λ r. Stores r bytes was status bytes why in
     let stores = λ (fits : Bool).
     subst P (sym (refused_first (named_ctx bytes h) e (next fits) is)) (kind, refl, stored) in

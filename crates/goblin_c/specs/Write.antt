@@ -17,7 +17,7 @@ use Rattle.goblin.specs.declared.elf.reloc.Reloc.{Reloc}
 use Rattle.goblin.specs.declared.elf.reloc.RelocCtx.{RelocCtx}
 use Rattle.goblin.specs.declared.elf.section_header.SectionHeader.{SectionHeader}
 use Rattle.goblin.specs.declared.elf.sym.Sym.{Sym}
-use Rattle.goblin.specs.Header.{HeaderFits, class_of, header_image, header_size, magic, order_of}
+use Rattle.goblin.specs.Header.{HeaderFits, class_of, header_layout, header_size, magic, order_of}
 use Rattle.goblin.specs.ProgramHeader.{program_header_layout}
 use Rattle.goblin.specs.Reloc.{reloc_layout_in}
 use Rattle.goblin.specs.SectionHeader.{section_header_layout}
@@ -216,7 +216,7 @@ abbrev pub header_put_expected : List ℕ → GoblinHeader → Bool → Result (
 header_put_expected bytes h fits = do
   ctx ← refused_at 0 (refuse_as refusal_of (named_ctx bytes h))
   put_if fits 0
-      (header_image ctx.container ctx.le (header_of bytes h) ++ drop (header_size ctx.container) bytes)
+      ((header_layout ctx.container ctx.le).image (header_of bytes h) ++ drop (header_size ctx.container) bytes)
 
 abbrev pub FitsClass : List ℕ → GoblinHeader → Type 0
 FitsClass bytes h = HeaderFits (ctx_of h).container (header_of bytes h)

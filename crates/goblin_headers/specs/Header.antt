@@ -205,6 +205,10 @@ raw_layout class.Big order = widened widened64 as64 (headed header64 order)
 abbrev pub header_layout : Container → Endian → Layout Header
 header_layout class order = record (raw_layout class order) { size = header_size class }
 
+-- each field of a header after its identification is in the range of its width in a class, whatever the byte order
+abbrev pub HeaderFits : Container → Header → Type 0
+HeaderFits class h = (header_layout class endian.Little).Fits h
+
 -- the identification of a new file in a context, version 1, with all other bytes 0
 abbrev pub new_ident : Ctx → List ℕ
 new_ident ctx = magic ++ class_byte ctx.container ∷ data_byte ctx.le ∷ 1 ∷ replicate 9 0

@@ -73,8 +73,8 @@ impl Header {
     // Does the same. Its body is put into each caller.
     #[inline(always)]
     fn at_in(bytes: &[u8], order: Endian) -> Header
-        requires { header64_size ≤ length bytes.now }
-        ensures { result ≡ header64_of order bytes.now }
+        requires { SIZEOF_EHDR ≤ length bytes.now }
+        ensures { result ≡ (headed header64 order).read bytes.now }
     {
         let e_ident = ident_of(bytes);
         Header {

@@ -2,7 +2,7 @@
 ghost use Rattle.std.specs.Prelude.{◌↔◌, ◌<◌, ◌^◌, IsTrue, true};
 ghost use Rattle.goblin_base.specs.Container.{word_size};
 ghost use Rattle.goblin_records.specs.Reloc.{AddendFits, RelocFits, StoredFits, reloc_layout_in};
-ghost use Rattle.goblin_records.specs.Sym.{SymFits, sym_layout};
+ghost use Rattle.goblin_records.specs.Sym.{sym_layout};
 
 use crate::reloc::{Reloc, RelocCtx};
 use crate::sym::Sym;
@@ -16,10 +16,10 @@ fn is_word(number: u64) -> bool
 }
 
 // Reports whether each field of a symbol is in the range that a class has for it.
-fn fits_class(sym: Sym, class: Container) -> bool
-    ensures { IsTrue result ↔ SymFits class sym }
+fn fits_class(sym: Sym, ctx: Ctx) -> bool
+    ensures { IsTrue result ↔ (sym_layout ctx.container ctx.le).Fits sym }
 {
-    match class {
+    match ctx.container {
         Container::Little => {
             is_word(sym.st_name as u64)
                 && is_word(sym.st_value)
@@ -35,7 +35,7 @@ impl Sym {
     pub fn fits(&self, ctx: Ctx) -> bool
         ensures { IsTrue result ↔ (sym_layout ctx.container ctx.le).Fits self.now }
     {
-        fits_class(*self, ctx.container)
+        fits_class(*self, ctx)
     }
 }
 
