@@ -1,7 +1,9 @@
 pub mod FilledBufferLemmas
 pub mod ListedLemmas
+pub mod NumberLemmas
 pub mod OffsetLemmas
 pub mod DigitLemmas
+pub mod FitLemmas
 pub mod IndexLemmas
 pub mod NoteLemmas
 pub mod PlaceLemmas

@@ -4,19 +4,28 @@
 -- (`own_bytes`), which is read as the record. The call finds one there if the list has as many items as before
 -- (`still_there`).
 use Rattle.std.proofs.Common.{◌≡◌, ◌≤◌, ◌<◌, ◌+◌, ◌-◌, ◌*◌, ℕ, Bool, true, false, nat_le, List, ◌++◌, length, take}
-use Rattle.std.proofs.Common.{drop, get_or, map, slice_get, Option, Some, None, Result, Ok, Err, if◌then◌else◌, refl, sym, ap, subst}
+use Rattle.std.proofs.Common.{drop, get_or, map, slice_get, Option, Some, None, Result, Ok, Err, if◌then◌else◌, refl, sym, ap, subst, inl, inr}
 use Rattle.std.proofs.Common.{◌∙◌, arith, append_assoc, length-append, length-drop}
 use Rattle.std.proofs.Math.Seq.{take-append_seam}
-use Rattle.std.proofs.lemmas.List.{drop_at, length-take-le}
+use Rattle.std.proofs.lemmas.List.{drop-drop, drop_at, get_or-drop, get_or-take, get_or_past, length-take}
+use Rattle.std.proofs.lemmas.List.{length-take-le, take-append-drop, take_all}
+use Rattle.std.proofs.lemmas.Bool.{cases_lt}
 use Rattle.std.proofs.lemmas.Option.{slice_get-get_or, slice_get_within}
 use Rattle.goblin_base.specs.Layout.{IsRecord, Layout}
+use Rattle.goblin_base.specs.Number.{IsBytes}
 use Rattle.goblin_base.specs.Steps.{◌>>=◌}
 use Rattle.goblin_c.specs.Expected.{count_of, each_converted, item_of}
 use Rattle.goblin_c.specs.Refused.{RefusalAt}
 use Rattle.goblin_c.specs.Write.{put_at, put_if, put_if_there, with_bytes}
 use Rattle.goblin_c.specs.Write.{reloc_ctx, reloc_layout, reloc_of, section_layout, section_of, segment_layout}
 use Rattle.goblin_c.specs.Write.{segment_of, symbol_layout, symbol_of}
-use Rattle.goblin_c.specs.WriteLaws.{ChangesOnly, PutsAreRead, PutsChangeOne}
+use Rattle.goblin_c.specs.WriteLaws.{ChangesOnly, PutsAreRead, PutsChangeOne, ReadsArePut}
+use Rattle.goblin_c.proofs.FitLemmas.{section_fits, segment_fits, symbol_fits}
+use Rattle.goblin.specs.declared.elf.program_header.ProgramHeader.{ProgramHeader}
+use Rattle.goblin.specs.declared.elf.reloc.Reloc.{Reloc}
+use Rattle.goblin.specs.declared.elf.section_header.SectionHeader.{SectionHeader}
+use Rattle.goblin.specs.declared.elf.sym.Sym.{Sym}
+use Rattle.std.specs.Prelude.{ℤ}
 use Rattle.goblin_c.specs.Types.{reloc_converted, section_converted, segment_converted, symbol_converted}
 use Rattle.goblin_c.specs.declared.types.GoblinReloc.{GoblinReloc}
 use Rattle.goblin_c.specs.Expected.{ctx_of, relocs_expected, sections_expected, segments_expected, symbols_expected}
@@ -59,8 +68,33 @@ module _ (bytes : List ℕ) (place : ℕ) (own : List ℕ) where
         after = drop_at (front ++ own) rest (place + length own) start;
       }
 
+-- so many bytes at an offset
+pub own_length : (bytes : List ℕ) (place size : ℕ)
+    → place + size ≤ length bytes → length (take size (drop place bytes)) ≡ size
+own_length bytes place size room = length-take-le size (drop place bytes) (omega (arith, room, length-drop place bytes))
+
+pub IsBytes_part : (bytes : List ℕ) (place size : ℕ) → IsBytes bytes → IsBytes (take size (drop place bytes))
+IsBytes_part bytes place size are i =
+    elim (cases_lt i size) [
+      | inl p ↦ rw (get_or-take size (drop place bytes) i 0, get_or-drop place bytes i 0) (are (place + i))
+      | inr p ↦ let q : length (take size (drop place bytes)) ≤ i = omega (arith, length-take size (drop place bytes)) in
+          rw (get_or_past (take size (drop place bytes)) i 0) (omega arith)
+    ]
+
+-- written over themselves they don't change
+pub rewritten : (bytes : List ℕ) (place size : ℕ)
+    → place + size ≤ length bytes → with_bytes bytes place (take size (drop place bytes)) ≡ bytes
+rewritten bytes place size room =
+    let own = take size (drop place bytes) in
+    let long = own_length bytes place size room in
+    ap (λ (n : ℕ). take place bytes ++ own ++ drop (place + n) bytes) long
+    ∙ append_assoc (take place bytes) own (drop (place + size) bytes)
+    ∙ ap (λ (xs : List ℕ). take place bytes ++ (own ++ xs)) (sym (drop-drop size place bytes))
+    ∙ ap (λ (xs : List ℕ). take place bytes ++ xs) (take-append-drop size (drop place bytes))
+    ∙ take-append-drop place bytes
+
 -- what is put was found, and fits
-put_found : {Y : Type 0} (found : Result (Option Y) RefusalAt) (fits : Bool) (place : ℕ) (put new : List ℕ)
+pub put_found : {Y : Type 0} (found : Result (Option Y) RefusalAt) (fits : Bool) (place : ℕ) (put new : List ℕ)
     → put_if_there found (put_if fits place put) ≡ Ok (Some new)
     → (y : Y) × (found ≡ Ok (Some y)) × (new ≡ put)
 put_found (Ok (Some y)) true place put new is = (y, refl, cc)
@@ -127,6 +161,84 @@ module _ {R Y : Type 0} (l : Layout R) (laws : IsRecord l) (convert : R → Y) (
       let own = others_stay bytes place image (omega (arith, room, long)) in
       subst (λ (size : ℕ). ChangesOnly place size bytes new) long
       (subst (λ (xs : List ℕ). ChangesOnly place (length image) bytes xs) (sym found.2) own)
+
+  -- what such a call stores is put without a change, and fits if what is read does
+  pub read_is_put : (back : Y → R) (bytes : List ℕ) (y : Y)
+      → ((x : R) → back (convert x) ≡ x) → IsBytes bytes
+      → item_of (each_converted convert (list bytes)) index ≡ Ok (Some y)
+      → put_if_there (item_of (each_converted convert (list bytes)) index) (put_at l bytes start index (back y) true)
+      ≡ Ok (Some bytes)
+  read_is_put back bytes y same are found =
+      let place = start + index * l.size in
+      let read = found_at convert l.size l.read bytes start index (list bytes) y (lists bytes) found in
+      let own = take l.size (drop place bytes) in
+      let long : length own ≡ l.size = own_length bytes place l.size read.0 in
+      let record_is : back y ≡ l.read own = ap back read.1 ∙ same (l.read own) in
+      let image_is : l.image (back y) ≡ own =
+      ap l.image record_is ∙ laws.writes_back own (IsBytes_part bytes place l.size are) (omega (arith, long))
+      ∙ take_all l.size own (omega (arith, long)) in
+      rw found (ap (λ (xs : List ℕ). Ok (Some xs))
+      (ap (with_bytes bytes place) image_is ∙ rewritten bytes place l.size read.0))
+
+  pub read_fits : (bytes : List ℕ) (y : Y) (back : Y → R)
+      → ((x : R) → back (convert x) ≡ x) → IsBytes bytes
+      → ((own : List ℕ) → IsBytes own → l.size ≤ length own → l.Fits (l.read own))
+      → item_of (each_converted convert (list bytes)) index ≡ Ok (Some y) → l.Fits (back y)
+  read_fits bytes y back same are fit found =
+      let place = start + index * l.size in
+      let read = found_at convert l.size l.read bytes start index (list bytes) y (lists bytes) found in
+      let own = take l.size (drop place bytes) in
+      let long : length own ≡ l.size = own_length bytes place l.size read.0 in
+      let record_is : l.read own ≡ back y = sym (ap back read.1 ∙ same (l.read own)) in
+      let P : R → Type 0 = l.Fits in
+      subst P record_is (fit own (IsBytes_part bytes place l.size are) (omega (arith, long)))
+
+section_back : (x : SectionHeader) → section_of (section_converted x) ≡ x
+section_back x = refl
+
+segment_back : (x : ProgramHeader) → segment_of (segment_converted x) ≡ x
+segment_back x = refl
+
+symbol_back : (x : Sym) → symbol_of (symbol_converted x) ≡ x
+symbol_back x = refl
+
+addend_back : (offset symbol typ : ℕ) (addend : Option ℤ)
+    → let x : Reloc = record { r_offset = offset; r_addend = addend; r_sym = symbol; r_type = typ } in
+    reloc_of (reloc_converted x) ≡ x
+addend_back offset symbol typ None = refl
+addend_back offset symbol typ (Some addend) = refl
+
+reloc_back : (x : Reloc) → reloc_of (reloc_converted x) ≡ x
+reloc_back x = addend_back x.r_offset x.r_sym x.r_type x.r_addend
+
+pub reads_are_put : ReadsArePut
+reads_are_put = record {
+  section = λ bytes h index s are found. (
+    read_fits (section_layout h) (section_header_laws (ctx_of h).container (ctx_of h).le) section_converted h.e_shoff
+        index (λ xs. sections_expected xs h) (λ xs. lists_sections xs h) bytes s section_of section_back are
+        (section_fits (ctx_of h).container (ctx_of h).le) found,
+    read_is_put (section_layout h) (section_header_laws (ctx_of h).container (ctx_of h).le) section_converted h.e_shoff
+        index (λ xs. sections_expected xs h) (λ xs. lists_sections xs h) section_of bytes s section_back are found,
+  );
+  segment = λ bytes h index s are found. (
+    read_fits (segment_layout h) (program_header_laws (ctx_of h).container (ctx_of h).le) segment_converted h.e_phoff
+        index (λ xs. segments_expected xs h) (λ xs. lists_segments xs h) bytes s segment_of segment_back are
+        (segment_fits (ctx_of h).container (ctx_of h).le) found,
+    read_is_put (segment_layout h) (program_header_laws (ctx_of h).container (ctx_of h).le) segment_converted h.e_phoff
+        index (λ xs. segments_expected xs h) (λ xs. lists_segments xs h) segment_of bytes s segment_back are found,
+  );
+  symbol = λ bytes h table index s are found. (
+    read_fits (symbol_layout h) (sym_laws (ctx_of h).container (ctx_of h).le) symbol_converted table.offset index
+        (λ xs. symbols_expected xs h table) (λ xs. lists_symbols xs h table) bytes s symbol_of symbol_back are
+        (symbol_fits (ctx_of h).container (ctx_of h).le) found,
+    read_is_put (symbol_layout h) (sym_laws (ctx_of h).container (ctx_of h).le) symbol_converted table.offset index
+        (λ xs. symbols_expected xs h table) (λ xs. lists_symbols xs h table) symbol_of bytes s symbol_back are found,
+  );
+  reloc = λ bytes h table is_rela index r are found.
+      read_is_put (reloc_layout h is_rela) (reloc_laws_in (reloc_ctx h is_rela)) reloc_converted table.offset index
+      (λ xs. relocs_expected xs h table is_rela) (λ xs. lists_relocs xs h table is_rela) reloc_of bytes r reloc_back
+      are found;
+}
 
 pub puts_are_read : PutsAreRead
 puts_are_read = record {

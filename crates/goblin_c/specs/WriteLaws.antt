@@ -4,6 +4,9 @@ use Rattle.std.specs.Prelude.{◌≡◌, ◌≢◌, ◌+◌, ◌*◌, ℕ, true,
 use Rattle.goblin_base.specs.Number.{IsBytes}
 use Rattle.goblin_c.specs.Expected.{reloc_count_expected, reloc_expected, section_count_expected, section_expected}
 use Rattle.goblin_c.specs.Expected.{segment_count_expected, segment_expected, symbol_count_expected, symbol_expected}
+use Rattle.goblin_c.specs.Bytes.{number_expected}
+use Rattle.goblin_c.specs.Expected.{header_expected}
+use Rattle.goblin_c.specs.Write.{FitsClass, NumberFits, header_put_expected, number_put_expected}
 use Rattle.goblin_c.specs.Write.{RelocFits, SectionFits, SegmentFits, SymbolFits, reloc_layout, reloc_put_expected}
 use Rattle.goblin_c.specs.Write.{section_layout, section_put_expected, segment_layout, segment_put_expected}
 use Rattle.goblin_c.specs.Write.{symbol_layout, symbol_put_expected}
@@ -62,3 +65,43 @@ pub record PutsChangeOne : Type 0 where
       (fits : Bool)
       → reloc_put_expected bytes h table is_rela index r fits ≡ Ok (Some new)
       → let size = (reloc_layout h is_rela).size in ChangesOnly (table.offset + index * size) size bytes new
+
+-- what the call that reads stores fits, and if it is put at its index, no byte changes; a relocation may be put back
+-- so, too
+pub record ReadsArePut : Type 0 where
+  pub section :
+      (bytes : List ℕ) (h : GoblinHeader) (index : ℕ) (s : GoblinSection)
+      → IsBytes bytes → section_expected bytes h index ≡ Ok (Some s)
+      → SectionFits h s × (section_put_expected bytes h index s true ≡ Ok (Some bytes))
+  pub segment :
+      (bytes : List ℕ) (h : GoblinHeader) (index : ℕ) (s : GoblinSegment)
+      → IsBytes bytes → segment_expected bytes h index ≡ Ok (Some s)
+      → SegmentFits h s × (segment_put_expected bytes h index s true ≡ Ok (Some bytes))
+  pub symbol :
+      (bytes : List ℕ) (h : GoblinHeader) (table : GoblinRange) (index : ℕ) (s : GoblinSymbol)
+      → IsBytes bytes → symbol_expected bytes h table index ≡ Ok (Some s)
+      → SymbolFits h s × (symbol_put_expected bytes h table index s true ≡ Ok (Some bytes))
+  pub reloc :
+      (bytes : List ℕ) (h : GoblinHeader) (table : GoblinRange) (is_rela : Bool) (index : ℕ) (r : GoblinReloc)
+      → IsBytes bytes → reloc_expected bytes h table is_rela index ≡ Ok (Some r)
+      → reloc_put_expected bytes h table is_rela index r true ≡ Ok (Some bytes)
+
+-- a number that fits its width and was put is read again, nothing else changes, and what was read is put without a change
+pub record NumbersArePut : Type 0 where
+  pub read :
+      (bytes new : List ℕ) (h : GoblinHeader) (offset width value : ℕ)
+      → NumberFits width value → number_put_expected bytes h offset width value true ≡ Ok (Some new)
+      → number_expected new h offset width ≡ Ok (Some value)
+  pub one :
+      (bytes new : List ℕ) (h : GoblinHeader) (offset width value : ℕ) (fits : Bool)
+      → number_put_expected bytes h offset width value fits ≡ Ok (Some new) → ChangesOnly offset width bytes new
+  pub back :
+      (bytes : List ℕ) (h : GoblinHeader) (offset width value : ℕ)
+      → IsBytes bytes → number_expected bytes h offset width ≡ Ok (Some value)
+      → NumberFits width value × (number_put_expected bytes h offset width value true ≡ Ok (Some bytes))
+
+-- a header that fits and was put is read again
+abbrev pub HeadersAreRead : Type 0
+HeadersAreRead =
+    (bytes new : List ℕ) (h : GoblinHeader)
+    → FitsClass bytes h → header_put_expected bytes h true ≡ Ok (Some new) → header_expected new ≡ Ok (Some h)
