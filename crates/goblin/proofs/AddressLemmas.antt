@@ -3,10 +3,12 @@
 -- How near a symbol is makes one number (`rank_of`). A search keeps the first symbol with the highest such number
 -- (`IsSoFar`, `one_more`), and that one is what the law says (`found_comes_first`). The definition has what the law
 -- says, too (`at_is`), since no symbol before it passes its test.
-use Rattle.std.proofs.Common.{◌≡◌, ◌≤◌, ◌<◌, ◌+◌, ◌*◌, ◌&&◌, ◌||◌, not, ℕ, zero, suc, Bool, true, false, ltb, leb, eqb, ◌==◌}
+use Rattle.std.proofs.Common.{◌≡◌, ◌≤◌, ◌<◌, ◌+◌, ◌*◌, ◌&&◌, ◌||◌, not, ℕ, zero, suc, Bool, true, false, ltb, leb, eqb}
+use Rattle.std.proofs.Common.{◌==◌}
 use Rattle.std.proofs.Common.{if◌then◌else◌, List, [], ◌∷◌, length, get_or, slice_get, Option, Some, None, inl, inr}
 use Rattle.std.proofs.Common.{refl, sym, ap, subst, ◌∙◌, arith, position}
-use Rattle.std.proofs.lemmas.Bool.{and_parts, and_from, cases_lt, lt-ltb, le-ltb, ltb-true, ltb-false, leb-true, false≢true, eqb-true, eq-eqb}
+use Rattle.std.proofs.lemmas.Bool.{and_parts, and_from, cases_lt, lt-ltb, le-ltb, ltb-true, ltb-false, leb-true}
+use Rattle.std.proofs.lemmas.Bool.{false≢true, eqb-true, eq-eqb}
 use Rattle.std.proofs.lemmas.Bool.Decides.{nat_tests}
 use Rattle.std.proofs.lemmas.List.Elements.{All-from_get_or}
 use Rattle.std.proofs.lemmas.List.Folds.{list_any_at, list_any_none}
@@ -16,10 +18,11 @@ use Rattle.std.specs.List.{list_any, position_or_len}
 use Rattle.std.specs.Option.{option_or}
 use Rattle.goblin_records.specs.declared.sym.Sym.{Sym}
 use Rattle.goblin.specs.Addresses.{ContainsFirst, HasNone, IsSymbolAt, LabelsFirst, NoneContains, SymbolAtComesFirst}
-use Rattle.goblin.specs.Addresses.{contains, found_at, has_place, is_below, is_highest, is_nearer, reaches, symbol_at, taken}
+use Rattle.goblin.specs.Addresses.{contains, found_at, has_place, is_below, is_highest, is_nearer, reaches, symbol_at}
+use Rattle.goblin.specs.Addresses.{taken}
 
--- how near a symbol of some value is to an address, which it isn't above: those that contain the address are nearer than
--- all others; of those the higher one is nearer, and of others equally high the one of size 0
+-- how near a symbol of some value is to an address, which it isn't above: those that contain the address are nearer
+-- than all others; of those the higher one is nearer, and of others equally high the one of size 0
 abbrev pub rank : ℕ → Bool → Bool → ℕ → ℕ
 rank address true empty value = 2 * address + 2 + value
 rank address false true value = 2 * value + 1

@@ -30,8 +30,8 @@ contains address s = is_below address s && reaches address s
 abbrev pub is_highest : (Sym → Bool) → List Sym → Sym → Bool
 is_highest test symbols s = test s && not (list_any (λ other. test other && nat_lt s.st_value other.st_value) symbols)
 
--- the index of the symbol of an address: the first of the highest that contain it; else of the highest at the address or
--- below it the first of size 0, a label
+-- the index of the symbol of an address: the first of the highest that contain it; else of the highest at the address
+-- or below it the first of size 0, a label
 unfoldable pub symbol_at : ℕ → List Sym → Option ℕ
 symbol_at address symbols =
     option_or (position (is_highest (contains address) symbols) symbols)

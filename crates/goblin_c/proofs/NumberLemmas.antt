@@ -1,5 +1,6 @@
 -- Numbers and headers that are put are read again.
-use Rattle.std.proofs.Common.{◌≡◌, ◌≤◌, ◌<◌, ◌+◌, ◌^◌, ◌%◌, ℕ, Bool, true, false, List, ◌++◌, length, take, drop, Option}
+use Rattle.std.proofs.Common.{◌≡◌, ◌≤◌, ◌<◌, ◌+◌, ◌^◌, ◌%◌, ℕ, Bool, true, false, List, ◌++◌, length, take, drop}
+use Rattle.std.proofs.Common.{Option}
 use Rattle.std.proofs.Common.{Some, None, Result, Ok, Err, if◌then◌else◌, refl, sym, ap, subst, ◌∙◌, arith}
 use Rattle.std.proofs.Math.Nat.{mod-eq_of_lt}
 use Rattle.goblin_base.specs.declared.container.Endian.{Endian}
@@ -77,8 +78,7 @@ numbers_are_put = record {
       let same : spelled order width value ≡ own =
       ap (spelled order width) there.2
       ∙ ap (λ (n : ℕ). spelled order n (number_at order bytes offset width)) (sym long)
-      ∙ spelled-number order own (IsBytes_part bytes offset width are) in
-      (
+      ∙ spelled-number order own (IsBytes_part bytes offset width are) in (
         below,
         rw found (ap (λ (xs : List ℕ). Ok (Some xs))
             (with_number-is order bytes offset width value ∙ ap (with_bytes bytes offset) same

@@ -1,10 +1,11 @@
 -- What is put is read again, and no other byte changes.
 --
--- The item that a call stores is read from the bytes at its place (`found_at`). After a put these are the record's image
--- (`own_bytes`), which is read as the record. The call finds one there if the list has as many items as before
+-- The item that a call stores is read from the bytes at its place (`found_at`). After a put these are the record's
+-- image (`own_bytes`), which is read as the record. The call finds one there if the list has as many items as before
 -- (`still_there`).
 use Rattle.std.proofs.Common.{◌≡◌, ◌≤◌, ◌<◌, ◌+◌, ◌-◌, ◌*◌, ℕ, Bool, true, false, nat_le, List, ◌++◌, length, take}
-use Rattle.std.proofs.Common.{drop, get_or, map, slice_get, Option, Some, None, Result, Ok, Err, if◌then◌else◌, refl, sym, ap, subst, inl, inr}
+use Rattle.std.proofs.Common.{drop, get_or, map, slice_get, Option, Some, None, Result, Ok, Err, if◌then◌else◌, refl}
+use Rattle.std.proofs.Common.{sym, ap, subst, inl, inr}
 use Rattle.std.proofs.Common.{◌∙◌, arith, append_assoc, length-append, length-drop}
 use Rattle.std.proofs.Math.Seq.{take-append_seam}
 use Rattle.std.proofs.lemmas.List.{drop-drop, drop_at, get_or-drop, get_or-take, get_or_past, length-take}
@@ -77,7 +78,8 @@ pub IsBytes_part : (bytes : List ℕ) (place size : ℕ) → IsBytes bytes → I
 IsBytes_part bytes place size are i =
     elim (cases_lt i size) [
       | inl p ↦ rw (get_or-take size (drop place bytes) i 0, get_or-drop place bytes i 0) (are (place + i))
-      | inr p ↦ let q : length (take size (drop place bytes)) ≤ i = omega (arith, length-take size (drop place bytes)) in
+      | inr p ↦ let q : length (take size (drop place bytes)) ≤ i =
+          omega (arith, length-take size (drop place bytes)) in
           rw (get_or_past (take size (drop place bytes)) i 0) (omega arith)
     ]
 
@@ -122,7 +124,8 @@ still_there (Err e) others index x same found = absurd (cc)
 
 -- records of a layout that a call reads, and their places
 module _ {R Y : Type 0} (l : Layout R) (laws : IsRecord l) (convert : R → Y) (start index : ℕ)
-    (list : List ℕ → Result (List R) RefusalAt) (lists : (bytes : List ℕ) → Lists l.size l.read bytes start (list bytes)) where
+    (list : List ℕ → Result (List R) RefusalAt)
+    (lists : (bytes : List ℕ) → Lists l.size l.read bytes start (list bytes)) where
   -- such a call stores what was put
   pub put_is_read : (bytes new : List ℕ) (x : R)
       → l.Fits x
@@ -243,11 +246,11 @@ reads_are_put = record {
 pub puts_are_read : PutsAreRead
 puts_are_read = record {
   section = λ bytes new h index s fits put same.
-      put_is_read (section_layout h) (section_header_laws (ctx_of h).container (ctx_of h).le) section_converted h.e_shoff
-      index (λ xs. sections_expected xs h) (λ xs. lists_sections xs h) bytes new (section_of s) fits put same;
+      put_is_read (section_layout h) (section_header_laws (ctx_of h).container (ctx_of h).le) section_converted
+      h.e_shoff index (λ xs. sections_expected xs h) (λ xs. lists_sections xs h) bytes new (section_of s) fits put same;
   segment = λ bytes new h index s fits put same.
-      put_is_read (segment_layout h) (program_header_laws (ctx_of h).container (ctx_of h).le) segment_converted h.e_phoff
-      index (λ xs. segments_expected xs h) (λ xs. lists_segments xs h) bytes new (segment_of s) fits put same;
+      put_is_read (segment_layout h) (program_header_laws (ctx_of h).container (ctx_of h).le) segment_converted
+      h.e_phoff index (λ xs. segments_expected xs h) (λ xs. lists_segments xs h) bytes new (segment_of s) fits put same;
   symbol = λ bytes new h table index s fits put same.
       put_is_read (symbol_layout h) (sym_laws (ctx_of h).container (ctx_of h).le) symbol_converted table.offset index
       (λ xs. symbols_expected xs h table) (λ xs. lists_symbols xs h table) bytes new (symbol_of s) fits put same;

@@ -100,8 +100,7 @@ pub lists_segments : (bytes : List ℕ) (h : GoblinHeader)
 lists_segments bytes h items is =
     let count = refused_at h.e_shoff (refuse_as refusal_of (segment_count bytes h.e_phnum h.e_shoff (ctx_of h))) in
     let read = λ (n : ℕ). program_headers_from bytes h.e_phoff n (ctx_of h) in
-    let parts = bind_ok count (λ n. refused_at h.e_phoff (read n)) items is in
-    (
+    let parts = bind_ok count (λ n. refused_at h.e_phoff (read n)) items is in (
       parts.0,
       listed_from _ _ bytes h.e_phoff parts.0 _ items (refused_at_ok h.e_phoff (read parts.0) items parts.2),
     )
@@ -114,13 +113,15 @@ lists_symbols bytes h table items is =
     (count, symbols_listed bytes table.offset count (ctx_of h) items is)
 
 -- the relocations of a range, of which there are as many as lie in it whole
-in_range : {R : Type 0} (size : ℕ) (read : List ℕ → R) (bytes : List ℕ) (start filesz : ℕ) (items : List R) (none : Bool)
+in_range : {R : Type 0} (size : ℕ) (read : List ℕ → R) (bytes : List ℕ) (start filesz : ℕ) (items : List R)
+    (none : Bool)
     → (if none then Ok [] else unless_fault (room_of (length bytes) start filesz)
     (records size read (filesz / size) (take filesz (drop start bytes)))) ≡ Ok items
     → (count : ℕ) × IsListed size read bytes start count items
 in_range size read bytes start filesz items true is =
     let same : items ≡ [] = cc in
-    (0, record { are = same ∙ sym (no_records size read 0 (drop start bytes) refl); fit = λ some. absurd (omega arith) })
+    let none = no_records size read 0 (drop start bytes) refl in
+    (0, record { are = same ∙ sym none; fit = λ some. absurd (omega arith) })
 in_range size read bytes start filesz items false is =
     let count = filesz / size in
     let all = records size read count (take filesz (drop start bytes)) in

@@ -1,6 +1,8 @@
 -- Puts: a record that is found is put at its place, in range, and the library's test decides whether it fits.
-use Rattle.std.proofs.Common.{◌≡◌, ◌≤◌, ◌<◌, ◌+◌, ◌*◌, ◌^◌, ◌⊎◌, ℕ, Bool, true, false, true≢false, List, [], ◌∷◌, ◌++◌, length, take, drop}
-use Rattle.std.proofs.Common.{IsTrue, map, Option, Some, None, Result, Ok, Err, if◌then◌else◌, inl, inr, refl, sym, ap, subst, ◌∙◌}
+use Rattle.std.proofs.Common.{◌≡◌, ◌≤◌, ◌<◌, ◌+◌, ◌*◌, ◌^◌, ◌⊎◌, ℕ, Bool, true, false, true≢false, List, [], ◌∷◌, ◌++◌}
+use Rattle.std.proofs.Common.{length, take, drop}
+use Rattle.std.proofs.Common.{IsTrue, map, Option, Some, None, Result, Ok, Err, if◌then◌else◌, inl, inr, refl, sym, ap}
+use Rattle.std.proofs.Common.{subst, ◌∙◌}
 use Rattle.std.proofs.Common.{arith}
 use Rattle.std.proofs.Math.Logic.{◌↔◌}
 use Rattle.std.proofs.lemmas.Bool.Decides.{nat_tests}
@@ -46,7 +48,8 @@ pub room_for : {L R Y : Type 0} (convert : R → Y) (view : L → List R) (size 
     → start + index * size + size ≤ length bytes
 room_for {Y = Y} convert view size read bytes start index answer expected found y lists is stored there =
     let own = expected_is found (item_of (converted_list (λ list. map convert (view list)) answer) index) stored in
-    let same = ap (λ (list : Result (List Y) RefusalAt). item_of list index) (converted_is convert view answer expected is) in
+    let list = converted_is convert view answer expected is in
+    let same = ap (λ (list : Result (List Y) RefusalAt). item_of list index) list in
     (found_at convert size read bytes start index expected y lists
     (sym same ∙ sym own ∙ ap (refuse_as refusal_at) there)).0
 

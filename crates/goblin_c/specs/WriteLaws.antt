@@ -86,7 +86,8 @@ pub record ReadsArePut : Type 0 where
       → IsBytes bytes → reloc_expected bytes h table is_rela index ≡ Ok (Some r)
       → reloc_put_expected bytes h table is_rela index r true ≡ Ok (Some bytes)
 
--- a number that fits its width and was put is read again, nothing else changes, and what was read is put without a change
+-- a number that fits its width and was put is read again, nothing else changes, and what was read is put without a
+-- change
 pub record NumbersArePut : Type 0 where
   pub read :
       (bytes new : List ℕ) (h : GoblinHeader) (offset width value : ℕ)

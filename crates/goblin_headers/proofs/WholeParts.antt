@@ -44,7 +44,8 @@ both_passed : {E : Type 0} (first second : Result (Unit {0}) E)
 both_passed (Ok a) second e = (refl, e)
 both_passed (Err a) second e = absurd (cc)
 
-passed_within : {E F : Type 0} (within : E → F) (test : Result (Unit {0}) E) → refuse_as within test ≡ Ok tt → test ≡ Ok tt
+passed_within : {E F : Type 0} (within : E → F) (test : Result (Unit {0}) E)
+    → refuse_as within test ≡ Ok tt → test ≡ Ok tt
 passed_within within (Ok x) is = refl
 passed_within within (Err e) is = absurd (cc)
 
@@ -147,7 +148,9 @@ module _ (bytes : List ℕ) (offset count : ℕ) (ctx : Ctx) where
       is).0 in
       let first = fits-room_of (length bytes) offset size tt room in
       let one = (le-div_iff_mul-le {k = size} {x = 1} {y = length bytes - offset} some).1 (omega (arith, first)) in
-      let most_some : 1 ≤ most = (let m = (unless_fault-is (room_of (length bytes) offset size) most (max 1 (count_asked bytes offset count ctx)) is).1 in omega (arith, m)) in
+      let room = room_of (length bytes) offset size in
+      let m = (unless_fault-is room most (max 1 (count_asked bytes offset count ctx)) is).1 in
+      let most_some : 1 ≤ most = omega (arith, m) in
       let c = min (whole_sections bytes offset ctx most) 0xffff in
       let c_some : 0 < c = omega (arith, one, most_some) in
       let c_whole : c ≤ (length bytes - offset) / size = omega arith in (
@@ -199,7 +202,8 @@ module _ (bytes : List ℕ) (offset : ℕ) (ctx : Ctx) where
       → segment_count bytes number sections ctx ≡ Ok count → count ≤ (length bytes - offset) / phsize
       → program_headers_of bytes number offset sections ctx ≡ Ok (records phsize phread count (drop offset bytes))
   all_segments number sections count is whole =
-      rw is (whole_is_listed phsize phread bytes offset count (codes "program headers") (segment_some ctx.container) whole)
+      rw is (whole_is_listed phsize phread bytes offset count (codes "program headers")
+      (segment_some ctx.container) whole)
 
   listed_segments : (number sections n : ℕ) (all : List ProgramHeader)
       → segment_count bytes number sections ctx ≡ Ok n → program_headers_of bytes number offset sections ctx ≡ Ok all
