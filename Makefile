@@ -12,7 +12,7 @@ export MODE
 unexport FILE
 
 # Says what to install where a command is missing.
-has_rt = @sh checks/has_rt.sh 'make $@'
+has_rt = @sh checks/has_rt.sh 'make $@' git
 
 # Shows a file, by the program built without a proof: make try FILE=/bin/true
 try:

@@ -65,6 +65,7 @@ def main(given):
             ratio = f'{times[2] / times[0]:.2f}' if others else '-'
             print(f'{os.path.basename(path):<20}', *(f'{1000 * own:10.1f}' for own in times), *['         -'] * (3 - len(times)), f'{ratio:>8}', flush=True)
     if has_readelf:
+        print(f'{len(real_files())} programs and libraries of this machine, each {TURNS} times by both ..', flush=True)
         times = [least([[*READELF, path], [SHOW]], path, TURNS) for path in real_files()]
         ratios = sorted(other / own for other, own in times)
         print(f'{len(ratios)} real files: readelf takes {ratios[0]:.2f} to {ratios[-1]:.2f} times as long, in the middle '

@@ -4,6 +4,7 @@
     python3 checks/gate.py test            every proof but those of the tests' own bodies, every test and program, must-fail/ and controls/
     python3 checks/gate.py gate            `rt ci`, which proves the tests too, and every edit
     python3 checks/gate.py edits [CRATE ..] [--edit NAME] [--from FOLDER]     the edits alone, of these crates or of all
+    python3 checks/gate.py prove CRATE     in a copy of the repository in which the crates below are proved: a part of each of these
 
 The crates are proved in a copy of the repository, which holds nothing that an earlier run left there; `edits` takes over what checks in
 the crates' folders have cached. As many parts run side by side as there are processors. A proof begins as soon as it can and goes
@@ -55,11 +56,39 @@ def copied(folder, with_cached=False):
         os.makedirs(os.path.dirname(f'{folder}/{path}'), exist_ok=True)
         shutil.copy(path, f'{folder}/{path}')
     for crate in crates_listed() if with_cached else []:
-        for part in ('incremental', 'rlib'):
-            if os.path.isdir(f'crates/{crate}/out/{part}'):
-                # (no check writes into a file that is there)
-                shutil.copytree(f'crates/{crate}/out/{part}', f'{folder}/crates/{crate}/out/{part}', copy_function=link)
+        take(crate, '.', folder, 'incremental', 'rlib')
     return folder
+
+
+def take(crate, source, to, *parts):
+    """Takes what checks of a crate have cached in one copy, and its library, to another one. (No check writes into a file that is there.)"""
+    for part in parts:
+        if os.path.isdir(f'{source}/crates/{crate}/out/{part}'):
+            shutil.copytree(f'{source}/crates/{crate}/out/{part}', f'{to}/crates/{crate}/out/{part}', copy_function=link)
+
+
+def alone(crate, source, room):
+    """Copies the crates for one crate, with what its checks have cached and the libraries below it as they were proved, and returns its
+    folder there. The toolchain lets one check at a time into a crate's folder and those below it, so each proof has folders of its own."""
+    ignored = shutil.ignore_patterns('target', 'out')
+    shutil.copytree(f'{source}/crates', f'{room}/crates', ignore=ignored, symlinks=True)
+    for name in ('HANDLES', 'crates.txt'):
+        shutil.copy(f'{source}/{name}', room)
+    for name in crates_listed()[crate]:
+        take(name, source, room, 'rlib')
+    take(crate, source, room, 'incremental', 'rlib')
+    return f'{room}/crates/{crate}'
+
+
+def prove(crate):
+    """Proves a crate over those below it that are proved here."""
+    with tempfile.TemporaryDirectory(prefix='proof-', dir='..') as room:
+        folder = alone(crate, '.', room)
+        status = subprocess.run(['sh', os.path.abspath('checks/prove.sh'), crate], cwd=room).returncode
+        if not status:
+            shutil.rmtree(f'crates/{crate}/out', ignore_errors=True)
+            os.rename(f'{folder}/out', f'crates/{crate}/out')
+    return status
 
 
 def has_tests(crate):
@@ -74,7 +103,7 @@ def proofs(crates, copy, after=()):
     """The proofs of these crates and of those below them."""
     listed = crates_listed()
     wanted = [crate for crate in listed if any(crate in {one, *listed[one]} for one in crates)]
-    return [Part(f'proof of {crate}', ['sh', 'checks/prove.sh', crate], (*after, *(f'proof of {name}' for name in listed if name in listed[crate])),
+    return [Part(f'proof of {crate}', [PYTHON, 'checks/gate.py', 'prove', crate], (*after, *(f'proof of {name}' for name in listed if name in listed[crate])),
                  copy, True) for crate in wanted]
 
 
@@ -83,10 +112,11 @@ def edits(crates, copy, *words, what='edits'):
     return [Part(f'{what} of {crate}', [PYTHON, 'checks/edits', '--over', copy, *words, crate], (f'proof of {crate}',), copy) for crate in crates]
 
 
-def crates_with(kinds, name=None):
-    """The crates that have edits of these folders, or one of this name."""
-    return [crate for crate in crates_listed() for kind in kinds if os.path.isdir(kind.format(crate))
-            and any(name in (None, file[:-len('.edit')]) for file in os.listdir(kind.format(crate)))]
+def crates_with(kinds, name=None, folder=''):
+    """The crates that have edits of these kinds, or of a folder that has a folder for each crate; or one of this name."""
+    folders = lambda crate: [f'{folder}/{crate}'] if folder else [f'crates/{crate}/{kind}' for kind in kinds]
+    return [crate for crate in crates_listed() if any(name in (None, file[:-len('.edit')]) for path in folders(crate) if os.path.isdir(path)
+                                                      for file in os.listdir(path))]
 
 
 def test(room, whole):
@@ -102,8 +132,9 @@ def test(room, whole):
     if not whole:
         parts += [here(f'tests of {crate}', f'sh checks/tests.sh {crate}') for crate in crates_listed() if has_tests(crate)]
     parts += [here('calls from other languages', 'sh checks/faces.sh', 'proof of goblin_c')]
-    crates = dict.fromkeys(crates_with([f'crates/{{}}/{kind}' for kind in kinds]))
-    parts += edits(crates, copy, '--kinds', ','.join(kinds), what='edits' if whole else 'must-fail')
+    # (all kinds together take fewer checks, and each by itself ends sooner)
+    for some in [','.join(kinds)] if whole else kinds:
+        parts += edits(crates_with(some.split(',')), copy, '--kinds', some, what='edits' if whole else some)
     parts += [here('refused allocations', 'sh checks/refused.sh'), here('the program', f'{PYTHON} checks/program.py', 'proof of goblin_show'),
               here('hostile files', f'{PYTHON} checks/limits.py', 'proof of goblin_show', 'proof of goblin_refused')]
     return parts + [here("the edits' own test", f'{PYTHON} checks/edits/self_test.py')] * whole
@@ -198,8 +229,7 @@ def parts_of(options, room):
     if options.goal != 'edits':
         return test(room, options.goal == 'gate')
     folder = os.path.abspath(options.folder) if options.folder else ''
-    kinds = [f'{folder}/{{}}'] if folder else [f'crates/{{}}/{kind}' for kind in ('edits', 'must-fail', 'controls')]
-    crates = [crate for crate in dict.fromkeys(crates_with(kinds, options.edit)) if crate in (options.crates or [crate])]
+    crates = [crate for crate in crates_with(('edits', 'must-fail', 'controls'), options.edit, folder) if crate in (options.crates or [crate])]
     words = [*(['--edit', options.edit] if options.edit else []), *(['--from', folder] if folder else [])]
     copy = copied(f'{room}/proved', with_cached=True)
     return [*proofs(crates, copy), *edits(crates, copy, *words)]
@@ -207,11 +237,13 @@ def parts_of(options, room):
 
 def main():
     parser = argparse.ArgumentParser(prog='python3 checks/gate.py', description=__doc__.split('\n')[0])
-    parser.add_argument('goal', choices=('test', 'gate', 'edits'))
+    parser.add_argument('goal', choices=('test', 'gate', 'edits', 'prove'))
     parser.add_argument('crates', nargs='*')
     parser.add_argument('--edit')
     parser.add_argument('--from', dest='folder')
     options = parser.parse_args()
+    if options.goal == 'prove':
+        return prove(*options.crates)
     with tempfile.TemporaryDirectory(prefix='gate-') as room:
         parts = parts_of(options, room)
         if not parts:

@@ -1,8 +1,8 @@
 #!/usr/bin/env python3
-"""Lists words that only this repository understood: python3 checks/private_words.py [PATH ..], from the repository's root.
+"""Lists words that only this repository understood: python3 checks/private_words.py, from the repository's root.
 
-It reads all text that git tracks below each PATH (default: all), but for code between backquotes and in fenced blocks, and its own lists. It
-prints a line for each word found, with the file, the line and what to say instead, and exits with 1 if it found any.
+It reads all text that git tracks, but for code between backquotes and in fenced blocks, and its own lists. It prints a line for each word
+found, with the file, the line and what to say instead, and exits with 1 if it found any.
 """
 import re
 import subprocess
@@ -40,8 +40,8 @@ def blank(found):
     return re.sub(r'[^\n]', ' ', found[0])
 
 
-def main(paths):
-    listed = subprocess.run(['git', 'ls-files', '-z', '--', *paths], check=True, stdout=subprocess.PIPE, text=True).stdout
+def main():
+    listed = subprocess.run(['git', 'ls-files', '-z'], check=True, stdout=subprocess.PIPE, text=True).stdout
     files = count = 0
     for path in filter(lambda path: path and path not in LEFT_OUT, listed.split('\0')):
         try:
@@ -59,4 +59,4 @@ def main(paths):
 
 
 if __name__ == '__main__':
-    sys.exit(main(sys.argv[1:]))
+    sys.exit(main())

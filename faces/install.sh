@@ -19,6 +19,9 @@ fail() {
     echo "$1" >&2
     exit 1
 }
+for name in awk python3; do
+    command -v $name > /dev/null || fail "goblin_c: the command $name was not found. Install it first"
+done
 version=$(awk -F '"' '/^version = / { print $2; exit }' faces/rust/Cargo.toml)
 target=${TARGET:-x86_64-unknown-linux-gnu}
 interface=$(awk '$2 == "GOBLIN_VERSION" { print $3 }' faces/c/goblin.h)
@@ -249,14 +252,17 @@ sums() {
     sha256sum < "$1"
 }
 
-# Makes the library for this target and these processors, and prints what the toolchain reported.
+# Prints the toolchain's verdict on the library, which it reported in a file: whether it is proved, and which axioms it reaches.
+verdict() { grep -e '^axioms ' -e '^logic=' "$1" || :; }
+
+# Makes the library for this target and these processors, and prints the verdict.
 make_library() {
     made=crates/goblin_c/out/libgoblin_c.a
     if [ -e "$made" ]; then cp -p "$made" "$folder/before"; fi
     sh checks/libraries.sh goblin_c goblin_c
     echo "goblin_c: proving the calls for C, and compiling them for $target" >&2
     (cd crates/goblin_c && rt lib --target "$target" --cpu "$cpu") > "$folder/said" 2>&1 || { cat "$folder/said"; exit 1; }
-    cat "$folder/said"
+    verdict "$folder/said"
     mv "$made" "$folder/made"
     # (the library that `rt lib` made there before is put back)
     if [ -e "$folder/before" ]; then mv "$folder/before" "$made"; fi
@@ -274,7 +280,7 @@ if [ -z "$library" ]; then
     cache=out/library/$target-$cpu
     library=$cache/library
     if [ -f "$cache/sums" ] && [ "$(sums "$library")" = "$(cat "$cache/sums")" ]; then
-        cat "$cache/said"
+        verdict "$cache/said"
     else
         make_library
     fi

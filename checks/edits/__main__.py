@@ -10,7 +10,6 @@ the crates' own. They are planted in copies. Run from the repository's root; che
 """
 import argparse
 import os
-import shutil
 import sys
 import tempfile
 import time
@@ -20,6 +19,7 @@ sys.dont_write_bytecode = True
 sys.path[:0] = [HERE, os.path.dirname(HERE)]
 from crates import crates_listed
 from edit import CONTROLS, EDITS, MUST_FAIL, edits_of
+from gate import alone
 from trial import Trial
 from verdict import Said
 
@@ -55,18 +55,6 @@ def fits(options):
     return 1 if wrong or not count else 0
 
 
-def copied(crate, over, room):
-    """Copies a proved crate with what its checks have cached, and the libraries below it as they were proved."""
-    for name in os.listdir(f'{over}/crates'):
-        shutil.copytree(f'{over}/crates/{name}', f'{room}/crates/{name}', ignore=shutil.ignore_patterns('target', 'out'), symlinks=True)
-    # (no check writes into a library that another crate stands on, or into a file of what another check has cached)
-    for name, part in [*((name, 'rlib') for name in crates_listed()[crate]), (crate, 'incremental')]:
-        shutil.copytree(f'{over}/crates/{name}/out/{part}', f'{room}/crates/{name}/out/{part}', copy_function=os.link)
-    for name in ('HANDLES', 'crates.txt'):
-        shutil.copy(f'{over}/{name}', room)
-    return f'{room}/crates/{crate}'
-
-
 def try_crate(crate, options):
     """Tries the edits of a crate, says what came of each, and returns how many are at fault."""
     start, (edits, wrong) = time.time(), read_edits(crate, options)
@@ -75,7 +63,7 @@ def try_crate(crate, options):
             said = Said(text.read(), crate)
         # (beside the proved copy, whose files are linked)
         with tempfile.TemporaryDirectory(prefix='edits-', dir=os.path.dirname(options.over)) as room:
-            trial = Trial(crate, copied(crate, options.over, room), edits, said)
+            trial = Trial(crate, alone(crate, options.over, room), edits, said)
             trial.run()
         wrong = trial.wrong if trial.ways or trial.wrong else [f'{crate}: no edit was tried']
         ways = ', '.join(f'{count} {way}' for way, count in trial.ways.items())

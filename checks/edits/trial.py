@@ -110,32 +110,16 @@ class Trial:
 
     def try_group(self, group, pending):
         """Judges the edits of a group, and returns those that are still to be judged."""
-        if len(group) == 1:
+        said = self.check(group) if len(group) > 1 else None
+        # where they can't be read together, or none could be judged, the first is tried alone
+        if not said or not said.is_whole():
             self.try_alone(group[0])
             return [edit for edit in pending if edit is not group[0]]
-        said = self.check(group)
-        if not said.is_whole():
-            return self.without_unread(group, pending)
         for path, function in said.functions.items():
             self.waits[path] = self.waits.get(path, frozenset()) | function.waits
         judged = [edit for edit in group if self.judge(edit, said)]
         self.groups.append(len(judged))
-        # where none could be judged, the first is tried alone
         return [edit for edit in pending if edit not in judged] if judged else self.try_group(group[:1], pending)
-
-    def without_unread(self, group, pending):
-        """Reads the edits of an unreadable group one by one. Those that can't be read are reported, and the others stay."""
-        unread = [edit for edit in group if not self.reads(edit)]
-        for edit in unread:
-            self.report_wrong(edit, 'the edited code is no valid Rattle, so no contract was tried')
-        if not unread:
-            self.try_alone(group[0])
-            unread = group[:1]
-        return [edit for edit in pending if edit not in unread]
-
-    def reads(self, edit):
-        """Whether the crate with an edit comes to the prover."""
-        return self.check([edit]).is_whole()
 
     def judge(self, edit, said):
         """Reports what a check says of an edit's functions, if it judges them."""

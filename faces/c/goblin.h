@@ -5,7 +5,7 @@
    Linking
      Link with libgoblin_c.a, which needs only memcpy of the C library, or with the shared library. The linker's option --gc-sections
      (`-Wl,--gc-sections`) leaves out the calls that a program does not use: of the examples, about two thirds of the library.
-     goblin_c.pc has this option for pkg-config.
+     goblin_c.pc and the package for CMake have this option.
      Inside a shared library of your own, `-Wl,--exclude-libs,libgoblin_c.a` hides the calls.
 
    Results
@@ -14,19 +14,20 @@
        GOBLIN_END (1)  There is no such item: the index or the offset is past the end, or no item has that name, type or address.
        2 or more       The file is refused. The number is one of the GOBLIN_ numbers below. The call has written the same number to
                        `*why`, with the numbers that belong to it and the offset of what is refused.
-     The result is the argument before `why`, and the array of a call that fills one. A call writes its result only at GOBLIN_OK,
-     `*why` only at a refusal, and nothing else. So a result that is zero before the call is still zero at GOBLIN_END, and one
-     goblin_refusal_t serves all calls of a program.
+     The result is the argument before `why`, of a search for sections the two before it, and the array of a call that fills one. A call
+     that begins with goblin_put_ has none: it writes into `bytes`. A call writes its result, or the bytes, only at GOBLIN_OK, `*why`
+     only at a refusal, and nothing else. So a result that is zero before the call is still zero at GOBLIN_END, and one goblin_refusal_t
+     serves all calls of a program.
      Refusals come before GOBLIN_END, if a call does not say otherwise: a table that is refused is refused past its end, too.
 
    Pointers
      `bytes` points to the `len` bytes of the whole file. `bytes`, an array, a name or a text may be null if its length or capacity
-     is 0. Nothing else may be null, `why` too. A caller that does not read it passes `&unread` after `goblin_refusal_t unread;`. What
-     a call writes must not overlap anything else that it is given. Names and texts are `const void *`, so a string literal and bytes are
+     is 0. Nothing else may be null. A caller that does not read `why` passes `&unread`, with `goblin_refusal_t unread;` before it. What a
+     call writes must not overlap anything else that it is given. Names and texts are `const void *`, so a string literal and bytes are
      both passed without a cast.
 
    Files that change
-     Nothing may write the bytes during a call. They may change between two calls, since each call checks all that it reads. But
+     Nothing else may write the bytes during a call. They may change between two calls, since each call checks all that it reads. But
      what an earlier call returned may then be out of date. If a mapped file is made shorter, the operating system ends a program
      that reads past its new end (SIGBUS). Read a file into a buffer if others may shorten it.
 

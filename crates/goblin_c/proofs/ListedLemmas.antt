@@ -21,7 +21,7 @@ use Rattle.goblin_base.specs.TableLaws.{no_records}
 use Rattle.goblin_base.proofs.Records.{get_records, past_records}
 use Rattle.goblin.specs.SectionHeader.{section_header_of, section_header_size}
 use Rattle.goblin.specs.SectionHeaders.{count_asked, count_from, section_headers_from, section_headers_from_tested}
-use Rattle.goblin.specs.SectionHeaders.{section_headers_of, section_headers_stated}
+use Rattle.goblin.specs.SectionHeaders.{section_headers_of}
 use Rattle.goblin.specs.Sym.{sym_of, sym_size}
 use Rattle.goblin.specs.Symtab.{symtab_of}
 use Rattle.goblin.specs.declared.elf.section_header.SectionHeader.{SectionHeader}
@@ -116,27 +116,17 @@ listed_from size read bytes start count name items is =
     listed_in size read bytes start count items parts.2
 
 module _ (bytes : List ℕ) (start count : ℕ) (ctx : Ctx) where
-  -- as many headers are stated as are read
-  stated_is : (u : Unit {0}) (empty : Bool)
-      → room_of (length bytes) start (section_header_size ctx.container) ≡ Ok u → (count == 0) ≡ empty
-      → (if empty then count_from bytes start 0 ctx else Ok count) ≡ Ok (max 1 (count_asked bytes start count ctx))
-  stated_is u true room is = let none : count ≡ 0 = grind (arith, nat_tests) in rw (room, none) refl
-  stated_is u false room is =
-      let some : max 1 count ≡ count = grind (arith, nat_tests) in
-      rw is (ap Ok (sym some))
-
   -- the section headers, as many as the file states
   listed_by : (none : Bool) (items : List SectionHeader)
       → (if none then Ok [] else section_headers_from bytes start count ctx) ≡ Ok items
       → (stated : ℕ)
-      × ((if none then Ok 0 else if count == 0 then count_from bytes start 0 ctx else Ok count) ≡ Ok stated)
       × IsListed (section_header_size ctx.container) (section_header_of ctx.container ctx.le) bytes start stated items
   unfolding section_headers_from section_headers_from_tested
   listed_by true items is =
       let empty = no_records (section_header_size ctx.container) (section_header_of ctx.container ctx.le) 0
       (drop start bytes) refl in
       let same : items ≡ [] = cc in
-      (0, refl, record { are = same ∙ sym empty; fit = λ some. absurd (omega arith) })
+      (0, record { are = same ∙ sym empty; fit = λ some. absurd (omega arith) })
   listed_by false items is =
       let size = section_header_size ctx.container in
       let read = section_header_of ctx.container ctx.le in
@@ -144,14 +134,12 @@ module _ (bytes : List ℕ) (start count : ℕ) (ctx : Ctx) where
       let room = refuse_as misplaced (room_of (length bytes) start size) in
       let few = refuse_if (nat_lt (length bytes / size) asked) (buffer_too_short asked (codes "section headers")) in
       let parts = bind_ok (room >>= λ _. few) (λ _. records_in size read bytes start (max 1 asked)) items is in
-      let first = bind_ok room (λ _. few) parts.0 parts.1 in
-      let there = refuse_as_ok misplaced (room_of (length bytes) start size) first.0 first.1 in
       let listed = listed_in size read bytes start (max 1 asked) items parts.2 in
-      (max 1 asked, stated_is first.0 (count == 0) there refl, listed)
+      (max 1 asked, listed)
 
   pub sections_listed : (items : List SectionHeader)
       → section_headers_of bytes start count ctx ≡ Ok items
-      → (stated : ℕ) × (section_headers_stated bytes start count ctx ≡ Ok stated)
+      → (stated : ℕ)
       × IsListed (section_header_size ctx.container) (section_header_of ctx.container ctx.le) bytes start stated items
   sections_listed items is = listed_by (start == 0) items is
 

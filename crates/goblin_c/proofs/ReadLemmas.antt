@@ -92,8 +92,7 @@ pub lists_sections : (bytes : List ℕ) (h : GoblinHeader)
     h.e_shoff (sections_expected bytes h)
 lists_sections bytes h items is =
     let read = section_headers_of bytes h.e_shoff h.e_shnum (ctx_of h) in
-    let listed = sections_listed bytes h.e_shoff h.e_shnum (ctx_of h) items (refused_at_ok h.e_shoff read items is) in
-    (listed.0, listed.2)
+    sections_listed bytes h.e_shoff h.e_shnum (ctx_of h) items (refused_at_ok h.e_shoff read items is)
 
 pub lists_segments : (bytes : List ℕ) (h : GoblinHeader)
     → Lists (program_header_size (ctx_of h).container) (program_header_of (ctx_of h).container (ctx_of h).le) bytes

@@ -204,7 +204,7 @@ symbol_by_name_expected bytes h range names name = do
   strings ← strings_expected bytes names
   Ok (position (λ symbol. is_named strings name symbol.st_name) symbols)
 
--- the index of the symbol of a range for an address: the symbol may end before the address
+-- the index of the symbol of an address, among those of a range
 abbrev pub symbol_by_address_expected : List ℕ → GoblinHeader → GoblinRange → ℕ → Result (Option ℕ) RefusalAt
 symbol_by_address_expected bytes h range address = do
   symbols ← symbols_expected bytes h range

@@ -12,3 +12,4 @@ pub mod TextLaws
 pub mod Texts
 pub mod Types
 pub mod Write
+pub mod WriteLaws

@@ -80,7 +80,7 @@ known_segments : (bytes : List ℕ) (h : GoblinHeader) → KnownAt (segments_exp
 unfolding records_from
 known_segments bytes h =
     let known : NamesKnown (buffer_too_short 0 (codes "program headers")) = inr refl in
-    grind (arith, known_each, known)
+    grind (arith, known_room, known_each, known)
 
 known_symbols : (bytes : List ℕ) (h : GoblinHeader) (range : GoblinRange) → KnownAt (symbols_expected bytes h range)
 known_symbols bytes h range = grind arith

@@ -41,6 +41,7 @@ mod tests;
 mod texts;
 pub mod types;
 mod write;
+mod write_laws;
 #[cfg(test)]
 mod write_tests;
 mod writer;
@@ -628,7 +629,7 @@ pub extern "C" fn goblin_range_in_file(bytes: &[u8], range: &GoblinRange, part: 
     *part = cut_range(bytes.len(), range);
 }
 
-/// Stores the index of the symbol for an address. The symbol may end before the address.
+/// Stores the index of the symbol of an address: one that contains it, or a label at or below it.
 #[unsafe(no_mangle)]
 pub extern "C" fn goblin_symbol_by_address(
     bytes: &[u8],

@@ -156,7 +156,7 @@ pub fn symbol_by_name(
     Ok(found.map(|index| index as u64))
 }
 
-/// Returns the index of the symbol for an address. The symbol may end before the address.
+/// Returns the index of the symbol of an address: one that contains it, or a label at or below it.
 pub fn symbol_by_address(
     bytes: &[u8],
     header: &GoblinHeader,

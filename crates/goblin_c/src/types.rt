@@ -149,9 +149,9 @@ pub(crate) fn convert_header(h: &Header) -> GoblinHeader
 }
 
 // Returns the header from C. The bytes that pad the identification are those of the file.
-pub(crate) fn header_of(bytes: &[u8], h: &GoblinHeader) -> Header
+pub(crate) fn header_of(bytes: &[u8], own: &GoblinHeader) -> Header
     requires { 16 ≤ length bytes.now }
-    ensures { result ≡ header_of bytes.now h.now }
+    ensures { result ≡ header_of bytes.now own.now }
 {
     Header {
         e_ident: [
@@ -159,11 +159,11 @@ pub(crate) fn header_of(bytes: &[u8], h: &GoblinHeader) -> Header
             b'E',
             b'L',
             b'F',
-            h.ei_class,
-            h.ei_data,
-            h.ei_version,
-            h.ei_osabi,
-            h.ei_abiversion,
+            own.ei_class,
+            own.ei_data,
+            own.ei_version,
+            own.ei_osabi,
+            own.ei_abiversion,
             bytes[9],
             bytes[10],
             bytes[11],
@@ -172,19 +172,19 @@ pub(crate) fn header_of(bytes: &[u8], h: &GoblinHeader) -> Header
             bytes[14],
             bytes[15],
         ],
-        e_type: h.e_type,
-        e_machine: h.e_machine,
-        e_version: h.e_version,
-        e_entry: h.e_entry,
-        e_phoff: h.e_phoff,
-        e_shoff: h.e_shoff,
-        e_flags: h.e_flags,
-        e_ehsize: h.e_ehsize,
-        e_phentsize: h.e_phentsize,
-        e_phnum: h.e_phnum,
-        e_shentsize: h.e_shentsize,
-        e_shnum: h.e_shnum,
-        e_shstrndx: h.e_shstrndx,
+        e_type: own.e_type,
+        e_machine: own.e_machine,
+        e_version: own.e_version,
+        e_entry: own.e_entry,
+        e_phoff: own.e_phoff,
+        e_shoff: own.e_shoff,
+        e_flags: own.e_flags,
+        e_ehsize: own.e_ehsize,
+        e_phentsize: own.e_phentsize,
+        e_phnum: own.e_phnum,
+        e_shentsize: own.e_shentsize,
+        e_shnum: own.e_shnum,
+        e_shstrndx: own.e_shstrndx,
     }
 }
 
@@ -261,20 +261,20 @@ pub(crate) fn convert_section(s: &SectionHeader) -> GoblinSection
 }
 
 // Returns the section header from C.
-pub(crate) fn section_of(s: &GoblinSection) -> SectionHeader
-    ensures { result ≡ section_of s.now }
+pub(crate) fn section_of(own: &GoblinSection) -> SectionHeader
+    ensures { result ≡ section_of own.now }
 {
     SectionHeader {
-        sh_name: s.sh_name as usize,
-        sh_type: s.sh_type,
-        sh_flags: s.sh_flags,
-        sh_addr: s.sh_addr,
-        sh_offset: s.file.offset,
-        sh_size: s.file.size,
-        sh_link: s.sh_link,
-        sh_info: s.sh_info,
-        sh_addralign: s.sh_addralign,
-        sh_entsize: s.sh_entsize,
+        sh_name: own.sh_name as usize,
+        sh_type: own.sh_type,
+        sh_flags: own.sh_flags,
+        sh_addr: own.sh_addr,
+        sh_offset: own.file.offset,
+        sh_size: own.file.size,
+        sh_link: own.sh_link,
+        sh_info: own.sh_info,
+        sh_addralign: own.sh_addralign,
+        sh_entsize: own.sh_entsize,
     }
 }
 
@@ -328,18 +328,18 @@ pub(crate) fn convert_segment(s: &ProgramHeader) -> GoblinSegment
 }
 
 // Returns the program header from C.
-pub(crate) fn segment_of(s: &GoblinSegment) -> ProgramHeader
-    ensures { result ≡ segment_of s.now }
+pub(crate) fn segment_of(own: &GoblinSegment) -> ProgramHeader
+    ensures { result ≡ segment_of own.now }
 {
     ProgramHeader {
-        p_type: s.p_type,
-        p_flags: s.p_flags,
-        p_offset: s.file.offset,
-        p_vaddr: s.p_vaddr,
-        p_paddr: s.p_paddr,
-        p_filesz: s.file.size,
-        p_memsz: s.p_memsz,
-        p_align: s.p_align,
+        p_type: own.p_type,
+        p_flags: own.p_flags,
+        p_offset: own.file.offset,
+        p_vaddr: own.p_vaddr,
+        p_paddr: own.p_paddr,
+        p_filesz: own.file.size,
+        p_memsz: own.p_memsz,
+        p_align: own.p_align,
     }
 }
 
@@ -385,16 +385,16 @@ pub(crate) fn convert_symbol(s: &Sym) -> GoblinSymbol
 }
 
 // Returns the symbol from C.
-pub(crate) fn symbol_of(s: &GoblinSymbol) -> Sym
-    ensures { result ≡ symbol_of s.now }
+pub(crate) fn symbol_of(own: &GoblinSymbol) -> Sym
+    ensures { result ≡ symbol_of own.now }
 {
     Sym {
-        st_name: s.st_name as usize,
-        st_info: s.st_info,
-        st_other: s.st_other,
-        st_shndx: s.st_shndx as usize,
-        st_value: s.st_value,
-        st_size: s.st_size,
+        st_name: own.st_name as usize,
+        st_info: own.st_info,
+        st_other: own.st_other,
+        st_shndx: own.st_shndx as usize,
+        st_value: own.st_value,
+        st_size: own.st_size,
     }
 }
 
@@ -439,18 +439,18 @@ pub(crate) fn convert_reloc(r: &Reloc) -> GoblinReloc
 }
 
 // Returns the relocation from C.
-pub(crate) fn reloc_of(r: &GoblinReloc) -> Reloc
-    ensures { result ≡ reloc_of r.now }
+pub(crate) fn reloc_of(own: &GoblinReloc) -> Reloc
+    ensures { result ≡ reloc_of own.now }
 {
     Reloc {
-        r_offset: r.r_offset,
-        r_addend: if r.has_addend == 0 {
+        r_offset: own.r_offset,
+        r_addend: if own.has_addend == 0 {
             None
         } else {
-            Some(r.r_addend)
+            Some(own.r_addend)
         },
-        r_sym: r.r_sym as usize,
-        r_type: r.r_type,
+        r_sym: own.r_sym as usize,
+        r_type: own.r_type,
     }
 }
 

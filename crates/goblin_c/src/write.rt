@@ -1,9 +1,11 @@
 //! Records and numbers that are put into the bytes of a file. A record is put where the call that reads it finds one, if
 //! it fits. Then its bytes change, and no other.
-ghost use Rattle.std.specs.Prelude.{◌≡◌, ◌↔◌, ◌≤◌, ◌<◌, ◌+◌, ◌*◌, ◌^◌, IsTrue, Ok, Some, length};
+ghost use Rattle.std.specs.Prelude.{◌≡◌, ◌↔◌, ◌≤◌, ◌<◌, ◌+◌, ◌*◌, ◌^◌, IsTrue, IfOk, Ok, Some, length};
 ghost use Rattle.goblin.specs.Steps.{refuse_as};
 ghost use Rattle.goblin_base.specs.Place.{with_number};
+ghost use Rattle.goblin.specs.Header.{header_size, order_named};
 ghost use Rattle.goblin_c.specs.Bytes.{is_width};
+ghost use Rattle.goblin_c.specs.Expected.{ctx_of};
 ghost use Rattle.goblin_c.specs.Refused.{refusal_at};
 ghost use Rattle.goblin_c.specs.Status.{Stores};
 ghost use Rattle.goblin_c.specs.Types.{reloc_converted};
@@ -30,11 +32,11 @@ use goblin_base::number::{put_u8, put_u16, put_u32, put_u64};
 use goblin_base::room::room;
 
 // Writes a record at an offset.
-fn put_record<R: LaidOut<C>, C: Copy>(bytes: &mut [u8], place: usize, record: R, ctx: C)
+fn put_record<R: LaidOut<C>, C: Copy>(bytes: &mut [u8], place: usize, own: R, ctx: C)
     requires { place + (R.layout ctx).size ≤ length bytes.old }
-    ensures { bytes.new ≡ with_bytes bytes.old place ((R.layout ctx).image record) }
+    ensures { bytes.new ≡ with_bytes bytes.old place ((R.layout ctx).image own) }
 {
-    record.put(&mut bytes[place..], ctx);
+    own.put(&mut bytes[place..], ctx);
 }
 
 // The place of a record: the offset of the first of its list, and its index.
@@ -49,14 +51,14 @@ fn put_found<T: Drop, R: LaidOut<C>, C: Copy>(
     bytes: &mut [u8],
     found: Result<Option<T>>,
     place: Place,
-    record: R,
+    own: R,
     ctx: C,
     fits: bool,
     why: &mut GoblinRefusal,
 ) -> u32
     requires { (x : T) → found ≡ Ok (Some x)
         → place.start + place.index * (R.layout ctx).size + (R.layout ctx).size ≤ length bytes.old }
-    ensures { let put = put_at (R.layout ctx) bytes.old place.start place.index record fits in
+    ensures { let put = put_at (R.layout ctx) bytes.old place.start place.index own fits in
         Stores (put_if_there (refuse_as refusal_at found) put)
         bytes.old why.old result bytes.new why.new }
 {
@@ -66,7 +68,7 @@ fn put_found<T: Drop, R: LaidOut<C>, C: Copy>(
             if !fits {
                 return refuse(&unfit(start as u64), why);
             }
-            put_record(bytes, start, record, ctx);
+            put_record(bytes, start, own, ctx);
             OK
         }
         Ok(None) => END,
@@ -247,7 +249,10 @@ pub fn put_number(
 
 // Returns the class and the byte order that a header names, if the bytes hold a header of the class.
 fn named_ctx(bytes: &[u8], header: &GoblinHeader) -> goblin::error::Result<Ctx>
-    ensures { result ≡ named_ctx bytes.now header.now }
+    ensures value { result ≡ named_ctx bytes.now header.now }
+    ensures same { IfOk result (λ ctx. ctx ≡ ctx_of header.now) }
+    ensures named { IfOk result (λ ctx. order_named header.now.ei_data ≡ Some ctx.le) }
+    ensures fits { IfOk result (λ ctx. header_size ctx.container ≤ length bytes.now) }
 {
     let container = match header.ei_class {
         ELFCLASS32 => Container::Little,

@@ -1,1 +1,294 @@
-//! Records that are put and read again, on the file of `tests`.
+//! Records and numbers that are put into files of both classes and byte orders: the bytes after, and the refusals.
+use crate::layout::marked_layout;
+use crate::tests::{FILE, SYMBOLS, called, changed, header, range};
+use crate::types::{
+    GoblinHeader, GoblinRefusal, GoblinReloc, GoblinSection, GoblinSegment, GoblinSymbol,
+};
+use crate::*;
+
+// A refusal of marks.
+fn unread() -> GoblinRefusal {
+    marked_layout().refusal
+}
+
+// Whether a file has these bytes at an offset, and is the same as another before and after them.
+fn has_at(file: &[u8], offset: usize, own: &[u8], old: &[u8]) -> bool {
+    let end = offset + own.len();
+    if end > file.len() || file.len() != old.len() {
+        return false;
+    }
+    &file[offset..end] == own && file[..offset] == old[..offset] && file[end..] == old[end..]
+}
+
+// A header that names a class and a byte order, and no headers.
+fn names(class: u8, order: u8) -> GoblinHeader {
+    let mut header = marked_layout().header;
+    (header.ei_class, header.ei_data, header.e_machine) = (class, order, 62);
+    (header.e_shoff, header.e_phoff) = (0, 0);
+    header
+}
+
+fn section() -> GoblinSection {
+    GoblinSection {
+        file: range(0x0102, 0x0304),
+        sh_name: 0x0506,
+        sh_flags: 0x0708,
+        sh_addr: 0x090a,
+        sh_addralign: 0x0b0c,
+        sh_entsize: 0x0d0e,
+        sh_type: 0x0f10,
+        sh_link: 0x1112,
+        sh_info: 0x1314,
+    }
+}
+
+static SECTION: &[u8; 40] = b"\x06\x05\0\0\x10\x0f\0\0\x08\x07\0\0\x0a\x09\0\0\x02\x01\0\0\x04\x03\0\0\
+    \x12\x11\0\0\x14\x13\0\0\x0c\x0b\0\0\x0e\x0d\0\0";
+
+// Puts a section at an index of the file. Returns the status and where the refusal begins, and whether the file then has
+// these bytes at an offset, and no other changed.
+fn puts_section(s: &GoblinSection, index: u64, offset: usize, own: &[u8]) -> (u32, u64, bool) {
+    let (mut file, mut why) = (*FILE, unread());
+    let status = goblin_put_section(&mut file, &header(), index, s, &mut why);
+    (status, why.offset, has_at(&file, offset, own, FILE))
+}
+
+const MARK: u64 = 0x0707_0707_0707_0707;
+
+#[test]
+fn puts_sections(rt: HostRuntime) {
+    assert!(rt; puts_section(&section(), 1, 128, SECTION) == (0, MARK, true));
+    assert!(rt; puts_section(&section(), 2, 168, SECTION) == (0, MARK, true));
+    assert!(rt; puts_section(&section(), 3, 0, b"") == (1, MARK, true));
+    let mut wide = section();
+    wide.sh_flags = 1 << 32;
+    assert!(rt; puts_section(&wide, 1, 0, b"") == (24, 128, true));
+    wide = section();
+    wide.sh_name = 1 << 32;
+    assert!(rt; puts_section(&wide, 2, 0, b"") == (24, 168, true));
+}
+
+#[test]
+fn refuses_sections_that_are_not_there(rt: HostRuntime) {
+    let (mut file, mut why) = (*FILE, unread());
+    let mut past = header();
+    past.e_shnum = 4;
+    let status = goblin_put_section(&mut file, &past, 0, &section(), &mut why);
+    assert!(rt; status == 4 && why.offset == 88 && has_at(&file, 0, b"", FILE));
+}
+
+fn segment() -> GoblinSegment {
+    GoblinSegment {
+        file: range(0x0102, 0x0304),
+        p_vaddr: 0x0506,
+        p_paddr: 0x0708,
+        p_memsz: 0x090a,
+        p_align: 0x0b0c,
+        p_type: 0x0d0e,
+        p_flags: 0x0f10,
+    }
+}
+
+// The segment in big endian, of the 64-bit class.
+static SEGMENT: &[u8; 56] = b"\0\0\x0d\x0e\0\0\x0f\x10\0\0\0\0\0\0\x01\x02\0\0\0\0\0\0\x05\x06\0\0\0\0\0\0\x07\x08\
+    \0\0\0\0\0\0\x03\x04\0\0\0\0\0\0\x09\x0a\0\0\0\0\0\0\x0b\x0c";
+
+fn puts_segment(s: &GoblinSegment, class: u8, index: u64) -> (u32, bool, bool) {
+    let (mut file, mut why) = (*FILE, unread());
+    let mut header = names(class, 2);
+    (header.e_phoff, header.e_phnum) = (8, 2);
+    let status = goblin_put_segment(&mut file, &header, index, s, &mut why);
+    (status, has_at(&file, 64, SEGMENT, FILE), has_at(&file, 0, b"", FILE))
+}
+
+#[test]
+fn puts_segments(rt: HostRuntime) {
+    assert!(rt; puts_segment(&segment(), 2, 1) == (0, true, false));
+    assert!(rt; puts_segment(&segment(), 2, 2) == (1, false, true));
+    let mut wide = segment();
+    wide.p_align = u64::MAX;
+    assert!(rt; puts_segment(&wide, 2, 0).0 == 0);
+    assert!(rt; puts_segment(&wide, 1, 0) == (24, false, true));
+}
+
+fn symbol() -> GoblinSymbol {
+    GoblinSymbol {
+        st_name: 2,
+        st_value: 0x2030_4050,
+        st_size: 7,
+        st_shndx: 0xfff1,
+        st_info: 0x21,
+        st_other: 3,
+    }
+}
+
+fn puts_symbol(s: &GoblinSymbol, index: u64, offset: usize, own: &[u8]) -> (u32, bool) {
+    let (mut file, mut why) = (*FILE, unread());
+    let status = goblin_put_symbol(&mut file, &header(), &SYMBOLS, index, s, &mut why);
+    (status, has_at(&file, offset, own, FILE))
+}
+
+#[test]
+fn puts_symbols(rt: HostRuntime) {
+    let own = b"\x02\0\0\0\x50\x40\x30\x20\x07\0\0\0\x21\x03\xf1\xff";
+    assert!(rt; puts_symbol(&symbol(), 1, 72, own) == (0, true));
+    assert!(rt; puts_symbol(&symbol(), 2, 0, b"") == (1, true));
+    let mut wide = symbol();
+    wide.st_shndx = 0x1_0000;
+    assert!(rt; puts_symbol(&wide, 1, 0, b"") == (24, true));
+    wide = symbol();
+    wide.st_value = 1 << 32;
+    assert!(rt; puts_symbol(&wide, 0, 0, b"") == (24, true));
+}
+
+fn reloc(r_sym: u64, r_type: u32, r_addend: i64, has_addend: u32) -> GoblinReloc {
+    GoblinReloc {
+        r_offset: 16,
+        r_sym,
+        r_addend,
+        r_type,
+        has_addend,
+    }
+}
+
+static NOTHING: &[u8; 48] = &[0; 48];
+
+// Puts a relocation at index 1 of 48 bytes. Returns the status, and whether the bytes then are these at an offset.
+fn puts_reloc(
+    h: &GoblinHeader,
+    is_rela: bool,
+    r: &GoblinReloc,
+    offset: usize,
+    own: &[u8],
+) -> (u32, bool) {
+    let (mut file, mut why) = (*NOTHING, unread());
+    let status = goblin_put_reloc(&mut file, h, &range(0, 48), is_rela, 1, r, &mut why);
+    (status, has_at(&file, offset, own, NOTHING))
+}
+
+#[test]
+fn puts_relocations(rt: HostRuntime) {
+    let own = b"\x10\0\0\0\x01\x02\0\0\xfc\xff\xff\xff";
+    assert!(rt; puts_reloc(&names(1, 1), true, &reloc(2, 1, -4, 1), 12, own) == (0, true));
+    assert!(rt; puts_reloc(&names(1, 1), false, &reloc(2, 1, 0, 0), 8, &own[..8]) == (0, true));
+    let wide = b"\0\0\0\0\0\0\0\x10\0\0\0\x02\0\0\x01\x01\xff\xff\xff\xff\xff\xff\xff\xfc";
+    assert!(rt; puts_reloc(&names(2, 2), true, &reloc(2, 0x101, -4, 1), 24, wide) == (0, true));
+    assert!(rt; puts_reloc(&names(1, 1), true, &reloc(2, 0x101, -4, 1), 0, b"") == (24, true));
+    assert!(rt; puts_reloc(&names(1, 1), true, &reloc(2, 1, 1 << 31, 1), 0, b"") == (24, true));
+}
+
+#[test]
+fn refuses_addends_that_do_not_agree(rt: HostRuntime) {
+    assert!(rt; puts_reloc(&names(1, 1), true, &reloc(2, 1, 0, 0), 0, b"") == (24, true));
+    assert!(rt; puts_reloc(&names(1, 1), false, &reloc(2, 1, 0, 1), 0, b"") == (24, true));
+    assert!(rt; puts_reloc(&names(1, 1), false, &reloc(2, 1, 5, 0), 0, b"") == (24, true));
+    assert!(rt; puts_reloc(&names(1, 1), true, &reloc(2, 1, 0, 2), 0, b"") == (24, true));
+}
+
+// Of little-endian MIPS64: the symbol, then the type with its bytes in the other order.
+#[test]
+fn puts_pairs_of_mips64(rt: HostRuntime) {
+    let mut mips = names(2, 1);
+    mips.e_machine = 8;
+    let own = b"\x10\0\0\0\0\0\0\0\x02\0\0\0\x04\x03\x02\x01";
+    assert!(rt; puts_reloc(&mips, false, &reloc(2, 0x0403_0201, 0, 0), 16, own) == (0, true));
+    assert!(rt; puts_reloc(&mips, false, &reloc(1 << 32, 1, 0, 0), 0, b"") == (24, true));
+}
+
+fn puts_number(order: u8, offset: u64, width: u64, value: u64) -> (u32, [u8; 4]) {
+    let (mut bytes, mut why) = (*b"....", unread());
+    let header = names(1, order);
+    let status = goblin_put_number(&mut bytes, &header, offset, width, value, &mut why);
+    (status, bytes)
+}
+
+#[test]
+fn puts_numbers(rt: HostRuntime) {
+    assert!(rt; puts_number(1, 1, 2, 0x4142) == (0, *b".BA."));
+    assert!(rt; puts_number(2, 1, 2, 0x4142) == (0, *b".AB."));
+    assert!(rt; puts_number(2, 0, 4, 0x4142_4344) == (0, *b"ABCD"));
+    assert!(rt; puts_number(1, 3, 1, 0x41) == (0, *b"...A"));
+    assert!(rt; puts_number(1, 0, 3, 1) == (1, *b"...."));
+    assert!(rt; puts_number(1, 0, 1, 0x100) == (24, *b"...."));
+    assert!(rt; puts_number(1, 0, 2, 0x1_0000) == (24, *b"...."));
+    assert!(rt; puts_number(1, 0, 4, 1 << 32) == (24, *b"...."));
+    assert!(rt; puts_number(1, 1, 4, 0) == (3, *b"...."));
+    assert!(rt; puts_number(1, 4, 1, 0) == (4, *b"...."));
+}
+
+fn are(bytes: &[u8], own: &[u8]) -> bool {
+    bytes == own
+}
+
+// Puts a header over bytes that are all 0xaa. Returns the status.
+fn puts_header(h: &GoblinHeader, bytes: &mut [u8]) -> u32 {
+    goblin_put_header(bytes, h, &mut unread())
+}
+
+#[test]
+fn puts_headers(rt: HostRuntime) {
+    let mut bytes = [0xaa; 53];
+    let mut own = header();
+    (own.ei_osabi, own.ei_abiversion, own.ei_data, own.e_entry) = (3, 4, 2, 0x1234_5678);
+    assert!(rt; puts_header(&own, &mut bytes) == 0);
+    assert!(rt; are(&bytes[..9], b"\x7fELF\x01\x02\x01\x03\x04"));
+    assert!(rt; are(&bytes[9..16], b"\xaa\xaa\xaa\xaa\xaa\xaa\xaa"));
+    assert!(rt; are(&bytes[16..28], b"\0\x03\0\0\0\0\0\x01\x12\x34\x56\x78"));
+    assert!(rt; are(&bytes[28..40], b"\0\0\0\0\0\0\0\x58\0\0\0\0"));
+    assert!(rt; are(&bytes[40..53], b"\0\x34\0\x20\0\0\0\x28\0\x03\0\0\xaa"));
+}
+
+fn refuses_header(class: u8, order: u8, len: usize, entry: u64) -> (u32, bool) {
+    let mut bytes = [0xaa; 64];
+    let mut own = header();
+    (own.ei_class, own.ei_data, own.e_entry) = (class, order, entry);
+    let status = puts_header(&own, &mut bytes[..len.min(64)]);
+    (status, bytes.iter().all(|byte| *byte == 0xaa))
+}
+
+#[test]
+fn refuses_headers_that_are_put(rt: HostRuntime) {
+    assert!(rt; refuses_header(3, 3, 0, 0) == (10, true));
+    assert!(rt; refuses_header(1, 3, 0, 0) == (15, true) && refuses_header(2, 0, 64, 0) == (15, true));
+    assert!(rt; refuses_header(2, 1, 63, 0) == (3, true) && refuses_header(1, 1, 0, 0) == (4, true));
+    assert!(rt; refuses_header(1, 1, 52, 1 << 32) == (24, true));
+    assert!(rt; refuses_header(2, 1, 64, 1 << 32) == (0, false));
+}
+
+// The whole part of a header by a file's first bytes: `e_shoff`, `e_shnum` and `e_phnum`.
+fn whole(len: usize, h: &GoblinHeader) -> (u64, u16, u16) {
+    let mut part = marked_layout().header;
+    goblin_whole_header(&FILE[..len.min(208)], h, &mut part);
+    (part.e_shoff, part.e_shnum, part.e_phnum)
+}
+
+#[test]
+fn counts_whole_headers(rt: HostRuntime) {
+    let mut own = header();
+    assert!(rt; whole(208, &own) == (88, 3, 0) && whole(207, &own) == (88, 2, 0));
+    assert!(rt; whole(127, &own) == (0, 0, 0));
+    own.e_shnum = 0;
+    assert!(rt; whole(208, &own) == (88, 0, 0));
+    (own.e_phoff, own.e_phnum) = (52, 5);
+    assert!(rt; whole(208, &own).2 == 4 && whole(147, &own).2 == 2);
+    own.e_phnum = 0xffff;
+    assert!(rt; whole(208, &own).2 == 0xffff && whole(100, &own) == (0, 0, 1));
+    own.e_shoff = 0;
+    assert!(rt; whole(208, &own) == (0, 0, 4));
+}
+
+// The number of segments by section 0, whose `sh_info` is 2 here.
+fn segments(count: u16, sections: u64) -> (u32, u64, u64) {
+    let mut own = header();
+    (own.e_phoff, own.e_phnum, own.e_shoff) = (52, count, sections);
+    let file = changed(88 + 28, 2);
+    let (status, found, why) = called!(goblin_segment_count(&file, &own), 9);
+    (status, found, why.offset)
+}
+
+#[test]
+fn counts_segments_by_section_0(rt: HostRuntime) {
+    assert!(rt; segments(0xffff, 88) == (0, 2, MARK) && segments(3, 88) == (0, 3, MARK));
+    assert!(rt; segments(0xffff, 169) == (3, 9, 169) && segments(0xffff, 209) == (4, 9, 209));
+    assert!(rt; segments(0xffff, 0) == (6, 9, 52));
+}

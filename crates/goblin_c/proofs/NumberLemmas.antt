@@ -1,0 +1,87 @@
+-- Numbers and headers that are put are read again.
+use Rattle.std.proofs.Common.{◌≡◌, ◌≤◌, ◌<◌, ◌+◌, ◌^◌, ◌%◌, ℕ, Bool, true, false, List, ◌++◌, length, take, drop, Option}
+use Rattle.std.proofs.Common.{Some, None, Result, Ok, Err, if◌then◌else◌, refl, sym, ap, subst, ◌∙◌, arith}
+use Rattle.std.proofs.Math.Nat.{mod-eq_of_lt}
+use Rattle.goblin_base.specs.declared.container.Endian.{Endian}
+use Rattle.goblin_base.specs.FieldLaws.{number_at-lt, number_at-with_number}
+use Rattle.goblin_base.specs.Number.{IsBytes, number_at, spelled}
+use Rattle.goblin_base.specs.NumberLaws.{length-spelled, spelled-number}
+use Rattle.goblin_base.specs.Place.{with_number}
+use Rattle.goblin_base.specs.RecordLaws.{fits-room_of, room_of_fits}
+use Rattle.goblin_c.specs.Bytes.{is_width, number_expected}
+use Rattle.goblin_c.specs.Expected.{ctx_of}
+use Rattle.goblin_c.specs.Refused.{RefusalAt}
+use Rattle.goblin_c.specs.Write.{NumberFits, number_put_expected, put_if, put_if_there, with_bytes}
+use Rattle.goblin_c.specs.WriteLaws.{ChangesOnly, NumbersArePut}
+use Rattle.goblin_c.specs.declared.types.GoblinHeader.{GoblinHeader}
+use Rattle.goblin_c.proofs.PutLemmas.{IsBytes_part, others_stay, own_length, put_found, rewritten}
+
+-- a number that is read has a width, and lies in the file
+read_there : (bytes : List ℕ) (h : GoblinHeader) (offset width value : ℕ)
+    → number_expected bytes h offset width ≡ Ok (Some value)
+    → (is_width width ≡ true) × (offset + width ≤ length bytes)
+    × (value ≡ number_at (ctx_of h).le bytes offset width)
+read_there bytes h offset width value is = grind (arith, fits-room_of (length bytes) offset width)
+
+-- and so it is read where both hold
+read_of : (bytes : List ℕ) (h : GoblinHeader) (offset width : ℕ)
+    → is_width width ≡ true → offset + width ≤ length bytes
+    → number_expected bytes h offset width ≡ Ok (Some (number_at (ctx_of h).le bytes offset width))
+read_of bytes h offset width is room = rw (is, room_of_fits (length bytes) offset width room) refl
+
+-- the bytes of a number are written over those at its offset
+with_number-is : (order : Endian) (bytes : List ℕ) (offset width value : ℕ)
+    → with_number order bytes offset width value ≡ with_bytes bytes offset (spelled order width value)
+unfolding with_number
+with_number-is order bytes offset width value =
+    ap (λ (n : ℕ). take offset bytes ++ spelled order width value ++ drop (offset + n) bytes)
+    (sym (length-spelled order width value))
+
+number_stays : (order : Endian) (bytes : List ℕ) (offset width value : ℕ)
+    → offset + width ≤ length bytes → ChangesOnly offset width bytes (with_number order bytes offset width value)
+number_stays order bytes offset width value room =
+    let own = spelled order width value in
+    let long = length-spelled order width value in
+    let stays = others_stay bytes offset own (omega (arith, room, long)) in
+    subst (λ (size : ℕ). ChangesOnly offset size bytes (with_number order bytes offset width value)) long
+    (subst (λ (xs : List ℕ). ChangesOnly offset (length own) bytes xs)
+    (sym (with_number-is order bytes offset width value)) stays)
+
+pub numbers_are_put : NumbersArePut
+numbers_are_put = record {
+  read = λ bytes new h offset width value fits put.
+      let order = (ctx_of h).le in
+      let put_bytes = with_number order bytes offset width value in
+      let found = put_found (number_expected bytes h offset width) true offset put_bytes new put in
+      let there = read_there bytes h offset width found.0 found.1 in
+      let stays = number_stays order bytes offset width value there.1 in
+      let room : offset + width ≤ length put_bytes = omega (arith, there.1, stays.same_length) in
+      let is : number_at order put_bytes offset width ≡ value =
+      number_at-with_number order bytes offset width value there.1 ∙ mod-eq_of_lt fits in
+      subst (λ (xs : List ℕ). number_expected xs h offset width ≡ Ok (Some value)) (sym found.2)
+      (read_of put_bytes h offset width there.0 room ∙ ap (λ (n : ℕ). Ok (Some n)) is);
+  one = λ bytes new h offset width value fits put.
+      let order = (ctx_of h).le in
+      let put_bytes = with_number order bytes offset width value in
+      let found = put_found (number_expected bytes h offset width) fits offset put_bytes new put in
+      let there = read_there bytes h offset width found.0 found.1 in
+      subst (λ (xs : List ℕ). ChangesOnly offset width bytes xs) (sym found.2)
+      (number_stays order bytes offset width value there.1);
+  back = λ bytes h offset width value are found.
+      let order = (ctx_of h).le in
+      let there = read_there bytes h offset width value found in
+      let own = take width (drop offset bytes) in
+      let long = own_length bytes offset width there.1 in
+      let below : value < 256 ^ width = (
+      let small = number_at-lt order bytes offset width are there.1 in omega (arith, small, there.2)) in
+      let same : spelled order width value ≡ own =
+      ap (spelled order width) there.2
+      ∙ ap (λ (n : ℕ). spelled order n (number_at order bytes offset width)) (sym long)
+      ∙ spelled-number order own (IsBytes_part bytes offset width are) in
+      (
+        below,
+        rw found (ap (λ (xs : List ℕ). Ok (Some xs))
+            (with_number-is order bytes offset width value ∙ ap (with_bytes bytes offset) same
+            ∙ rewritten bytes offset width there.1)),
+      );
+}

@@ -1,0 +1,275 @@
+-- What is put is read again, and no other byte changes.
+--
+-- The item that a call stores is read from the bytes at its place (`found_at`). After a put these are the record's image
+-- (`own_bytes`), which is read as the record. The call finds one there if the list has as many items as before
+-- (`still_there`).
+use Rattle.std.proofs.Common.{◌≡◌, ◌≤◌, ◌<◌, ◌+◌, ◌-◌, ◌*◌, ℕ, Bool, true, false, nat_le, List, ◌++◌, length, take}
+use Rattle.std.proofs.Common.{drop, get_or, map, slice_get, Option, Some, None, Result, Ok, Err, if◌then◌else◌, refl, sym, ap, subst, inl, inr}
+use Rattle.std.proofs.Common.{◌∙◌, arith, append_assoc, length-append, length-drop}
+use Rattle.std.proofs.Math.Seq.{take-append_seam}
+use Rattle.std.proofs.lemmas.List.{drop-drop, drop_at, get_or-drop, get_or-take, get_or_past, length-take}
+use Rattle.std.proofs.lemmas.List.{length-take-le, take-append-drop, take_all}
+use Rattle.std.proofs.lemmas.Bool.{cases_lt}
+use Rattle.std.proofs.lemmas.Option.{slice_get-get_or, slice_get_within}
+use Rattle.goblin_base.specs.Layout.{IsRecord, Layout}
+use Rattle.goblin_base.specs.Number.{IsBytes}
+use Rattle.goblin_base.specs.Steps.{◌>>=◌}
+use Rattle.goblin_c.specs.Expected.{count_of, each_converted, item_of}
+use Rattle.goblin_c.specs.Refused.{RefusalAt}
+use Rattle.goblin_c.specs.Write.{put_at, put_if, put_if_there, with_bytes}
+use Rattle.goblin_c.specs.Write.{reloc_ctx, reloc_layout, reloc_of, section_layout, section_of, segment_layout}
+use Rattle.goblin_c.specs.Write.{segment_of, symbol_layout, symbol_of}
+use Rattle.goblin_c.specs.WriteLaws.{ChangesOnly, PutsAreRead, PutsChangeOne, ReadsArePut}
+use Rattle.goblin_c.proofs.FitLemmas.{section_fits, segment_fits, symbol_fits}
+use Rattle.goblin.specs.declared.elf.program_header.ProgramHeader.{ProgramHeader}
+use Rattle.goblin.specs.declared.elf.reloc.Reloc.{Reloc}
+use Rattle.goblin.specs.declared.elf.section_header.SectionHeader.{SectionHeader}
+use Rattle.goblin.specs.declared.elf.sym.Sym.{Sym}
+use Rattle.std.specs.Prelude.{ℤ}
+use Rattle.goblin_c.specs.Types.{reloc_converted, section_converted, segment_converted, symbol_converted}
+use Rattle.goblin_c.specs.declared.types.GoblinReloc.{GoblinReloc}
+use Rattle.goblin_c.specs.Expected.{ctx_of, relocs_expected, sections_expected, segments_expected, symbols_expected}
+use Rattle.goblin_c.proofs.ReadLemmas.{Lists, found_at, lists_relocs, lists_sections, lists_segments, lists_symbols}
+use Rattle.goblin_headers.specs.ProgramHeaderLaws.{program_header_laws}
+use Rattle.goblin_headers.specs.SectionHeaderLaws.{section_header_laws}
+use Rattle.goblin_records.specs.RelocLaws.{reloc_laws_in}
+use Rattle.goblin_records.specs.SymLaws.{sym_laws}
+
+-- the front of a list
+take_at : (front rest : List ℕ) (n : ℕ) → length front ≡ n → take n (front ++ rest) ≡ front
+take_at front rest n long =
+    ap (λ (k : ℕ). take k (front ++ rest)) (sym long) ∙ take-append_seam front rest
+
+-- the bytes after some were written over them at an offset
+module _ (bytes : List ℕ) (place : ℕ) (own : List ℕ) where
+  front_is : place + length own ≤ length bytes → length (take place bytes) ≡ place
+  front_is room = length-take-le place bytes (omega (arith, room))
+
+  -- there they are
+  pub own_bytes : place + length own ≤ length bytes → take (length own) (drop place (with_bytes bytes place own)) ≡ own
+  own_bytes room =
+      let rest = drop (place + length own) bytes in
+      let whole : with_bytes bytes place own ≡ take place bytes ++ (own ++ rest) =
+      append_assoc (take place bytes) own rest in
+      ap (λ (xs : List ℕ). take (length own) (drop place xs)) whole
+      ∙ ap (take (length own)) (drop_at (take place bytes) (own ++ rest) place (front_is room))
+      ∙ take_at own rest (length own) refl
+
+  pub others_stay : place + length own ≤ length bytes
+      → ChangesOnly place (length own) bytes (with_bytes bytes place own)
+  others_stay room =
+      let front = take place bytes in
+      let rest = drop (place + length own) bytes in
+      let long = front_is room in
+      let start : length (front ++ own) ≡ place + length own = omega (arith, length-append front own) in
+      record {
+        same_length = omega (arith, length-append (front ++ own) rest, start, length-drop (place + length own) bytes);
+        before = ap (take place) (append_assoc front own rest) ∙ take_at front (own ++ rest) place long;
+        after = drop_at (front ++ own) rest (place + length own) start;
+      }
+
+-- so many bytes at an offset
+pub own_length : (bytes : List ℕ) (place size : ℕ)
+    → place + size ≤ length bytes → length (take size (drop place bytes)) ≡ size
+own_length bytes place size room = length-take-le size (drop place bytes) (omega (arith, room, length-drop place bytes))
+
+pub IsBytes_part : (bytes : List ℕ) (place size : ℕ) → IsBytes bytes → IsBytes (take size (drop place bytes))
+IsBytes_part bytes place size are i =
+    elim (cases_lt i size) [
+      | inl p ↦ rw (get_or-take size (drop place bytes) i 0, get_or-drop place bytes i 0) (are (place + i))
+      | inr p ↦ let q : length (take size (drop place bytes)) ≤ i = omega (arith, length-take size (drop place bytes)) in
+          rw (get_or_past (take size (drop place bytes)) i 0) (omega arith)
+    ]
+
+-- written over themselves they don't change
+pub rewritten : (bytes : List ℕ) (place size : ℕ)
+    → place + size ≤ length bytes → with_bytes bytes place (take size (drop place bytes)) ≡ bytes
+rewritten bytes place size room =
+    let own = take size (drop place bytes) in
+    let long = own_length bytes place size room in
+    ap (λ (n : ℕ). take place bytes ++ own ++ drop (place + n) bytes) long
+    ∙ append_assoc (take place bytes) own (drop (place + size) bytes)
+    ∙ ap (λ (xs : List ℕ). take place bytes ++ (own ++ xs)) (sym (drop-drop size place bytes))
+    ∙ ap (λ (xs : List ℕ). take place bytes ++ xs) (take-append-drop size (drop place bytes))
+    ∙ take-append-drop place bytes
+
+-- what is put was found, and fits
+pub put_found : {Y : Type 0} (found : Result (Option Y) RefusalAt) (fits : Bool) (place : ℕ) (put new : List ℕ)
+    → put_if_there found (put_if fits place put) ≡ Ok (Some new)
+    → (y : Y) × (found ≡ Ok (Some y)) × (new ≡ put)
+put_found (Ok (Some y)) true place put new is = (y, refl, cc)
+put_found (Ok (Some y)) false place put new is = absurd (cc)
+put_found (Ok None) fits place put new is = absurd (cc)
+put_found (Err e) fits place put new is = absurd (cc)
+
+-- a list of as many items has one at the same index
+there_in : {X : Type 0} (items others : List X) (index : ℕ) (x : X)
+    → length others ≡ length items → slice_get items index ≡ Some x → (y : X) × (slice_get others index ≡ Some y)
+there_in items others index x same found =
+    let inside : index < length items = slice_get_within items index x found in
+    (get_or others index x, slice_get-get_or others index x (omega (arith, inside, same)))
+
+still_there : {X : Type 0} (items others : Result (List X) RefusalAt) (index : ℕ) (x : X)
+    → count_of others ≡ count_of items → item_of items index ≡ Ok (Some x)
+    → (y : X) × (item_of others index ≡ Ok (Some y))
+still_there (Ok items) (Ok others) index x same found =
+    let long : length others ≡ length items = cc in
+    let own : slice_get items index ≡ Some x = cc in
+    let there = there_in items others index x long own in
+    (there.0, ap Ok there.1)
+still_there (Ok items) (Err e) index x same found = absurd (cc)
+still_there (Err e) others index x same found = absurd (cc)
+
+-- records of a layout that a call reads, and their places
+module _ {R Y : Type 0} (l : Layout R) (laws : IsRecord l) (convert : R → Y) (start index : ℕ)
+    (list : List ℕ → Result (List R) RefusalAt) (lists : (bytes : List ℕ) → Lists l.size l.read bytes start (list bytes)) where
+  -- such a call stores what was put
+  pub put_is_read : (bytes new : List ℕ) (x : R)
+      → l.Fits x
+      → put_if_there (item_of (each_converted convert (list bytes)) index) (put_at l bytes start index x true)
+      ≡ Ok (Some new)
+      → count_of (each_converted convert (list new)) ≡ count_of (each_converted convert (list bytes))
+      → item_of (each_converted convert (list new)) index ≡ Ok (Some (convert x))
+  put_is_read bytes new x fits put same =
+      let place = start + index * l.size in
+      let image = l.image x in
+      let found = put_found (item_of (each_converted convert (list bytes)) index) true place
+      (with_bytes bytes place image) new put in
+      let room = (found_at convert l.size l.read bytes start index (list bytes) found.0 (lists bytes) found.1).0 in
+      let long = laws.length_image x in
+      let there = still_there (each_converted convert (list bytes)) (each_converted convert (list new)) index found.0
+      same found.1 in
+      let read = found_at convert l.size l.read new start index (list new) there.0 (lists new) there.1 in
+      let own = own_bytes bytes place image (omega (arith, room, long)) in
+      let bytes_are : take l.size (drop place new) ≡ image =
+      ap (λ (xs : List ℕ). take l.size (drop place xs)) found.2
+      ∙ ap (λ (n : ℕ). take n (drop place (with_bytes bytes place image))) (sym long) ∙ own in
+      there.1 ∙ ap (λ (y : Y). Ok (Some y))
+      (read.1 ∙ ap (λ (xs : List ℕ). convert (l.read xs)) bytes_are ∙ ap convert (laws.reads_back x fits))
+
+  pub put_changes_one : (bytes new : List ℕ) (x : R) (fits : Bool)
+      → put_if_there (item_of (each_converted convert (list bytes)) index) (put_at l bytes start index x fits)
+      ≡ Ok (Some new)
+      → ChangesOnly (start + index * l.size) l.size bytes new
+  put_changes_one bytes new x fits put =
+      let place = start + index * l.size in
+      let image = l.image x in
+      let found = put_found (item_of (each_converted convert (list bytes)) index) fits place
+      (with_bytes bytes place image) new put in
+      let room = (found_at convert l.size l.read bytes start index (list bytes) found.0 (lists bytes) found.1).0 in
+      let long = laws.length_image x in
+      let own = others_stay bytes place image (omega (arith, room, long)) in
+      subst (λ (size : ℕ). ChangesOnly place size bytes new) long
+      (subst (λ (xs : List ℕ). ChangesOnly place (length image) bytes xs) (sym found.2) own)
+
+  -- what such a call stores is put without a change, and fits if what is read does
+  pub read_is_put : (back : Y → R) (bytes : List ℕ) (y : Y)
+      → ((x : R) → back (convert x) ≡ x) → IsBytes bytes
+      → item_of (each_converted convert (list bytes)) index ≡ Ok (Some y)
+      → put_if_there (item_of (each_converted convert (list bytes)) index) (put_at l bytes start index (back y) true)
+      ≡ Ok (Some bytes)
+  read_is_put back bytes y same are found =
+      let place = start + index * l.size in
+      let read = found_at convert l.size l.read bytes start index (list bytes) y (lists bytes) found in
+      let own = take l.size (drop place bytes) in
+      let long : length own ≡ l.size = own_length bytes place l.size read.0 in
+      let record_is : back y ≡ l.read own = ap back read.1 ∙ same (l.read own) in
+      let image_is : l.image (back y) ≡ own =
+      ap l.image record_is ∙ laws.writes_back own (IsBytes_part bytes place l.size are) (omega (arith, long))
+      ∙ take_all l.size own (omega (arith, long)) in
+      rw found (ap (λ (xs : List ℕ). Ok (Some xs))
+      (ap (with_bytes bytes place) image_is ∙ rewritten bytes place l.size read.0))
+
+  pub read_fits : (bytes : List ℕ) (y : Y) (back : Y → R)
+      → ((x : R) → back (convert x) ≡ x) → IsBytes bytes
+      → ((own : List ℕ) → IsBytes own → l.size ≤ length own → l.Fits (l.read own))
+      → item_of (each_converted convert (list bytes)) index ≡ Ok (Some y) → l.Fits (back y)
+  read_fits bytes y back same are fit found =
+      let place = start + index * l.size in
+      let read = found_at convert l.size l.read bytes start index (list bytes) y (lists bytes) found in
+      let own = take l.size (drop place bytes) in
+      let long : length own ≡ l.size = own_length bytes place l.size read.0 in
+      let record_is : l.read own ≡ back y = sym (ap back read.1 ∙ same (l.read own)) in
+      let P : R → Type 0 = l.Fits in
+      subst P record_is (fit own (IsBytes_part bytes place l.size are) (omega (arith, long)))
+
+section_back : (x : SectionHeader) → section_of (section_converted x) ≡ x
+section_back x = refl
+
+segment_back : (x : ProgramHeader) → segment_of (segment_converted x) ≡ x
+segment_back x = refl
+
+symbol_back : (x : Sym) → symbol_of (symbol_converted x) ≡ x
+symbol_back x = refl
+
+addend_back : (offset symbol typ : ℕ) (addend : Option ℤ)
+    → let x : Reloc = record { r_offset = offset; r_addend = addend; r_sym = symbol; r_type = typ } in
+    reloc_of (reloc_converted x) ≡ x
+addend_back offset symbol typ None = refl
+addend_back offset symbol typ (Some addend) = refl
+
+reloc_back : (x : Reloc) → reloc_of (reloc_converted x) ≡ x
+reloc_back x = addend_back x.r_offset x.r_sym x.r_type x.r_addend
+
+pub reads_are_put : ReadsArePut
+reads_are_put = record {
+  section = λ bytes h index s are found. (
+    read_fits (section_layout h) (section_header_laws (ctx_of h).container (ctx_of h).le) section_converted h.e_shoff
+        index (λ xs. sections_expected xs h) (λ xs. lists_sections xs h) bytes s section_of section_back are
+        (section_fits (ctx_of h).container (ctx_of h).le) found,
+    read_is_put (section_layout h) (section_header_laws (ctx_of h).container (ctx_of h).le) section_converted h.e_shoff
+        index (λ xs. sections_expected xs h) (λ xs. lists_sections xs h) section_of bytes s section_back are found,
+  );
+  segment = λ bytes h index s are found. (
+    read_fits (segment_layout h) (program_header_laws (ctx_of h).container (ctx_of h).le) segment_converted h.e_phoff
+        index (λ xs. segments_expected xs h) (λ xs. lists_segments xs h) bytes s segment_of segment_back are
+        (segment_fits (ctx_of h).container (ctx_of h).le) found,
+    read_is_put (segment_layout h) (program_header_laws (ctx_of h).container (ctx_of h).le) segment_converted h.e_phoff
+        index (λ xs. segments_expected xs h) (λ xs. lists_segments xs h) segment_of bytes s segment_back are found,
+  );
+  symbol = λ bytes h table index s are found. (
+    read_fits (symbol_layout h) (sym_laws (ctx_of h).container (ctx_of h).le) symbol_converted table.offset index
+        (λ xs. symbols_expected xs h table) (λ xs. lists_symbols xs h table) bytes s symbol_of symbol_back are
+        (symbol_fits (ctx_of h).container (ctx_of h).le) found,
+    read_is_put (symbol_layout h) (sym_laws (ctx_of h).container (ctx_of h).le) symbol_converted table.offset index
+        (λ xs. symbols_expected xs h table) (λ xs. lists_symbols xs h table) symbol_of bytes s symbol_back are found,
+  );
+  reloc = λ bytes h table is_rela index r are found.
+      read_is_put (reloc_layout h is_rela) (reloc_laws_in (reloc_ctx h is_rela)) reloc_converted table.offset index
+      (λ xs. relocs_expected xs h table is_rela) (λ xs. lists_relocs xs h table is_rela) reloc_of bytes r reloc_back
+      are found;
+}
+
+pub puts_are_read : PutsAreRead
+puts_are_read = record {
+  section = λ bytes new h index s fits put same.
+      put_is_read (section_layout h) (section_header_laws (ctx_of h).container (ctx_of h).le) section_converted h.e_shoff
+      index (λ xs. sections_expected xs h) (λ xs. lists_sections xs h) bytes new (section_of s) fits put same;
+  segment = λ bytes new h index s fits put same.
+      put_is_read (segment_layout h) (program_header_laws (ctx_of h).container (ctx_of h).le) segment_converted h.e_phoff
+      index (λ xs. segments_expected xs h) (λ xs. lists_segments xs h) bytes new (segment_of s) fits put same;
+  symbol = λ bytes new h table index s fits put same.
+      put_is_read (symbol_layout h) (sym_laws (ctx_of h).container (ctx_of h).le) symbol_converted table.offset index
+      (λ xs. symbols_expected xs h table) (λ xs. lists_symbols xs h table) bytes new (symbol_of s) fits put same;
+  reloc = λ bytes new h table is_rela index r fits put same.
+      put_is_read (reloc_layout h is_rela) (reloc_laws_in (reloc_ctx h is_rela)) reloc_converted table.offset index
+      (λ xs. relocs_expected xs h table is_rela) (λ xs. lists_relocs xs h table is_rela) bytes new (reloc_of r) fits.0
+      put same ∙ ap (λ (y : GoblinReloc). Ok (Some y)) fits.1;
+}
+
+pub puts_change_one : PutsChangeOne
+puts_change_one = record {
+  section = λ bytes new h index s fits put.
+      put_changes_one (section_layout h) (section_header_laws (ctx_of h).container (ctx_of h).le) section_converted
+      h.e_shoff index (λ xs. sections_expected xs h) (λ xs. lists_sections xs h) bytes new (section_of s) fits put;
+  segment = λ bytes new h index s fits put.
+      put_changes_one (segment_layout h) (program_header_laws (ctx_of h).container (ctx_of h).le) segment_converted
+      h.e_phoff index (λ xs. segments_expected xs h) (λ xs. lists_segments xs h) bytes new (segment_of s) fits put;
+  symbol = λ bytes new h table index s fits put.
+      put_changes_one (symbol_layout h) (sym_laws (ctx_of h).container (ctx_of h).le) symbol_converted table.offset
+      index (λ xs. symbols_expected xs h table) (λ xs. lists_symbols xs h table) bytes new (symbol_of s) fits put;
+  reloc = λ bytes new h table is_rela index r fits put.
+      put_changes_one (reloc_layout h is_rela) (reloc_laws_in (reloc_ctx h is_rela)) reloc_converted table.offset index
+      (λ xs. relocs_expected xs h table is_rela) (λ xs. lists_relocs xs h table is_rela) bytes new (reloc_of r) fits
+      put;
+}

@@ -1,0 +1,114 @@
+-- Puts: a record that is found is put at its place, in range, and the library's test decides whether it fits.
+use Rattle.std.proofs.Common.{◌≡◌, ◌≤◌, ◌<◌, ◌+◌, ◌*◌, ◌^◌, ◌⊎◌, ℕ, Bool, true, false, true≢false, List, [], ◌∷◌, ◌++◌, length, take, drop}
+use Rattle.std.proofs.Common.{IsTrue, map, Option, Some, None, Result, Ok, Err, if◌then◌else◌, inl, inr, refl, sym, ap, subst, ◌∙◌}
+use Rattle.std.proofs.Common.{arith}
+use Rattle.std.proofs.Math.Logic.{◌↔◌}
+use Rattle.std.proofs.lemmas.Bool.Decides.{nat_tests}
+use Rattle.std.proofs.lemmas.List.{drop-drop}
+use Rattle.goblin_base.specs.Layout.{IsRecord, Layout}
+use Rattle.goblin_base.specs.RecordLaws.{fits-room_of}
+use Rattle.goblin_base.specs.Steps.{◌>>=◌, refuse_as}
+use Rattle.goblin_c.specs.Bytes.{number_expected}
+use Rattle.goblin_c.specs.Expected.{ctx_of, each_converted, item_of}
+use Rattle.goblin_c.specs.Refused.{Answers, RefusalAt, refusal_at, refused_at}
+use Rattle.goblin_c.specs.Status.{Stores, converted_list}
+use Rattle.goblin_c.specs.Types.{refusal_converted}
+use Rattle.goblin_c.specs.Write.{FitsClass, Puts, header_of, header_put_expected, named_ctx, put_if}
+use Rattle.goblin_base.specs.declared.container.Container.{Container}
+use Rattle.goblin_base.specs.declared.container.Container.TheVariants.{Little, Big}
+use Rattle.goblin_base.specs.declared.container.Ctx.{Ctx}
+use Rattle.goblin_base.specs.declared.error.Error.{Error}
+use Rattle.goblin_base.specs.Fields.{Field, FieldsFit}
+use Rattle.goblin_base.specs.Refusal.{refusal_of}
+use Rattle.goblin.specs.declared.elf.header.Header.{Header}
+use Rattle.goblin.specs.Header.{HeaderFits, as32, as64, header32_fields, header64_fields, header_image, header_size}
+use Rattle.std.proofs.lemmas.Bool.{cases_lt}
+use Rattle.goblin_c.specs.declared.refused.Refused.{Refused}
+use Rattle.goblin_c.specs.declared.types.GoblinHeader.{GoblinHeader}
+use Rattle.goblin_c.specs.declared.types.GoblinRefusal.{GoblinRefusal}
+use Rattle.goblin_c.proofs.ReadLemmas.{Lists, converted_is, expected_is, found_at}
+
+-- what is expected by the test is put, or refused, as the record fits
+pub puts_by : (Fits : Type 0) (expected : Bool → Result (Option (List ℕ)) RefusalAt) (fits : Bool)
+    (old : List ℕ) (was : GoblinRefusal) (status : ℕ) (new : List ℕ) (why : GoblinRefusal)
+    → IsTrue fits ↔ Fits → Stores (expected fits) old was status new why → Puts Fits expected old was status new why
+puts_by Fits expected true old was status new why decides stores = inl (decides.0 refl, stores)
+puts_by Fits expected false old was status new why decides stores =
+    inr (λ fits. true≢false (sym (decides.1 fits)), stores)
+
+-- an item that a call found in a list lies in the file
+pub room_for : {L R Y : Type 0} (convert : R → Y) (view : L → List R) (size : ℕ) (read : List ℕ → R)
+    (bytes : List ℕ) (start index : ℕ) (answer : Result L Refused) (expected : Result (List R) RefusalAt)
+    (found : Result (Option Y) Refused) (y : Y)
+    → Lists size read bytes start expected → Answers view answer expected
+    → Answers (λ x. x) found (item_of (converted_list (λ list. map convert (view list)) answer) index)
+    → found ≡ Ok (Some y)
+    → start + index * size + size ≤ length bytes
+room_for {Y = Y} convert view size read bytes start index answer expected found y lists is stored there =
+    let own = expected_is found (item_of (converted_list (λ list. map convert (view list)) answer) index) stored in
+    let same = ap (λ (list : Result (List Y) RefusalAt). item_of list index) (converted_is convert view answer expected is) in
+    (found_at convert size read bytes start index expected y lists
+    (sym same ∙ sym own ∙ ap (refuse_as refusal_at) there)).0
+
+-- a number that a call found lies in the file
+there_by : (bytes : List ℕ) (h : GoblinHeader) (offset width : ℕ) (value : ℕ)
+    → number_expected bytes h offset width ≡ Ok (Some value) → offset + width ≤ length bytes
+there_by bytes h offset width value is = grind (arith, fits-room_of (length bytes) offset width)
+
+pub number_there : (bytes : List ℕ) (h : GoblinHeader) (offset width value : ℕ) (answer : Result (Option ℕ) Refused)
+    → Answers (λ found. found) answer (number_expected bytes h offset width) → answer ≡ Ok (Some value)
+    → offset + width ≤ length bytes
+number_there bytes h offset width value answer is found =
+    there_by bytes h offset width value
+    (sym (expected_is answer (number_expected bytes h offset width) is) ∙ ap (refuse_as refusal_at) found)
+
+-- of two facts that hold or not, both hold or not
+both : (A B : Type 0) → A ⊎ (¬ A) → B ⊎ (¬ B) → (A × B) ⊎ (¬ (A × B))
+both A B (inl a) (inl b) = inl (a, b)
+both A B (inl a) (inr b) = inr (λ all. b all.1)
+both A B (inr a) b = inr (λ all. a all.0)
+
+below_by : (m n : ℕ) → (m < n) ⊎ (n ≤ m) → (m < n) ⊎ (¬ (m < n))
+below_by m n (inl below) = inl below
+below_by m n (inr past) = inr (λ below. omega (arith, past, below))
+
+-- fields fit, or not
+fields_decided : (fields : List Field) → FieldsFit fields ⊎ (¬ (FieldsFit fields))
+fields_decided [] = inl tt
+fields_decided (f ∷ fields) =
+    both (f.value < 256 ^ f.width) (FieldsFit fields)
+    (below_by f.value (256 ^ f.width) (cases_lt f.value (256 ^ f.width))) (fields_decided fields)
+
+header_decided : (class : Container) (h : Header) → HeaderFits class h ⊎ (¬ (HeaderFits class h))
+header_decided Little h = fields_decided (header32_fields (as32 h))
+header_decided Big h = fields_decided (header64_fields (as64 h))
+
+-- a header whose class, byte order or room is refused
+refused_first : {Y : Type 0} (answer : Result Ctx Error) (e : Error) (next : Ctx → Result Y RefusalAt)
+    → answer ≡ Err e
+    → (refused_at 0 (refuse_as refusal_of answer) >>= next) ≡ Err (record { refusal = refusal_of e; offset = 0 })
+refused_first (Ok ctx) e next is = absurd (cc)
+refused_first (Err d) e next is = let same : d ≡ e = cc in rw same refl
+
+either : (Fits : Type 0) (expected : Bool → Result (Option (List ℕ)) RefusalAt)
+    (old : List ℕ) (was : GoblinRefusal) (status : ℕ) (new : List ℕ) (why : GoblinRefusal)
+    → Fits ⊎ (¬ Fits) → ((fits : Bool) → Stores (expected fits) old was status new why)
+    → Puts Fits expected old was status new why
+either Fits expected old was status new why (inl fits) stores = inl (fits, stores true)
+either Fits expected old was status new why (inr unfit) stores = inr (unfit, stores false)
+
+pub header_refused : (bytes : List ℕ) (h : GoblinHeader) (e : Error) (was : GoblinRefusal) (status : ℕ)
+    (why : GoblinRefusal)
+    → named_ctx bytes h ≡ Err e
+    → status ≡ (refusal_converted (record { refusal = refusal_of e; offset = 0 })).kind
+    → why ≡ refusal_converted (record { refusal = refusal_of e; offset = 0 })
+    → Puts (FitsClass bytes h) (header_put_expected bytes h) bytes was status bytes why
+header_refused bytes h e was status why is kind stored =
+    let next = λ (fits : Bool) (ctx : Ctx).
+    put_if fits 0
+    (header_image ctx.container ctx.le (header_of bytes h) ++ drop (header_size ctx.container) bytes) in
+    let P : Result (Option (List ℕ)) RefusalAt → Type 0 = λ r. Stores r bytes was status bytes why in
+    let stores = λ (fits : Bool).
+    subst P (sym (refused_first (named_ctx bytes h) e (next fits) is)) (kind, refl, stored) in
+    either (FitsClass bytes h) (header_put_expected bytes h) bytes was status bytes why
+    (header_decided (ctx_of h).container (header_of bytes h)) stores

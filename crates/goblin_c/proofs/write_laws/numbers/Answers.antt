@@ -1,0 +1,5 @@
+use Rattle.goblin_c.proofs.NumberLemmas.{numbers_are_put}
+use Rattle.goblin_c.proofs.write_laws.numbers.Goals as goal
+
+pub returns : goal.returns
+returns c = numbers_are_put

@@ -1,0 +1,107 @@
+-- Laws of the calls that put: what is put is read again, what was read is put without a change, and no other byte
+-- changes.
+use Rattle.std.specs.Prelude.{◌≡◌, ◌≢◌, ◌+◌, ◌*◌, ℕ, true, Bool, List, length, take, drop, Some, Ok}
+use Rattle.goblin_base.specs.Number.{IsBytes}
+use Rattle.goblin_c.specs.Expected.{reloc_count_expected, reloc_expected, section_count_expected, section_expected}
+use Rattle.goblin_c.specs.Expected.{segment_count_expected, segment_expected, symbol_count_expected, symbol_expected}
+use Rattle.goblin_c.specs.Bytes.{number_expected}
+use Rattle.goblin_c.specs.Expected.{header_expected}
+use Rattle.goblin_c.specs.Write.{FitsClass, NumberFits, header_put_expected, number_put_expected}
+use Rattle.goblin_c.specs.Write.{RelocFits, SectionFits, SegmentFits, SymbolFits, reloc_layout, reloc_put_expected}
+use Rattle.goblin_c.specs.Write.{section_layout, section_put_expected, segment_layout, segment_put_expected}
+use Rattle.goblin_c.specs.Write.{symbol_layout, symbol_put_expected}
+use Rattle.goblin_c.specs.declared.types.GoblinHeader.{GoblinHeader}
+use Rattle.goblin_c.specs.declared.types.GoblinRange.{GoblinRange}
+use Rattle.goblin_c.specs.declared.types.GoblinReloc.{GoblinReloc}
+use Rattle.goblin_c.specs.declared.types.GoblinSection.{GoblinSection}
+use Rattle.goblin_c.specs.declared.types.GoblinSegment.{GoblinSegment}
+use Rattle.goblin_c.specs.declared.types.GoblinSymbol.{GoblinSymbol}
+
+-- a record that fits and was put is stored by the call that reads it, if the list has as many items as before
+pub record PutsAreRead : Type 0 where
+  pub section :
+      (bytes new : List ℕ) (h : GoblinHeader) (index : ℕ) (s : GoblinSection)
+      → SectionFits h s → section_put_expected bytes h index s true ≡ Ok (Some new)
+      → section_count_expected new h ≡ section_count_expected bytes h
+      → section_expected new h index ≡ Ok (Some s)
+  pub segment :
+      (bytes new : List ℕ) (h : GoblinHeader) (index : ℕ) (s : GoblinSegment)
+      → SegmentFits h s → segment_put_expected bytes h index s true ≡ Ok (Some new)
+      → segment_count_expected new h ≡ segment_count_expected bytes h
+      → segment_expected new h index ≡ Ok (Some s)
+  pub symbol :
+      (bytes new : List ℕ) (h : GoblinHeader) (table : GoblinRange) (index : ℕ) (s : GoblinSymbol)
+      → SymbolFits h s → symbol_put_expected bytes h table index s true ≡ Ok (Some new)
+      → symbol_count_expected new h table ≡ symbol_count_expected bytes h table
+      → symbol_expected new h table index ≡ Ok (Some s)
+  pub reloc :
+      (bytes new : List ℕ) (h : GoblinHeader) (table : GoblinRange) (is_rela : Bool) (index : ℕ) (r : GoblinReloc)
+      → RelocFits h is_rela r → reloc_put_expected bytes h table is_rela index r true ≡ Ok (Some new)
+      → reloc_count_expected new h table is_rela ≡ reloc_count_expected bytes h table is_rela
+      → reloc_expected new h table is_rela index ≡ Ok (Some r)
+
+-- the other bytes of a file stay, before so many bytes at an offset and after them
+pub record ChangesOnly (place size : ℕ) (old new : List ℕ) : Type 0 where
+  pub same_length : length new ≡ length old
+  pub before : take place new ≡ take place old
+  pub after : drop (place + size) new ≡ drop (place + size) old
+
+-- only the bytes of the record change
+pub record PutsChangeOne : Type 0 where
+  pub section :
+      (bytes new : List ℕ) (h : GoblinHeader) (index : ℕ) (s : GoblinSection) (fits : Bool)
+      → section_put_expected bytes h index s fits ≡ Ok (Some new)
+      → ChangesOnly (h.e_shoff + index * (section_layout h).size) (section_layout h).size bytes new
+  pub segment :
+      (bytes new : List ℕ) (h : GoblinHeader) (index : ℕ) (s : GoblinSegment) (fits : Bool)
+      → segment_put_expected bytes h index s fits ≡ Ok (Some new)
+      → ChangesOnly (h.e_phoff + index * (segment_layout h).size) (segment_layout h).size bytes new
+  pub symbol :
+      (bytes new : List ℕ) (h : GoblinHeader) (table : GoblinRange) (index : ℕ) (s : GoblinSymbol) (fits : Bool)
+      → symbol_put_expected bytes h table index s fits ≡ Ok (Some new)
+      → ChangesOnly (table.offset + index * (symbol_layout h).size) (symbol_layout h).size bytes new
+  pub reloc :
+      (bytes new : List ℕ) (h : GoblinHeader) (table : GoblinRange) (is_rela : Bool) (index : ℕ) (r : GoblinReloc)
+      (fits : Bool)
+      → reloc_put_expected bytes h table is_rela index r fits ≡ Ok (Some new)
+      → let size = (reloc_layout h is_rela).size in ChangesOnly (table.offset + index * size) size bytes new
+
+-- what the call that reads stores fits, and if it is put at its index, no byte changes; a relocation may be put back
+-- so, too
+pub record ReadsArePut : Type 0 where
+  pub section :
+      (bytes : List ℕ) (h : GoblinHeader) (index : ℕ) (s : GoblinSection)
+      → IsBytes bytes → section_expected bytes h index ≡ Ok (Some s)
+      → SectionFits h s × (section_put_expected bytes h index s true ≡ Ok (Some bytes))
+  pub segment :
+      (bytes : List ℕ) (h : GoblinHeader) (index : ℕ) (s : GoblinSegment)
+      → IsBytes bytes → segment_expected bytes h index ≡ Ok (Some s)
+      → SegmentFits h s × (segment_put_expected bytes h index s true ≡ Ok (Some bytes))
+  pub symbol :
+      (bytes : List ℕ) (h : GoblinHeader) (table : GoblinRange) (index : ℕ) (s : GoblinSymbol)
+      → IsBytes bytes → symbol_expected bytes h table index ≡ Ok (Some s)
+      → SymbolFits h s × (symbol_put_expected bytes h table index s true ≡ Ok (Some bytes))
+  pub reloc :
+      (bytes : List ℕ) (h : GoblinHeader) (table : GoblinRange) (is_rela : Bool) (index : ℕ) (r : GoblinReloc)
+      → IsBytes bytes → reloc_expected bytes h table is_rela index ≡ Ok (Some r)
+      → reloc_put_expected bytes h table is_rela index r true ≡ Ok (Some bytes)
+
+-- a number that fits its width and was put is read again, nothing else changes, and what was read is put without a change
+pub record NumbersArePut : Type 0 where
+  pub read :
+      (bytes new : List ℕ) (h : GoblinHeader) (offset width value : ℕ)
+      → NumberFits width value → number_put_expected bytes h offset width value true ≡ Ok (Some new)
+      → number_expected new h offset width ≡ Ok (Some value)
+  pub one :
+      (bytes new : List ℕ) (h : GoblinHeader) (offset width value : ℕ) (fits : Bool)
+      → number_put_expected bytes h offset width value fits ≡ Ok (Some new) → ChangesOnly offset width bytes new
+  pub back :
+      (bytes : List ℕ) (h : GoblinHeader) (offset width value : ℕ)
+      → IsBytes bytes → number_expected bytes h offset width ≡ Ok (Some value)
+      → NumberFits width value × (number_put_expected bytes h offset width value true ≡ Ok (Some bytes))
+
+-- a header that fits and was put is read again
+abbrev pub HeadersAreRead : Type 0
+HeadersAreRead =
+    (bytes new : List ℕ) (h : GoblinHeader)
+    → FitsClass bytes h → header_put_expected bytes h true ≡ Ok (Some new) → header_expected new ≡ Ok (Some h)
