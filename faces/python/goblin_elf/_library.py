@@ -154,7 +154,7 @@ class Finder:
 
     def __init__(self, name: str, file: File, strings: bytes) -> None:
         self.function = PREPARED[name]
-        self.fixed = (ctypes.c_void_p(file.address), ctypes.c_size_t(file.length), ctypes.c_char_p(strings))
+        self.fixed = (TYPES['p'].from_param(file.address), TYPES['z'].from_param(file.length), TYPES['p'].from_param(strings))
         self.source = file.source
         self.free: List[Tuple[Any, Any, Any, Any]] = []
 
@@ -183,11 +183,11 @@ class Finder:
         at, result, why, arguments = self.prepared()
         function, source = self.function, self.source
         strings: List[Optional[str]] = []
-        for offset in offsets:
-            at.value = offset
+        append = strings.append
+        for at.value in offsets:
             status = function(*arguments)
             if status > END:
                 raise refused(why)
             start, size = result
-            strings.append(None if status else str(source[start:start + size], 'utf-8', errors))
+            append(None if status else str(source[start:start + size], 'utf-8', errors))
         return strings

@@ -109,7 +109,8 @@ class Ours:
 
     def notes(self):
         holders = [s for s in self.elf.segments if s.p_type == 4] + [s for s in self.elf.sections if s.sh_type == SHT_NOTE]
-        return [[(note.n_type, note.name, bytes(note.desc)) for note in holder.notes] for holder in holders]
+        # (pyelftools cuts a name at its first zero byte: Go's compiler pads `Go` with two, of which goblin leaves one)
+        return [[(note.n_type, note.name.split('\0')[0], bytes(note.desc)) for note in holder.notes] for holder in holders]
 
 
 class OursWhole(Ours):
