@@ -15,7 +15,7 @@ use Rattle.goblin_base.specs.Refusal.{refusal_of}
 use Rattle.goblin_base.specs.Room.{room_of}
 use Rattle.goblin_base.specs.Steps.{◌>>=◌, or_refuse, refuse_as}
 use Rattle.goblin.specs.declared.elf.header.Header.{Header}
-use Rattle.goblin.specs.Header.{HeaderFits, class_named, class_of, header_image, header_size, order_named, order_of}
+use Rattle.goblin.specs.Header.{HeaderFits, class_named, class_of, header_layout, header_size, order_named, order_of}
 use Rattle.goblin.specs.Header.{Identifies}
 use Rattle.goblin.specs.ReadHeader.{read_header}
 use Rattle.goblin_headers.proofs.WholeTrips.{reads_back}
@@ -50,7 +50,8 @@ named bytes h ctx is =
     let room = λ (class : Container). refuse_as Scroll (room_of (length bytes) 0 (header_size class)) in
     let last : Container → Endian → Result Ctx Error = λ (class : Container) (order : Endian).
     room class >>= (λ _. Ok (ctx_with class order)) in
-    let first = bind_ok (class_of InvalidClass ident) (λ class. order_of Data ident >>= λ order. last class order) ctx is in
+    let next = λ (class : Container). order_of Data ident >>= λ order. last class order in
+    let first = bind_ok (class_of InvalidClass ident) next ctx is in
     let second = bind_ok (order_of Data ident) (λ order. last first.0 order) ctx first.2 in
     let third = bind_ok (room first.0) (λ _. Ok (ctx_with first.0 second.0)) ctx second.2 in
     let there = refuse_as_ok Scroll (room_of (length bytes) 0 (header_size first.0)) third.0 third.1 in
@@ -75,9 +76,13 @@ header_room Big = omega arith
 same_class : (h : GoblinHeader) (class : Container) → class_named h.ei_class ≡ Some class → (ctx_of h).container ≡ class
 same_class h class is = grind (arith, nat_tests)
 
+fits_in : (class : Container) (order : Endian) (h : Header) → HeaderFits class h → (header_layout class order).Fits h
+fits_in Little order h fits = fits
+fits_in Big order h fits = fits
+
 is_read : (bytes : List ℕ) (h : GoblinHeader) (ctx : Ctx)
     → FitsClass bytes h → Named bytes h ctx
-    → header_expected (header_image ctx.container ctx.le (header_of bytes h) ++ drop (header_size ctx.container) bytes)
+    → header_expected ((header_layout ctx.container ctx.le).image (header_of bytes h) ++ drop (header_size ctx.container) bytes)
     ≡ Ok (Some h)
 is_read bytes h ctx fits names =
     let own = header_of bytes h in
@@ -93,12 +98,13 @@ is_read bytes h ctx fits names =
     subst (λ (class : Container). HeaderFits class own) (same_class h ctx.container names.class_is) fits in
     ap (λ (read : Result (Header × ℕ) Error).
     refused_at 0 (refuse_as refusal_of read) >>= λ r. Ok (Some (header_converted r.0)))
-    (reads_back ctx.container ctx.le own (drop (header_size ctx.container) bytes) identifies fit)
+    (reads_back ctx.container ctx.le own (drop (header_size ctx.container) bytes) identifies
+    (fits_in ctx.container ctx.le own fit))
 
 pub headers_are_read : HeadersAreRead
 headers_are_read bytes new h fits put =
     let after = λ (ctx : Ctx).
-    header_image ctx.container ctx.le (header_of bytes h) ++ drop (header_size ctx.container) bytes in
+    (header_layout ctx.container ctx.le).image (header_of bytes h) ++ drop (header_size ctx.container) bytes in
     let answer = refuse_as refusal_of (named_ctx bytes h) in
     let parts = bind_ok (refused_at 0 answer) (λ ctx. put_if true 0 (after ctx)) (Some new) put in
     let found = refuse_as_ok refusal_of (named_ctx bytes h) parts.0 (refused_at_ok 0 answer parts.0 parts.1) in
