@@ -82,7 +82,8 @@ fits_in Big order h fits = fits
 
 is_read : (bytes : List ℕ) (h : GoblinHeader) (ctx : Ctx)
     → FitsClass bytes h → Named bytes h ctx
-    → header_expected ((header_layout ctx.container ctx.le).image (header_of bytes h) ++ drop (header_size ctx.container) bytes)
+    → header_expected
+    ((header_layout ctx.container ctx.le).image (header_of bytes h) ++ drop (header_size ctx.container) bytes)
     ≡ Ok (Some h)
 is_read bytes h ctx fits names =
     let own = header_of bytes h in
