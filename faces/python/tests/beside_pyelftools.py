@@ -181,7 +181,7 @@ def content_of(path):
         return file.read()
 
 
-class TooLong(Exception):
+class TooLong(BaseException):
     """pyelftools takes more than a second."""
 
 
