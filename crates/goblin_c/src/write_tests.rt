@@ -13,10 +13,10 @@ fn unread() -> GoblinRefusal {
 
 // Whether a file has these bytes at an offset, and is the same as another before and after them.
 fn has_at(file: &[u8], offset: usize, own: &[u8], old: &[u8]) -> bool {
-    let end = offset + own.len();
-    if end > file.len() || file.len() != old.len() {
+    if file.len() != old.len() || offset > file.len() || own.len() > file.len() - offset {
         return false;
     }
+    let end = offset + own.len();
     &file[offset..end] == own && file[..offset] == old[..offset] && file[end..] == old[end..]
 }
 
