@@ -4,7 +4,8 @@
 First over the files of checks/hostile.py and over FILE: for each the least of RUNS runs, strict and permissive, in milliseconds, and
 readelf's time divided by the strict one. The programs run in turn. readelf is stopped after 10 seconds, and of a text without end the first
 100 MB are read. Then over 64 programs and libraries of this machine, spread evenly over their names: readelf's time divided by the
-program's, the least, the middle and the most. Both print the header, the sections, the symbols and the relocations.
+program's, the least, the middle and the most. Both print the header, the sections, the symbols and the relocations. Then calls of the
+library, by the program of checks/bench.main, which is proved first.
 """
 import glob
 import os
@@ -51,6 +52,23 @@ def real_files():
     return found[::max(1, len(found) // COUNT)][:COUNT]
 
 
+def calls():
+    """Times calls of the library, by a program over a copy of the crates and of what checks have cached of them."""
+    print('calls of the library, in nanoseconds, the least of 9 runs', flush=True)
+    with tempfile.TemporaryDirectory(prefix='bench-') as room:
+        for crate in ('goblin_base', 'goblin_headers', 'goblin_records', 'goblin'):
+            shutil.copytree(f'crates/{crate}', f'{room}/crates/{crate}', ignore=shutil.ignore_patterns('target'), symlinks=True)
+        shutil.copy('HANDLES', room)
+        with open('crates.txt', encoding='utf-8') as listed, open(f'{room}/crates.txt', 'w', encoding='utf-8') as own:
+            own.write(listed.read() + 'goblin_bench: goblin goblin_base\n')
+        os.makedirs(f'{room}/crates/goblin_bench/src')
+        shutil.copy('checks/bench.main', f'{room}/crates/goblin_bench/src/main.rt')
+        ran = subprocess.run(['rt', 'run'], cwd=f'{room}/crates/goblin_bench', stdout=subprocess.PIPE, stderr=subprocess.PIPE, text=True)
+        if ran.returncode:
+            sys.exit(f'{ran.stderr[-3000:]}\nmake bench: the program of checks/bench.main is not proved or does not run')
+        print(ran.stdout, end='')
+
+
 def main(given):
     if not os.access(SHOW, os.X_OK):
         sys.exit(f'make bench: {SHOW} is not built. To build it: make show FILE=/bin/true')
@@ -70,6 +88,7 @@ def main(given):
         ratios = sorted(other / own for other, own in times)
         print(f'{len(ratios)} real files: readelf takes {ratios[0]:.2f} to {ratios[-1]:.2f} times as long, in the middle '
               f'{statistics.median(ratios):.2f}; for {sum(r < 1 for r in ratios)} it takes less time')
+    calls()
 
 
 if __name__ == '__main__':
