@@ -116,7 +116,8 @@ def main():
     for page in listed('*.md'):
         with open(page, encoding='utf-8') as file:
             text = re.sub(r'^```.*?^```', lambda block: re.sub('.*', '', block[0]), file.read(), flags=re.DOTALL | re.MULTILINE)
-            pages[page] = text.split('\n')
+            # (an older version may have what is gone)
+            pages[page] = (text if page != 'CHANGELOG.md' else '## '.join(text.split('## ')[:2])).split('\n')
     others = OTHERS.union(*map(others_in, pages.values()))
     count = wrong = 0
     for page, lines in pages.items():
