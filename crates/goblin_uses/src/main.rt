@@ -31,7 +31,7 @@ use symbols::{push_symbols, strings_of};
 fn list(alloc: Global, text: &mut String, bytes: &[u8]) -> Result<()> {
     let (header, _) = Header::try_from_ctx(bytes, LE)?;
     let ctx = header.ctx()?;
-    let count = usize::from(header.e_phnum);
+    let count = header.segment_count(bytes)?;
     let segments = ProgramHeader::parse(alloc, bytes, header.e_phoff as usize, count, ctx)?;
     push_segments(alloc, text, bytes, segments.as_slice())?;
     let count = usize::from(header.e_shnum);

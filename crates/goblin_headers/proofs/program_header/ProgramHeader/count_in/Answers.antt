@@ -1,6 +1,20 @@
-use Rattle.std.proofs.Common.{rules}
+use Rattle.std.proofs.Common.{length, rules, take, drop}
+use Rattle.goblin_base.specs.RecordLaws.{unless_fault-err}
+use Rattle.goblin_base.specs.Room.{room_of}
+use Rattle.goblin_headers.specs.SectionHeader.{section_header_of, section_header_size}
 use Rattle.goblin_headers.proofs.ReadSections.{same_first}
 use Rattle.goblin_headers.proofs.program_header.ProgramHeader.count_in.Goals as goal
+
+pub returns-in_err-first : goal.returns-in_err-first
+returns-in_err-first c =
+    let ctx = c.args.ctx in
+    let size = section_header_size ctx.container in
+    let fault = unless_fault-err (room_of (length c.args.bytes.now) c.args.sections size) c.in_err-first.field-0.0
+    (section_header_of ctx.container ctx.le (take size (drop c.args.sections c.args.bytes.now)))
+    c.in_err-first.ensures.value in
+    let room = fault.1 in
+    let same = fault.2 in
+    search (rules, room, same)
 
 pub returns : goal.returns
 returns c =
