@@ -9,7 +9,7 @@ use Rattle.std.proofs.lemmas.Bool.{cases_lt, le-leb, lt-leb}
 use Rattle.std.proofs.lemmas.List.{length-drop, take_all}
 use Rattle.goblin_base.specs.declared.container.Ctx.{Ctx}
 use Rattle.goblin_base.specs.declared.error.Error.{Error}
-use Rattle.goblin_base.specs.Refusal.{Answers, Refusal, bad_offset}
+use Rattle.goblin_base.specs.Refusal.{Returns, Refusal, bad_offset}
 use Rattle.goblin.specs.declared.elf.note.Note.{Note}
 use Rattle.goblin.specs.declared.elf.note.NoteDataIterator.{NoteDataIterator}
 use Rattle.goblin.specs.declared.elf.note.NotePlaces.{NotePlaces}
@@ -42,7 +42,7 @@ note_at-past bytes offset ctx past = rw (places_at-past bytes offset ctx past) r
 -- what holds if a note and its places were read from an offset before the bytes' end
 pub record IsRead (answer : Result (Note × NotePlaces) Error) (bytes : List ℕ) (offset : ℕ)
     (ctx : ℕ × Ctx) : Type 0 where
-  pub places : Answers (λ found. found.1) answer (places_at bytes offset ctx)
+  pub places : Returns (λ found. found.1) answer (places_at bytes offset ctx)
   pub there : IfOk answer
       (λ found. parts_of found.0 ≡ note_there (take (length bytes - offset) (drop offset bytes)) found.1)
 
@@ -50,7 +50,7 @@ pub record IsRead (answer : Result (Note × NotePlaces) Error) (bytes : List ℕ
 pub note_at-read :
     (answer : Result (Note × NotePlaces) Error) (bytes : List ℕ) (offset : ℕ) (ctx : ℕ × Ctx)
     → IsRead answer bytes offset ctx
-    → Answers (λ found. (parts_of found.0, found.1.next)) answer (note_at bytes offset ctx)
+    → Returns (λ found. (parts_of found.0, found.1.next)) answer (note_at bytes offset ctx)
 unfolding note_at
 note_at-read (Ok found) bytes offset ctx is =
     let all = take_all (length bytes - offset) (drop offset bytes) (omega (arith, length-drop offset bytes)) in
@@ -59,7 +59,7 @@ note_at-read (Err e) bytes offset ctx is = rw is.places refl
 
 -- its places lie inside the bytes
 pub read-within : (answer : Result (Note × NotePlaces) Error) (bytes : List ℕ) (offset : ℕ) (ctx : ℕ × Ctx)
-    → Answers (λ found. found.1) answer (places_at bytes offset ctx)
+    → Returns (λ found. found.1) answer (places_at bytes offset ctx)
     → IfOk answer (λ found. LieWithin (length bytes) offset found.1)
 read-within (Ok found) bytes offset ctx is =
     at_ok (places_at bytes offset ctx) found.1 _ is (places_lie_within bytes offset ctx)

@@ -10,7 +10,7 @@ pub use Rattle.goblin_base.specs.Names.{name_in}
 unfoldable pub use Rattle.goblin_base.specs.Number.{number, spelled}
 pub use Rattle.goblin_base.specs.Number.{IsBytes, number_at}
 unfoldable pub use Rattle.goblin_base.specs.Record.{Writes}
-pub use Rattle.goblin_base.specs.Refusal.{Answers, Gives, Refusal, Refuses, buffer_too_short}
+pub use Rattle.goblin_base.specs.Refusal.{Returns, Gives, Refusal, Refuses, buffer_too_short}
 unfoldable pub use Rattle.goblin_base.specs.Room.{room_of}
 pub use Rattle.goblin_base.specs.Steps.{◌>>=◌, or_refuse, refuse_as, refuse_if, with_size}
 unfoldable pub use Rattle.goblin_base.specs.Table.{records}

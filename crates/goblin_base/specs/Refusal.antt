@@ -36,9 +36,9 @@ Gives view (Ok x) expected = expected ≡ Ok (view x)
 Gives view (Err e) expected = refusal_of e ≢ out_of_memory → expected ≡ Err (refusal_of e)
 
 -- a result, seen by `view`, is the expected one, an error too
-abbrev pub Answers : {X Y : Type 0} → (X → Y) → Result X Error → Result Y Refusal → Type 0
-Answers view (Ok x) expected = expected ≡ Ok (view x)
-Answers view (Err e) expected = expected ≡ Err (refusal_of e)
+abbrev pub Returns : {X Y : Type 0} → (X → Y) → Result X Error → Result Y Refusal → Type 0
+Returns view (Ok x) expected = expected ≡ Ok (view x)
+Returns view (Err e) expected = expected ≡ Err (refusal_of e)
 
 -- a result is an error with this refusal
 abbrev pub Refuses : {X : Type 0} → Result X Error → Refusal → Type 0

@@ -1,6 +1,6 @@
 //! The range of a file that a string table takes, or the refusal of one that the file doesn't hold.
 ghost use Rattle.std.specs.Prelude.{◌≡◌, List, ℕ, length, Ok, Err, IfErr, IfOk, slice_range};
-ghost use Rattle.goblin_base.specs.Refusal.{Answers, malformed};
+ghost use Rattle.goblin_base.specs.Refusal.{Returns, malformed};
 ghost use Rattle.goblin_base.specs.Steps.{refuse_as};
 ghost use Rattle.goblin_base.specs.Strtab.{IsRange, range_in};
 
@@ -26,7 +26,7 @@ pub fn range_of(
     // What holds of each file of that length.
     ensures given { (file : List ℕ) → length file ≡ file_len →
         let expected = refuse_as malformed (range_in mode file offset len) in
-        Answers (λ range. slice_range file range.0 range.1) result expected }
+        Returns (λ range. slice_range file range.0 range.1) result expected }
     ensures range { (file : List ℕ) → length file ≡ file_len → IfErr (range_in mode file offset len)
         (λ fault. result ≡ Err (Error.Malformed fault)) }
     ensures places { (file : List ℕ) → length file ≡ file_len →
@@ -61,7 +61,7 @@ pub fn range_of(
 /// Those of [`range_of`].
 pub fn bytes_in_range(bytes: &[u8], offset: usize, len: usize, mode: ParseMode) -> Result<&[u8]>
     ensures given { let expected = refuse_as malformed (range_in mode bytes.now offset len) in
-        Answers (λ range. range.now) result expected }
+        Returns (λ range. range.now) result expected }
     ensures range { IfErr (range_in mode bytes.now offset len)
         (λ fault. result ≡ Err (Error.Malformed fault)) }
 {

@@ -6,7 +6,7 @@ ghost use Rattle.std.specs.Option.{option_map};
 ghost use Rattle.std.specs.Str.{IsCharBoundary};
 ghost use Rattle.goblin_base.specs.Entries.{places_of, text_of};
 ghost use Rattle.goblin_base.specs.Pieces.{piece};
-ghost use Rattle.goblin_base.specs.Refusal.{Answers, Gives};
+ghost use Rattle.goblin_base.specs.Refusal.{Returns, Gives};
 ghost use Rattle.goblin_base.specs.Search.{IsLastUpTo};
 ghost use Rattle.goblin_base.specs.Strtab.{RefusesFirst, has_name, look_up, plain, range_in, strings_of, strtab_of};
 ghost use Rattle.goblin_base.specs.Strtab.{table_of};
@@ -57,7 +57,7 @@ impl<'a> Model for Strtab<'a> {
 #[tactic(auto, using(crate::proofs::StrtabLemmas::rests), unfolding(crate::specs::Pieces::piece))]
 fn get_str(offset: usize, bytes: &[u8], delim: u8) -> Result<&str>
     requires { offset ≤ length bytes.now }
-    ensures { Answers (λ text. text.now) result (plain bytes.now delim offset) }
+    ensures { Returns (λ text. text.now) result (plain bytes.now delim offset) }
 {
     let rest = &bytes[offset..];
     if let Some(text) = ascii_piece(rest, delim) {
@@ -280,7 +280,7 @@ impl<'a> Strtab<'a> {
     pub fn get(&self, offset: usize) -> Option<Result<&'a str>>
         ensures past { IsNone result ↔ (length self.now.bytes ≤ offset) }
         ensures given { IfSome result (λ piece. let expected = plain self.now.bytes self.now.delim offset in
-            Answers (λ text. text.now) piece expected) }
+            Returns (λ text. text.now) piece expected) }
     {
         string_at(self.bytes, self.delim, offset)
     }
@@ -376,7 +376,7 @@ impl Default for Strtab<'_> {
 pub fn string_at(bytes: &[u8], delim: u8, offset: usize) -> Option<Result<&str>>
     ensures past { IsNone result ↔ (length bytes.now ≤ offset) }
     ensures given { IfSome result (λ piece. let expected = plain bytes.now delim offset in
-        Answers (λ text. text.now) piece expected) }
+        Returns (λ text. text.now) piece expected) }
 {
     if offset >= bytes.len() {
         None

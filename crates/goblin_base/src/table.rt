@@ -5,7 +5,7 @@ ghost use Rattle.std.specs.Iterator.{UpTo, YieldsFirst, item_count};
 ghost use Rattle.std.specs.Iterator.SizeHint.{IsWithinCount};
 ghost use Rattle.goblin_base.specs.Eager.{records_from, records_in, room_of_each, whole_of};
 ghost use Rattle.goblin_base.specs.Record.{unless_fault};
-ghost use Rattle.goblin_base.specs.Refusal.{buffer_too_short, Answers, Gives, Refuses};
+ghost use Rattle.goblin_base.specs.Refusal.{buffer_too_short, Returns, Gives, Refuses};
 ghost use Rattle.goblin_base.specs.Room.{room_of};
 ghost use Rattle.goblin_base.specs.Table.{records};
 
@@ -66,7 +66,7 @@ impl<'a, R: Record<C>, C: Copy> Table<'a, R, C> {
     pub fn in_range(bytes: &'a [u8], offset: usize, count: usize, ctx: C) -> Result<Self>
         ensures given { let expected =
             records_in (R.size_of ctx) (R.read ctx) bytes.now offset count in
-            Answers (λ table. table) result expected }
+            Returns (λ table. table) result expected }
         ensures range { IfErr (room_of_each (length bytes.now) offset (R.size_of ctx) count)
             (λ e. result ≡ Err (Error.Scroll e)) }
     {
@@ -94,7 +94,7 @@ impl<'a, R: Record<C>, C: Copy> Table<'a, R, C> {
     ) -> Result<Self>
         ensures { let expected =
             records_from (R.size_of ctx) (R.read ctx) bytes.now offset count items.now in
-            Answers (λ table. table) result expected }
+            Returns (λ table. table) result expected }
     {
         if fit(bytes.len(), R::size_with(&ctx), count) {
             Table::in_range(bytes, offset, count, ctx)

@@ -2,7 +2,7 @@
 ghost use Rattle.std.specs.Prelude.{◌≡◌, ◌↔◌, IsTrue};
 ghost use Rattle.std.specs.Str.{IsAscii, continuation_len};
 ghost use Rattle.std.specs.Str.Lossy.{second_byte_min, second_byte_max};
-ghost use Rattle.goblin_base.specs.Refusal.{Answers, refusal_of};
+ghost use Rattle.goblin_base.specs.Refusal.{Returns, refusal_of};
 ghost use Rattle.goblin_base.specs.Utf8.{after_byte, after_first_byte, awaits_first, invalid_utf8, text_or_fault};
 
 use crate::error::{Error, Result};
@@ -18,7 +18,7 @@ const SHORT: usize = 16;
 /// Fails with `BadInput`, which has this size, if they aren't UTF-8.
 #[tactic(auto, using(crate::proofs::TextTests::ascii_tests))]
 pub fn read_text(bytes: &[u8], size: usize) -> Result<&str>
-    ensures { Answers (λ text. text.now) result (text_or_fault bytes.now size) }
+    ensures { Returns (λ text. text.now) result (text_or_fault bytes.now size) }
 {
     // (of so few bytes, as in the name of a note, this takes a fraction of the time of the test for UTF-8)
     if bytes.len() <= SHORT && is_ascii(bytes) {

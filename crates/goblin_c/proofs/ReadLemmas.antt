@@ -32,7 +32,7 @@ use Rattle.goblin_c.specs.declared.types.GoblinHeader.{GoblinHeader}
 use Rattle.goblin_c.specs.declared.types.GoblinRange.{GoblinRange}
 use Rattle.goblin_c.specs.Expected.{ctx_of, each_converted, item_of, sections_expected, segments_expected}
 use Rattle.goblin_c.specs.Expected.{symbols_expected}
-use Rattle.goblin_c.specs.Refused.{Answers, RefusalAt, refusal_at, refused_at}
+use Rattle.goblin_c.specs.Refused.{Returns, RefusalAt, refusal_at, refused_at}
 use Rattle.goblin_c.specs.Status.{converted_list}
 use Rattle.goblin_c.proofs.ListedLemmas.{IsListed, bind_ok, item_at, listed_from, none_at, refuse_as_ok, refused_at_ok}
 use Rattle.goblin_c.proofs.ListedLemmas.{sections_listed, symbols_listed}
@@ -71,14 +71,14 @@ module _ {R Y : Type 0} (convert : R → Y) (size : ℕ) (read : List ℕ → R)
 -- a list for C that was made of what a call of the library returned
 pub converted_is : {L R Y : Type 0} (convert : R → Y) (view : L → List R) (answer : Result L Refused)
     (expected : Result (List R) RefusalAt)
-    → Answers view answer expected
+    → Returns view answer expected
     → converted_list (λ list. map convert (view list)) answer ≡ each_converted convert expected
 converted_is convert view (Ok list) expected is = rw is refl
 converted_is convert view (Err e) expected is = rw is refl
 
 -- the result that is expected of a call is its own, with refusals for errors
 pub expected_is : {X : Type 0} (answer : Result X Refused) (expected : Result X RefusalAt)
-    → Answers (λ found. found) answer expected → refuse_as refusal_at answer ≡ expected
+    → Returns (λ found. found) answer expected → refuse_as refusal_at answer ≡ expected
 expected_is (Ok x) expected is = sym is
 expected_is (Err e) expected is = sym is
 

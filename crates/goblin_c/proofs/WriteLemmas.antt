@@ -12,7 +12,7 @@ use Rattle.goblin_base.specs.RecordLaws.{fits-room_of}
 use Rattle.goblin_base.specs.Steps.{◌>>=◌, refuse_as}
 use Rattle.goblin_c.specs.Bytes.{number_expected}
 use Rattle.goblin_c.specs.Expected.{ctx_of, each_converted, item_of}
-use Rattle.goblin_c.specs.Refused.{Answers, RefusalAt, refusal_at, refused_at}
+use Rattle.goblin_c.specs.Refused.{Returns, RefusalAt, refusal_at, refused_at}
 use Rattle.goblin_c.specs.Status.{Stores, converted_list}
 use Rattle.goblin_c.specs.Types.{refusal_converted}
 use Rattle.goblin_c.specs.Write.{FitsClass, Puts, header_of, header_put_expected, named_ctx, put_if}
@@ -42,8 +42,8 @@ puts_by Fits expected false old was status new why decides stores =
 pub room_for : {L R Y : Type 0} (convert : R → Y) (view : L → List R) (size : ℕ) (read : List ℕ → R)
     (bytes : List ℕ) (start index : ℕ) (answer : Result L Refused) (expected : Result (List R) RefusalAt)
     (found : Result (Option Y) Refused) (y : Y)
-    → Lists size read bytes start expected → Answers view answer expected
-    → Answers (λ x. x) found (item_of (converted_list (λ list. map convert (view list)) answer) index)
+    → Lists size read bytes start expected → Returns view answer expected
+    → Returns (λ x. x) found (item_of (converted_list (λ list. map convert (view list)) answer) index)
     → found ≡ Ok (Some y)
     → start + index * size + size ≤ length bytes
 room_for {Y = Y} convert view size read bytes start index answer expected found y lists is stored there =
@@ -59,7 +59,7 @@ there_by : (bytes : List ℕ) (h : GoblinHeader) (offset width : ℕ) (value : �
 there_by bytes h offset width value is = grind (arith, fits-room_of (length bytes) offset width)
 
 pub number_there : (bytes : List ℕ) (h : GoblinHeader) (offset width value : ℕ) (answer : Result (Option ℕ) Refused)
-    → Answers (λ found. found) answer (number_expected bytes h offset width) → answer ≡ Ok (Some value)
+    → Returns (λ found. found) answer (number_expected bytes h offset width) → answer ≡ Ok (Some value)
     → offset + width ≤ length bytes
 number_there bytes h offset width value answer is found =
     there_by bytes h offset width value

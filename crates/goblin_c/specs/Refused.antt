@@ -24,6 +24,6 @@ abbrev pub refusal_at : Refused → RefusalAt
 refusal_at e = record { refusal = refusal_of e.error; offset = e.offset }
 
 -- a result, seen by `view`, is the expected one, an error and its offset too
-abbrev pub Answers : {X Y : Type 0} → (X → Y) → Result X Refused → Result Y RefusalAt → Type 0
-Answers view (Ok x) expected = expected ≡ Ok (view x)
-Answers view (Err e) expected = expected ≡ Err (refusal_at e)
+abbrev pub Returns : {X Y : Type 0} → (X → Y) → Result X Refused → Result Y RefusalAt → Type 0
+Returns view (Ok x) expected = expected ≡ Ok (view x)
+Returns view (Err e) expected = expected ≡ Err (refusal_at e)

@@ -3,7 +3,7 @@ ghost use Rattle.std.specs.Prelude.{◌≡◌, ◌+◌, ◌≤◌, IsOk, length}
 ghost use Rattle.goblin.specs.Refusal.{misplaced};
 ghost use Rattle.goblin.specs.Room.{room_of};
 ghost use Rattle.goblin.specs.Steps.{refuse_as};
-ghost use Rattle.goblin_c.specs.Refused.{Answers, refused_at};
+ghost use Rattle.goblin_c.specs.Refused.{Returns, refused_at};
 ghost use Rattle.goblin_c.specs.Bytes.{is_width, number_expected, range_expected, section_bytes_expected, segment_bytes_expected, string_bytes_expected};
 
 use crate::headers::ctx_of;
@@ -19,7 +19,7 @@ use goblin_base::strtab::piece_len;
 /// Tests that some bytes lie in the file.
 pub fn fits(bytes: &[u8], offset: u64, size: u64) -> Result<()>
     ensures value { let expected = refuse_as misplaced (room_of (length bytes.now) offset size) in
-        Answers (λ found. found) result (refused_at offset expected) }
+        Returns (λ found. found) result (refused_at offset expected) }
     ensures fits { IsOk result → offset + size ≤ length bytes.now }
 {
     match room(bytes.len(), offset as usize, size as usize) {
@@ -33,7 +33,7 @@ pub fn fits(bytes: &[u8], offset: u64, size: u64) -> Result<()>
 
 // Returns a range that lies in the file.
 fn range_in(bytes: &[u8], range: &GoblinRange) -> Result<Option<GoblinRange>>
-    ensures { Answers (λ found. found) result (range_expected bytes.now range.now) }
+    ensures { Returns (λ found. found) result (range_expected bytes.now range.now) }
 {
     fits(bytes, range.offset, range.size)?;
     Ok(Some(*range))
@@ -41,7 +41,7 @@ fn range_in(bytes: &[u8], range: &GoblinRange) -> Result<Option<GoblinRange>>
 
 /// Returns the range of a section's bytes in the file.
 pub fn section_bytes(bytes: &[u8], section: &GoblinSection) -> Result<Option<GoblinRange>>
-    ensures { Answers (λ found. found) result (section_bytes_expected bytes.now section.now) }
+    ensures { Returns (λ found. found) result (section_bytes_expected bytes.now section.now) }
 {
     let sh_type = section.sh_type;
     if sh_type == SHT_NULL || sh_type == SHT_NOBITS || section.file.size == 0 {
@@ -52,7 +52,7 @@ pub fn section_bytes(bytes: &[u8], section: &GoblinSection) -> Result<Option<Gob
 
 /// Returns the range of a segment's bytes in the file.
 pub fn segment_bytes(bytes: &[u8], segment: &GoblinSegment) -> Result<Option<GoblinRange>>
-    ensures { Answers (λ found. found) result (segment_bytes_expected bytes.now segment.now) }
+    ensures { Returns (λ found. found) result (segment_bytes_expected bytes.now segment.now) }
 {
     if segment.p_type == PT_NULL || segment.file.size == 0 {
         return Ok(None);
@@ -62,7 +62,7 @@ pub fn segment_bytes(bytes: &[u8], segment: &GoblinSegment) -> Result<Option<Gob
 
 /// Returns the range in the file of the string at an offset of a string table, which need not be UTF-8.
 pub fn string_bytes(bytes: &[u8], range: &GoblinRange, offset: u64) -> Result<Option<GoblinRange>>
-    ensures { Answers (λ found. found) result
+    ensures { Returns (λ found. found) result
         (string_bytes_expected bytes.now range.now offset) }
 {
     let strings = string_table_bytes(bytes, range)?;
@@ -85,7 +85,7 @@ pub fn is_width(width: u64) -> bool
 
 /// Returns the number of some width in bytes at an offset, in the file's byte order.
 pub fn number(bytes: &[u8], header: &GoblinHeader, offset: u64, width: u64) -> Result<Option<u64>>
-    ensures { Answers (λ found. found) result (number_expected bytes.now header.now offset width) }
+    ensures { Returns (λ found. found) result (number_expected bytes.now header.now offset width) }
 {
     if !is_width(width) {
         return Ok(None);

@@ -1,6 +1,6 @@
 //! The header, the section headers and the program headers, as the library reads them.
 ghost use Rattle.std.specs.Prelude.{◌≡◌, ◌+◌, ◌<◌, ◌==◌, ◌^◌, IfSome, drop, map, position};
-ghost use Rattle.goblin_c.specs.Refused.{Answers};
+ghost use Rattle.goblin_c.specs.Refused.{Returns};
 ghost use Rattle.goblin_c.specs.Expected.{ctx_of, header_expected, section_at, section_by_type_expected, section_names_expected, sections_expected, segments_expected, table_at, table_expected, whole_header};
 ghost use Rattle.goblin_c.specs.Types.{section_converted, segment_converted};
 
@@ -35,7 +35,7 @@ pub fn ctx_of(header: &GoblinHeader) -> Ctx
 
 /// Returns the header at the file's start.
 pub fn header_at(bytes: &[u8]) -> Result<Option<GoblinHeader>>
-    ensures { Answers (λ found. found) result (header_expected bytes.now) }
+    ensures { Returns (λ found. found) result (header_expected bytes.now) }
 {
     let (header, _) = refused_at(0, Header::try_from_ctx(bytes, LE))?;
     Ok(Some(convert_header(&header)))
@@ -47,7 +47,7 @@ pub fn sections_of<'a>(
     bytes: &'a [u8],
     header: &GoblinHeader,
 ) -> Result<Table<'a, SectionHeader, Ctx>>
-    ensures { Answers (λ table. table) result (sections_expected bytes.now header.now) }
+    ensures { Returns (λ table. table) result (sections_expected bytes.now header.now) }
 {
     let count = usize::from(header.e_shnum);
     let table = SectionHeader::table(bytes, header.e_shoff as usize, count, ctx_of(header));
@@ -100,7 +100,7 @@ pub fn section_by_type(
     sh_type: u32,
     first: u64,
 ) -> Result<Option<(u64, GoblinSection)>>
-    ensures { Answers (λ found. found) result
+    ensures { Returns (λ found. found) result
         (section_by_type_expected bytes.now header.now sh_type first) }
 {
     let sections = sections_of(bytes, header)?;
@@ -122,14 +122,14 @@ pub fn table_section(
     header: &GoblinHeader,
     index: u64,
 ) -> Result<Option<GoblinSection>>
-    ensures { Answers (λ found. found) result (table_expected bytes.now header.now index) }
+    ensures { Returns (λ found. found) result (table_expected bytes.now header.now index) }
 {
     Ok(converted_table(&sections_of(bytes, header)?, index as usize))
 }
 
 /// Returns the section that holds the sections' names for C, if it is a table.
 pub fn section_names(bytes: &[u8], header: &GoblinHeader) -> Result<Option<GoblinSection>>
-    ensures { Answers (λ found. found) result (section_names_expected bytes.now header.now) }
+    ensures { Returns (λ found. found) result (section_names_expected bytes.now header.now) }
 {
     let sections = sections_of(bytes, header)?;
     let first = sections.get(0);
@@ -158,7 +158,7 @@ pub fn segments_of<'a>(
     bytes: &'a [u8],
     header: &GoblinHeader,
 ) -> Result<Table<'a, ProgramHeader, Ctx>>
-    ensures { Answers (λ table. table) result (segments_expected bytes.now header.now) }
+    ensures { Returns (λ table. table) result (segments_expected bytes.now header.now) }
 {
     let ctx = ctx_of(header);
     let sections = header.e_shoff;

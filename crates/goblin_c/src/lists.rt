@@ -1,7 +1,7 @@
 //! Lists whose items are converted for C: how many there are, one at an index, and many at once, into a
 //! buffer of the caller's.
 ghost use Rattle.std.specs.Prelude.{◌≡◌, ◌-◌, ◌<◌, List, drop, length, min, slice_get};
-ghost use Rattle.goblin_c.specs.Refused.{Answers};
+ghost use Rattle.goblin_c.specs.Refused.{Returns};
 ghost use Rattle.goblin_c.specs.Expected.{count_of, item_of, items_from};
 ghost use Rattle.goblin_c.specs.FilledBuffer.{laid};
 ghost use Rattle.goblin_c.specs.Status.{Fills, converted_list};
@@ -30,7 +30,7 @@ pub trait Listed: Drop {
 
 /// Returns the number of items of a list.
 pub fn count_of<L: Listed>(list: Result<L>) -> Result<Option<u64>>
-    ensures { Answers (λ found. found) result (count_of (converted_list L.listed list)) }
+    ensures { Returns (λ found. found) result (count_of (converted_list L.listed list)) }
 {
     Ok(Some(list?.count() as u64))
 }
@@ -38,7 +38,7 @@ pub fn count_of<L: Listed>(list: Result<L>) -> Result<Option<u64>>
 /// Returns the item of a list at an index.
 #[inline(always)]
 pub fn item_of<L: Listed>(list: Result<L>, index: u64) -> Result<Option<L::Converted>>
-    ensures { Answers (λ found. found) result (item_of (converted_list L.listed list) index) }
+    ensures { Returns (λ found. found) result (item_of (converted_list L.listed list) index) }
 {
     Ok(list?.converted(index as usize))
 }

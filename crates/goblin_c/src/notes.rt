@@ -2,7 +2,7 @@
 ghost use Rattle.std.specs.Prelude.{◌≡◌, ◌+◌, ◌-◌, ◌≤◌, length, take};
 ghost use Rattle.goblin.specs.Refusal.{refusal_of};
 ghost use Rattle.goblin.specs.NoteType.{note_type_name};
-ghost use Rattle.goblin_c.specs.Refused.{Answers};
+ghost use Rattle.goblin_c.specs.Refused.{Returns};
 ghost use Rattle.goblin_c.specs.Notes.{StoresNote, bytes_from, note_bytes_expected, note_expected, part_converted, part_number};
 
 use crate::headers::ctx_of;
@@ -20,7 +20,7 @@ pub fn note_from(
     alignment: u64,
     offset: u64,
 ) -> Result<Option<GoblinNote>>
-    ensures { Answers (λ found. found) result
+    ensures { Returns (λ found. found) result
         (note_expected bytes.now header.now range.now alignment offset) }
 {
     if offset >= range.offset && offset - range.offset >= range.size {

@@ -4,7 +4,7 @@ ghost use Rattle.goblin.specs.Refusal.{misplaced};
 ghost use Rattle.goblin.specs.Room.{room_of};
 ghost use Rattle.goblin.specs.Steps.{refuse_as};
 ghost use Rattle.goblin_c.specs.Places.{address_to_offset_expected, cut_range, number_in_expected};
-ghost use Rattle.goblin_c.specs.Refused.{Answers, refused_at};
+ghost use Rattle.goblin_c.specs.Refused.{Returns, refused_at};
 
 use crate::bytes::{fits, is_width, number};
 use crate::headers::segments_of;
@@ -18,7 +18,7 @@ use goblin_base::room::room;
 fn fits_in(range: &GoblinRange, offset: u64, width: u64) -> Result<()>
     ensures value { let place = min (range.now.offset + offset) (2 ^ 64 - 1) in
         let expected = refuse_as misplaced (room_of range.now.size offset width) in
-        Answers (λ found. found) result (refused_at place expected) }
+        Returns (λ found. found) result (refused_at place expected) }
     ensures fits { IsOk result → offset + width ≤ range.now.size }
 {
     match room(range.size as usize, offset as usize, width as usize) {
@@ -38,7 +38,7 @@ pub fn number_in(
     offset: u64,
     width: u64,
 ) -> Result<Option<u64>>
-    ensures { Answers (λ found. found) result
+    ensures { Returns (λ found. found) result
         (number_in_expected bytes.now header.now range.now offset width) }
 {
     if !is_width(width) {
@@ -51,7 +51,7 @@ pub fn number_in(
 
 /// Returns the offset in the file of the byte that is loaded at an address.
 pub fn address_to_offset(bytes: &[u8], header: &GoblinHeader, address: u64) -> Result<Option<u64>>
-    ensures { Answers (λ found. found) result
+    ensures { Returns (λ found. found) result
         (address_to_offset_expected bytes.now header.now address) }
 {
     let segments = segments_of(bytes, header)?;

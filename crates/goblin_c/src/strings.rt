@@ -1,6 +1,6 @@
 //! Strings, and where they lie in the file.
 ghost use Rattle.std.specs.Prelude.{◌≡◌, ◌+◌, ◌≤◌, IfOk, length};
-ghost use Rattle.goblin_c.specs.Refused.{Answers};
+ghost use Rattle.goblin_c.specs.Refused.{Returns};
 ghost use Rattle.goblin_c.specs.Expected.{string_expected, strings_expected};
 
 use crate::refused::{Result, refused_at};
@@ -12,7 +12,7 @@ use goblin::strtab::bytes_in_range;
 /// Returns the bytes of a string table.
 #[tactic(auto, unfolding(goblin_base::specs::Strtab::range_in))]
 pub fn string_table_bytes<'a>(bytes: &'a [u8], range: &GoblinRange) -> Result<&'a [u8]>
-    ensures given { Answers (λ strings. strings.now) result
+    ensures given { Returns (λ strings. strings.now) result
         (strings_expected bytes.now range.now) }
     ensures fits { IfOk result (λ strings. range.now.offset + length strings.now ≤ length bytes.now) }
 {
@@ -27,7 +27,7 @@ pub fn string_table_bytes<'a>(bytes: &'a [u8], range: &GoblinRange) -> Result<&'
 
 /// Returns the range in the file of the string at an offset of a string table.
 pub fn string_at(bytes: &[u8], range: &GoblinRange, offset: u64) -> Result<Option<GoblinRange>>
-    ensures { Answers (λ found. found) result (string_expected bytes.now range.now offset) }
+    ensures { Returns (λ found. found) result (string_expected bytes.now range.now offset) }
 {
     let strings = string_table_bytes(bytes, range)?;
     match strtab::string_at(strings, 0, offset as usize) {

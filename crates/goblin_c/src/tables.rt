@@ -1,6 +1,6 @@
 //! Symbols, relocations and what is found by its name, as the library reads them.
 ghost use Rattle.std.specs.Prelude.{◌≡◌, length, map, position};
-ghost use Rattle.goblin_c.specs.Refused.{Answers};
+ghost use Rattle.goblin_c.specs.Refused.{Returns};
 ghost use Rattle.goblin_c.specs.Expected.{ctx_of, relocs_expected, section_by_name_expected, symbol_by_address_expected, symbol_by_name_expected, is_named, symbol_expected, symbols_expected};
 ghost use Rattle.goblin_c.specs.Types.{reloc_converted, symbol_converted};
 
@@ -24,7 +24,7 @@ pub fn symbols_of<'a>(
     header: &GoblinHeader,
     range: &GoblinRange,
 ) -> Result<Symtab<'a>>
-    ensures { Answers (λ table. table.symbols) result
+    ensures { Returns (λ table. table.symbols) result
         (symbols_expected bytes.now header.now range.now) }
 {
     symbols_in(bytes, header, range, ctx_of(header))
@@ -39,7 +39,7 @@ fn symbols_in<'a>(
     ctx: Ctx,
 ) -> Result<Symtab<'a>>
     requires { ctx ≡ ctx_of header.now }
-    ensures { Answers (λ table. table.symbols) result
+    ensures { Returns (λ table. table.symbols) result
         (symbols_expected bytes.now header.now range.now) }
 {
     let (offset, size) = (range.offset as usize, range.size as usize);
@@ -54,7 +54,7 @@ pub fn symbol_in(
     range: &GoblinRange,
     index: u64,
 ) -> Result<Option<GoblinSymbol>>
-    ensures { Answers (λ found. found) result
+    ensures { Returns (λ found. found) result
         (symbol_expected bytes.now header.now range.now index) }
 {
     let ctx = ctx_of(header);
@@ -92,7 +92,7 @@ pub fn relocs_of<'a>(
     range: &GoblinRange,
     is_rela: bool,
 ) -> Result<RelocSection<'a>>
-    ensures { Answers (λ relocs. relocs) result
+    ensures { Returns (λ relocs. relocs) result
         (relocs_expected bytes.now header.now range.now is_rela) }
 {
     let ctx = ctx_of(header);
@@ -130,7 +130,7 @@ pub fn section_by_name(
     name: &[u8],
     first: u64,
 ) -> Result<Option<(u64, GoblinSection)>>
-    ensures { Answers (λ found. found) result
+    ensures { Returns (λ found. found) result
         (section_by_name_expected bytes.now header.now names.now name.now first) }
 {
     let sections = sections_of(bytes, header)?;
@@ -147,7 +147,7 @@ pub fn symbol_by_name(
     names: &GoblinRange,
     name: &[u8],
 ) -> Result<Option<u64>>
-    ensures { Answers (λ found. found) result
+    ensures { Returns (λ found. found) result
         (symbol_by_name_expected bytes.now header.now range.now names.now name.now) }
 {
     let symbols = symbols_of(bytes, header, range)?;
@@ -163,7 +163,7 @@ pub fn symbol_by_address(
     range: &GoblinRange,
     address: u64,
 ) -> Result<Option<u64>>
-    ensures { Answers (λ found. found) result
+    ensures { Returns (λ found. found) result
         (symbol_by_address_expected bytes.now header.now range.now address) }
 {
     let found = symbols_of(bytes, header, range)?.at(address);

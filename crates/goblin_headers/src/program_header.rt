@@ -4,7 +4,7 @@ ghost use Rattle.std.specs.Int.Bits.{bit_or};
 ghost use Rattle.std.specs.Prelude.{◌≡◌, ◌↔◌, IsTrue, IfErr, IsOk, find, replicate, [], ◌∷◌};
 ghost use Rattle.goblin_base.specs.Fields.{values_of};
 ghost use Rattle.goblin_base.specs.Layout.{IsSameInEachClass};
-ghost use Rattle.goblin_base.specs.Refusal.{Answers, Gives, Refuses};
+ghost use Rattle.goblin_base.specs.Refusal.{Returns, Gives, Refuses};
 ghost use Rattle.goblin_headers.specs.Constants.{segment_flag_numbers, segment_type_numbers};
 ghost use Rattle.goblin_headers.specs.ProgramHeader.{as64, program_header64, program_header_layout, program_header_size};
 ghost use Rattle.goblin_headers.specs.ProgramHeaders.{loaded_from, loads, new_program_header, program_headers_from, program_headers_tested};
@@ -159,7 +159,7 @@ impl ProgramHeader {
         ctx: Ctx,
     ) -> Result<Table<'_, ProgramHeader, Ctx>>
         ensures { let expected = program_headers_from bytes.now offset count ctx in
-            Answers (λ table. table) result expected }
+            Returns (λ table. table) result expected }
     {
         Table::counted(bytes, offset, count, ctx, "program headers")
     }

@@ -3,7 +3,7 @@ ghost use Rattle.std.specs.Int.{IsBitSet};
 ghost use Rattle.std.specs.Prelude.{◌≡◌, ◌≤◌, ◌↔◌, ◌++◌, IsTrue, IfErr, IsNone, IsOk, IfSome, length, drop, map, replicate, [], ◌∷◌};
 ghost use Rattle.goblin_base.specs.Fields.{values_of};
 ghost use Rattle.goblin_base.specs.Layout.{IsSameInEachClass};
-ghost use Rattle.goblin_base.specs.Refusal.{Answers, Gives, Refuses};
+ghost use Rattle.goblin_base.specs.Refusal.{Returns, Gives, Refuses};
 ghost use Rattle.goblin_headers.specs.Constants.{section_flag_numbers, section_index_numbers, section_type_numbers};
 ghost use Rattle.goblin_headers.specs.Ranges.{span};
 ghost use Rattle.goblin_headers.specs.SectionHeader.{as64, section_header64, section_header_image, section_header_layout, section_header_size};
@@ -168,7 +168,7 @@ impl SectionHeader {
         ctx: Ctx,
     ) -> Result<Table<'_, SectionHeader, Ctx>>
         ensures { let expected = section_headers_of bytes.now offset count ctx in
-            Answers (λ table. table) result expected }
+            Returns (λ table. table) result expected }
     {
         if offset == 0 {
             return Ok(Table::of(&[], 0, ctx));
@@ -184,7 +184,7 @@ impl SectionHeader {
         ctx: Ctx,
     ) -> Result<Table<'_, SectionHeader, Ctx>>
         ensures { let expected = section_headers_from bytes.now offset count ctx in
-            Answers (λ table. table) result expected }
+            Returns (λ table. table) result expected }
     {
         let most = SectionHeader::count_from(bytes, offset, count, ctx)?;
         Table::counted(bytes, offset, most, ctx, "section headers")

@@ -1,6 +1,6 @@
 //! Accepting a file: all that can be refused is tested here, so that writing its text takes no memory.
 ghost use Rattle.std.specs.Prelude.{◌≡◌, ◌+◌, ◌*◌, IfErr, IfOk, length};
-ghost use Rattle.goblin.specs.Refusal.{Answers, Gives, Refuses};
+ghost use Rattle.goblin.specs.Refusal.{Returns, Gives, Refuses};
 ghost use Rattle.goblin.specs.SectionHeaders.{section_headers_of_tested};
 ghost use Rattle.goblin_text.specs.Accepted.{accepted_text, parts_text, relocs_text, symbols_text};
 ghost use Rattle.goblin_text.specs.StringRanges.{strings_in};
@@ -116,7 +116,7 @@ impl Context<'_> {
     fn strings_at(&self, names: &mut Names<'_>, index: usize) -> Result<Strings>
         ensures given { let expected = strings_at self.now.opts.now.parse_mode names.old.bytes
             self.now.sections.now index in
-            Answers (strings_in names.old.bytes) result expected }
+            Returns (strings_in names.old.bytes) result expected }
         ensures reading { let most = looks_by result table_looks names.old.bytes in
             ReadsNames names.old names.new 0 most }
     {

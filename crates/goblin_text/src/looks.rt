@@ -3,7 +3,7 @@ ghost use Rattle.std.specs.Prelude.{◌≡◌, ◌+◌, ◌-◌, ◌*◌, ◌<�
 ghost use Rattle.std.specs.Str.{IsUtf8, is_utf8};
 ghost use Rattle.std.specs.Str.Lossy.{utf8_valid_len};
 ghost use Rattle.goblin.specs.Pieces.{first_bad, piece_start};
-ghost use Rattle.goblin.specs.Refusal.{Answers};
+ghost use Rattle.goblin.specs.Refusal.{Returns};
 ghost use Rattle.goblin.specs.Strtab.{table_of};
 ghost use Rattle.goblin_base.specs.Entries.{CountsAtLeast, Reads};
 ghost use Rattle.goblin_text.specs.StringRanges.{text_table};
@@ -95,7 +95,7 @@ pub fn refuse_unless_text(view: &mut CountedBytes<'_>, from: usize, to: usize) -
     requires ordered { from ≤ to }
     requires within { to ≤ length view.old.bytes }
     ensures given { let bytes = slice_range view.old.bytes from to in
-        Answers (λ _. text_table bytes) result (table_of ParseMode.Strict bytes 0) }
+        Returns (λ _. text_table bytes) result (table_of ParseMode.Strict bytes 0) }
     ensures text { OnOk result (IsUtf8 (slice_range view.old.bytes from to)) }
     ensures reading { Reads view.old view.new (to - from) (2 * (to - from)) }
     ensures looks_least_refused { let bytes = slice_range view.old.bytes from to in

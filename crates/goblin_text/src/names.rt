@@ -3,7 +3,7 @@
 ghost use Rattle.std.specs.Prelude.{◌≡◌, ◌↔◌, ◌+◌, ◌*◌, ◌<◌, ◌≤◌, ◌⊎◌, ◌-◌, ◌/◌, IfSome, IsTrue, OnOk, length, min, slice_range};
 ghost use Rattle.std.specs.Str.{IsUtf8};
 ghost use Rattle.goblin.specs.declared.options.ParseMode.{ParseMode};
-ghost use Rattle.goblin.specs.Refusal.{Answers};
+ghost use Rattle.goblin.specs.Refusal.{Returns};
 ghost use Rattle.goblin.specs.Strtab.{strtab_of, table_of};
 ghost use Rattle.goblin_text.specs.StringRanges.{strings_in, text_table};
 ghost use Rattle.goblin_text.specs.Looks.{IsCached, IsShort, IsUnread, LooksAtMost, ReadsNames, looks_by, name_looks, table_looks};
@@ -92,7 +92,7 @@ impl<'a> Names<'a> {
     /// Those of `Strtab::parse_with_opts`.
     pub fn table(&mut self, offset: usize, size: usize, opts: &ParseOptions) -> Result<Strings>
         ensures given { let expected = strtab_of opts.now.parse_mode self.old.bytes offset size 0 in
-            Answers (strings_in self.old.bytes) result expected }
+            Returns (strings_in self.old.bytes) result expected }
         ensures reading { let most = looks_by result table_looks self.old.bytes in
             ReadsNames self.old self.new 0 most }
 
@@ -115,7 +115,7 @@ impl<'a> Names<'a> {
         requires ordered { start ≤ end }
         requires within { end ≤ length self.old.bytes }
         ensures given { let bytes = slice_range self.old.bytes start end in
-            Answers (λ _. text_table bytes) result (table_of ParseMode.Strict bytes 0) }
+            Returns (λ _. text_table bytes) result (table_of ParseMode.Strict bytes 0) }
         ensures reading { let most = looks_by result table_looks self.old.bytes in
             ReadsNames self.old self.new 0 most }
         ensures cached { OnOk result (IsCached self.new start end) }

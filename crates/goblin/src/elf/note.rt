@@ -3,7 +3,7 @@ ghost use Rattle.std.specs.Int.{next_multiple_of};
 ghost use Rattle.std.specs.Prelude.{⊤, ◌⊎◌, ◌≡◌, ◌+◌, ◌≤◌, ◌<◌, ◌^◌, ◌↔◌, ◌++◌, IsTrue, IfOk, IfSome, length, min, [], ◌∷◌, take, drop};
 ghost use Rattle.std.specs.Iterator.{MakesProgress, UpTo, YieldsFirstBy, at_most};
 ghost use Rattle.std.specs.Iterator.SizeHint.{IsWithinCount};
-ghost use Rattle.goblin_base.specs.Refusal.{Answers};
+ghost use Rattle.goblin_base.specs.Refusal.{Returns};
 ghost use Rattle.goblin.specs.Notes.{NoteByNote, NotesAdvance, FewNotes, PlacesLieWithin, WholeIsNote};
 ghost use Rattle.goblin.specs.NoteType.{note_type_name};
 ghost use Rattle.goblin.specs.Note.{FindsParts, bytes_at, note_at, text_at, whole_places, with_part};
@@ -267,9 +267,9 @@ impl<'a> Note<'a> {
     /// `BadOffset` if the offset is at the end of the bytes or past it, else the errors of reading
     /// a note from the offset on.
     pub fn at(bytes: &'a [u8], offset: usize, ctx: (usize, Ctx)) -> Result<(Self, NotePlaces)>
-        ensures note { Answers (λ found. (parts_of found.0, found.1.next)) result
+        ensures note { Returns (λ found. (parts_of found.0, found.1.next)) result
             (note_at bytes.now offset ctx) }
-        ensures places { Answers (λ found. found.1) result (places_at bytes.now offset ctx) }
+        ensures places { Returns (λ found. found.1) result (places_at bytes.now offset ctx) }
         ensures within { IfOk result (λ found. LieWithin (length bytes.now) offset found.1) }
     {
         if offset >= bytes.len() {
@@ -281,7 +281,7 @@ impl<'a> Note<'a> {
     // Reads the note at the start of the bytes, and returns it with the offsets of its parts.
     #[tactic(auto, unfolding(crate::specs::Note::read_places))]
     fn with_places(bytes: &'a [u8], ctx: (usize, Ctx)) -> Result<(Self, NotePlaces)>
-        ensures places { Answers (λ found. found.1) result (read_places ctx.0 ctx.1.le bytes.now) }
+        ensures places { Returns (λ found. found.1) result (read_places ctx.0 ctx.1.le bytes.now) }
         ensures there { IfOk result (λ found. parts_of found.0 ≡ note_there bytes.now found.1) }
     {
         let (alignment, ctx) = ctx;
@@ -347,7 +347,7 @@ fn aligned(offset: usize, alignment: usize) -> usize
 
 // Returns `size` bytes from an offset on, or the fault of `room`.
 fn bytes_at(bytes: &[u8], place: usize, size: usize) -> Result<&[u8]>
-    ensures given { Answers (λ part. part.now) result (bytes_at bytes.now place size) }
+    ensures given { Returns (λ part. part.now) result (bytes_at bytes.now place size) }
     ensures there { IfOk result (λ part. part.now ≡ take size (drop place bytes.now)) }
     ensures fits { IfOk result (λ _. place + size ≤ length bytes.now) }
 {
@@ -357,7 +357,7 @@ fn bytes_at(bytes: &[u8], place: usize, size: usize) -> Result<&[u8]>
 
 // Returns `size` bytes from an offset on as UTF-8, or the fault of `room`, or `BadInput`.
 fn text_at(bytes: &[u8], place: usize, size: usize) -> Result<&str>
-    ensures given { Answers (λ text. text.now) result (text_at bytes.now place size) }
+    ensures given { Returns (λ text. text.now) result (text_at bytes.now place size) }
     ensures there { IfOk result (λ text. text.now ≡ take size (drop place bytes.now)) }
 {
     let part = bytes_at(bytes, place, size)?;
@@ -379,7 +379,7 @@ impl<'a> TryFromCtx<'a, (usize, Ctx)> for Note<'a> {
     ghost use Rattle.goblin.specs.Note.{note_and_len, read_note};
 
     ghost try_from_gives = { λ bytes ctx answer.
-        Answers note_and_len answer (read_note ctx.0 ctx.1.le bytes) };
+        Returns note_and_len answer (read_note ctx.0 ctx.1.le bytes) };
 
     #[tactic(auto, unfolding(crate::specs::Note::read_note))]
     fn try_from_ctx(bytes: &'a [u8], ctx: (usize, Ctx)) -> Result<(Self, usize)> {

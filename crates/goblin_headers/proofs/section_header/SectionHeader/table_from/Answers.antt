@@ -1,5 +1,5 @@
 use Rattle.std.proofs.Common.{rules, sym, subst}
-use Rattle.goblin_base.specs.Common.{Answers}
+use Rattle.goblin_base.specs.Common.{Returns}
 use Rattle.goblin_headers.proofs.ReadSections.{first_refused, from_is}
 use Rattle.goblin_headers.proofs.section_header.SectionHeader.table_from.Goals as goal
 
@@ -12,6 +12,6 @@ returns-in_err-most c =
 
 pub returns : goal.returns
 returns c =
-    subst (Answers (λ table. table) c.counted.result)
+    subst (Returns (λ table. table) c.counted.result)
     (sym (from_is c.args.bytes.now c.args.offset c.args.count c.args.ctx c.in_ok-most.most c.in_ok-most.ensures))
     c.counted.ensures

@@ -3,7 +3,7 @@
 use Rattle.std.proofs.Common.{◌≡◌, ◌∙◌, ap, arith, length, slice_range, subst, sym}
 use Rattle.std.proofs.lemmas.Bool.{both_ways}
 use Rattle.std.proofs.lemmas.Grind.{common_steps}
-use Rattle.goblin.specs.Refusal.{Answers}
+use Rattle.goblin.specs.Refusal.{Returns}
 use Rattle.goblin.specs.Strtab.{IsRange, strtab_of, table_of, walked}
 use Rattle.goblin_text.proofs.StringTables.{is_strict, table_is}
 use Rattle.goblin_text.specs.StringRanges.{strings_in}
@@ -26,7 +26,7 @@ returns-in_err-refuse_unless_text-clause-given c =
     grind (arith, common_steps, c.in_ok-start.ensures.places bytes size) in
     let is = table_is _ _ _ _ _ _ stands in
     let strict = is_strict _ (λ p. both_ways _ c.if-not-is_permissive.true (c.is_permissive.ensures.1 p)) in
-    subst (Answers (strings_in bytes) c.from_residual-in_err-refuse_unless_text.result)
+    subst (Returns (strings_in bytes) c.from_residual-in_err-refuse_unless_text.result)
     (sym (is ∙ ap (λ m. table_of m table 0) strict)) (grind (arith, common_steps))
 
 pub returns-clause-given : goal.returns-clause-given
