@@ -48,6 +48,7 @@ fn symbols_in<'a>(
 }
 
 /// Returns the symbol at an index of a range.
+#[inline(always)]
 pub fn symbol_in(
     bytes: &[u8],
     header: &GoblinHeader,
