@@ -1,10 +1,10 @@
 # The commands of this repository, which `make help` lists. They need the Rattle toolchain (`rt`), with the Python 3.8 or later that it
 # runs on, and git, make, a shell and awk; what checks/faces compiles by cc and cargo it leaves out where the machine has none.
 
-# Prints README's table of commands, with the times on the fastest machine that was tried and on the slowest.
+# Prints README's table of commands.
 help:
 	@command -v awk > /dev/null || { echo 'make help: the command awk was not found. The table is in README.md' >&2; exit 2; }
-	@awk -F '|' '/^\|`make / { gsub(/`/, ""); printf "%-26s %-12s %-12s %s\n", $$2, $$4, $$5, $$3 }' README.md
+	@awk -F '|' '/^\|`make / { gsub(/`/, ""); printf "%-38s %-22s %s\n", $$2, $$4, $$3 }' README.md
 
 # The name of a file is passed on as it stands, whatever signs it has.
 export SHOWN := $(value FILE)
