@@ -2,16 +2,21 @@
 use Rattle.std.proofs.Common.{◌≡◌, ◌+◌, ℕ, zero, suc, Bool, true, false, List, codes, Option, Some, None, Result, Ok}
 use Rattle.std.proofs.Common.{Err, inl, inr, refl, arith}
 use Rattle.std.specs.Bool.{⊤}
+use Rattle.goblin_base.specs.declared.container.Container.TheVariants.{Little, Big}
 use Rattle.goblin_base.specs.declared.container.Ctx.{Ctx}
+use Rattle.goblin_base.specs.declared.container.Endian.{Endian}
+use Rattle.goblin_base.specs.declared.error.Fault.TheVariants.{DataType}
 use Rattle.goblin_base.specs.Eager.{records_from, records_in, room_of_each}
+use Rattle.goblin_base.specs.Layout.{Layout}
 use Rattle.goblin_base.specs.Record.{read_within}
 use Rattle.goblin_base.specs.Refusal.{Refusal, buffer_too_short, misplaced, refusal_of}
 use Rattle.goblin_base.specs.Room.{room_of}
-use Rattle.goblin_base.specs.Steps.{refuse_as}
+use Rattle.goblin_base.specs.Steps.{refuse_as, with_size}
 use Rattle.goblin_base.specs.Strtab.{range_in}
 use Rattle.goblin_base.specs.Texts.{refusal_text}
 use Rattle.goblin.specs.Note.{places_at, read_places}
-use Rattle.goblin.specs.ReadHeader.{read_header}
+use Rattle.goblin.specs.Header.{header_layout, header_size}
+use Rattle.goblin.specs.ReadHeader.{read_header, read_in_order}
 use Rattle.goblin.specs.SectionHeaders.{section_headers_from, section_headers_from_tested}
 use Rattle.goblin_c.specs.Refused.{RefusalAt}
 use Rattle.goblin_c.specs.declared.types.GoblinHeader.{GoblinHeader}
@@ -70,9 +75,17 @@ known_each len offset size zero = tt
 known_each len offset size (suc count) =
     grind (arith, known_room len offset size, known_each len (offset + size) size count)
 
+known_in_order : {R : Type 0} (layout : Endian → Layout R) (size : ℕ) (bytes : List ℕ)
+    → Known (refuse_as refusal_of (with_size size (read_in_order layout DataType bytes)))
+unfolding read_in_order
+known_in_order layout size bytes = grind (arith, known_room)
+
 known_header : (bytes : List ℕ) → Known (refuse_as refusal_of (read_header bytes))
 unfolding read_header
-known_header bytes = grind (arith, known_room)
+known_header bytes =
+    let little = known_in_order (header_layout Little) (header_size Little) bytes in
+    let big = known_in_order (header_layout Big) (header_size Big) bytes in
+    grind (arith, little, big)
 
 -- the lists
 known_sections : (bytes : List ℕ) (h : GoblinHeader) → KnownAt (sections_expected bytes h)
