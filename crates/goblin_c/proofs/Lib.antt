@@ -2,6 +2,7 @@ pub mod FilledBufferLemmas
 pub mod ListedLemmas
 pub mod NumberLemmas
 pub mod OffsetLemmas
+pub mod CountLemmas
 pub mod DigitLemmas
 pub mod FitLemmas
 pub mod HeaderPutLemmas

@@ -40,6 +40,16 @@ pub record PutsAreRead : Type 0 where
       → reloc_count_expected new h table is_rela ≡ reloc_count_expected bytes h table is_rela
       → reloc_expected new h table is_rela index ≡ Ok (Some r)
 
+-- files of the same length have as many symbols and relocations in a range
+pub record CountsStay : Type 0 where
+  pub symbol :
+      (bytes new : List ℕ) (h : GoblinHeader) (table : GoblinRange)
+      → length new ≡ length bytes → symbol_count_expected new h table ≡ symbol_count_expected bytes h table
+  pub reloc :
+      (bytes new : List ℕ) (h : GoblinHeader) (table : GoblinRange) (is_rela : Bool)
+      → length new ≡ length bytes
+      → reloc_count_expected new h table is_rela ≡ reloc_count_expected bytes h table is_rela
+
 -- the other bytes of a file stay, before so many bytes at an offset and after them
 pub record ChangesOnly (place size : ℕ) (old new : List ℕ) : Type 0 where
   pub same_length : length new ≡ length old
