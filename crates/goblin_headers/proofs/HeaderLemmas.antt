@@ -16,8 +16,8 @@ use Rattle.goblin_base.specs.FieldLaws.{values_at-image, lows_of-fits, image-fie
 use Rattle.goblin_base.specs.FieldLaws.{IsBytes-image_of_fields}
 use Rattle.goblin_base.specs.LayoutLaws.{size_of_fields-is}
 use Rattle.goblin_base.specs.NumberLaws.{IsBytes-append}
-use Rattle.goblin_headers.specs.Header.{HeaderShape, field_widths, headed, header32, header64, header_layout, as32, as64}
-use Rattle.goblin_headers.specs.Header.{widened32, widened64}
+use Rattle.goblin_headers.specs.Header.{HeaderShape, field_widths, headed, header32, header64, header_layout, as32}
+use Rattle.goblin_headers.specs.Header.{as64, widened32, widened64}
 use Rattle.goblin_headers.specs.HeaderTrips.{IsOneHeaderImage}
 
 -- headers that begin with an identification, and what holds of reading and writing them
@@ -93,7 +93,8 @@ module _ {R : Type 0} (s : HeaderShape R)
     length_image = length-image;
     image_bytes =
         λ h are.
-        IsBytes-append (s.ident h) (image_of_fields order (s.fields h)) are (IsBytes-image_of_fields order (s.fields h));
+        IsBytes-append (s.ident h) (image_of_fields order (s.fields h)) are
+        (IsBytes-image_of_fields order (s.fields h));
     reads_low = read-image;
     low_fits = λ h fits. ap (s.of_values (s.ident h)) (lows_of-fits (s.fields h) fits) ∙ whole h;
     writes_back = image-read;

@@ -78,7 +78,8 @@ reads_in_order layout fault bytes order enough room named =
     rw (room_of_fits (length bytes) 0 16 (omega arith), named, room_of_fits (length bytes) 0 size (omega arith)) refl
 
 -- so it is as the functions that read have found it
-pub reads_found : {R : Type 0} (layout : Endian → Layout R) (fault : ℕ → Fault) (bytes : List ℕ) (order : Endian) (x : R)
+pub reads_found : {R : Type 0} (layout : Endian → Layout R) (fault : ℕ → Fault) (bytes : List ℕ) (order : Endian)
+    (x : R)
     → Some order ≡ order_named (slice_index bytes 5) → x ≡ (layout order).read bytes → 16 ≤ (layout order).size
     → (layout order).size ≤ length bytes
     → Ok x ≡ read_in_order layout fault bytes

@@ -25,7 +25,8 @@ use Rattle.goblin_headers.specs.HeaderTrips.{NewIsOfContext, NewIsReadBack}
 use Rattle.goblin_headers.specs.ReadHeader.{read_header, read_in_order}
 use Rattle.goblin_headers.specs.WriteHeader.{WritesHeader, WritesInOrder}
 use Rattle.goblin_headers.proofs.HeaderLemmas.{header_laws, one_header_image}
-use Rattle.goblin_headers.proofs.RawTrips.{WasReadInOrder, front_byte, ident_byte, raw_reads_back, raw_writes_back, was_read_in_order}
+use Rattle.goblin_headers.proofs.RawTrips.{WasReadInOrder, front_byte, ident_byte, raw_reads_back, raw_writes_back}
+use Rattle.goblin_headers.proofs.RawTrips.{was_read_in_order}
 use Rattle.goblin_headers.proofs.RawTrips.{writes_in_order, reads_in_order, step, passed, found}
 use Rattle.std.proofs.lemmas.Bool.Decides.{nat_tests}
 use Rattle.goblin_base.specs.declared.error.Error.TheVariants.{Malformed, BadMagic}
