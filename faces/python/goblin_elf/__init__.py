@@ -5,9 +5,8 @@
     for symbol in elf.dynamic_symbols:
         print(hex(symbol.st_value), symbol.name)
 
-Each call of the library is proved; this package passes its results on and is tested. A file, or a part of it, that the library refuses
-raises `Refused`; nothing that a file holds raises anything else. Names are the standard's, a 64-bit number is an `int`, and offsets and
-sizes are in bytes. Arrays need numpy, which nothing else does.
+Each call of the library is proved; this package passes its results on and is tested. A file, or a part of it, that is refused raises
+`Refused`, and nothing that a file holds raises anything else. Offsets and sizes are in bytes. Arrays need numpy, which nothing else does.
 """
 from .constants import *  # noqa: F401, F403
 from .constants import VERSION

@@ -1,5 +1,6 @@
 """The shared library by ctypes: where it is, its calls and its structs. The rest of the package is written over `call` and `found`."""
 import ctypes
+import functools
 import mmap
 import os
 import struct
@@ -92,18 +93,17 @@ def declared(name: str, codes: str) -> Any:
 
 
 FUNCTIONS = {name: declared(name, codes) for name, codes in CALLS.items()}
-# (an index makes a function of its own, here without a declaration)
-PREPARED = {name: LIBRARY[f'goblin_{name}'] for name in ('string', 'string_bytes')}
+# Without a declaration. A string is found so fast that letting go of Python's lock takes longer.
+PREPARED = {name: ctypes.PyDLL(LIBRARY._name)[f'goblin_{name}'] for name in ('string', 'string_bytes')}
 
 
 class File:
     """The bytes of a file: any object with a buffer, which is kept and whose memory can't move while this or a part of it lives."""
     def __init__(self, buffer: Any) -> None:
         self.view = memoryview(buffer).cast('B')
-        # (slices of these are faster than those of a memoryview)
-        self.source = buffer if type(buffer) in (bytes, mmap.mmap) else self.view
-        # A Py_buffer, whose first word is the address. `view` goes on holding the memory when it is released.
-        words = (ctypes.c_ssize_t * 16)()
+        # (slices of the first two are bytes without more)
+        self.source = buffer if type(buffer) in (bytes, mmap.mmap) else Slices(self.view)
+        words = (ctypes.c_ssize_t * 16)()  # a Py_buffer, which begins with the address; `view` goes on holding the memory
         ctypes.pythonapi.PyObject_GetBuffer(ctypes.py_object(self.view), words, 0)
         self.address, self.length = words[0], len(self.view)
         ctypes.pythonapi.PyBuffer_Release(words)
@@ -111,6 +111,16 @@ class File:
     def part(self, offset: int, size: int) -> memoryview:
         """Returns some bytes, without a copy."""
         return self.view[offset:offset + size].toreadonly()
+
+
+class Slices:
+    """The bytes of a memoryview, whose slices are bytes."""
+
+    def __init__(self, view: memoryview) -> None:
+        self.view = view
+
+    def __getitem__(self, part: slice) -> bytes:
+        return bytes(self.view[part])
 
 
 def call(name: str, file: File, *arguments: Any) -> bool:
@@ -163,7 +173,7 @@ class Finder:
         at, result, why = ctypes.c_uint64(), RANGE.buffer(), REFUSAL.buffer()
         return at, memoryview(result).cast('B').cast('Q'), why, (*self.fixed, at, ctypes.byref(result), ctypes.byref(why))
 
-    def get(self, offset: int) -> Any:
+    def get(self, offset: int) -> Optional[bytes]:
         """Returns the bytes of the string at an offset below 2**64, or `None` at GOBLIN_END. Raises Refused at a refusal."""
         try:
             taken = self.free.pop()
@@ -181,13 +191,13 @@ class Finder:
     def decoded(self, offsets: Iterable[int], errors: str) -> List[Optional[str]]:
         """Returns the strings at many offsets in one pass, as `get` returns the bytes of one."""
         at, result, why, arguments = self.prepared()
-        function, source = self.function, self.source
         strings: List[Optional[str]] = []
-        append = strings.append
+        function, source, append = self.function, self.source, strings.append
+        decode: Any = bytes.decode if errors == 'strict' else functools.partial(bytes.decode, errors=errors)
         for at.value in offsets:
             status = function(*arguments)
             if status > END:
                 raise refused(why)
             start, size = result
-            append(None if status else str(source[start:start + size], 'utf-8', errors))
+            append(None if status else decode(source[start:start + size]))
         return strings

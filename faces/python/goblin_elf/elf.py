@@ -16,9 +16,9 @@ class Elf:
     """An ELF file in memory, with its header. Everything else is read on demand.
 
     `buffer` is any object with a buffer of contiguous bytes, such as bytes, a memoryview or an mmap. It is kept, and neither copied nor
-    changed but by what writes. Its length can't change while this object, or a memoryview that it returned, lives. `header` is the
-    header to read by, in place of that of the file: see `whole`. Threads may read a file at once, since each call lets go of Python's
-    lock. Nothing may write the bytes during a call.
+    changed but by what writes. Its length can't change while this object, or a memoryview that it returned, lives. `header` is the header
+    to read by, in place of that of the file: see `whole`. Threads may read a file at once: all calls but those that find a string let go of
+    Python's lock. Nothing may write the bytes during a call.
 
     Refused if the file is too short, does not start with the magic number, or has an invalid class or byte order.
     """

@@ -50,19 +50,16 @@ class Held(Entry):
     def bytes(self: Any) -> memoryview:
         """Its bytes in the file, without a copy: none for a type without bytes. Refused if they are not inside the file."""
         file, table = self.table.elf._file, self.table
-        part: memoryview = file.part(*found(f'{table.one}_bytes', RANGE, file, table.record.pack(self[:-2])) or (0, 0))
-        return part
+        return memoryview(file.part(*found(f'{table.one}_bytes', RANGE, file, table.record.pack(self[:-2])) or (0, 0)))
 
     @property
     def bytes_in_file(self: Any) -> memoryview:
         """Those of its bytes that are inside the file. Never refused."""
-        try:
-            part: memoryview = self.bytes
-        except Refused:
-            file, place = self.table.elf._file, RANGE.buffer()
-            FUNCTIONS['range_in_file'](file.address, file.length, RANGE.pack(self[:2]), place)
-            part = file.part(*RANGE.struct.unpack(place))
-        return part
+        with contextlib.suppress(Refused):
+            return memoryview(self.bytes)
+        file, place = self.table.elf._file, RANGE.buffer()
+        FUNCTIONS['range_in_file'](file.address, file.length, RANGE.pack(self[:2]), place)
+        return memoryview(file.part(*RANGE.struct.unpack(place)))
 
     @property
     def notes(self: Any) -> 'Notes':
@@ -71,8 +68,7 @@ class Held(Entry):
 
     def number(self: Any, offset: int, width: int) -> int:
         """Returns the number in `width` bytes (1, 2, 4 or 8) at an offset in it, in the file's order. Refused if it is not inside."""
-        number: int = self.table.elf._number('number_in', RANGE.pack(self[:2]), unsigned(offset), unsigned(width))
-        return number
+        return int(self.table.elf._number('number_in', RANGE.pack(self[:2]), unsigned(offset), unsigned(width)))
 
 
 class Header(HeaderFields):
@@ -227,25 +223,26 @@ class Table(Sequence[T]):
 
     def _items(self, first: int, end: int) -> Iterator[T]:
         """Yields the items from an index to another one. It is written without a loop of Python, which takes longer."""
-        ends = (map(operator.add, chunk, zip(itertools.count(start), itertools.repeat(self))) for start, chunk in self._chunks(first, end))
-        return map(tuple.__new__, itertools.repeat(self.item), itertools.chain.from_iterable(ends))
+        unpack, tables = self.record.struct.iter_unpack, itertools.repeat(self)
+        items = (map(operator.add, unpack(chunk), zip(itertools.count(start), tables)) for start, chunk in self._chunks(first, end))
+        return map(tuple.__new__, itertools.repeat(self.item), itertools.chain.from_iterable(items))
 
     def _raw(self, item: T) -> Fields:
         """Returns the fields of the struct of an item."""
         return tuple(item[:-2])
 
-    def _chunks(self, first: int, end: int) -> Iterator[Tuple[int, Iterator[Fields]]]:
-        """Yields the fields of the structs from an index to another one, in chunks, each after the index that it begins at."""
+    def _chunks(self, first: int, end: int) -> Iterator[Tuple[int, memoryview]]:
+        """Yields the structs from an index to another one, in chunks, each after the index that it begins at."""
         size = self.record.size
         while first < end:
             buffer = bytearray(min(end - first, CHUNK) * size)
             filled = self._fill(first, ctypes.addressof(ctypes.c_char.from_buffer(buffer)), len(buffer) // size)
-            yield first, self.record.struct.iter_unpack(memoryview(buffer)[:filled * size])
+            yield first, memoryview(buffer)[:filled * size]
             first = first + filled if filled else end
 
-    def _column(self, place: int) -> List[int]:
-        """Returns a field of all items."""
-        return [fields[place] for _, chunk in self._chunks(0, len(self)) for fields in chunk]
+    def _column(self, word: int) -> List[int]:
+        """Returns a field of all items that has 64 bits, by the number of fields before it, which have as many."""
+        return [number for _, chunk in self._chunks(0, len(self)) for number in chunk.cast('Q')[word::self.record.size // 8].tolist()]
 
     def _fill(self, first: int, address: int, capacity: int) -> int:
         """Reads structs from an index on into memory, and returns their number."""
@@ -318,7 +315,7 @@ class Relocations(Table[Relocation]):
     def _items(self, first: int, end: int) -> Iterator[Relocation]:
         new = tuple.__new__
         for start, chunk in self._chunks(first, end):
-            for index, (offset, symbol, addend, kind, has) in enumerate(chunk, start):
+            for index, (offset, symbol, addend, kind, has) in enumerate(self.record.struct.iter_unpack(chunk), start):
                 yield new(Relocation, (offset, symbol, addend if has else None, kind, index, self))
 
     def _raw(self, item: Relocation) -> Fields:
@@ -363,12 +360,11 @@ class Strings:
         """Returns the string at an offset, or `None` past the end. Refused if the table is not inside the file, or if the string is not
         UTF-8. With other `errors` than 'strict', such as 'replace' or 'surrogateescape', it is decoded as they mean instead."""
         found = (self._texts if errors == 'strict' else self._any).get(offset)
-        return None if found is None else str(found, 'utf-8', errors)
+        return None if found is None else found.decode('utf-8', errors)
 
     def get_bytes(self, offset: int) -> Optional[bytes]:
         """Returns the bytes of the string at an offset, which need not be UTF-8, as `get` does."""
-        found = self._any.get(unsigned(offset))
-        return None if found is None else bytes(found)
+        return self._any.get(unsigned(offset))
 
     def get_all(self, offsets: Iterable[int], errors: str = 'strict') -> List[Optional[str]]:
         """Returns the strings at many offsets in one pass, each as `get` does."""
