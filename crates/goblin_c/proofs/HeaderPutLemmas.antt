@@ -1,6 +1,6 @@
 -- A header that is put is read again.
-use Rattle.std.proofs.Common.{◌≡◌, ◌≤◌, ◌+◌, ◌-◌, ◌==◌, ℕ, Bool, true, false, List, ◌++◌, length, take, drop, Option}
-use Rattle.std.proofs.Common.{Some, None, Result, Ok, Err, if◌then◌else◌, refl, sym, ap, subst, ◌∙◌, arith}
+use Rattle.std.proofs.Common.{◌≡◌, ◌≤◌, ℕ, true, List, ◌++◌, length, take, drop, Option}
+use Rattle.std.proofs.Common.{Some, None, Result, Ok, refl, ap, subst, arith}
 use Rattle.std.proofs.lemmas.Bool.Decides.{nat_tests}
 use Rattle.std.proofs.lemmas.List.{length-drop, length-take-le}
 use Rattle.goblin_base.specs.declared.container.Container.{Container}
@@ -17,12 +17,11 @@ use Rattle.goblin_base.specs.Steps.{◌>>=◌, or_refuse, refuse_as}
 use Rattle.goblin.specs.declared.elf.header.Header.{Header}
 use Rattle.goblin.specs.Header.{HeaderFits, class_named, class_of, header_layout, header_size, order_named, order_of}
 use Rattle.goblin.specs.Header.{Identifies}
-use Rattle.goblin.specs.ReadHeader.{read_header}
 use Rattle.goblin_headers.proofs.WholeTrips.{reads_back}
 use Rattle.goblin_c.specs.Expected.{ctx_of, header_expected}
-use Rattle.goblin_c.specs.Refused.{RefusalAt, refused_at}
+use Rattle.goblin_c.specs.Refused.{refused_at}
 use Rattle.goblin_c.specs.Types.{header_converted}
-use Rattle.goblin_c.specs.Write.{FitsClass, header_of, header_put_expected, ident_of, named_ctx, put_if}
+use Rattle.goblin_c.specs.Write.{FitsClass, header_of, ident_of, named_ctx, put_if}
 use Rattle.goblin_c.specs.WriteLaws.{HeadersAreRead}
 use Rattle.goblin_c.specs.declared.types.GoblinHeader.{GoblinHeader}
 use Rattle.goblin_c.proofs.ListedLemmas.{bind_ok, refuse_as_ok, refused_at_ok}

@@ -20,7 +20,7 @@ use Rattle.goblin_base.specs.Table.{records}
 use Rattle.goblin_base.specs.TableLaws.{no_records}
 use Rattle.goblin_base.proofs.Records.{get_records, past_records}
 use Rattle.goblin.specs.SectionHeader.{section_header_of, section_header_size}
-use Rattle.goblin.specs.SectionHeaders.{count_asked, count_from, section_headers_from, section_headers_from_tested}
+use Rattle.goblin.specs.SectionHeaders.{count_asked, section_headers_from, section_headers_from_tested}
 use Rattle.goblin.specs.SectionHeaders.{section_headers_of}
 use Rattle.goblin.specs.Sym.{sym_of, sym_size}
 use Rattle.goblin.specs.Symtab.{symtab_of}

@@ -14,7 +14,6 @@ use Rattle.std.proofs.lemmas.Bool.{cases_lt}
 use Rattle.std.proofs.lemmas.Option.{slice_get-get_or, slice_get_within}
 use Rattle.goblin_base.specs.Layout.{IsRecord, Layout}
 use Rattle.goblin_base.specs.Number.{IsBytes}
-use Rattle.goblin_base.specs.Steps.{◌>>=◌}
 use Rattle.goblin_c.specs.Expected.{count_of, each_converted, item_of}
 use Rattle.goblin_c.specs.Refused.{RefusalAt}
 use Rattle.goblin_c.specs.Write.{put_at, put_if, put_if_there, with_bytes}

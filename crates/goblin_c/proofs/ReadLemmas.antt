@@ -2,14 +2,14 @@
 --
 -- The records of a list that isn't refused stand one after another in the file (`IsListed`). So an item that a call
 -- stores was read from its own bytes, which lie in the file (`found_at`).
-use Rattle.std.proofs.Common.{◌≡◌, ◌≤◌, ◌<◌, ◌+◌, ◌-◌, ◌*◌, ◌/◌, ◌==◌, ℕ, Bool, true, false, nat_le, List, [], length}
-use Rattle.std.proofs.Common.{take, drop, map, slice_get, Option, Some, None, Result, Ok, Err, if◌then◌else◌}
-use Rattle.std.proofs.Common.{refl, sym, ap, subst, ◌∙◌, arith}
+use Rattle.std.proofs.Common.{◌≡◌, ◌≤◌, ◌+◌, ◌*◌, ◌/◌, ◌==◌, ℕ, Bool, true, false, nat_le, List, [], length}
+use Rattle.std.proofs.Common.{take, drop, map, slice_get, Some, Result, Ok, Err, if◌then◌else◌}
+use Rattle.std.proofs.Common.{refl, sym, ap, ◌∙◌, arith}
 use Rattle.std.proofs.lemmas.Bool.{leb-false, leb-true}
 use Rattle.std.proofs.lemmas.Option.{slice_get-map}
 use Rattle.std.specs.Option.{option_map}
 use Rattle.goblin_base.specs.Refusal.{refusal_of}
-use Rattle.goblin_base.specs.Steps.{◌>>=◌, refuse_as}
+use Rattle.goblin_base.specs.Steps.{refuse_as}
 use Rattle.goblin.specs.ProgramHeader.{program_header_of, program_header_size}
 use Rattle.goblin.specs.ProgramHeaders.{program_headers_from}
 use Rattle.goblin.specs.SectionHeader.{section_header_of, section_header_size}

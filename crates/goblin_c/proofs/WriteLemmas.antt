@@ -5,9 +5,6 @@ use Rattle.std.proofs.Common.{IsTrue, map, Option, Some, None, Result, Ok, Err, 
 use Rattle.std.proofs.Common.{subst, ◌∙◌}
 use Rattle.std.proofs.Common.{arith}
 use Rattle.std.proofs.Math.Logic.{◌↔◌}
-use Rattle.std.proofs.lemmas.Bool.Decides.{nat_tests}
-use Rattle.std.proofs.lemmas.List.{drop-drop}
-use Rattle.goblin_base.specs.Layout.{IsRecord, Layout}
 use Rattle.goblin_base.specs.RecordLaws.{fits-room_of}
 use Rattle.goblin_base.specs.Steps.{◌>>=◌, refuse_as}
 use Rattle.goblin_c.specs.Bytes.{number_expected}

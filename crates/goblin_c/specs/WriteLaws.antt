@@ -1,6 +1,6 @@
 -- Laws of the calls that put: what is put is read again, what was read is put without a change, and no other byte
 -- changes.
-use Rattle.std.specs.Prelude.{◌≡◌, ◌≢◌, ◌+◌, ◌*◌, ℕ, true, Bool, List, length, take, drop, Some, Ok}
+use Rattle.std.specs.Prelude.{◌≡◌, ◌+◌, ◌*◌, ℕ, true, Bool, List, length, take, drop, Some, Ok}
 use Rattle.goblin_base.specs.Number.{IsBytes}
 use Rattle.goblin_c.specs.Expected.{reloc_count_expected, reloc_expected, section_count_expected, section_expected}
 use Rattle.goblin_c.specs.Expected.{segment_count_expected, segment_expected, symbol_count_expected, symbol_expected}
