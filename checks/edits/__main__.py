@@ -84,6 +84,8 @@ def main():
     options = parser.parse_args()
     if options.fits:
         return fits(options)
+    if not options.over or not options.crates:
+        parser.error('it takes --fits, or --over FOLDER and crates that are proved there; make edits [CRATES=..] proves them first')
     options.over = os.path.abspath(options.over)
     return 1 if sum(try_crate(crate, options) for crate in options.crates) else 0
 

@@ -370,7 +370,7 @@ impl<'n> WantedName<'n> {
 
 /// A search of a string table for a name.
 ///
-/// <!-- quoted: crates/goblin_headers/src/section_header.rt -->
+/// <!-- quoted: crates/goblin_headers/src/section_search.rt -->
 /// ```
 /// let wanted = names.wanted(name);
 /// ```

@@ -1,6 +1,6 @@
 //! Well-formed UTF-8: the Unicode Standard, definition D92 and table 3-7.
 ghost use Rattle.std.specs.Prelude.{◌≡◌, ◌↔◌, IsTrue};
-ghost use Rattle.std.specs.Str.{continuation_len};
+ghost use Rattle.std.specs.Str.{IsAscii, continuation_len};
 ghost use Rattle.std.specs.Str.Lossy.{second_byte_min, second_byte_max};
 ghost use Rattle.goblin_base.specs.Refusal.{Answers, refusal_of};
 ghost use Rattle.goblin_base.specs.Utf8.{after_byte, after_first_byte, awaits_first, invalid_utf8, text_or_fault};
@@ -8,19 +8,34 @@ ghost use Rattle.goblin_base.specs.Utf8.{after_byte, after_first_byte, awaits_fi
 use crate::error::{Error, Result};
 use crate::scroll;
 
+// The most bytes of a text that is first tested for ASCII.
+const SHORT: usize = 16;
+
 /// Returns the bytes as a string.
 ///
 /// # Errors
 ///
 /// Fails with `BadInput`, which has this size, if they aren't UTF-8.
-#[tactic(auto, using(crate::proofs::TextTests::utf8_tests))]
+#[tactic(auto, using(crate::proofs::TextTests::ascii_tests))]
 pub fn read_text(bytes: &[u8], size: usize) -> Result<&str>
     ensures { Answers (λ text. text.now) result (text_or_fault bytes.now size) }
 {
+    // (of so few bytes, as in the name of a note, this takes a fraction of the time of the test for UTF-8)
+    if bytes.len() <= SHORT && is_ascii(bytes) {
+        return Ok(unsafe { std::str::from_utf8_unchecked(bytes) });
+    }
     match std::str::from_utf8(bytes) {
         Ok(text) => Ok(text),
         Err(_) => Err(invalid_utf8(size)),
     }
+}
+
+// Reports whether all bytes are ASCII.
+#[inline]
+fn is_ascii(bytes: &[u8]) -> bool
+    ensures { IsTrue result → IsAscii bytes.now }
+{
+    bytes.iter().all(|byte| *byte < 0x80)
 }
 
 /// Returns the error for bytes that aren't UTF-8. The size is the number of bytes from their start on.

@@ -15,11 +15,10 @@ use Rattle.goblin.specs.Sym.{sym32, sym64, sym_layout, sym_size}
 fields_at_fit : (order : Endian) (bytes : List ℕ) (place : ℕ) (widths : List ℕ)
     → IsBytes bytes → place + total widths ≤ length bytes → FieldsFit (fields_at order bytes place widths)
 fields_at_fit order bytes place [] are room = tt
-fields_at_fit order bytes place (w ∷ widths) are room =
-    (
-      number_at-lt order bytes place w are (omega (arith, room)),
-      fields_at_fit order bytes (place + w) widths are (omega (arith, room)),
-    )
+fields_at_fit order bytes place (w ∷ widths) are room = (
+  number_at-lt order bytes place w are (omega (arith, room)),
+  fields_at_fit order bytes (place + w) widths are (omega (arith, room)),
+)
 
 pub section_fits : (class : Container) (order : Endian) (bytes : List ℕ)
     → IsBytes bytes → section_header_size class ≤ length bytes

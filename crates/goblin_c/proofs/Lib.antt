@@ -4,6 +4,7 @@ pub mod NumberLemmas
 pub mod OffsetLemmas
 pub mod DigitLemmas
 pub mod FitLemmas
+pub mod HeaderPutLemmas
 pub mod IndexLemmas
 pub mod NoteLemmas
 pub mod PlaceLemmas

@@ -77,8 +77,7 @@ numbers_are_put = record {
       let same : spelled order width value ≡ own =
       ap (spelled order width) there.2
       ∙ ap (λ (n : ℕ). spelled order n (number_at order bytes offset width)) (sym long)
-      ∙ spelled-number order own (IsBytes_part bytes offset width are) in
-      (
+      ∙ spelled-number order own (IsBytes_part bytes offset width are) in (
         below,
         rw found (ap (λ (xs : List ℕ). Ok (Some xs))
             (with_number-is order bytes offset width value ∙ ap (with_bytes bytes offset) same

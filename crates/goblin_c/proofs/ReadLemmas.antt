@@ -100,8 +100,7 @@ pub lists_segments : (bytes : List ℕ) (h : GoblinHeader)
 lists_segments bytes h items is =
     let count = refused_at h.e_shoff (refuse_as refusal_of (segment_count bytes h.e_phnum h.e_shoff (ctx_of h))) in
     let read = λ (n : ℕ). program_headers_from bytes h.e_phoff n (ctx_of h) in
-    let parts = bind_ok count (λ n. refused_at h.e_phoff (read n)) items is in
-    (
+    let parts = bind_ok count (λ n. refused_at h.e_phoff (read n)) items is in (
       parts.0,
       listed_from _ _ bytes h.e_phoff parts.0 _ items (refused_at_ok h.e_phoff (read parts.0) items parts.2),
     )

@@ -32,16 +32,22 @@ module _ {X Y : Type 0} (convert : X → Y) where
   keeps_item : (plain other : Result (List X) RefusalAt) (index : ℕ)
       → Keeps plain other
       → KeepsWhatIsRead (item_of (each_converted convert plain) index) (item_of (each_converted convert other) index)
-  keeps_item (Ok items) (Ok own) index is = (refl, λ ok. ap (λ (list : Result (List X) RefusalAt).
-      item_of (each_converted convert list) index) (is.1 refl))
+  keeps_item (Ok items) (Ok own) index is = (
+    refl,
+    λ ok. ap (λ (list : Result (List X) RefusalAt).
+        item_of (each_converted convert list) index) (is.1 refl),
+  )
   keeps_item (Err e) (Ok own) index is = (refl, λ ok. absurd (cc))
   keeps_item plain (Err e) index is = let bad = is.0 in absurd (cc)
 
   keeps_count : (plain other : Result (List X) RefusalAt)
       → Keeps plain other
       → KeepsWhatIsRead (count_of (each_converted convert plain)) (count_of (each_converted convert other))
-  keeps_count (Ok items) (Ok own) is = (refl, λ ok. ap (λ (list : Result (List X) RefusalAt).
-      count_of (each_converted convert list)) (is.1 refl))
+  keeps_count (Ok items) (Ok own) is = (
+    refl,
+    λ ok. ap (λ (list : Result (List X) RefusalAt).
+        count_of (each_converted convert list)) (is.1 refl),
+  )
   keeps_count (Err e) (Ok own) is = (refl, λ ok. absurd (cc))
   keeps_count plain (Err e) is = let bad = is.0 in absurd (cc)
 

@@ -1,5 +1,5 @@
 -- Each refusal of each call has the library's text when it is converted for C.
-use Rattle.std.proofs.Common.{◌≡◌, ◌+◌, ℕ, zero, suc, Bool, List, codes, Result, Ok, Err, inl, inr, refl, arith}
+use Rattle.std.proofs.Common.{◌≡◌, ◌+◌, ℕ, zero, suc, Bool, true, false, List, codes, Option, Some, None, Result, Ok, Err, inl, inr, refl, arith}
 use Rattle.std.specs.Bool.{⊤}
 use Rattle.goblin_base.specs.declared.container.Ctx.{Ctx}
 use Rattle.goblin_base.specs.Eager.{records_from, records_in, room_of_each}
@@ -32,6 +32,10 @@ use Rattle.goblin_c.specs.Notes.{note_expected}
 use Rattle.goblin_c.specs.Places.{address_to_offset_expected, number_in_expected}
 use Rattle.goblin_c.specs.Types.{refusal_converted, reloc_converted, section_converted, segment_converted}
 use Rattle.goblin_c.specs.Types.{symbol_converted}
+use Rattle.goblin_c.specs.Write.{header_put_expected, number_put_expected, put_if, put_if_there, reloc_put_expected}
+use Rattle.goblin_c.specs.Write.{section_put_expected, segment_put_expected, symbol_put_expected}
+use Rattle.goblin_c.specs.declared.types.GoblinReloc.{GoblinReloc}
+use Rattle.goblin_c.specs.declared.types.GoblinSymbol.{GoblinSymbol}
 use Rattle.goblin_c.specs.Texts.{NamesKnown, TextIsSame, converted_text}
 
 pub text-same : TextIsSame
@@ -107,6 +111,17 @@ known_note : (bytes : List ℕ) (offset : ℕ) (ctx : ℕ × Ctx) → Known (pla
 unfolding places_at read_places read_within
 known_note bytes offset ctx = grind (arith, known_room)
 
+-- what is put, and the header
+known_put : {X : Type 0} (found : Result (Option X) RefusalAt) (fits : Bool) (place : ℕ) (put : List ℕ)
+    → KnownAt found → KnownAt (put_if_there found (put_if fits place put))
+known_put (Ok (Some x)) true place put known = tt
+known_put (Ok (Some x)) false place put known = grind arith
+known_put (Ok None) fits place put known = tt
+known_put (Err why) fits place put known = known
+
+known_header_put : (bytes : List ℕ) (h : GoblinHeader) (fits : Bool) → KnownAt (header_put_expected bytes h fits)
+known_header_put bytes h fits = grind (arith, known_room)
+
 -- the items of a list for C, one, many or how many, are refused as the list is
 module _ {X Y : Type 0} (convert : X → Y) where
   counted : (list : Result (List X) RefusalAt) → HasSameText list → HasSameText (count_of (each_converted convert list))
@@ -127,7 +142,8 @@ module _ {X Y : Type 0} (convert : X → Y) where
 -- so does the refusal of each call with these arguments
 pub record HaveSameText
     (bytes : List ℕ) (h : GoblinHeader) (range names : GoblinRange) (name : List ℕ) (is_rela : Bool)
-    (index offset address alignment width sh_type : ℕ) (s : GoblinSection) (p : GoblinSegment) : Type 0 where
+    (index offset address alignment width sh_type value : ℕ) (s : GoblinSection) (p : GoblinSegment)
+    (y : GoblinSymbol) (r : GoblinReloc) (fits : Bool) : Type 0 where
   pub header : HasSameText (header_expected bytes)
   pub section_count : HasSameText (section_count_expected bytes h)
   pub section : HasSameText (section_expected bytes h index)
@@ -154,16 +170,24 @@ pub record HaveSameText
   pub number : HasSameText (number_expected bytes h offset width)
   pub number_in : HasSameText (number_in_expected bytes h range offset width)
   pub address_to_offset : HasSameText (address_to_offset_expected bytes h address)
+  pub put_header : HasSameText (header_put_expected bytes h fits)
+  pub put_section : HasSameText (section_put_expected bytes h index s fits)
+  pub put_segment : HasSameText (segment_put_expected bytes h index p fits)
+  pub put_symbol : HasSameText (symbol_put_expected bytes h range index y fits)
+  pub put_reloc : HasSameText (reloc_put_expected bytes h range is_rela index r fits)
+  pub put_number : HasSameText (number_put_expected bytes h offset width value fits)
 
 -- so does each refusal of each call
 abbrev pub RefusalsHaveSameText : Type 0
 RefusalsHaveSameText =
     (bytes : List ℕ) (h : GoblinHeader) (range names : GoblinRange) (name : List ℕ) (is_rela : Bool)
-    (index offset address alignment width sh_type : ℕ) (s : GoblinSection) (p : GoblinSegment)
-    → HaveSameText bytes h range names name is_rela index offset address alignment width sh_type s p
+    (index offset address alignment width sh_type value : ℕ) (s : GoblinSection) (p : GoblinSegment)
+    (y : GoblinSymbol) (r : GoblinReloc) (fits : Bool)
+    → HaveSameText bytes h range names name is_rela index offset address alignment width sh_type value s p y r fits
 
 pub refusals_have_same_text : RefusalsHaveSameText
-refusals_have_same_text bytes h range names name is_rela index offset address alignment width sh_type s p =
+refusals_have_same_text bytes h range names name is_rela index offset address alignment width sh_type value s p y r
+    fits =
     let sections = known_sections bytes h in
     let segments = same_text (segments_expected bytes h) (known_segments bytes h) in
     let symbols = known_symbols bytes h range in
@@ -201,4 +225,16 @@ refusals_have_same_text bytes h range names name is_rela index offset address al
       number_in = same_text (number_in_expected bytes h range offset width) (grind (arith, known_room));
       address_to_offset = same_text (address_to_offset_expected bytes h address)
           (grind (arith, known_segments bytes h, known_room));
+      put_header = same_text (header_put_expected bytes h fits) (known_header_put bytes h fits);
+      put_section = same_text (section_put_expected bytes h index s fits)
+          (known_put (section_expected bytes h index) fits _ _ (grind (arith, sections)));
+      put_segment = same_text (segment_put_expected bytes h index p fits)
+          (known_put (segment_expected bytes h index) fits _ _ (grind (arith, known_segments bytes h)));
+      put_symbol = same_text (symbol_put_expected bytes h range index y fits)
+          (known_put (symbol_expected bytes h range index) fits _ _ (grind (arith, symbols)));
+      put_reloc = same_text (reloc_put_expected bytes h range is_rela index r fits)
+          (known_put (reloc_expected bytes h range is_rela index) fits _ _
+          (grind (arith, known_relocs bytes h range is_rela)));
+      put_number = same_text (number_put_expected bytes h offset width value fits)
+          (known_put (number_expected bytes h offset width) fits _ _ (grind (arith, known_room)));
     }

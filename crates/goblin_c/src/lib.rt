@@ -105,11 +105,7 @@ pub extern "C" fn goblin_header(
 
 /// Stores a copy of a header that counts only the section headers and program headers that lie whole in the file.
 #[unsafe(no_mangle)]
-pub extern "C" fn goblin_whole_header(
-    bytes: &[u8],
-    header: &GoblinHeader,
-    whole: &mut GoblinHeader,
-)
+pub extern "C" fn goblin_whole_header(bytes: &[u8], header: &GoblinHeader, whole: &mut GoblinHeader)
     ensures { whole.new ≡ whole_header bytes.now header.now }
 {
     *whole = whole_header(bytes, header);

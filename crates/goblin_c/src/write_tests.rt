@@ -13,10 +13,10 @@ fn unread() -> GoblinRefusal {
 
 // Whether a file has these bytes at an offset, and is the same as another before and after them.
 fn has_at(file: &[u8], offset: usize, own: &[u8], old: &[u8]) -> bool {
-    let end = offset + own.len();
-    if end > file.len() || file.len() != old.len() {
+    if file.len() != old.len() || offset > file.len() || own.len() > file.len() - offset {
         return false;
     }
+    let end = offset + own.len();
     &file[offset..end] == own && file[..offset] == old[..offset] && file[end..] == old[end..]
 }
 
@@ -42,7 +42,8 @@ fn section() -> GoblinSection {
     }
 }
 
-static SECTION: &[u8; 40] = b"\x06\x05\0\0\x10\x0f\0\0\x08\x07\0\0\x0a\x09\0\0\x02\x01\0\0\x04\x03\0\0\
+static SECTION: &[u8; 40] =
+    b"\x06\x05\0\0\x10\x0f\0\0\x08\x07\0\0\x0a\x09\0\0\x02\x01\0\0\x04\x03\0\0\
     \x12\x11\0\0\x14\x13\0\0\x0c\x0b\0\0\x0e\x0d\0\0";
 
 // Puts a section at an index of the file. Returns the status and where the refusal begins, and whether the file then has
@@ -90,7 +91,8 @@ fn segment() -> GoblinSegment {
 }
 
 // The segment in big endian, of the 64-bit class.
-static SEGMENT: &[u8; 56] = b"\0\0\x0d\x0e\0\0\x0f\x10\0\0\0\0\0\0\x01\x02\0\0\0\0\0\0\x05\x06\0\0\0\0\0\0\x07\x08\
+static SEGMENT: &[u8; 56] =
+    b"\0\0\x0d\x0e\0\0\x0f\x10\0\0\0\0\0\0\x01\x02\0\0\0\0\0\0\x05\x06\0\0\0\0\0\0\x07\x08\
     \0\0\0\0\0\0\x03\x04\0\0\0\0\0\0\x09\x0a\0\0\0\0\0\0\x0b\x0c";
 
 fn puts_segment(s: &GoblinSegment, class: u8, index: u64) -> (u32, bool, bool) {
@@ -98,7 +100,11 @@ fn puts_segment(s: &GoblinSegment, class: u8, index: u64) -> (u32, bool, bool) {
     let mut header = names(class, 2);
     (header.e_phoff, header.e_phnum) = (8, 2);
     let status = goblin_put_segment(&mut file, &header, index, s, &mut why);
-    (status, has_at(&file, 64, SEGMENT, FILE), has_at(&file, 0, b"", FILE))
+    (
+        status,
+        has_at(&file, 64, SEGMENT, FILE),
+        has_at(&file, 0, b"", FILE),
+    )
 }
 
 #[test]
@@ -249,8 +255,12 @@ fn refuses_header(class: u8, order: u8, len: usize, entry: u64) -> (u32, bool) {
 #[test]
 fn refuses_headers_that_are_put(rt: HostRuntime) {
     assert!(rt; refuses_header(3, 3, 0, 0) == (10, true));
-    assert!(rt; refuses_header(1, 3, 0, 0) == (15, true) && refuses_header(2, 0, 64, 0) == (15, true));
-    assert!(rt; refuses_header(2, 1, 63, 0) == (3, true) && refuses_header(1, 1, 0, 0) == (4, true));
+    assert!(rt;
+        refuses_header(1, 3, 0, 0) == (15, true) && refuses_header(2, 0, 64, 0) == (15, true)
+    );
+    assert!(rt;
+        refuses_header(2, 1, 63, 0) == (3, true) && refuses_header(1, 1, 0, 0) == (4, true)
+    );
     assert!(rt; refuses_header(1, 1, 52, 1 << 32) == (24, true));
     assert!(rt; refuses_header(2, 1, 64, 1 << 32) == (0, false));
 }

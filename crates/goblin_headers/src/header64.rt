@@ -60,8 +60,21 @@ impl Header {
     ghost use Rattle.goblin_base.specs.declared.container.Endian.TheVariants as endian;
     ghost use Rattle.goblin_base.specs.declared.error.Fault.TheVariants as faults;
 
-    // Reads the header at the start of the bytes in this byte order.
+    // Reads the header at the start of the bytes, which must hold one.
     fn at(bytes: &[u8], order: Endian) -> Header
+        requires { header64_size ≤ length bytes.now }
+        ensures { result ≡ header64_of order bytes.now }
+    {
+        // (asked here, the byte order isn't asked at each field)
+        match order {
+            Endian::Little => Header::at_in(bytes, Endian::Little),
+            Endian::Big => Header::at_in(bytes, Endian::Big),
+        }
+    }
+
+    // Does the same. Its body is put into each caller.
+    #[inline(always)]
+    fn at_in(bytes: &[u8], order: Endian) -> Header
         requires { header64_size ≤ length bytes.now }
         ensures { result ≡ header64_of order bytes.now }
     {

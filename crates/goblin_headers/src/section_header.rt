@@ -7,13 +7,14 @@ ghost use Rattle.goblin_base.specs.Refusal.{Answers, Gives, Refuses};
 ghost use Rattle.goblin_headers.specs.Constants.{section_flag_numbers, section_index_numbers, section_type_numbers};
 ghost use Rattle.goblin_headers.specs.Ranges.{span};
 ghost use Rattle.goblin_headers.specs.SectionHeader.{as64, section_header64, section_header_image, section_header_layout, section_header_size};
-ghost use Rattle.goblin_headers.specs.SectionHeaders.{new_section_header, count_from, header_count, section_headers_from, section_headers_from_tested, section_headers_of, section_headers_of_tested, size_checked, size_checked_in};
+ghost use Rattle.goblin_headers.specs.SectionHeaders.{new_section_header, count_from, section_headers_from, section_headers_from_tested, section_headers_of, section_headers_of_tested, size_checked, size_checked_in};
 ghost use Rattle.goblin_headers.specs.SectionNames.{section_flag_names};
 
 pub use crate::{section_header32, section_header64};
 use goblin_base::container::{Container, Ctx, Endian};
 use goblin_base::error::{Error, Fault, Result};
 use goblin_base::laid_out::LaidOut;
+use goblin_base::room::room;
 use goblin_base::scroll::IntoCtx;
 use goblin_base::table::{Table, read_all, read_at};
 use std::alloc::{AllocError, Global};
@@ -263,24 +264,17 @@ impl SectionHeader {
         self.sh_flags & u64::from(SHF_ALLOC) != 0
     }
 
-    /// Returns the number of headers to read from an offset on: as many as are asked for, at least
-    /// one.
+    /// Returns the number of headers to read from an offset on: as many as are asked for, or if
+    /// `count` is 0, as many as the first header's `sh_size` says, but at least one.
     pub(crate) fn count_from(bytes: &[u8], offset: usize, count: usize, ctx: Ctx) -> Result<usize>
         ensures { result ≡ count_from bytes.now offset count ctx }
     {
-        let first: SectionHeader = read_at(bytes, offset, ctx)?;
-        Ok(first.count_asked(count).max(1))
-    }
-
-    // Returns the number of headers that are asked for, if this is the first of them.
-    fn count_asked(&self, count: usize) -> usize
-        ensures { result ≡ header_count self.now count }
-    {
-        if count == 0 {
-            self.sh_size as usize
-        } else {
-            count
+        if count != 0 {
+            room(bytes.len(), offset, SectionHeader::size_in(ctx))?;
+            return Ok(count);
         }
+        let first: SectionHeader = read_at(bytes, offset, ctx)?;
+        Ok((first.sh_size as usize).max(1))
     }
 }
 

@@ -1,5 +1,6 @@
 //! Notes: System V gABI, "Note Section".
-ghost use Rattle.std.specs.Prelude.{⊤, ◌≡◌, ◌+◌, ◌≤◌, ◌<◌, ◌^◌, ◌↔◌, ◌++◌, IsTrue, IfOk, IfSome, length, min, [], ◌∷◌, take, drop};
+ghost use Rattle.std.specs.Int.{next_multiple_of};
+ghost use Rattle.std.specs.Prelude.{⊤, ◌⊎◌, ◌≡◌, ◌+◌, ◌≤◌, ◌<◌, ◌^◌, ◌↔◌, ◌++◌, IsTrue, IfOk, IfSome, length, min, [], ◌∷◌, take, drop};
 ghost use Rattle.std.specs.Iterator.{MakesProgress, UpTo, YieldsFirstBy, at_most};
 ghost use Rattle.std.specs.Iterator.SizeHint.{IsWithinCount};
 ghost use Rattle.goblin_base.specs.Refusal.{Answers};
@@ -197,7 +198,7 @@ impl NotePlaces {
         let (header, start) = about(NotePart::Header, Nhdr32::try_from_ctx(bytes, ctx.le))?;
         let name_size = header.n_namesz as usize;
         about(NotePart::Name, bytes_at(bytes, start, name_size))?;
-        let desc = (start + name_size).next_multiple_of(align);
+        let desc = aligned(start + name_size, align);
         let desc_size = header.n_descsz as usize;
         about(NotePart::Desc, bytes_at(bytes, desc, desc_size))?;
         Ok(NotePlaces {
@@ -206,7 +207,7 @@ impl NotePlaces {
             name_size,
             desc,
             desc_size,
-            next: (desc + desc_size).next_multiple_of(align),
+            next: aligned(desc + desc_size, align),
         })
     }
 }
@@ -291,7 +292,7 @@ impl<'a> Note<'a> {
         let (header, start) = Nhdr32::try_from_ctx(bytes, ctx.le)?;
         let name_size = header.n_namesz as usize;
         let name = text_at(bytes, start, name_size.saturating_sub(1))?;
-        let place = (start + name_size).next_multiple_of(alignment);
+        let place = aligned(start + name_size, alignment);
         let desc = bytes_at(bytes, place, header.n_descsz as usize)?;
         let n_type = header.n_type;
         let places = NotePlaces {
@@ -300,7 +301,7 @@ impl<'a> Note<'a> {
             name_size: name.len(),
             desc: place,
             desc_size: desc.len(),
-            next: (place + desc.len()).next_multiple_of(alignment),
+            next: aligned(place + desc.len(), alignment),
         };
         Ok((Note { n_type, name, desc }, places))
     }
@@ -326,6 +327,21 @@ impl<'a> Note<'a> {
             NT_GNU_PROPERTY_TYPE_0 => "NT_GNU_PROPERTY_0",
             _ => "NT_UNKNOWN",
         }
+    }
+}
+
+// Returns the least multiple of an alignment of 4 or 8 that is at least an offset. The alignments are constants here,
+// since a division takes longer than the rest of a note's reading.
+#[inline]
+fn aligned(offset: usize, alignment: usize) -> usize
+    requires known { (alignment ≡ 4) ⊎ (alignment ≡ 8) }
+    requires fits { next_multiple_of offset alignment < 2 ^ 64 }
+    ensures { result ≡ next_multiple_of offset alignment }
+{
+    if alignment == 4 {
+        offset.next_multiple_of(4)
+    } else {
+        offset.next_multiple_of(8)
     }
 }
 

@@ -1,4 +1,12 @@
+use Rattle.std.proofs.Common.{ap, sym, ◌∙◌}
+use Rattle.goblin_base.specs.declared.container.Endian.{Endian}
+use Rattle.goblin_headers.specs.Header.{header32_of}
 use Rattle.goblin_headers.proofs.header32.Header.at.Goals as goal
 
-pub returns : goal.returns
-returns c = cc
+pub returns-in-Little : goal.returns-in-Little
+returns-in-Little c =
+    c.at_in.ensures ∙ ap (λ (order : Endian). header32_of order c.args.bytes.now) (sym c.in-Little.is)
+
+pub returns-in-Big : goal.returns-in-Big
+returns-in-Big c =
+    c.at_in-in-Big.ensures ∙ ap (λ (order : Endian). header32_of order c.args.bytes.now) (sym c.in-Big.is)

@@ -1,8 +1,10 @@
-use Rattle.std.proofs.Common.{ap, max, ◌∙◌}
+use Rattle.std.proofs.Common.{◌≡◌, ◌==◌, true, arith}
+use Rattle.std.proofs.lemmas.Bool.Decides.{nat_tests}
 use Rattle.goblin_headers.proofs.ReadSections.{first_counts}
 use Rattle.goblin_headers.proofs.section_header.SectionHeader.count_from.Goals as goal
 
 pub returns : goal.returns
 returns c =
+    let none : (c.args.count == 0) ≡ true = grind (arith, nat_tests) in
     first_counts c.args.bytes.now c.args.offset c.args.count c.args.ctx c.in_ok-first.first c.max.result
-    c.in_ok-first.ensures.value (c.max.ensures ∙ ap (λ asked. max asked 1) c.count_asked.ensures)
+    c.in_ok-first.ensures.value (rw none c.max.ensures)
