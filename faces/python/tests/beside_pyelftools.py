@@ -2,7 +2,7 @@
 """Compares goblin_elf with pyelftools: beside_pyelftools.py [--files N] [--damaged N] [DIR ..]
 
 It reads N whole ELF files of the folders (default: 40 of this machine's) by both and compares headers, sections, segments, symbols with
-their names, relocations and notes. A difference fails. Then it reads N damaged or cut files by both: goblin_elf
+their names, relocations, notes, and what the dynamic section says. A difference fails. Then it reads N damaged or cut files by both: goblin_elf
 must return records or raise Refused. What pyelftools does is counted.
 """
 import argparse
@@ -17,9 +17,10 @@ import time
 
 from elftools.elf import enums
 from elftools.elf.elffile import ELFFile
+from elftools.elf.dynamic import DynamicSegment
 from elftools.elf.relocation import RelocationSection
 from elftools.elf.sections import NoteSection, SymbolTableSection
-from elftools.elf.segments import NoteSegment
+from elftools.elf.segments import InterpSegment, NoteSegment
 
 from goblin_elf import SHT_DYNSYM, SHT_NOTE, SHT_REL, SHT_RELA, SHT_SYMTAB, Elf, Refused
 from goblin_elf.facts import facts
@@ -79,6 +80,19 @@ class Theirs:
         return [[(number(n['n_type'], NT), n['n_name'], bytes(n['n_descdata'])) for n in holder.iter_notes()] for holder in holders]
 
 
+    def linking(self):
+        segments = list(self.elf.iter_segments())
+        tags = [(tag.entry.d_tag, tag) for segment in segments if isinstance(segment, DynamicSegment) for tag in segment.iter_tags()]
+        flags = {name: tag['d_val'] for name, tag in tags}
+        now = 'DT_BIND_NOW' in flags or flags.get('DT_FLAGS', 0) & 8 or flags.get('DT_FLAGS_1', 0) & 1
+        stacks = [segment['p_flags'] for segment in segments if segment['p_type'] == 'PT_GNU_STACK']
+        relro = any(segment['p_type'] == 'PT_GNU_RELRO' for segment in segments)
+        return [[tag.needed for name, tag in tags if name == 'DT_NEEDED'], [tag.soname for name, tag in tags if name == 'DT_SONAME'],
+                [segment.get_interp_name() for segment in segments if isinstance(segment, InterpSegment)],
+                [bool(stacks) and not any(flag & 1 for flag in stacks), 'no' if not relro else 'full' if now else 'partial',
+                 self.elf['e_type'] == 'ET_DYN' and ('DT_DEBUG' in flags or bool(flags.get('DT_FLAGS_1', 0) & 0x08000000))]]
+
+
 class Ours:
     """What goblin_elf reads of a file."""
 
@@ -113,6 +127,12 @@ class Ours:
         return [[(note.n_type, note.name.split('\0')[0], bytes(note.desc)) for note in holder.notes] for holder in holders]
 
 
+    def linking(self):
+        found = facts(self.elf)
+        return [found['needed'], *([found[name]] if found[name] is not None else [] for name in ('soname', 'interpreter')),
+                [found['nx'], found['relro'], found['pie']]]
+
+
 class OursWhole(Ours):
     """What goblin_elf reads by the header that counts only what lies in the file whole."""
 
@@ -123,7 +143,7 @@ class OursWhole(Ours):
         return list(self.elf.whole().segments)
 
 
-PARTS = ('header', 'sections', 'segments', 'symbols', 'relocations', 'notes')
+PARTS = ('header', 'sections', 'segments', 'symbols', 'relocations', 'notes', 'linking')
 
 
 def read_by(kind, source, part):
