@@ -256,7 +256,7 @@ def main(arguments: Optional[List[str]] = None) -> int:
     parser.add_argument('--scheduler', metavar='HOST:PORT', help='a scheduler of Dask that runs already')
     parser.add_argument('--workers', type=int, metavar='N', help='workers of a scheduler of its own (default: the processors); 0: one process')
     parser.add_argument('--memory', default='1GiB', help='the memory that each of these workers may take (default: 1GiB)')
-    parser.add_argument('--batch', type=int, default=64, metavar='N', help='files in a batch (default: 64)')
+    parser.add_argument('--batch', type=int, default=256, metavar='N', help='files in a batch (default: 256)')
     parser.add_argument('--resume', action='store_true', help='leave out the files of the report')
     options = parser.parse_args(arguments)
     if not options.output.endswith(('.csv', '.json', '.parquet')):

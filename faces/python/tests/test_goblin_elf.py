@@ -386,7 +386,7 @@ class Memory(unittest.TestCase):
         with tempfile.NamedTemporaryFile() as file:
             file.write(MADE.bytes)
             file.flush()
-            script = f'import os; from goblin_elf import Elf; e = Elf.open({file.name!r}); os.truncate({file.name!r}, 0); e.sections'
+            script = f'import os; from goblin_elf import Elf; e = Elf.open({file.name!r}); os.truncate({file.name!r}, 0); list(e.sections)'
             self.assertEqual(subprocess.run([sys.executable, '-c', script]).returncode, -signal.SIGBUS)
 
     def test_what_is_no_regular_file(self):
