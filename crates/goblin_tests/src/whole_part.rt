@@ -34,7 +34,13 @@ fn cuts_sections_to_those_in_the_file(rt: HostRuntime) {
     assert!(rt; is(rt, [sections(8, 3), sections(8, 0xffff)], [(8, 2), (8, 2)]));
     assert!(rt; is(rt, sections(8, 0), (8, 2)));
     assert!(rt; is(rt, [sections(88, 1), sections(88, 0)], [(0, 0), (0, 0)]));
-    assert!(rt; is(rt, [sections(127, 3), sections(usize::MAX, 0)], [(0, 0), (0, 0)]));
+    assert!(rt;
+        is(
+            rt,
+            [sections(127, 3), sections(usize::MAX, 0)],
+            [(0, 0), (0, 0)]
+        )
+    );
 }
 
 #[test]
@@ -63,7 +69,13 @@ fn segments(sh_info: u8, number: u16, sections: usize) -> u16 {
 fn cuts_segments_to_those_in_the_file(rt: HostRuntime) {
     assert!(rt; is(rt, [segments(0, 2, 0), segments(0, 0, 300)], [2, 0]));
     assert!(rt; is(rt, [segments(0, 3, 0), segments(0, 0xfffe, 8)], [2, 2]));
-    assert!(rt; is(rt, [segments(2, 0xffff, 8), segments(0, 0xffff, 8)], [0xffff, 0xffff]));
+    assert!(rt;
+        is(
+            rt,
+            [segments(2, 0xffff, 8), segments(0, 0xffff, 8)],
+            [0xffff, 0xffff]
+        )
+    );
     assert!(rt; is(rt, [segments(3, 0xffff, 8), segments(0, 0xffff, 0)], [2, 2]));
     assert!(rt; is(rt, segments(0, 0xffff, 88), 2));
 }
