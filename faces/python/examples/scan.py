@@ -14,6 +14,7 @@ import collections
 import contextlib
 import csv
 import functools
+import importlib.util
 import itertools
 import json
 import mmap
@@ -27,14 +28,15 @@ from goblin_elf import Elf, Refused
 from goblin_elf.facts import facts, refusal
 
 Row = Dict[str, Any]
-# What a batch results in: of each file its path, its rows, and the seconds that it took.
-Result = List[Tuple[str, List[Row], float]]
+Result = List[Tuple[str, List[Row], float]]  # of each file of a batch its path, its rows, and the seconds that it took
 COLUMNS = ['file', 'member', 'class', 'order', 'type', 'kind', 'machine', 'build_id', 'interpreter', 'soname', 'needed', 'pie', 'nx', 'relro',
            'stripped', 'sections', 'segments', 'symbols', 'dynamic_symbols', 'code', 'data', 'read_only', 'zeros', 'not_loaded', 'refused',
            'numbers', 'offset', 'text']
+# Those whose values are numbers, and what pyarrow calls the types of those that are no texts.
+NUMBERS = [*COLUMNS[15:24], 'offset']
+TYPES = {**dict.fromkeys(NUMBERS, 'uint64'), 'pie': 'bool_', 'nx': 'bool_', 'stripped': 'bool_'}
 MAGIC, AR = b'\x7fELF', b'!<arch>\n'
-# The most bytes of a member that is unpacked into memory, and of all members of a package.
-MEMBER, PACKAGE = 64 << 20, 4 << 30
+MEMBER, PACKAGE = 64 << 20, 4 << 30  # the most bytes of a member that is unpacked into memory, and of all members of a package
 
 
 def row_of(path: str, member: Optional[str], elf_of: Callable[[], Elf]) -> Row:
@@ -43,8 +45,7 @@ def row_of(path: str, member: Optional[str], elf_of: Callable[[], Elf]) -> Row:
         found = facts(elf_of())
         found.update(found['sizes'], needed=' '.join(found['needed']))
     except Refused as error:
-        found = refusal(error)
-        found['numbers'] = ' '.join(map(str, found['numbers']))
+        found = {**refusal(error), 'numbers': ' '.join(map(str, error.numbers))}
     return row_with(path, member, **{column: value for column, value in found.items() if column in COLUMNS})
 
 
@@ -106,8 +107,7 @@ def unpacked(path: str, data: Any) -> Iterator[Row]:
                 else:
                     content = MAGIC + file.read()
                     yield row_of(path, member.name, lambda: Elf(content))
-    except Exception as error:
-        # (Python's modules for archives raise many types of exceptions at damaged data)
+    except Exception as error:  # (Python's modules for archives raise many types of exceptions at damaged data)
         yield row_with(path, None, refused='LEFT_OUT', text=f'its data can not be unpacked: {escaped(str(error))}')
 
 
@@ -166,7 +166,7 @@ class Report:
         self.lines_path = path + '.json' if self.is_parquet else path
         self.known: Set[str] = set()
         self.count = 0
-        old = self.read() if resume and os.path.exists(self.lines_path) else iter(())
+        old = self.read() if resume and (os.path.exists(self.lines_path) or os.path.exists(path)) else iter(())
         self.file: TextIO = open(self.lines_path + '.new', 'w', newline='', encoding='utf-8')
         if self.is_csv:
             self.write(dict(zip(COLUMNS, COLUMNS)))
@@ -182,6 +182,10 @@ class Report:
 
     def read(self) -> Iterator[Row]:
         """Yields the rows of the report that is there. Its last line may be a part of one."""
+        if not os.path.exists(self.lines_path):
+            import pyarrow.parquet
+            yield from pyarrow.parquet.read_table(self.path).to_pylist()
+            return
         with open(self.lines_path, newline='', encoding='utf-8') as file:
             if self.is_csv:
                 rows = csv.reader(line for line in file if line.endswith('\n'))
@@ -205,21 +209,23 @@ class Report:
         self.file.close()
         if self.is_parquet:
             import pyarrow.parquet
-            pyarrow.parquet.write_table(pyarrow.Table.from_pylist(list(self.read())), self.path)
+            schema = pyarrow.schema([(name, getattr(pyarrow, TYPES.get(name, 'string'))()) for name in COLUMNS])
+            # (a sum of sizes may pass 64 bits, if a file is damaged)
+            rows = [{**row, **{name: min(row[name], (1 << 64) - 1) for name in NUMBERS if row[name] is not None}} for row in self.read()]
+            pyarrow.parquet.write_table(pyarrow.Table.from_pylist(rows, schema=schema), self.path)
             os.remove(self.lines_path)
 
 
 def report_on(results: Iterator[Result], report: Report) -> None:
     """Writes the rows, shows the progress on a terminal, and prints a summary."""
     start, files = time.perf_counter(), 0
-    refused: Dict[str, int] = collections.Counter()
+    refused: 'collections.Counter[str]' = collections.Counter()
     slowest: List[Tuple[float, str]] = []
     for result in results:
         for path, rows, seconds in result:
             for row in rows:
                 report.write(row)
-                if row['refused']:
-                    refused[row['refused']] += 1
+            refused.update(row['refused'] for row in rows if row['refused'])
             slowest = sorted([*slowest, (seconds, escaped(path))], reverse=True)[:10]
         report.file.flush()
         files += len(result)
@@ -244,9 +250,8 @@ def connected(options: argparse.Namespace) -> Any:
         print('scan: distributed is not installed, so this is one process', file=sys.stderr)
         return None
     client: Any = distributed.Client
-    if options.scheduler:
-        return client(options.scheduler)
-    return client(n_workers=options.workers or os.cpu_count(), threads_per_worker=1, dashboard_address=None, memory_limit=options.memory)
+    own = dict(n_workers=options.workers or os.cpu_count(), threads_per_worker=1, dashboard_address=None, memory_limit=options.memory)
+    return client(options.scheduler) if options.scheduler else client(**own)
 
 
 def main(arguments: Optional[List[str]] = None) -> int:
@@ -261,6 +266,8 @@ def main(arguments: Optional[List[str]] = None) -> int:
     options = parser.parse_args(arguments)
     if not options.output.endswith(('.csv', '.json', '.parquet')):
         parser.error('the report must end with .csv, .json or .parquet')
+    if options.output.endswith('.parquet') and not importlib.util.find_spec('pyarrow'):
+        parser.error('pyarrow is not installed, which writes a .parquet')
     report = Report(options.output, options.resume)
     paths = (path for folder in options.folders for path in found_below(folder) if escaped(path) not in report.known)
     batches = iter(lambda: list(itertools.islice(paths, options.batch)), [])

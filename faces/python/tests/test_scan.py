@@ -1,6 +1,7 @@
 """Tests of examples/scan.py: the same report by one process, by workers of which one is killed, and in two parts."""
 import contextlib
 import csv
+import importlib.machinery
 import importlib.util
 import io
 import json
@@ -12,6 +13,7 @@ import tempfile
 import time
 import types
 import unittest
+import unittest.mock
 
 import made
 
@@ -61,6 +63,43 @@ def package(content):
         member.size = len(content)
         tar.addfile(member, io.BytesIO(content))
     return archive([('debian-binary', b'2.0\n'), ('data.tar.xz', data.getvalue())])
+
+
+class StandInForPyarrow(types.ModuleType):
+    """What scan.py uses of pyarrow, which Debian does not have: it writes a table as JSON, and takes the values alone that pyarrow takes
+    for the types of the columns. It can't show that pyarrow itself takes them."""
+
+    class Table(list):
+        @classmethod
+        def from_pylist(cls, rows, schema):
+            takes = {'string': lambda value: isinstance(value, str), 'bool': lambda value: isinstance(value, bool),
+                     'uint64': lambda value: type(value) is int and 0 <= value < 1 << 64}
+            for row in rows:
+                for name, kind in schema:
+                    if row[name] is not None and not takes[kind](row[name]):
+                        raise TypeError(f'{name} is {row[name]!r}')
+            return cls({name: row[name] for name, _ in schema} for row in rows)
+
+        def to_pylist(self):
+            return list(self)
+
+    def __init__(self):
+        super().__init__('pyarrow')
+        self.__spec__, self.schema = importlib.machinery.ModuleSpec('pyarrow', None), list
+        self.string, self.bool_, self.uint64 = lambda: 'string', lambda: 'bool', lambda: 'uint64'
+        self.parquet = types.ModuleType('pyarrow.parquet')
+        self.parquet.write_table, self.parquet.read_table = self.write_table, self.read_table
+
+    def modules(self):
+        return {'pyarrow': self, 'pyarrow.parquet': self.parquet}
+
+    def write_table(self, table, path):
+        with open(path, 'w', encoding='utf-8') as file:
+            json.dump(table, file)
+
+    def read_table(self, path):
+        with open(path, encoding='utf-8') as file:
+            return self.Table(json.load(file))
 
 
 class Scan(unittest.TestCase):
@@ -118,6 +157,30 @@ class Scan(unittest.TestCase):
                 scan(self.files, '-o', self.out(name), '--workers', '0', '--resume')
                 self.assertEqual(read(self.out(name)), whole)
         self.assertEqual([row['file'] for row in json.loads(whole)], [row['file'] for row in self.rows('r.csv')])
+
+    def test_parquet(self):
+        self.put_many(40)
+        file = made.ALL[2]
+        huge = bytearray(file.bytes)
+        for index in (1, 7):
+            # (sections without bytes in the file, whose sizes together pass 64 bits)
+            start = file.shoff + index * file.size(made.SHDR)
+            huge[start + 4:start + 8], huge[start + 8:start + 16] = (8).to_bytes(4, 'little'), (2).to_bytes(8, 'little')
+            huge[start + 32:start + 40] = b'\xff' * 8
+        self.put('huge', huge)
+        scan(self.files, '-o', self.out('r.json'), '--workers', '0')
+        with unittest.mock.patch.dict(sys.modules, StandInForPyarrow().modules()):
+            for resume in ([], ['--resume']):
+                scan(self.files, '-o', self.out('r.parquet'), '--workers', '0', *resume)
+                self.assertEqual(sorted(name for name in os.listdir(self.folder) if name.startswith('r.')), ['r.json', 'r.parquet'])
+                rows = json.loads(read(self.out('r.parquet')))
+                self.assertEqual((rows[-1]['file'], rows[-1]['zeros']), (os.path.join(self.files, 'huge'), (1 << 64) - 1))
+                expected = json.loads(read(self.out('r.json')))
+                self.assertEqual((rows[:-1], expected[-1]['zeros']), (expected[:-1], 2 * ((1 << 64) - 1)))
+        # (a module that is None can not be found)
+        with unittest.mock.patch.dict(sys.modules, pyarrow=None), contextlib.redirect_stderr(io.StringIO()) as said:
+            self.assertRaises(SystemExit, module.main, [self.files, '-o', self.out('s.parquet')])
+        self.assertIn('pyarrow is not installed', said.getvalue())
 
     def test_hostile_files(self):
         # sparse files of 256 MiB: with 4 million section headers, with notes without an end, and with a path as long
