@@ -2,7 +2,7 @@
 # Tests the Python package over the shared library: sh checks/faces/python.sh FOLDER, after library.sh
 # The unit tests are run over the package as it is installed, by the system's Python, and first without numpy and Dask by the one on PATH if
 # that is another one. What needs numpy, mypy, pyelftools or Dask is left out where these are missing, and a line says so. Then the wheel is
-# installed in an environment of its own, and the first lines of the page are run there.
+# installed in an environment of its own, and the first lines of the page and its scan.py are run there.
 . checks/faces/shared.sh
 package=$folder/python/share/goblin_c/python
 tests=faces/python/tests
@@ -44,6 +44,8 @@ try_wheel() {
     sed -n '/^```python$/,/^```$/ { /^```/d; p }' faces/python/README.md > "$folder/lines.py"
     (cd "$folder/venv" && quietly bin/python ../lines.py)
     grep -q '^0x[0-9a-f]* .' "$folder/output" || { echo "the first lines of the page list no symbols"; exit 1; }
+    quietly "$folder/venv/bin/python" "$folder/venv/share/goblin_elf/scan.py" "$folder/libgoblin_c.a" --workers 0 -o "$folder/report.csv"
+    grep -q "^$folder/libgoblin_c.a,.*,ELF64,little,REL," "$folder/report.csv" || { echo "the wheel's scan.py finds no member"; exit 1; }
     echo "the Python package: its wheel can be installed, and the page's $(wc -l < "$folder/lines.py") lines list symbols"
 }
 

@@ -35,6 +35,9 @@ def content_of(library_path, machine):
     with open(os.path.join(package, 'constants.py'), encoding='utf-8') as file:
         interface = re.search(r'^VERSION = (\d+)$', file.read(), re.M)[1]
     yield version, f'goblin_elf/libgoblin_c.so.{interface}', library
+    with open(os.path.join(HERE, 'examples', 'scan.py'), 'rb') as file:
+        # (pip puts it below the folder of the environment)
+        yield version, f'goblin_elf-{version}.data/data/share/goblin_elf/scan.py', file.read()
     info = f'goblin_elf-{version}.dist-info'
     with open(os.path.join(HERE, '..', '..', 'LICENSE'), 'rb') as file:
         yield version, f'{info}/LICENSE', file.read()
