@@ -32,9 +32,8 @@ Result = List[Tuple[str, List[Row], float]]  # of each file of a batch its path,
 COLUMNS = ['file', 'member', 'class', 'order', 'type', 'kind', 'machine', 'build_id', 'interpreter', 'soname', 'needed', 'pie', 'nx', 'relro',
            'stripped', 'sections', 'segments', 'symbols', 'dynamic_symbols', 'code', 'data', 'read_only', 'zeros', 'not_loaded', 'refused',
            'numbers', 'offset', 'text']
-# Those whose values are numbers, and what pyarrow calls the types of those that are no texts.
-NUMBERS = [*COLUMNS[15:24], 'offset']
-TYPES = {**dict.fromkeys(NUMBERS, 'uint64'), 'pie': 'bool_', 'nx': 'bool_', 'stripped': 'bool_'}
+# What pyarrow calls the types of those that are no texts.
+TYPES = {**dict.fromkeys([*COLUMNS[15:24], 'offset'], 'uint64'), 'pie': 'bool_', 'nx': 'bool_', 'stripped': 'bool_'}
 MAGIC, AR = b'\x7fELF', b'!<arch>\n'
 MEMBER, PACKAGE = 64 << 20, 4 << 30  # the most bytes of a member that is unpacked into memory, and of all members of a package
 
@@ -125,10 +124,7 @@ def examine(paths: List[str]) -> Result:
 
 
 def found_below(folder: str) -> Iterator[str]:
-    """Yields the regular files below a folder, or the one that it is, as they are found, those of each folder in order."""
-    if os.path.isfile(folder):
-        yield folder
-        return
+    """Yields the regular files below a folder as they are found, those of each folder in order."""
     with contextlib.suppress(OSError), os.scandir(folder) as scanned:
         for entry in sorted(scanned, key=lambda entry: entry.name):
             if entry.is_dir(follow_symlinks=False):
@@ -211,7 +207,7 @@ class Report:
             import pyarrow.parquet
             schema = pyarrow.schema([(name, getattr(pyarrow, TYPES.get(name, 'string'))()) for name in COLUMNS])
             # (a sum of sizes may pass 64 bits, if a file is damaged)
-            rows = [{**row, **{name: min(row[name], (1 << 64) - 1) for name in NUMBERS if row[name] is not None}} for row in self.read()]
+            rows = [{name: min(value, (1 << 64) - 1) if type(value) is int else value for name, value in row.items()} for row in self.read()]
             pyarrow.parquet.write_table(pyarrow.Table.from_pylist(rows, schema=schema), self.path)
             os.remove(self.lines_path)
 
@@ -234,10 +230,10 @@ def report_on(results: Iterator[Result], report: Report) -> None:
             print(f'\r{files} files, {files / (time.perf_counter() - start):.0f} a second {bar:40}', end='', file=sys.stderr, flush=True)
     report.end()
     seconds = time.perf_counter() - start
-    lines = [f'{files} files, {sum(refused.values())} refused, {seconds:.1f} seconds, {files / seconds:.0f} files a second',
-             *(f'  refused: {count} {kind}' for kind, count in sorted(refused.items())),
-             *(f'  slow: {taken * 1000:.1f} ms {path}' for taken, path in slowest)]
-    print('\n'.join(lines), file=sys.stderr)
+    end = '\n' if sys.stderr.isatty() else ''
+    print(f'{end}{files} files, {sum(refused.values())} refused, {seconds:.1f} seconds, {files / seconds:.0f} files a second',
+          *(f'  refused: {count} {kind}' for kind, count in sorted(refused.items())),
+          *(f'  slow: {taken * 1000:.1f} ms {path}' for taken, path in slowest), sep='\n', file=sys.stderr)
 
 
 def connected(options: argparse.Namespace) -> Any:
@@ -268,12 +264,14 @@ def main(arguments: Optional[List[str]] = None) -> int:
         parser.error('the report must end with .csv, .json or .parquet')
     if options.output.endswith('.parquet') and not importlib.util.find_spec('pyarrow'):
         parser.error('pyarrow is not installed, which writes a .parquet')
+    for folder in itertools.filterfalse(os.path.exists, options.folders):
+        parser.error(f'{folder} is not there')
     report = Report(options.output, options.resume)
-    paths = (path for folder in options.folders for path in found_below(folder) if escaped(path) not in report.known)
+    found = ([folder] if os.path.isfile(folder) else found_below(folder) for folder in options.folders)
+    paths = (path for path in itertools.chain.from_iterable(found) if escaped(path) not in report.known)
     batches = iter(lambda: list(itertools.islice(paths, options.batch)), [])
-    with contextlib.ExitStack() as stack:
-        client = connected(options)
-        report_on(results_of(stack.enter_context(client), batches) if client else map(examine, batches), report)
+    with connected(options) or contextlib.nullcontext() as client:
+        report_on(results_of(client, batches) if client else map(examine, batches), report)
     return 0
 
 

@@ -4,6 +4,7 @@ The exit status is 0, or 1 if a file can't be read or is refused. What is printe
 """
 import argparse
 import json
+import signal
 import sys
 from typing import Any, Dict, Iterator, List, Optional
 
@@ -47,4 +48,5 @@ def main(arguments: Optional[List[str]] = None) -> int:
 
 
 if __name__ == '__main__':
+    signal.signal(signal.SIGPIPE, signal.SIG_DFL)  # (a reader such as head may leave)
     sys.exit(main())

@@ -182,6 +182,14 @@ class Scan(unittest.TestCase):
             self.assertRaises(SystemExit, module.main, [self.files, '-o', self.out('s.parquet')])
         self.assertIn('pyarrow is not installed', said.getvalue())
 
+    def test_what_is_not_there(self):
+        with contextlib.redirect_stderr(io.StringIO()) as said:
+            self.assertRaises(SystemExit, module.main, [self.files, self.out('absent'), '-o', self.out('r.csv')])
+        self.assertIn(f'{self.out("absent")} is not there', said.getvalue())
+        self.put('a.o', made.ALL[0].bytes)
+        scan(self.out('files/a.o'), '-o', self.out('r.csv'), '--workers', '0')
+        self.assertEqual([row['file'] for row in self.rows('r.csv')], [self.out('files/a.o')])
+
     def test_hostile_files(self):
         # sparse files of 256 MiB: with 4 million section headers, with notes without an end, and with a path as long
         size = 1 << 28
