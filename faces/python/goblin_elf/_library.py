@@ -1,10 +1,9 @@
 """The shared library by ctypes: where it is, its calls and its structs. The rest of the package is written over `call` and `found`."""
 import ctypes
-import functools
 import mmap
 import os
 import struct
-from typing import Any, Iterable, List, Optional, Tuple
+from typing import Any, List, Optional, Tuple
 
 from .constants import VERSION
 from .interface import CALLS, STRUCTS
@@ -26,6 +25,14 @@ class Record:
         self.struct = struct.Struct(f'@{codes}0Q')
         self.size = self.struct.size
         self.buffer = ctypes.c_char * self.size
+
+        # Of each field its code, and its offset and the size of the struct in units of the field's size.
+        self.places = [(code, struct.calcsize(f'@{codes[:index]}0{code}') // struct.calcsize(code), self.size // struct.calcsize(code))
+                       for index, code in enumerate(codes)]
+
+    def columns(self, structs: memoryview) -> List[List[Any]]:
+        """Returns each field of some structs as a list."""
+        return [structs.cast(code)[first::step].tolist() for code, first, step in self.places]
 
     def pack(self, values: Tuple[Any, ...]) -> bytes:
         """Returns the bytes of the struct. Raises a ValueError if a number does not fit its field."""
@@ -68,8 +75,7 @@ def load() -> ctypes.CDLL:
 
 def is_laid_out(library: ctypes.CDLL) -> bool:
     """Whether each struct of the library is laid out as it is here. In each the library fills the bytes of a field with its number."""
-    # (a wrong library may have larger structs)
-    filled = (ctypes.c_char * 4096)()
+    filled = (ctypes.c_char * 4096)()  # (a wrong library may have larger structs)
     library.goblin_layout(filled)
     at = struct.calcsize(f'@{len(RECORDS)}Q')
     if struct.unpack_from(f'@{len(RECORDS)}Q', filled) != tuple(record.size for record in RECORDS.values()):
@@ -93,16 +99,15 @@ def declared(name: str, codes: str) -> Any:
 
 
 FUNCTIONS = {name: declared(name, codes) for name, codes in CALLS.items()}
-# Without a declaration. A string is found so fast that letting go of Python's lock takes longer.
-PREPARED = {name: ctypes.PyDLL(LIBRARY._name)[f'goblin_{name}'] for name in ('string', 'string_bytes')}
 
 
 class File:
     """The bytes of a file: any object with a buffer, which is kept and whose memory can't move while this or a part of it lives."""
+
     def __init__(self, buffer: Any) -> None:
         self.view = memoryview(buffer).cast('B')
-        # (slices of the first two are bytes without more)
-        self.source = buffer if type(buffer) in (bytes, mmap.mmap) else Slices(self.view)
+        # (slices of these two are bytes, which are made faster than views)
+        self.source: Any = buffer if type(buffer) in (bytes, mmap.mmap) else self.view
         words = (ctypes.c_ssize_t * 16)()  # a Py_buffer, which begins with the address; `view` goes on holding the memory
         ctypes.pythonapi.PyObject_GetBuffer(ctypes.py_object(self.view), words, 0)
         self.address, self.length = words[0], len(self.view)
@@ -113,29 +118,14 @@ class File:
         return self.view[offset:offset + size].toreadonly()
 
 
-class Slices:
-    """The bytes of a memoryview, whose slices are bytes."""
-
-    def __init__(self, view: memoryview) -> None:
-        self.view = view
-
-    def __getitem__(self, part: slice) -> bytes:
-        return bytes(self.view[part])
-
-
 def call(name: str, file: File, *arguments: Any) -> bool:
     """Makes a call on a file, and returns whether its status is GOBLIN_OK: else it is GOBLIN_END. Raises Refused at a refusal."""
     why = REFUSAL.buffer()
     status = FUNCTIONS[name](file.address, file.length, *arguments, why)
     if status > END:
-        raise refused(why)
+        kind, item, *numbers, offset = REFUSAL.struct.unpack(why)
+        raise Refused(text('refusal_text', why), kind, item, tuple(numbers), offset)
     return bool(status == OK)
-
-
-def refused(why: Any) -> Refused:
-    """Returns the exception of a struct of the library."""
-    kind, item, *numbers, offset = REFUSAL.struct.unpack(why)
-    return Refused(text('refusal_text', why), kind, item, tuple(numbers), offset)
 
 
 def found(name: str, record: Record, file: File, *arguments: Any) -> Optional[Tuple[int, ...]]:
@@ -156,48 +146,3 @@ def unsigned(number: int, bits: int = 64) -> int:
     if not 0 <= number < 1 << bits:
         raise ValueError(f'{number} is not an unsigned number of {bits} bits')
     return number
-
-
-class Finder:
-    """A call that finds the range of a string at an offset. Its arguments are prepared, so that ctypes converts none, which takes half
-    the time. Threads take them from `free`, so that no two use the same at once."""
-
-    def __init__(self, name: str, file: File, strings: bytes) -> None:
-        self.function = PREPARED[name]
-        self.fixed = (TYPES['p'].from_param(file.address), TYPES['z'].from_param(file.length), TYPES['p'].from_param(strings))
-        self.source = file.source
-        self.free: List[Tuple[Any, Any, Any, Any]] = []
-
-    def prepared(self) -> Tuple[Any, Any, Any, Any]:
-        """Returns the offset, the result, the refusal, and the arguments that point to them."""
-        at, result, why = ctypes.c_uint64(), RANGE.buffer(), REFUSAL.buffer()
-        return at, memoryview(result).cast('B').cast('Q'), why, (*self.fixed, at, ctypes.byref(result), ctypes.byref(why))
-
-    def get(self, offset: int) -> Optional[bytes]:
-        """Returns the bytes of the string at an offset below 2**64, or `None` at GOBLIN_END. Raises Refused at a refusal."""
-        try:
-            taken = self.free.pop()
-        except IndexError:
-            taken = self.prepared()
-        at, result, why, arguments = taken
-        at.value = offset
-        status = self.function(*arguments)
-        if status > END:
-            raise refused(why)
-        start, size = result
-        self.free.append(taken)
-        return None if status else self.source[start:start + size]
-
-    def decoded(self, offsets: Iterable[int], errors: str) -> List[Optional[str]]:
-        """Returns the strings at many offsets in one pass, as `get` returns the bytes of one."""
-        at, result, why, arguments = self.prepared()
-        strings: List[Optional[str]] = []
-        function, source, append = self.function, self.source, strings.append
-        decode: Any = bytes.decode if errors == 'strict' else functools.partial(bytes.decode, errors=errors)
-        for at.value in offsets:
-            status = function(*arguments)
-            if status > END:
-                raise refused(why)
-            start, size = result
-            append(None if status else decode(source[start:start + size]))
-        return strings

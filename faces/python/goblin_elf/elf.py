@@ -17,8 +17,8 @@ class Elf:
 
     `buffer` is any object with a buffer of contiguous bytes, such as bytes, a memoryview or an mmap. It is kept, and neither copied nor
     changed but by what writes. Its length can't change while this object, or a memoryview that it returned, lives. `header` is the header
-    to read by, in place of that of the file: see `whole`. Threads may read a file at once: all calls but those that find a string let go of
-    Python's lock. Nothing may write the bytes during a call.
+    to read by, in place of that of the file: see `whole`. Threads may read a file at once, and calls let go of Python's lock. Nothing may
+    write the bytes during a call.
 
     Refused if the file is too short, does not start with the magic number, or has an invalid class or byte order.
     """
@@ -38,11 +38,10 @@ class Elf:
         The mapping lives as long as what needs it, without a call to close it. If another program makes a mapped file shorter, the
         operating system ends this one when it reads past the new end (SIGBUS). Use `copy` if that may be.
         """
-        with open(path, 'rb') as file:
+        with open(path, 'rb', buffering=0) as file:
             status = os.fstat(file.fileno())
-            if copy or not stat.S_ISREG(status.st_mode) or status.st_size == 0:
-                return cls(file.read())
-            return cls(mmap.mmap(file.fileno(), 0, access=mmap.ACCESS_READ))
+            is_mapped = not copy and stat.S_ISREG(status.st_mode) and status.st_size > 0
+            return cls(mmap.mmap(file.fileno(), 0, access=mmap.ACCESS_READ) if is_mapped else file.read())
 
     def whole(self) -> 'Elf':
         """Returns the same file by a header that counts only what lies in it whole: the headers of a file that is cut. Never refused."""
@@ -78,14 +77,12 @@ class Elf:
     @property
     def symbols(self) -> Symbols:
         """The symbols of the first section of type SHT_SYMTAB, or none. Refused if the section headers or the table are."""
-        section = self.section_by_type(SHT_SYMTAB)
-        return section.symbols if section else Symbols(self, 0, 0)
+        return section.symbols if (section := self.section_by_type(SHT_SYMTAB)) else Symbols(self, 0, 0)
 
     @property
     def dynamic_symbols(self) -> Symbols:
         """The symbols of the first section of type SHT_DYNSYM, or none. Refused as `symbols` is."""
-        section = self.section_by_type(SHT_DYNSYM)
-        return section.symbols if section else Symbols(self, 0, 0)
+        return section.symbols if (section := self.section_by_type(SHT_DYNSYM)) else Symbols(self, 0, 0)
 
     def section(self, name: Name, first: int = 0) -> Optional[Section]:
         """Returns the first section with a name, from an index on, or `None`. Refused if the section headers or their names are."""
@@ -99,7 +96,7 @@ class Elf:
     def _section(self, table: Sections, name: str, *arguments: Any) -> Optional[Section]:
         index = ctypes.c_uint64()
         fields = found(name, RECORDS['section'], self._file, self._image, *arguments, ctypes.byref(index))
-        return Section._make((*fields, index.value, table)) if fields else None
+        return table._made(fields, index.value) if fields else None
 
     @property
     def notes(self) -> Iterator[Note]:

@@ -3,11 +3,10 @@ import contextlib
 import ctypes
 import functools
 import itertools
-import operator
 from array import array
-from typing import TYPE_CHECKING, Any, Iterable, Iterator, List, NamedTuple, Optional, Sequence, Tuple, TypeVar, Union, overload
+from typing import TYPE_CHECKING, Any, Dict, Iterable, Iterator, List, NamedTuple, Optional, Sequence, Tuple, Type, TypeVar, Union, overload
 
-from ._library import FUNCTIONS, RANGE, RECORDS, Finder, Record, call, found, unsigned
+from ._library import FUNCTIONS, RANGE, RECORDS, REFUSAL, Record, call, found, unsigned
 from .constants import SHT_DYNSYM, SHT_REL, SHT_RELA, SHT_SYMTAB
 from .interface import HeaderFields, Kind, RelocFields, SectionFields, SegmentFields, SymbolFields
 from .names import sht_to_str
@@ -19,8 +18,8 @@ if TYPE_CHECKING:
 T = TypeVar('T', bound=Tuple[Any, ...])
 Fields = Tuple[int, ...]
 Name = Union[str, bytes]
-# How many items are read by one call.
-CHUNK = 4096
+# How many items are read by one call. How many names are, at first, how far names are asked for in order, and the most bytes of many names.
+CHUNK, AHEAD, NEAR, TEXTS = 4096, 64, 8, 1 << 24
 
 
 class Entry:
@@ -84,13 +83,14 @@ class Section(Held, SectionFields):
     @property
     def name(self) -> Optional[str]:
         """Its name, or `None` if that is past the end of the section names. Refused if it is not UTF-8, or as the names are."""
-        return self.table.strings.get(self.sh_name)
+        known = self.table._known.get(self.sh_name)
+        return self.table._learn(self.index, self.sh_name) if known is None else known
 
     @property
     def linked(self) -> Optional['Section']:
         """The section that `sh_link` names, or `None` if there is none that has bytes. Refused if the section headers are."""
         fields = found('linked_section', RECORDS['section'], self.table.elf._file, self.table.elf._image, self.sh_link)
-        return Section._make((*fields, self.sh_link, self.table)) if fields else None
+        return self.table._made(fields, self.sh_link) if fields else None
 
     @property
     def strings(self) -> 'Strings':
@@ -128,7 +128,8 @@ class Symbol(Entry, SymbolFields):
     @property
     def name(self) -> Optional[str]:
         """Its name, or `None` if that is past the end of the string table. Refused if it is not UTF-8, or if the table is."""
-        return self.table.strings.get(self.st_name)
+        known = self.table._known.get(self.st_name)
+        return self.table._learn(self.index, self.st_name) if known is None else known
 
     @property
     def binding(self) -> int:
@@ -176,14 +177,13 @@ class Table(Sequence[T]):
     written: it raises Refused with `Kind.INTEGER_FIT` if a number does not fit the file's class, and then changes nothing.
     """
     record: Record
-    item: Any
+    item: Type[T]
     # The call for one item, and that for many if there is one.
     one, many = '', ''
 
     def __init__(self, elf: 'Elf', *arguments: Any) -> None:
         self.elf, self._arguments = elf, arguments
-        # What the call for one item takes for each.
-        self._places: Sequence[int] = range(elf._find_number(f'{self.one}_count', *arguments) or 0)
+        self._places: Sequence[int] = range(elf._find_number(f'{self.one}_count', *arguments) or 0)  # what the call for one item takes
 
     def __len__(self) -> int:
         return len(self._places)
@@ -197,9 +197,10 @@ class Table(Sequence[T]):
         places = range(len(self))[index]
         if isinstance(places, range):
             return list(self._items(places.start, places.stop)) if places.step == 1 else [self[place] for place in places]
-        for item in self._items(places, places + 1):
-            return item
-        raise IndexError(f'there is no item {places} any more')
+        fields = found(self.one, self.record, self.elf._file, self.elf._image, *self._arguments, self._places[places])
+        if fields is None:
+            raise IndexError(f'there is no item {places} any more')
+        return self._made(fields, places)
 
     def __setitem__(self, index: int, item: T) -> None:
         if not isinstance(item, self.item) or isinstance(item, Note):
@@ -223,9 +224,17 @@ class Table(Sequence[T]):
 
     def _items(self, first: int, end: int) -> Iterator[T]:
         """Yields the items from an index to another one. It is written without a loop of Python, which takes longer."""
-        unpack, tables = self.record.struct.iter_unpack, itertools.repeat(self)
-        items = (map(operator.add, unpack(chunk), zip(itertools.count(start), tables)) for start, chunk in self._chunks(first, end))
-        return map(tuple.__new__, itertools.repeat(self.item), itertools.chain.from_iterable(items))
+        tables = itertools.repeat(self)
+        rows = (zip(*self._columns(chunk), itertools.count(start), tables) for start, chunk in self._chunks(first, end))
+        return map(tuple.__new__, itertools.repeat(self.item), itertools.chain.from_iterable(rows))
+
+    def _columns(self, chunk: memoryview) -> List[List[Any]]:
+        """Returns each field of the items of some structs as a list."""
+        return self.record.columns(chunk)
+
+    def _made(self, fields: Fields, index: int) -> T:
+        """Returns the item of the fields of a struct."""
+        return tuple.__new__(self.item, (*fields, index, self))
 
     def _raw(self, item: T) -> Fields:
         """Returns the fields of the struct of an item."""
@@ -240,32 +249,53 @@ class Table(Sequence[T]):
             yield first, memoryview(buffer)[:filled * size]
             first = first + filled if filled else end
 
-    def _column(self, word: int) -> List[int]:
-        """Returns a field of all items that has 64 bits, by the number of fields before it, which have as many."""
-        return [number for _, chunk in self._chunks(0, len(self)) for number in chunk.cast('Q')[word::self.record.size // 8].tolist()]
-
     def _fill(self, first: int, address: int, capacity: int) -> int:
         """Reads structs from an index on into memory, and returns their number."""
-        call_with = functools.partial(call, self.many or self.one, self.elf._file, self.elf._image, *self._arguments)
+        file, start = self.elf._file, (self.elf._image, *self._arguments)
         if not self.many:
-            return next((i for i in range(capacity) if not call_with(self._places[first + i], address + i * self.record.size)), capacity)
+            structs = range(address, address + capacity * self.record.size, self.record.size)
+            return next((i for i, at in enumerate(structs) if not call(self.one, file, *start, self._places[first + i], at)), capacity)
         filled = ctypes.c_uint64()
-        call_with(first, address, capacity, ctypes.byref(filled))
+        call(self.many, file, *start, first, address, capacity, ctypes.byref(filled))
         return filled.value
 
 
-class Sections(Table[Section]):
+class NamedTable(Table[T]):
+    """A table of items with names. `_field` is the number of the field with the offset of a name, which has 64 bits."""
+    _field = 0
+    _known: Dict[int, str] = {}  # some names, by their offsets
+    _window = range(0)  # the indexes of the items whose names were looked for last
+
+    def names(self: Any, errors: str = 'strict') -> List[Optional[str]]:
+        """Returns the names of all items in one pass: see `Strings.get`."""
+        chunks = self._chunks(0, len(self))
+        return [name for _, chunk in chunks for name in self.strings._get_all(self._offsets(chunk), errors)]
+
+    def _offsets(self, chunk: memoryview) -> 'array[int]':
+        return array('Q', chunk.cast('Q')[self._field::self.record.size // 8].tobytes())
+
+    def _learn(self: Any, index: int, offset: int) -> Optional[str]:
+        """Returns a name that is not known. If names are asked for in order, of bytes that can't be written, it reads the next ones, too."""
+        known: Dict[int, str] = {}
+        if 0 <= index - self._window.stop < NEAR and self.elf._file.view.readonly:
+            self._window = range(index, index + min(max(AHEAD, 2 * len(self._window)), CHUNK))
+            for _, chunk in self._chunks(index, min(self._window.stop, len(self))):
+                offsets = self._offsets(chunk)
+                known = self._known = dict(zip(offsets, self.strings._first(offsets, 0)))
+        else:
+            self._window = range(index, index + 1)
+        name: Optional[str] = known[offset] if offset in known else self.strings.get(offset)
+        return name
+
+
+class Sections(NamedTable[Section]):
     """The section headers. Refused if they are not all inside the file: see `Elf.whole`."""
-    record, item, one, many = RECORDS['section'], Section, 'section', 'sections'
+    record, item, one, many, _field = RECORDS['section'], Section, 'section', 'sections', 2
 
     @functools.cached_property
     def strings(self) -> 'Strings':
         """The section names: an empty table if the file has none. Refused if the section headers are."""
         return Strings(self.elf, *(found('section_names', self.record, self.elf._file, self.elf._image) or (0, 0))[:2])
-
-    def names(self, errors: str = 'strict') -> List[Optional[str]]:
-        """Returns the names of all sections in one pass: see `Strings.get`."""
-        return self.strings.get_all(self._column(2), errors)
 
 
 class Segments(Table[Segment]):
@@ -273,17 +303,13 @@ class Segments(Table[Segment]):
     record, item, one = RECORDS['segment'], Segment, 'segment'
 
 
-class Symbols(Table[Symbol]):
+class Symbols(NamedTable[Symbol]):
     """The symbols in a range of the file, with the string table of their names: none by default."""
     record, item, one, many = RECORDS['symbol'], Symbol, 'symbol', 'symbols'
 
     def __init__(self, elf: 'Elf', offset: int, size: int, strings: Optional['Strings'] = None) -> None:
         super().__init__(elf, RANGE.pack((offset, size)))
         self.strings = strings or Strings(elf, 0, 0)
-
-    def names(self, errors: str = 'strict') -> List[Optional[str]]:
-        """Returns the names of all symbols in one pass: see `Strings.get`."""
-        return self.strings.get_all(self._column(0), errors)
 
     def find(self, name: Name) -> Optional[Symbol]:
         """Returns the first symbol with a name, or `None`. Refused as the strings are."""
@@ -312,11 +338,12 @@ class Relocations(Table[Relocation]):
         linked = self.section.linked if self.section else None
         return linked.symbols if linked else Symbols(self.elf, 0, 0)
 
-    def _items(self, first: int, end: int) -> Iterator[Relocation]:
-        new = tuple.__new__
-        for start, chunk in self._chunks(first, end):
-            for index, (offset, symbol, addend, kind, has) in enumerate(self.record.struct.iter_unpack(chunk), start):
-                yield new(Relocation, (offset, symbol, addend if has else None, kind, index, self))
+    def _columns(self, chunk: memoryview) -> List[List[Any]]:
+        offset, symbol, addend, kind, has = super()._columns(chunk)
+        return [offset, symbol, addend if all(has) else [number if one else None for number, one in zip(addend, has)], kind]
+
+    def _made(self, fields: Fields, index: int) -> Relocation:
+        return Relocation._make((*fields[:2], fields[2] if fields[4] else None, fields[3], index, self))
 
     def _raw(self, item: Relocation) -> Fields:
         return item.r_offset, item.r_sym, item.r_addend or 0, item.r_type, int(item.r_addend is not None)
@@ -325,50 +352,74 @@ class Relocations(Table[Relocation]):
 class Notes(Table[Note]):
     """The notes in a range of the file, as a segment or a section of notes has them. Refused at the first damaged note, and if a name is not
     UTF-8. With other `errors` than 'strict' a name is decoded as they mean instead, and a note must lie in the range whole."""
-    record, item, one = RECORDS['note'], Note, 'note'
+    record, item = RECORDS['note'], Note
 
     def __init__(self, elf: 'Elf', offset: int, size: int, alignment: int, errors: str = 'strict') -> None:
-        self.elf, self._arguments = elf, (RANGE.pack((offset, size)), alignment)
-        self._read_from = functools.partial(read_notes, elf, RANGE.pack((offset, size)), alignment, errors)
-        self._places = array('Q', (place for place, _ in self._read_from(offset)))
+        self.elf, self._arguments, self._errors = elf, (RANGE.pack((offset, size)), alignment), errors
+        self.one = 'note' if errors == 'strict' else 'note_bytes'
+        self._places = array('Q', (place for place, _ in read_notes(elf, *self._arguments, errors, offset)))
 
     def _items(self, first: int, end: int) -> Iterator[Note]:
-        for place in self._places[first:end]:
-            yield from (note for _, note in itertools.islice(self._read_from(place), 1))
+        return map(self.__getitem__, range(first, end))
+
+    def _made(self, fields: Fields, index: int) -> Note:
+        return note_of(self.elf, fields, self._errors)
 
 
 def read_notes(elf: 'Elf', place: bytes, alignment: int, errors: str, offset: int) -> Iterator[Tuple[int, Note]]:
     """Yields the notes in a range from an offset of the file on, as they are read, each after its offset."""
-    name, file = 'note' if errors == 'strict' else 'note_bytes', elf._file
-    while True:
-        fields = found(name, RECORDS['note'], file, elf._image, place, alignment, offset)
-        if fields is None:
-            return
-        text = bytes(file.part(*fields[:2]))
-        yield offset, Note(fields[5], str(text if errors == 'strict' else text.rstrip(b'\0'), 'utf-8', errors), file.part(*fields[2:4]))
+    name = 'note' if errors == 'strict' else 'note_bytes'
+    while fields := found(name, RECORDS['note'], elf._file, elf._image, place, alignment, offset):
+        yield offset, note_of(elf, fields, errors)
         offset = fields[4]
+
+
+def note_of(elf: 'Elf', fields: Fields, errors: str) -> Note:
+    """Returns the note of the fields of a struct."""
+    name = bytes(elf._file.part(*fields[:2]))
+    return Note(fields[5], str(name if errors == 'strict' else name.rstrip(b'\0'), 'utf-8', errors), elf._file.part(*fields[2:4]))
 
 
 class Strings:
     """A string table: a range of the file. The offsets of its strings count from its start, in bytes."""
 
     def __init__(self, elf: 'Elf', offset: int, size: int) -> None:
+        self._file = elf._file
         self._range: bytes = RANGE.pack((offset, size))
-        self._texts, self._any = (Finder(name, elf._file, self._range) for name in ('string', 'string_bytes'))
 
     def get(self, offset: int, errors: str = 'strict') -> Optional[str]:
         """Returns the string at an offset, or `None` past the end. Refused if the table is not inside the file, or if the string is not
         UTF-8. With other `errors` than 'strict', such as 'replace' or 'surrogateescape', it is decoded as they mean instead."""
-        found = (self._texts if errors == 'strict' else self._any).get(offset)
-        return None if found is None else found.decode('utf-8', errors)
+        place = found('string' if errors == 'strict' else 'string_bytes', RANGE, self._file, self._range, unsigned(offset))
+        return str(self._file.part(*place), 'utf-8', errors) if place else None
 
     def get_bytes(self, offset: int) -> Optional[bytes]:
         """Returns the bytes of the string at an offset, which need not be UTF-8, as `get` does."""
-        return self._any.get(unsigned(offset))
+        place = found('string_bytes', RANGE, self._file, self._range, unsigned(offset))
+        return bytes(self._file.part(*place)) if place else None
 
     def get_all(self, offsets: Iterable[int], errors: str = 'strict') -> List[Optional[str]]:
         """Returns the strings at many offsets in one pass, each as `get` does."""
-        return (self._texts if errors == 'strict' else self._any).decoded(offsets, errors)
+        return self._get_all(array('Q', map(unsigned, offsets)), errors)
+
+    def _get_all(self, offsets: 'array[int]', errors: str) -> List[Optional[str]]:
+        texts: List[Optional[str]] = []
+        while len(texts) < len(offsets):
+            texts += self._first(offsets, len(texts))
+            texts += [self.get(offset, errors) for offset in offsets[len(texts):len(texts) + 1]]
+        return texts
+
+    def _first(self, offsets: 'array[int]', start: int) -> List[str]:
+        """Returns some of the strings at offsets, from an index on, up to the first one that is refused or past the end, or sooner."""
+        count, filled = min(len(offsets) - start, CHUNK), ctypes.c_uint64()
+        ranges = array('Q', (0, 0)) * count
+        FUNCTIONS['strings'](self._file.address, self._file.length, self._range, offsets.buffer_info()[0] + 8 * start, count,
+                             ranges.buffer_info()[0], count, ctypes.byref(filled), REFUSAL.buffer())
+        count = filled.value
+        while sum(ranges[1:2 * count:2]) > TEXTS:
+            count //= 2
+        source = self._file.source
+        return [str(source[start:start + size], 'utf-8') for start, size in zip(ranges[:2 * count:2], ranges[1::2])]
 
 
 def named(name: Name) -> Tuple[bytes, int]:

@@ -57,6 +57,10 @@ class Reader:
             repr(item)
             if hasattr(item, 'number'):
                 self.step(lambda: item.number(self.number(), self.chance.choice((1, 2, 4, 8))))
+        if hasattr(table, 'names'):
+            # (an item has the name that is at its offset, though names are read many at once)
+            names = [self.step(lambda: item.name) for item in table]
+            assert names == [self.step(lambda: table.strings.get(item[table._field])) for item in table]
         if len(table):
             assert table[-1] == list(table)[-1] and len(list(reversed(table))) == len(table)
 

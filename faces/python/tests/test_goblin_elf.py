@@ -1,16 +1,22 @@
 """Tests of goblin_elf over made files, whose values are those that the System V gABI gives their bytes, and over files of this machine."""
+import base64
 import gc
+import hashlib
 import json
 import mmap
 import os
 import pickle
+import random
 import re
 import signal
 import subprocess
 import sys
 import tempfile
 import threading
+import tracemalloc
 import unittest
+import unittest.mock
+import zipfile
 
 import goblin_elf
 from goblin_elf import (EM_X86_64, PF_X, SHF_ALLOC, SHF_EXECINSTR, SHT_PROGBITS, SHT_RELA, SHT_SYMTAB, STT_FUNC, Elf, Item, Kind, Notes, Refused,
@@ -263,6 +269,75 @@ class Cut(unittest.TestCase):
             self.assertEqual(bytes(item.bytes_in_file), made.TEXT)
 
 
+class Names(unittest.TestCase):
+    """Names that are read many at once are those that are there, whatever the order in which they are asked for."""
+    # (the third text is not UTF-8, and the last one ends at the end of the table)
+    STRINGS = b'\0main\0\xff\xfe\0\xc3\xa9t\xc3\xa9\0a_name\0' + bytes(range(65, 91)) * 3
+
+    def table(self, offsets, strings=STRINGS, buffer=bytes):
+        """Returns a table of symbols whose names begin at offsets of strings, in a file of its own."""
+        symbols = b''.join(MADE.symbol(offset, '', 0, 0, 0, 0, 0, 0) for offset in offsets)
+        elf, start = Elf(buffer(MADE.bytes + symbols + strings)), len(MADE.bytes)
+        return Symbols(elf, start, len(symbols), Strings(elf, start + len(symbols), len(strings)))
+
+    def offsets(self, count, *more):
+        """Returns offsets of all kinds in no order."""
+        chance = random.Random(1)
+        places = [*range(len(self.STRINGS)), *more]
+        return [chance.choice(places) for _ in range(count)]
+
+    def expected(self, offset, errors='strict'):
+        """Returns the text at an offset, by Python alone, or `None`. Raises a UnicodeDecodeError."""
+        return self.STRINGS[offset:].split(b'\0')[0].decode('utf-8', errors) if offset < len(self.STRINGS) else None
+
+    def check(self, item):
+        try:
+            wanted = self.expected(item.st_name)
+        except UnicodeDecodeError:
+            error = refusal(lambda: item.name)
+            self.assertEqual((error.kind, error.item), (Kind.BAD_INPUT, Item.INVALID_UTF8))
+            self.assertEqual(error.offset, int.from_bytes(item.table.strings._range[:8], sys.byteorder) + item.st_name)
+        else:
+            self.assertEqual(item.name, wanted)
+
+    def test_each_order(self):
+        chance = random.Random(2)
+        for count in (1, 63, 64, 65, 4096, 5000):
+            table = self.table(self.offsets(count, len(self.STRINGS), (1 << 32) - 1))
+            items = list(table)
+            for order in (table, items, reversed(table), items[::3], items[::100], chance.sample(items, count), [table[-1], table[0]]):
+                for item in order:
+                    self.check(item)
+            self.check(items[-1]._replace(st_name=1))
+            self.assertEqual(table.names('replace'), [self.expected(item.st_name, 'replace') for item in items])
+            self.assertEqual(table.strings.get_all((item.st_name for item in items), 'replace'), table.names('replace'))
+        self.assertEqual(refusal(table.names).kind, Kind.BAD_INPUT)
+
+    def test_number_of_calls(self):
+        offsets, strings = range(0, 6000), b'ab\0' * 2000
+        for read, calls in [(lambda table: table.names(), 2), (lambda table: [item.name for item in table], 7),
+                            (lambda table: [item.name for item in table[::5]], 7), (lambda table: [item.name for item in table[::9]], 1),
+                            (lambda table: [item.name for item in reversed(table)], 0), (lambda table: [table[4000].name], 0)]:
+            table, count, function = self.table(offsets, strings), [], _library.FUNCTIONS['strings']
+            with unittest.mock.patch.dict(_library.FUNCTIONS, strings=lambda *arguments: count.append(1) or function(*arguments)):
+                self.assertTrue(set(read(table)) <= {'ab', 'b', ''})
+            self.assertEqual(len(count), calls)
+
+    def test_bytes_that_change(self):
+        table = self.table([1] * 100, buffer=bytearray)
+        for name in ('main', 'pain'):
+            table.elf.put_number(table.elf.bytes.obj.index(b'ain\0' + b'\xff') - 1, 1, ord(name[0]))
+            self.assertEqual([item.name for item in table], [name] * 100)
+
+    def test_long_names_take_no_more_memory_than_one(self):
+        size = 1 << 20
+        table = self.table(range(4096), b'a' * size)
+        tracemalloc.start()
+        self.assertEqual([len(item.name) for item in table[:70]], [size - index for index in range(70)])
+        self.assertLess(tracemalloc.get_traced_memory()[1], 1 << 26)
+        tracemalloc.stop()
+
+
 class Written(unittest.TestCase):
     """What is written back, and what is not."""
 
@@ -479,6 +554,27 @@ class Library(unittest.TestCase):
         self.assertEqual(_library.RECORDS['symbol'].size, 40)
 
 
+class Wheel(unittest.TestCase):
+    def test_content(self):
+        """The wheel for each machine: its tag, and in its list each file with its sum."""
+        script = os.path.join(FOLDER, '..', 'wheel.py')
+        for machine in ('x86_64', 'aarch64'):
+            with tempfile.TemporaryDirectory() as folder:
+                command = [sys.executable, script, _library.where(), machine, folder]
+                path = subprocess.run(command, check=True, stdout=subprocess.PIPE, universal_newlines=True).stdout.strip()
+                self.assertTrue(path.startswith(f'{folder}/goblin_elf-') and path.endswith(f'-py3-none-linux_{machine}.whl'), path)
+                with zipfile.ZipFile(path) as wheel:
+                    content = {name: wheel.read(name) for name in wheel.namelist()}
+            info = f'{os.path.basename(path)[:-len(f"-py3-none-linux_{machine}.whl")]}.dist-info'
+            self.assertIn(f'Tag: py3-none-linux_{machine}\n', content[f'{info}/WHEEL'].decode())
+            rows = dict(row.split(',', 1) for row in content.pop(f'{info}/RECORD').decode().splitlines())
+            self.assertEqual(rows.pop(f'{info}/RECORD'), ',')
+            sums = {name: base64.urlsafe_b64encode(hashlib.sha256(read).digest()).decode().rstrip('=') for name, read in content.items()}
+            self.assertEqual(rows, {name: f'sha256={sums[name]},{len(read)}' for name, read in content.items()})
+            with open(_library.where(), 'rb') as file:
+                self.assertEqual(content[f'goblin_elf/libgoblin_c.so.{constants.VERSION}'], file.read())
+
+
 class Program(unittest.TestCase):
     def run_it(self, *arguments):
         found = subprocess.run([sys.executable, '-m', 'goblin_elf', *arguments], stdout=subprocess.PIPE, universal_newlines=True)
@@ -497,6 +593,10 @@ class Program(unittest.TestCase):
                          '  error            No such file or directory', f'{folder}/odd\ufffd'):
                 self.assertIn(line, said.split('\n'))
             self.assertEqual(status, 1)
+            # (a reader that leaves is no error)
+            leaves = f'{sys.executable} -m goblin_elf {" ".join(["made.o"] * 2000)} | head -n 1'
+            found = subprocess.run(leaves, shell=True, cwd=folder, stdout=subprocess.PIPE, stderr=subprocess.PIPE, universal_newlines=True)
+            self.assertEqual((found.stdout, found.stderr), ('made.o\n', ''))
             status, said = self.run_it('--json', *paths[:1])
             found = json.loads(said)[0]
             self.assertEqual((status, found['type'], found['entry'], found['needed'], found['sizes']['code']), (0, 'REL', 0x1004, [], 128))
