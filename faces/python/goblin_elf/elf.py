@@ -33,14 +33,14 @@ class Elf:
 
     @classmethod
     def open(cls, path: 'Union[Name, os.PathLike[str]]', *, copy: bool = False) -> 'Elf':
-        """Maps a file into memory, or reads it if `copy` is true or it is no regular file. Raises OSError if it can not be read.
+        """Maps a file into memory, or reads it if it has less than 64 KiB, if `copy` is true, or if it is no regular file. Raises OSError.
 
         The mapping lives as long as what needs it, without a call to close it. If another program makes a mapped file shorter, the
         operating system ends this one when it reads past the new end (SIGBUS). Use `copy` if that may be.
         """
         with open(path, 'rb', buffering=0) as file:
             status = os.fstat(file.fileno())
-            is_mapped = not copy and stat.S_ISREG(status.st_mode) and status.st_size > 0
+            is_mapped = not copy and stat.S_ISREG(status.st_mode) and status.st_size >= 1 << 16
             return cls(mmap.mmap(file.fileno(), 0, access=mmap.ACCESS_READ) if is_mapped else file.read())
 
     def whole(self) -> 'Elf':

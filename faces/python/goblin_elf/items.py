@@ -19,7 +19,7 @@ T = TypeVar('T', bound=Tuple[Any, ...])
 Fields = Tuple[int, ...]
 Name = Union[str, bytes]
 # How many items are read by one call. How many names are, at first, how far names are asked for in order, and the most bytes of many names.
-CHUNK, AHEAD, NEAR, TEXTS = 4096, 64, 8, 1 << 24
+CHUNK, AHEAD, NEAR, TEXTS = 2048, 64, 8, 1 << 24
 
 
 class Entry:
@@ -225,7 +225,7 @@ class Table(Sequence[T]):
     def _items(self, first: int, end: int) -> Iterator[T]:
         """Yields the items from an index to another one. It is written without a loop of Python, which takes longer."""
         tables = itertools.repeat(self)
-        rows = (zip(*self._columns(chunk), itertools.count(start), tables) for start, chunk in self._chunks(first, end))
+        rows = (zip(*self._columns(chunk), range(start, end), tables) for start, chunk in self._chunks(first, end))
         return map(tuple.__new__, itertools.repeat(self.item), itertools.chain.from_iterable(rows))
 
     def _columns(self, chunk: memoryview) -> List[List[Any]]:

@@ -302,7 +302,7 @@ class Names(unittest.TestCase):
 
     def test_each_order(self):
         chance = random.Random(2)
-        for count in (1, 63, 64, 65, 4096, 5000):
+        for count in (1, 63, 64, 65, 2048, 5000):
             table = self.table(self.offsets(count, len(self.STRINGS), (1 << 32) - 1))
             items = list(table)
             for order in (table, items, reversed(table), items[::3], items[::100], chance.sample(items, count), [table[-1], table[0]]):
@@ -315,7 +315,7 @@ class Names(unittest.TestCase):
 
     def test_number_of_calls(self):
         offsets, strings = range(0, 6000), b'ab\0' * 2000
-        for read, calls in [(lambda table: table.names(), 2), (lambda table: [item.name for item in table], 7),
+        for read, calls in [(lambda table: table.names(), 3), (lambda table: [item.name for item in table], 7),
                             (lambda table: [item.name for item in table[::5]], 7), (lambda table: [item.name for item in table[::9]], 1),
                             (lambda table: [item.name for item in reversed(table)], 0), (lambda table: [table[4000].name], 0)]:
             table, count, function = self.table(offsets, strings), [], _library.FUNCTIONS['strings']
@@ -419,15 +419,17 @@ class Memory(unittest.TestCase):
     """What lives as long as something needs it."""
 
     def test_views_hold_the_file(self):
-        with tempfile.NamedTemporaryFile() as file:
-            file.write(MADE.bytes)
-            file.flush()
-            elf = Elf.open(file.name)
-            text, build_id, symbol, strings = elf.section('.text').bytes, elf.build_id, elf.symbols[1], elf.section('.strtab').strings
-            del elf
-            gc.collect()
-        self.assertEqual((bytes(text), bytes(build_id)), (made.TEXT, made.BUILD_ID))
-        self.assertEqual((symbol.name, strings.get(1)), ('main', 'main'))
+        # (a small file is read, and the other one mapped)
+        for content in (MADE.bytes, MADE.bytes.ljust(1 << 16, b'\0')):
+            with tempfile.NamedTemporaryFile() as file:
+                file.write(content)
+                file.flush()
+                elf = Elf.open(file.name)
+                text, build_id, symbol, strings = elf.section('.text').bytes, elf.build_id, elf.symbols[1], elf.section('.strtab').strings
+                del elf
+                gc.collect()
+            self.assertEqual((bytes(text), bytes(build_id)), (made.TEXT, made.BUILD_ID))
+            self.assertEqual((symbol.name, strings.get(1)), ('main', 'main'))
 
     def test_buffers_can_not_go(self):
         with tempfile.NamedTemporaryFile() as file:
@@ -446,20 +448,22 @@ class Memory(unittest.TestCase):
         self.assertEqual(len(elf.sections), 9)
 
     def test_a_file_that_is_cut(self):
-        with tempfile.NamedTemporaryFile() as file:
-            file.write(MADE.bytes)
-            file.flush()
-            elf = Elf.open(file.name, copy=True)
-            array = Elf.open(file.name).symbols.array() if numpy else None
-            os.truncate(file.name, 0)
-            self.assertEqual((len(elf.sections), elf.symbols[1].name), (9, 'main'))
-            if numpy:
-                self.assertEqual(list(array['st_value']), [symbol[1] for symbol in made.SYMBOLS])
-            self.assertEqual(refusal(Elf.open, file.name).kind, Kind.TOO_SMALL)
+        # (a small file is read; the array of a mapped one has memory of its own)
+        for content, copy in [(MADE.bytes, False), (MADE.bytes, True), (MADE.bytes.ljust(1 << 16, b'\0'), True)]:
+            with tempfile.NamedTemporaryFile() as file:
+                file.write(content)
+                file.flush()
+                elf = Elf.open(file.name, copy=copy)
+                array = Elf.open(file.name).symbols.array() if numpy else None
+                os.truncate(file.name, 0)
+                self.assertEqual((len(elf.sections), elf.symbols[1].name), (9, 'main'))
+                if numpy:
+                    self.assertEqual(list(array['st_value']), [symbol[1] for symbol in made.SYMBOLS])
+                self.assertEqual(refusal(Elf.open, file.name).kind, Kind.TOO_SMALL)
 
     def test_a_mapped_file_that_is_cut_ends_the_process(self):
         with tempfile.NamedTemporaryFile() as file:
-            file.write(MADE.bytes)
+            file.write(MADE.bytes.ljust(1 << 16, b'\0'))
             file.flush()
             script = f'import os; from goblin_elf import Elf; e = Elf.open({file.name!r}); os.truncate({file.name!r}, 0); list(e.sections)'
             self.assertEqual(subprocess.run([sys.executable, '-c', script]).returncode, -signal.SIGBUS)
