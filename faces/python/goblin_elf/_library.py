@@ -67,8 +67,8 @@ def load() -> ctypes.CDLL:
         version = library.goblin_version()
     except (OSError, AttributeError) as error:
         raise ImportError(f'goblin_elf needs {NAME}, and can not load it ({error}): install it, or set GOBLIN_ELF_LIBRARY') from None
-    if version != VERSION or not is_laid_out(library):
-        what = 'lays out its structs in another way' if version == VERSION else f'has interface {version}, not {VERSION}'
+    if version != VERSION or not all(hasattr(library, f'goblin_{name}') for name in CALLS) or not is_laid_out(library):
+        what = 'has other calls or structs' if version == VERSION else f'has interface {version}, not {VERSION}'
         raise ImportError(f'{path} {what}: this goblin_elf needs another version of it')
     return library
 

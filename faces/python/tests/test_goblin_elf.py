@@ -526,12 +526,14 @@ class Library(unittest.TestCase):
         status, said = self.load('/nonexistent')
         self.assertTrue(status == 1 and 'ImportError: goblin_elf needs libgoblin_c.so.' in said, said)
         with tempfile.TemporaryDirectory() as folder:
-            for version, layout, expected in [(4, '', 'has interface 4, not '),
-                                              (constants.VERSION, '((char *)layout)[0] = 1;', 'lays out its structs in another way')]:
+            # of another interface, with calls that are missing, and with all of them and another layout
+            calls = ''.join(f'void goblin_{name}(void) {{}}\n' for name in _library.CALLS if name not in ('version', 'layout'))
+            for version, more, expected in [(4, calls, 'has interface 4, not '), (constants.VERSION, '', 'has other calls or structs'),
+                                            (constants.VERSION, calls, 'has other calls or structs')]:
                 source, path = os.path.join(folder, 'wrong.c'), os.path.join(folder, 'wrong.so')
                 with open(source, 'w') as file:
                     file.write(f'unsigned goblin_version(void) {{ return {version}; }}\n'
-                               f'void goblin_layout(void *layout) {{ (void)layout; {layout} }}\n')
+                               f'void goblin_layout(void *layout) {{ ((char *)layout)[0] = 1; }}\n{more}')
                 try:
                     subprocess.run(['cc', '-shared', '-fPIC', '-o', path, source], check=True)
                 except FileNotFoundError:
