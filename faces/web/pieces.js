@@ -64,49 +64,21 @@ function pieces_of_segments() {
     return [...found, ...cut];
 }
 
-// A heap of pieces. The one with the last start is on top, and of those with the same start the shortest.
-class Heap {
-    items = [];
-    before(a, b) { return a.start > b.start || (a.start === b.start && a.whole_end < b.whole_end); }
-    swap(a, b) { [this.items[a], this.items[b]] = [this.items[b], this.items[a]]; }
-    push(item) {
-        let at = this.items.push(item) - 1;
-        for (let up; at > 0 && this.before(this.items[at], this.items[up = (at - 1) >> 1]); at = up) this.swap(at, up);
-    }
-    pop() {
-        const last = this.items.pop();
-        if (this.items.length === 0) return;
-        this.items[0] = last;
-        for (let at = 0; ;) {
-            let least = at;
-            for (const down of [2 * at + 1, 2 * at + 2]) {
-                if (down < this.items.length && this.before(this.items[down], this.items[least])) least = down;
-            }
-            if (least === at) return;
-            this.swap(at, least);
-            at = least;
-        }
-    }
-}
-
-// The pieces that hold a byte, for ascending bytes.
+// The pieces that hold a byte, for ascending bytes. The one that starts last is on top, and of those with the same start the shortest.
 class Cover {
-    #by_start; #ends; #heap = new Heap(); #opened = 0; #closed = 0;
+    #in_order; #ends; #stack = []; #opened = 0; #closed = 0;
 
     constructor(pieces) {
-        this.#by_start = [...pieces].sort((a, b) => a.start - b.start);
+        this.#in_order = [...pieces].reverse().sort((a, b) => a.start - b.start || b.whole_end - a.whole_end);
         this.#ends = Float64Array.from(pieces, ({ end }) => end).sort();
     }
 
     // Moves to a byte, and returns the piece there that starts last, if any, and the number of pieces there.
     go_to(byte) {
-        const { items } = this.#heap;
-        while (this.#opened < this.#by_start.length && this.#by_start[this.#opened].start <= byte) {
-            this.#heap.push(this.#by_start[this.#opened++]);
-        }
-        while (this.#closed < this.#ends.length && this.#ends[this.#closed] <= byte) this.#closed++;
-        while (items.length && items[0].end <= byte) this.#heap.pop();
-        return { top: items[0], depth: this.#opened - this.#closed };
+        while (this.#in_order[this.#opened]?.start <= byte) this.#stack.push(this.#in_order[this.#opened++]);
+        while (this.#ends[this.#closed] <= byte) this.#closed++;
+        while (this.#stack.at(-1)?.end <= byte) this.#stack.pop();
+        return { top: this.#stack.at(-1), depth: this.#opened - this.#closed };
     }
 }
 
