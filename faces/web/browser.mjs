@@ -9,10 +9,11 @@ import { tmpdir } from 'node:os';
 import { basename, join } from 'node:path';
 import { pathToFileURL } from 'node:url';
 import { PATIENCE, Chromium, Firefox } from './browsers.mjs';
-import { elf_file, note, packed, rela, symbol } from './elves.mjs';
+import { elf_file, note, packed, rela, symbols_file } from './elves.mjs';
 
 const [, , kind, program, page, dump, made_files, ...files] = process.argv;
-const made = join(made_files, 'little64');
+const made = join(made_files, 'little64'), content = readFileSync(made);
+const counted = [...readdirSync(made_files).map((name) => join(made_files, name)), dump, ...files];
 const folder = mkdtempSync(join(tmpdir(), 'goblin-'));
 const browser = new { chromium: Chromium, firefox: Firefox }[kind](folder);
 const url = pathToFileURL(page).href;
@@ -32,19 +33,27 @@ async function pick(path) {
     await until(`document.querySelector('#file b')?.textContent === ${quoted(basename(path))} && !(${is_busy})`);
 }
 
-// Writes a file, and picks it.
-async function pick_written(name, content) {
+// Writes a file, and picks it, and perhaps opens a tab.
+async function pick_written(name, content, tab) {
     const path = join(folder, name);
     writeFileSync(path, content);
     await pick(path);
+    if (tab) await open_tab(tab);
     return path;
 }
 
+const click = (selector) => evaluate(`document.querySelector(${quoted(selector)}).click()`);
 const drawn = `document.querySelector('#panel .body .row')?.row !== undefined || document.querySelector('#panel .grid')?.ariaRowCount === '1'`;
 
 async function open_tab(name) {
-    await evaluate(`document.getElementById('tab-${name}').click()`);
+    await click(`#tab-${name}`);
     await until(`document.querySelector('#panel .grid[aria-label=${name}]') && (${drawn})`);
+}
+
+// Goes to a list, and waits until the page says how many items it has, or `none` or `refused`.
+async function open_list(place, said) {
+    await evaluate(`void (location.hash = ${quoted(place)})`);
+    await until(`document.querySelector('#panel output')?.textContent === '${said}' && (${drawn} || ${/[a-z]/.test(said)})`);
 }
 
 // Goes to a location, and waits until the title of what is chosen has a text.
@@ -54,10 +63,22 @@ async function go(place, title) {
 }
 
 const until_chosen = (title) => until(`document.querySelector('#chosen h2')?.textContent === ${quoted(title)}`);
+
+// Goes back, or forward, and waits until the title of what is chosen has a text.
+async function go_in_history(way, title) {
+    await evaluate(`history.${way}()`);
+    await until_chosen(title);
+}
+
 const fragment = () => evaluate('location.hash.slice(1)');
 const side = () => text_of('#chosen');
 const cells = (column) => evaluate(`[...document.querySelectorAll('#panel .body .row')].map((row) => row.children[${column}].textContent)`);
-const follow = (text) => evaluate(`[...document.querySelectorAll('#chosen a')].find((link) => link.textContent === ${quoted(text)}).click()`);
+
+async function follow(text, title = text) {
+    await evaluate(`[...document.querySelectorAll('#chosen a')].find((link) => link.textContent === ${quoted(text)}).click()`);
+    await until_chosen(title);
+}
+
 const press_button = (text) =>
     evaluate(`[...document.querySelectorAll('main button')].find((button) => button.textContent === ${quoted(text)}).click()`);
 const field_of = (name) =>
@@ -81,9 +102,10 @@ async function search(text, shown) {
     await until(`document.querySelector('#panel output').textContent === ${quoted(shown)} && (${drawn} || ${quoted(shown)} === 'none')`);
 }
 
-async function go_by_field(text) {
+async function go_by_field(text, title) {
     await evaluate(`(() => { const field = document.getElementById('goto'); field.focus(); field.value = ${quoted(text)}; })()`);
     await browser.press('Enter');
+    if (title) await until_chosen(title);
 }
 
 // ---- what readelf and C report ----
@@ -93,6 +115,10 @@ function run(command, ...words) {
     if (error) throw error;
     return stdout;
 }
+
+// Returns the segments of a file.
+const segments_of = (path) => [...run('readelf', '-W', '-l', path).matchAll(/^ {2}([A-Z_]+) +(0x\S+) \S+ \S+ (0x\S+) \S+ +([RWE ]+) (0x\S+)$/gm)]
+    .map(([, type, offset, size, flags, align]) => ({ type, offset: Number(offset), size: Number(size), flags: flags.trim(), align }));
 
 const sum = (text, pattern) => [...text.matchAll(pattern)].reduce((all, [, count]) => all + Number(count), 0);
 
@@ -151,7 +177,7 @@ async function check_refusal(content, what, ...words) {
 }
 
 // A file that is not read: the page shows why, instead of the previous file.
-async function check_trouble(content) {
+async function check_trouble() {
     await pick(made);
     await pick_written('empty', '');
     assert.equal(await text_of('#trouble:not([hidden])'), 'The file is empty: it has 0 bytes.');
@@ -168,14 +194,15 @@ async function check_trouble(content) {
 }
 
 // If the section headers are refused, no list that is made from them is shown as empty.
-async function check_unknown(content) {
+async function check_unknown() {
     const cut = Buffer.from(content);
     cut.writeBigUInt64LE(BigInt(content.length), 0x28);
     await pick_written('headers', cut);
     const words = [];
     for (const name of ['sections', 'symbols', 'relocations', 'notes']) {
         assert.equal(await text_of(`#tab-${name} span`), 'refused', name);
-        await evaluate(`(document.getElementById('panel').replaceChildren(), document.getElementById('tab-${name}').click())`);
+        await evaluate(`document.getElementById('panel').replaceChildren()`);
+        await click(`#tab-${name}`);
         await until(`document.querySelector('#panel .refused') !== null`);
         words.push(await text_of('#panel .refused'));
     }
@@ -183,13 +210,12 @@ async function check_unknown(content) {
     assert.deepEqual(new Set(words), new Set([words[0]]));
     const cut_note = note('GNU', 1, Buffer.alloc(16)).subarray(0, -4);
     const notes = [note('GNU', 3, Buffer.alloc(4)), note('GA\0\xff', 0x100, Buffer.alloc(4)), cut_note];
-    const note_section = { name: '.note', type: 7, bytes: Buffer.concat(notes) };
-    await pick_written('none', elf_file({ sections: [note_section] }));
-    await evaluate(`document.getElementById('tab-symbols').click()`);
+    await pick_written('none', elf_file({ sections: [{ name: '.note', type: 7, bytes: Buffer.concat(notes) }] }));
+    await click('#tab-symbols');
     await until(`document.getElementById('panel').textContent.startsWith('The file has no symbols')`);
     // (a location may name a section that is not such a list; then nothing is found)
-    await evaluate(`void (location.hash = 'symbols/1')`);
-    await until(`document.querySelector('#panel .notice')?.textContent === 'Section 1 holds no symbols.'`);
+    await open_list('symbols/1', 'none');
+    assert.equal(await text_of('#panel .notice'), 'Section 1 holds no symbols.');
     await search('a', 'none');
     // (a note whose owner is not UTF-8 is read; a cut one is refused, and those after it are not read)
     await open_tab('notes');
@@ -202,24 +228,22 @@ async function check_unknown(content) {
 // both that they are outside of what is proved.
 async function check_own_tables() {
     const words = [[0x1000, 8], [0b1011, 8], [0b11, 8], [0x2000, 8]], wanted = ['0x1000', '0x1008', '0x1018', '0x1200', '0x2000'];
-    const path = await pick_written('packed', elf_file({ type: 3, sections: [{ name: '.relr.dyn', type: 19, flags: 2, bytes: packed(...words) }] }));
+    const file = elf_file({ type: 3, sections: [{ name: '.relr.dyn', type: 19, flags: 2, bytes: packed(...words) }] });
+    const path = await pick_written('packed', file, 'relocations');
     const listed = run('readelf', '-W', '-r', path).split('offsets')[1].trim().split('\n').map((line) => `0x${parseInt(line, 16).toString(16)}`);
-    await open_tab('relocations');
     assert.deepEqual([listed, await cells(1), await text_of('#tab-relocations span')], [wanted, wanted, '5']);
     assert.match(await text_of('#panel .others'), /packed relocations .* outside of what is proved/i);
     await go('relocations/1/3', 'packed relocation 3');
     assert.match(await field_of('r_offset'), /^0x1200/);
-    const whole = files.at(-1), content = readFileSync(whole), of = sections_of(whole), output = run('readelf', '-W', '-s', '-r', whole);
-    await pick_written('headless', content.fill(0, 0x28, 0x30).fill(0, 0x3a, 0x40));
+    const whole = files.at(-1), of = sections_of(whole), output = run('readelf', '-W', '-s', '-r', whole);
+    await pick_written('headless', readFileSync(whole).fill(0, 0x28, 0x30).fill(0, 0x3a, 0x40), 'symbols');
     const [symbols, ...relocations] = ['.dynsym', '.rela.dyn', '.rela.plt'].map((name) => of[name].size / 24);
     assert.equal(await text_of('#tab-symbols span'), `${symbols}`);
     assert.equal(await text_of('#tab-relocations span'), `${relocations[0] + relocations[1]}`);
     const names = [...output.split("'.dynsym'")[1].matchAll(/^ *\d+: .* (?:UND|ABS|\d+) ?([^@ \n]*)/gm)].map(([, name]) => name);
-    await open_tab('symbols');
     assert.match(await text_of('#panel .others'), /the numbers of the dynamic section, which is outside of what is proved/);
     assert.deepEqual((await cells(1)).slice(0, 20), names.slice(0, 20));
-    await evaluate(`void (location.hash = 'relocations/DT_JMPREL')`);
-    await until(`document.querySelector('#panel output')?.textContent === '${relocations[1]}' && (${drawn})`);
+    await open_list('relocations/DT_JMPREL', relocations[1]);
     const of_plt = [...output.split("'.rela.plt'")[1].matchAll(/R_\w+ +[0-9a-f]+ ([^@ ]+)/g)].map(([, name]) => name);
     assert.deepEqual((await cells(3)).slice(0, 20), of_plt.slice(0, 20));
 }
@@ -227,7 +251,7 @@ async function check_own_tables() {
 // Returns the rows of the summary: the name and value of each, and whether it is marked as not proved.
 async function facts(path) {
     await pick(path);
-    await evaluate(`document.querySelector('[role=tab]').click()`);
+    await click('[role=tab]');
     await until(`document.querySelector('#panel .summary h3')`);
     const rows = await evaluate(`[...document.querySelectorAll('#panel .summary tr')].map(({ children: [name, value] }) =>
         [name.textContent, value.textContent])`);
@@ -301,25 +325,21 @@ async function check_segments() {
     const notes = core_notes.map(([owner, type, name, thread]) => note(owner, type, name === 'PRSTATUS' ? status(thread) : Buffer.alloc(64)));
     const segments = [{ type: 4, bytes: Buffer.concat(notes) }, { flags: 5, vaddr: 0x400000, bytes: Buffer.alloc(4096, 1) },
         { flags: 6, vaddr: 0x600000, bytes: Buffer.alloc(8192, 2) }];
-    const path = await pick_written('core', elf_file({ type: 4, segments }));
+    const path = await pick_written('core', elf_file({ type: 4, segments }), 'notes');
     const core = await shares(), size = readFileSync(path).length, part = (bytes) => Math.round(1000 * bytes / size) / 10;
     assert.equal(core.code, part(4096));
     assert.equal(core.data, part(8192));
     assert.equal(core.notes, part(Buffer.concat(notes).length));
     assert.ok((core.gap ?? 0) < 0.2, `gap ${core.gap} %`);
-    await open_tab('notes');
     assert.deepEqual(await cells(3), core_notes.map(([, , name]) => name));
     assert.deepEqual(await cells(4), core_notes.map(([, , , thread]) => `${thread ?? ''}`));
     await open_tab('layout');
     const pieces = await cells(5), named = (name, thread) => (thread ? `${name}, thread ${thread}` : name);
     for (const [owner, , name, thread] of core_notes) assert.ok(pieces.includes(named(`${owner} ${name}`, thread)), pieces.join('; '));
     assert.ok(pieces.includes('segment 1, LOAD') && pieces.includes('segment 2, LOAD'), pieces.join('; '));
-    const stripped = readFileSync(files.at(-1));
-    stripped.fill(0, 0x28, 0x30);
-    stripped.fill(0, 0x3c, 0x40);
-    await pick_written('stripped', stripped);
-    const loaded = [...run('readelf', '-W', '-l', join(folder, 'stripped')).matchAll(/^ {2}LOAD +(\S+) \S+ \S+ (\S+)/gm)];
-    const covered = loaded.reduce((all, [, , bytes]) => all + Number(bytes), 0);
+    const stripped = readFileSync(files.at(-1)).fill(0, 0x28, 0x30).fill(0, 0x3c, 0x40);
+    const all = segments_of(await pick_written('stripped', stripped)).filter(({ type }) => type === 'LOAD');
+    const covered = all.reduce((sum_of_all, { size: bytes }) => sum_of_all + bytes, 0);
     const { gap } = await shares();
     assert.ok(covered > 0 && Math.abs(gap - 100 * (stripped.length - covered) / stripped.length) < 0.1, `gap ${gap} %`);
 }
@@ -340,12 +360,11 @@ async function check_padding() {
 
 // The part of a segment that a cut file has is named and hatched. It is no gap.
 async function check_cut() {
-    const path = files.at(-1), pattern = /^ {2}[A-Z_]+ +(0x\S+) \S+ \S+ (0x\S+) \S+ +([RWE ]+) /gm;
-    const all = [...run('readelf', '-W', '-l', path).matchAll(pattern)], last = all.findIndex(([, , , flags]) => flags.trim() === 'R E');
-    const [start, size] = all[last].slice(1, 3).map(Number), end = start + Math.floor(size / 2);
+    const path = files.at(-1), all = segments_of(path), last = all.findIndex(({ flags }) => flags === 'R E');
+    const { offset: start, size } = all[last], end = start + Math.floor(size / 2);
     await pick_written('cut', readFileSync(path).subarray(0, end));
     const held = Buffer.alloc(end).fill(1, 0, 64 + 56 * all.length);
-    for (const [, offset, bytes] of all) held.fill(1, Math.min(Number(offset), end), Math.min(Number(offset) + Number(bytes), end));
+    for (const { offset, size: bytes } of all) held.fill(1, Math.min(offset, end), Math.min(offset + bytes, end));
     const { gap = 0, 'hatched: cut at the file’s end': cut } = await shares();
     const share = (bytes) => 100 * bytes / end;
     assert.ok(Math.abs(gap - share(held.filter((byte) => byte === 0).length)) < 0.1, `gap ${gap} %`);
@@ -358,8 +377,7 @@ async function check_cut() {
     assert.ok(is_code.filter((is_it, i) => is_it && !is_code[i - 1]).length > 20);
     const damaged = elf_file({ sections: [{ name: '.text', type: 1, flags: 6, bytes: Buffer.alloc(64) }] });
     damaged.writeBigUInt64LE(1n << 40n, Number(damaged.readBigUInt64LE(0x28)) + 64 + 0x20);
-    await pick_written('damaged', damaged);
-    await open_tab('layout');
+    await pick_written('damaged', damaged, 'layout');
     assert.deepEqual(await cells(5), ['ELF header', '.text (cut)', '.shstrtab', '.text (cut)', 'Section headers']);
 }
 
@@ -370,14 +388,13 @@ async function check_labels() {
     const given = [notes, text('.unwind', 0x70000001), text('.relr.dyn', 19), text('.unknown', 0x61234567), text('.kept', 1, 0x200002)];
     const names = { 62: 'X86_64_UNWIND', 40: 'ARM_EXIDX', 243: '0x70000001' };
     for (const [machine, name] of Object.entries(names)) {
-        await pick_written(`labels${machine}`, elf_file({ machine: Number(machine), osabi: 3, sections: given }));
-        await open_tab('sections');
+        await pick_written(`labels${machine}`, elf_file({ machine: Number(machine), osabi: 3, sections: given }), 'sections');
         assert.deepEqual((await cells(2)).slice(2, 6), [name, 'RELR', '0x61234567', 'PROGBITS']);
         assert.equal((await cells(6))[5], 'ALLOC GNU_RETAIN');
     }
     await open_tab('notes');
     assert.deepEqual(await cells(3), ['STAPSDT', 'GNU_BUILD_ID', '0x3']);
-    await evaluate(`document.getElementById('tab-header').click()`);
+    await click('#tab-header');
     await until(`document.querySelector('[data-field=ei_osabi]')?.textContent.includes('ELFOSABI_GNU')`);
     const { index } = symbols_of(dump).find(({ name }) => name === 'main');
     await pick(dump);
@@ -391,7 +408,7 @@ async function check_labels() {
 }
 
 // While a large file is read, the previous one stays, with its name, and can be used. The page shows how much is left.
-async function check_loading(content) {
+async function check_loading() {
     await pick(dump);
     await open_tab('sections');
     const large = join(folder, 'large');
@@ -435,23 +452,17 @@ async function check_symbol_links() {
     assert.ok((await bytes_shown()).length > 0);
     assert.ok(bytes_of(dump, from, 16).startsWith(await bytes_shown()), label.name);
     await go(`symbols/${sections['.symtab'].index}/${main.index}`, 'main');
-    await follow('address');
-    await until_chosen(`address 0x${main.value.toString(16)}`);
+    const address = `0x${main.value.toString(16)}`;
+    await follow('address', `address ${address}`);
     assert.match(await side(), /segment \d+, LOAD/);
     await follow('main');
-    await until_chosen('main');
     await follow(text[0]);
-    await until_chosen(text[0]);
-    const order = [`sections/${text[1].index}`, `symbols/${sections['.symtab'].index}/${main.index}`, `address/0x${main.value.toString(16)}`];
-    assert.equal(await fragment(), order[0]);
-    await evaluate('history.back()');
-    await until_chosen('main');
-    assert.equal(await fragment(), order[1]);
-    await evaluate('history.back()');
-    await until_chosen(`address 0x${main.value.toString(16)}`);
-    assert.equal(await fragment(), order[2]);
-    await evaluate('history.forward()');
-    await until_chosen('main');
+    assert.equal(await fragment(), `sections/${text[1].index}`);
+    await go_in_history('back', 'main');
+    assert.equal(await fragment(), `symbols/${sections['.symtab'].index}/${main.index}`);
+    await go_in_history('back', `address ${address}`);
+    assert.equal(await fragment(), `address/${address}`);
+    await go_in_history('forward', 'main');
 }
 
 // A link to a location leads there once the file is picked.
@@ -473,7 +484,6 @@ async function check_section_links() {
         assert.match(await field_of('sh_link'), new RegExp(`^\\d+, ${link.replace('.', '\\.')}$`));
         if (info) assert.match(await field_of('sh_info'), /^\d+, \.got/);
         await follow(link);
-        await until_chosen(link);
     }
 }
 
@@ -482,23 +492,20 @@ async function check_history() {
     await pick(dump);
     await open_tab('sections');
     const [, first, second, third] = await cells(1);
-    const click = (row) => evaluate(`document.querySelectorAll('#panel .body .row')[${row}].children[1].click()`);
-    await click(1);
-    await until_chosen(first);
-    await click(2);
-    await until_chosen(second);
+    for (const [row, title] of [[1, first], [2, second]]) {
+        await evaluate(`document.querySelectorAll('#panel .body .row')[${row}].children[1].click()`);
+        await until_chosen(title);
+    }
     await evaluate(`document.querySelector('#panel .grid').focus()`);
     await browser.press('ArrowDown');
     await until_chosen(third);
-    await evaluate('history.back()');
-    await until_chosen(first);
+    await go_in_history('back', first);
     assert.equal(await evaluate(`document.querySelector('#panel .row[aria-selected=true]').children[1].textContent`), first);
     // (a tab where nothing is chosen shows nothing of the tab before)
     await open_tab('segments');
     await until_chosen('ELF header');
-    await evaluate('history.back()');
-    await until_chosen(first);
-    await evaluate(`document.getElementById('tab-sections').click()`);
+    await go_in_history('back', first);
+    await click('#tab-sections');
     await until_chosen('ELF header');
     assert.equal(await evaluate(`document.querySelector('#panel .row[aria-selected=true]')`), null);
     // (what is not a location leaves a tab open; a failing script would be reported at the end)
@@ -520,10 +527,8 @@ async function check_relocation_links() {
         section.address > 0 && address >= section.address && address < section.address + section.size && section.type !== 'NOBITS');
     assert.equal(await bytes_shown(), bytes_of(path, address - got.address + got.offset, 8));
     assert.match(await field_of('r_type'), /R_X86_64_GLOB_DAT/);
-    await follow('address');
-    await until_chosen(`address 0x${address.toString(16)}`);
-    await evaluate('history.back()');
-    await until_chosen(all[at][3]);
+    await follow('address', `address 0x${address.toString(16)}`);
+    await go_in_history('back', all[at][3]);
     await follow(all[at][3]);
     await until(`location.hash.startsWith('#symbols/${sections['.dynsym'].index}/')`);
     await until(`[...document.querySelectorAll('#chosen th')].some((cell) => cell.textContent === 'st_info')`);
@@ -538,27 +543,23 @@ async function check_relocation_links() {
 async function check_goto() {
     const sections = sections_of(dump), main = symbols_of(dump).find(({ name }) => name === 'main');
     await pick(dump);
-    await go_by_field(' 0x10 ');
-    await until_chosen('offset 0x10');
+    await go_by_field(' 0x10 ', 'offset 0x10');
     assert.match(await side(), /in ELF header/);
     await go_by_field(`0x${(main.value + 1).toString(16)}`);
     await until(`document.querySelector('#chosen h2').textContent.endsWith('0x${(main.value + 1).toString(16)}')`);
     assert.match(await side(), /main \+ 0x1/);
-    await go_by_field('.dynstr');
-    await until_chosen('.dynstr');
+    await go_by_field('.dynstr', '.dynstr');
     await until(`document.activeElement === document.querySelector('#chosen h2')`);
-    await go_by_field('main');
-    await until_chosen('main');
+    await go_by_field('main', 'main');
     assert.equal(await fragment(), `symbols/${sections['.symtab'].index}/${main.index}`);
     await go_by_field('there is no such name');
     await until(`!document.getElementById('none').hidden`);
     // Digits without 0x are decimal or hexadecimal. The page says how it reads them, and has a link to the other reading.
     const readings = ['offset 0x64, read as decimal', 'offset 0x100, read as hexadecimal'];
     for (const [text, [taken, other]] of [['100', readings], ['0000000000000100', [...readings].reverse()]]) {
-        await go_by_field(text);
+        await go_by_field(text, taken.split(',')[0]);
         await until(`document.getElementById('said').textContent === ${quoted(`${taken}, or ${other}`)}`);
-        await until_chosen(taken.split(',')[0]);
-        await evaluate(`document.querySelector('#said a').click()`);
+        await click('#said a');
         await until_chosen(other.split(',')[0]);
     }
     await go_by_field(main.value.toString(16).padStart(16, '0'));
@@ -566,18 +567,15 @@ async function check_goto() {
     await until(`/^\\w+ 0x${main.value.toString(16)}, read as hexadecimal/.test(document.getElementById('said').textContent)`);
     // (a name that could be a number is a name)
     await pick_written('named', elf_file({ sections: [{ name: 'a1', type: 1, bytes: Buffer.alloc(256) }] }));
-    await go_by_field('a1');
-    await until_chosen('a1');
-    await go_by_field('a2');
-    await until_chosen('offset 0xa2');
+    await go_by_field('a1', 'a1');
+    await go_by_field('a2', 'offset 0xa2');
 }
 
 async function check_search() {
     const symbols = symbols_of(dump), main = symbols.find(({ name }) => name === 'main');
     const { index } = sections_of(dump)['.symtab'], all = symbols.length.toLocaleString('en');
     await pick(dump);
-    await evaluate(`void (location.hash = 'symbols/${index}')`);
-    await until(`document.querySelector('#panel output')?.textContent === '${all}'`);
+    await open_list(`symbols/${index}`, all);
     const holding = symbols.filter(({ value, size }) => value === main.value + 1 || (value < main.value + 1 && main.value + 1 < value + size));
     await search(`  0x${(main.value + 1).toString(16)} `, `${holding.length} of ${all}`);
     assert.ok((await cells(1)).includes('main'));
@@ -609,9 +607,8 @@ async function check_relocation_names() {
         const path = await pick_written(`types${machine}`, elf_file({ machine, sections: [{ name: '.rela', type: 4, entsize: 24, bytes }] }));
         const names = new Map([...run('readelf', '-W', '-r', path).matchAll(/^0{16} +([0-9a-f]{16}) (R_\w+)/gm)].map(([, info, name]) =>
             [Number(BigInt(`0x${info}`) & 0xffffffffn), name]));
-        await evaluate(`void (location.hash = 'relocations/1')`);
-        await until(`document.querySelector('#panel output')?.textContent === '1,040'`);
-        const own = (await saved('relocations')).trim().split('\r\n').slice(1).map((line) => line.split(',')[2]);
+        await open_list('relocations/1', '1,040');
+        const own = rows_of(await saved('relocations')).map(([, , type]) => type);
         const both = own.flatMap((name, type) => (name.startsWith('R_') && names.has(type) && !NAMED_OTHERWISE[machine]?.includes(type)
             ? [[name, names.get(type)]] : []));
         assert.deepEqual(both.map(([name]) => name), both.map(([, name]) => name), `machine ${machine}`);
@@ -620,11 +617,14 @@ async function check_relocation_names() {
     // (in 64-bit files for MIPS a relocation has three types, the first one in the last byte)
     const three = rela({ type: 0 });
     three.set([0, 24, 5, 7], 12);
-    const path = await pick_written('mips', elf_file({ machine: 8, sections: [{ name: '.rela', type: 4, entsize: 24, bytes: three }] }));
-    await open_tab('relocations');
+    const path = await pick_written('mips', elf_file({ machine: 8, sections: [{ name: '.rela', type: 4, entsize: 24, bytes: three }] }), 'relocations');
     const types = [...run('readelf', '-W', '-r', path).matchAll(/R_MIPS_\w+/g)].map(([name]) => name);
     assert.deepEqual([types, await cells(2)], [['R_MIPS_GPREL16', 'R_MIPS_HI16', 'R_MIPS_SUB'], [types.join(' ')]]);
 }
+
+// Returns the cells of each line of a saved list but the first.
+const rows_of = (text) => text.trim().split('\r\n').slice(1).map((line) =>
+    [...line.matchAll(/(?:^|,)(?:"((?:[^"]|"")*)"|([^,]*))/g)].map(([, inside, plain]) => inside?.replaceAll('""', '"') ?? plain));
 
 // Saves the open list, and returns the content of the file.
 async function saved(name) {
@@ -647,19 +647,15 @@ async function saved(name) {
 
 // A section's index that does not fit in its symbol, and the symbol of a section.
 async function check_section_indices() {
-    const names = Buffer.from('\0past\0'), at = (index) => ({ name: `.s${index}`, type: 1, bytes: Buffer.alloc(0) });
-    const symbols = Buffer.concat([symbol({}), symbol({ info: 3, shndx: 5 }), symbol({ name: 1, info: 0x12, shndx: 0xffff })]);
-    const path = await pick_written('indices', elf_file({ sections: [
-        { name: '.symtab', type: 2, link: 2, info: 2, entsize: 24, bytes: symbols }, { name: '.strtab', type: 3, bytes: names },
-        { name: '.shndx', type: 18, link: 1, entsize: 4, bytes: packed([0, 4], [0, 4], [6, 4]) }, ...[4, 5, 6].map(at),
-    ] }));
+    const others = [4, 5, 6].map((index) => ({ name: `.s${index}`, type: 1, bytes: Buffer.alloc(0) }));
+    const indices = { name: '.shndx', type: 18, link: 1, entsize: 4, bytes: packed([0, 4], [0, 4], [6, 4]) };
+    const content = symbols_file([{ info: 3, shndx: 5 }, { text: 'past', info: 0x12, shndx: 0xffff }], indices, ...others);
+    const path = await pick_written('indices', content, 'symbols');
     assert.deepEqual(symbols_of(path).map(({ section }) => section), ['UND', '5', '6']);
-    await open_tab('symbols');
     assert.deepEqual(await cells(1), ['', '.s5', 'past']);
     assert.deepEqual(await cells(7), ['undefined', '.s5', '.s6']);
     await go('symbols/1/2', 'past');
     await follow('.s6');
-    await until_chosen('.s6');
 }
 
 async function check_copies() {
@@ -687,31 +683,22 @@ async function check_copies() {
     assert.equal(await copied('Copy row'), cells_of_main.join('\t'));
     const text = sections_of(dump)['.text'], at = main.value - text.address + text.offset;
     assert.equal((await copied('Copy hex')).replaceAll(' ', ''), bytes_of(dump, at, main.size));
-    const lines = (await saved('symbols')).trim().split('\r\n').map((line) => line.split(','));
-    assert.deepEqual(lines[0], ['#', 'Name', 'Value', 'Size', 'Type', 'Binding', 'Visibility', 'Section']);
-    // (names may have commas)
-    assert.deepEqual(lines.slice(1).map(([number, ...others]) => [number, ...others.slice(-6, -4)].map(Number)),
-        symbols.map((item) => [item.index, item.value, item.size]));
-    assert.equal(lines[1 + main.index][1], 'main');
-    // (a text that a spreadsheet would run, and one that would end a cell)
-    await check_formula();
+    const list = await saved('symbols'), rows = rows_of(list);
+    assert.equal(list.split('\r\n')[0], '#,Name,Value,Size,Type,Binding,Visibility,Section');
+    assert.deepEqual(rows.map(([number, , value, size]) => [number, value, size].map(Number)), symbols.map((item) => [item.index, item.value, item.size]));
+    assert.equal(rows[main.index][1], 'main');
 }
 
+// A text that a spreadsheet would run, and one that would end a cell.
 async function check_formula() {
-    const names = Buffer.from('\0=1+1\0a,"b"\0'), symbols = Buffer.concat([symbol({}), symbol({ name: 1 }), symbol({ name: 6 })]);
-    await pick_written('formula', elf_file({ sections: [
-        { name: '.symtab', type: 2, link: 2, entsize: 24, bytes: symbols }, { name: '.strtab', type: 3, bytes: names } ] }));
-    await open_tab('symbols');
+    await pick_written('formula', symbols_file([{ text: '=1+1' }, { text: 'a,"b"' }]), 'symbols');
     const lines = (await saved('symbols')).trim().split('\r\n');
     assert.ok(lines[2].startsWith("1,'=1+1,0x0,") && lines[3].startsWith('2,"a,""b""",0x0,'), lines.join('\n'));
     // (numbers that the page shows as words and signs are saved as numbers)
     const content = elf_file({ segments: [{ flags: 5, bytes: Buffer.alloc(4096) }],
         sections: [{ name: '.rela', type: 4, entsize: 24, bytes: rela({ type: 2, addend: (1n << 64n) - 16n }) }] });
     await pick_written('numbers', content);
-    const saved_cells = async (name) => {
-        await open_tab(name);
-        return (await saved(name)).trim().split('\r\n').slice(1).map((line) => line.split(','));
-    };
+    const saved_cells = async (name) => { await open_tab(name); return rows_of(await saved(name)); };
     assert.equal((await saved_cells('relocations'))[0][4], '-0x10');
     assert.equal((await saved_cells('segments'))[0][2], '0x5');
     const parts = (await saved_cells('layout')).map(([, from, to, size, share]) => [Number(to) - Number(from), Number(size), share]);
@@ -728,8 +715,7 @@ async function check_refused_tables() {
         for (const opened of [[2], [1, 2], [1, 3]]) {
             await pick_written(`refused-${name}`, content);
             for (const index of opened) {
-                await evaluate(`void (location.hash = '${name}/${index}')`);
-                await until(`document.querySelector('#panel output')?.textContent === '${{ 1: 3, 2: 'refused', 3: 'none' }[index]}'`);
+                await open_list(`${name}/${index}`, { 1: 3, 2: 'refused', 3: 'none' }[index]);
                 assert.equal(await evaluate(`document.querySelector('#panel .saving').offsetParent !== null`), index === 1);
                 const lines = (await saved(name)).trim().split('\r\n');
                 assert.equal(lines.length, index === 1 ? 4 : 1, `${name} of section ${index}: ${lines}`);
@@ -747,11 +733,11 @@ async function check_plain_words() {
         await check_refusal(Buffer.from(begin.padEnd(80, ' '), 'latin1'), words, 'This is not an ELF file');
     }
     await pick_written('short', content.subarray(0, 0x1000));
-    await evaluate(`document.getElementById('tab-sections').click()`);
+    await click('#tab-sections');
     await until(`document.querySelector('#panel .plainly') !== null`);
     assert.match(await text_of('#panel .plainly'), /^The section headers begin at 0x1800, the file ends at 0x1000: it is cut/);
     assert.ok((await facts(join(folder, 'short'))).some(([, value]) => value === 'unknown, the section headers are refused'));
-    await browser.evaluate(`document.getElementById('example').click()`);
+    await click('#example');
     await until(`document.querySelector('#file b')?.textContent === 'example'`);
     assert.match(await text_of('#file'), /program at fixed addresses for x86-64/);
 }
@@ -794,9 +780,8 @@ async function check_fields() {
 async function check_words() {
     await pick(made);
     assert.match(await text_of('#file'), /little endian/);
-    await pick_written('big', readFileSync(join(made_files, 'big64')));
+    await pick_written('big', readFileSync(join(made_files, 'big64')), 'segments');
     assert.match(await text_of('#file'), /big endian/);
-    await open_tab('segments');
     const heads = await evaluate(`[...document.querySelectorAll('#panel [role=columnheader]')].map((cell) => [cell.textContent, cell.title])`);
     assert.deepEqual(heads.slice(3, 7), [['Offset', 'p_offset'], ['File size', 'p_filesz'], ['Address', 'p_vaddr'], ['Memory size', 'p_memsz']]);
 }
@@ -809,15 +794,12 @@ async function check_cells() {
     const cut = (at) => evaluate(`[...document.querySelectorAll('#panel .body .cell')].filter((cell) => cell.scrollWidth > cell.clientWidth
         || !${seen}([cell.getBoundingClientRect(), document.querySelector('#panel .grid').getBoundingClientRect()]))${at}`);
     await open_tab('segments');
-    const aligned = [...run('readelf', '-W', '-l', files.at(-1)).matchAll(/^ {2}[A-Z_]+ +0x.* (0x[0-9a-f]+)$/gm)].map(([, number]) => number);
+    const aligned = segments_of(files.at(-1)).map(({ align }) => align);
     assert.ok(aligned.includes('0x1000'));
     assert.deepEqual(await cells(8), aligned);
     assert.equal(await cut('.length'), 0);
-    const name = 'a_name_that_has_no_room_in_any_list_'.repeat(9), names = Buffer.from(`\0${name}\0`);
-    await pick_written('long', elf_file({ sections: [
-        { name: '.symtab', type: 2, link: 2, entsize: 24, bytes: Buffer.concat([symbol({}), symbol({ name: 1 })]) },
-        { name: '.strtab', type: 3, bytes: names } ] }));
-    await open_tab('symbols');
+    const name = 'a_name_that_has_no_room_in_any_list_'.repeat(9);
+    await pick_written('long', symbols_file([{ text: name }]), 'symbols');
     assert.deepEqual(await cut('.map((cell) => cell.title)'), [name]);
 }
 
@@ -831,7 +813,7 @@ async function check_low() {
     for (const [width, height] of [[800, 360], [640, 450], [400, 800]]) {
         await browser.resize(width, height);
         await go(`symbols/${index}`, 'ELF header');
-        await evaluate(`document.getElementById('back').click()`);
+        await click('#back');
         await search('main', `${number} of ${all.length.toLocaleString('en')}`);
         assert.ok(await evaluate(is_seen('#panel .body .row')), `${width} ${height}`);
         await go('section=.text', '.text');
@@ -847,9 +829,9 @@ async function check_widths() {
     for (const [width, height] of sizes) {
         await browser.resize(width, height);
         await until(`innerWidth === ${width} && document.querySelector('section.map').offsetHeight <= innerHeight / 3`);
-        await evaluate(`document.getElementById('tab-header').click()`);
+        await click('#tab-header');
         await until(`document.querySelector('[data-field=ei_data]')`);
-        await evaluate(`document.getElementById('back').click()`);
+        await click('#back');
         assert.deepEqual(await evaluate(`[...document.querySelectorAll('.fields.header span, .fields.header .words')].flatMap((cell) =>
             [...cell.textContent.matchAll(/\\S+/g)].filter(({ 0: word, index }) => {
                 const range = new Range();
@@ -907,14 +889,13 @@ const row_of = (kind, y) => evaluate(`(() => {
 })()`);
 
 async function check_map() {
-    const path = files.at(-1), [segment] = [...run('readelf', '-W', '-l', path).matchAll(/^ {2}LOAD +(\S+) \S+ \S+ (\S+) \S+ R E/gm)];
-    const [start, size] = [Number(segment[1]), Number(segment[2])];
+    const path = files.at(-1), all = segments_of(path), index = all.findIndex(({ type, flags }) => type === 'LOAD' && flags === 'R E');
+    const { offset: start, size } = all[index];
     await pick(path);
     const each = Number(/each row has ([\d,]+) bytes/.exec(await text_of('#readout'))[1].replaceAll(',', ''));
     await check_gap();
     await check_colours();
     // A segment is outlined in each of its rows.
-    const index = [...run('readelf', '-W', '-l', path).matchAll(/^ {2}[A-Z_]+ +(0x\S+)/gm)].findIndex(([, offset]) => Number(offset) === start);
     await go(`segments/${index}`, `segment ${index}, LOAD`);
     const rows = await evaluate(`(() => {
         const { pen, canvas, style } = ${PIXELS}, ink = style('ink').join();
@@ -999,16 +980,14 @@ async function check_names() {
     let content = renamed(readFileSync(made), 'weak_undefined_data', Buffer.from(markup));
     content = renamed(content, 'zeros', Buffer.from([0xc2, 0x80, 0xe2, 0x80, 0xa8]));
     content = renamed(content, 'data', Buffer.from([0xff, 0x41, 0x1b, 0x0a]));
-    await pick_written('<img src=a>', content);
-    await open_tab('symbols');
+    await pick_written('<img src=a>', content, 'symbols');
     const names = await cells(1);
     assert.ok(names.includes(markup) && names.includes('U+0080U+2028') && names.includes('\\xffAU+001BU+000A'), names.join(' '));
     assert.ok(names.includes('été'));
     assert.equal(await evaluate(`document.querySelectorAll('#panel .esc').length`), 5);
     await search('ONERROR', '1 of 21');
     assert.deepEqual(await cells(1), [markup]);
-    await go_by_field('onerror');
-    await until_chosen(markup);
+    await go_by_field('onerror', markup);
     assert.equal(await evaluate(`document.querySelectorAll('img').length`), 0);
 }
 
@@ -1024,7 +1003,8 @@ async function check_keys() {
     await until_chosen('.text');
     const active = `document.activeElement.getAttribute('aria-activedescendant')`;
     assert.equal(await evaluate(`document.getElementById(${active}).children[1].textContent`), '.text');
-    await evaluate(`(document.getElementById('tab-header').click(), document.querySelector('[popovertarget]').click())`);
+    await click('#tab-header');
+    await click('[popovertarget]');
     await until(`document.querySelector('.fields.header')?.getAttribute('role') === 'grid' && document.querySelector('#keys:popover-open') !== null`);
     await evaluate(`(document.querySelector('#keys').hidePopover(), ['click', 'focus'].forEach((act) => document.querySelector('#tab-sections')[act]()))`);
     await browser.press('ArrowRight');
@@ -1067,25 +1047,23 @@ async function check_requests() {
     assert.deepEqual(browser.faults, []);
 }
 
-const content = readFileSync(made);
-const counted = [...readdirSync(made_files).map((name) => join(made_files, name)), dump, ...files];
-const checks = {
-    counts: async () => { for (const path of counted) await check_counts(path); },
-    refusals: async () => {
-        await check_refusal(content.subarray(0, 40), 'the file header');
-        await check_refusal(Buffer.concat([Buffer.from('MZ'), content.subarray(2)]), 'the file header', 'This is not an ELF file', '4d 5a 4c 46');
-        await check_refusal(Buffer.from('text\n'), 'the file header', 'This is not an ELF file', '74 65 78 74 0a');
-    },
-    trouble: () => check_trouble(content), unknown: () => check_unknown(content), own_tables: check_own_tables,
-    summary: check_summary, core: check_core, segments: check_segments, padding: check_padding,
-    cut: check_cut, labels: check_labels, loading: () => check_loading(content), symbol_links: check_symbol_links,
-    early_link: check_early_link, section_links: check_section_links, history: check_history, relocation_links: check_relocation_links,
-    goto: check_goto, search: check_search, relocation_names: check_relocation_names, section_indices: check_section_indices,
-    named_links: check_named_links, fields: check_fields, low: check_low, plain_words: check_plain_words, 
-    copies: check_copies, refused_tables: check_refused_tables, words: check_words, cells: check_cells, widths: check_widths,
-    map: check_map, narrow: check_narrow, themes: check_themes, names: check_names, keys: check_keys, requests: check_requests,
-    unsupported: check_unsupported,
-};
+async function check_all_counts() {
+    for (const path of counted) await check_counts(path);
+}
+
+async function check_refusals() {
+    await check_refusal(content.subarray(0, 40), 'the file header');
+    await check_refusal(Buffer.concat([Buffer.from('MZ'), content.subarray(2)]), 'the file header', 'This is not an ELF file', '4d 5a 4c 46');
+    await check_refusal(Buffer.from('text\n'), 'the file header', 'This is not an ELF file', '74 65 78 74 0a');
+}
+
+const checks = [
+    check_all_counts, check_refusals, check_trouble, check_unknown, check_own_tables, check_summary, check_core, check_segments, check_padding,
+    check_cut, check_labels, check_loading, check_symbol_links, check_early_link, check_section_links, check_history, check_relocation_links,
+    check_goto, check_search, check_relocation_names, check_section_indices, check_named_links, check_fields, check_low, check_plain_words,
+    check_copies, check_formula, check_refused_tables, check_words, check_cells, check_widths, check_map, check_narrow, check_themes,
+    check_names, check_keys, check_requests, check_unsupported,
+];
 
 // Reports whether the browser has 64-bit memories, which the library needs.
 const is_able = `WebAssembly.validate(new Uint8Array([0, 97, 115, 109, 1, 0, 0, 0, 5, 3, 1, 4, 0]))`;
@@ -1099,17 +1077,17 @@ async function run_checks() {
     await browser.resize(1400, 1600);
     await browser.open(url);
     await until(`document.getElementById('unmade')?.hidden`);
-    for (current of Object.keys(checks)) await checks[current]();
-    console.log(`${browser.constructor.title}: the page passes ${Object.keys(checks).length} checks over ${counted.length} files, and over`
+    for (current of checks) await current();
+    console.log(`${browser.constructor.title}: the page passes ${checks.length} checks over ${counted.length} files, and over`
         + ' those that they write, and asks for nothing');
 }
 
-let current = 'hearing';
+let current = check_hearing;
 try {
     await browser.start(program);
     await run_checks();
 } catch (error) {
-    console.log(`${browser.constructor.title}: ${current}`);
+    console.log(`${browser.constructor.title}: ${current.name}`);
     throw error;
 } finally {
     await browser.end();
