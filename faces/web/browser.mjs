@@ -4,7 +4,7 @@
 // request, no script may fail, and no name may be markup.
 import assert from 'node:assert/strict';
 import { spawnSync } from 'node:child_process';
-import { mkdtempSync, readdirSync, readFileSync, rmSync, truncateSync, writeFileSync } from 'node:fs';
+import { existsSync, mkdtempSync, readdirSync, readFileSync, rmSync, truncateSync, writeFileSync } from 'node:fs';
 import { tmpdir } from 'node:os';
 import { basename, join } from 'node:path';
 import { pathToFileURL } from 'node:url';
@@ -405,6 +405,25 @@ async function check_labels() {
     assert.equal(await field_of('st_size'), `${size}, ${size.toLocaleString('en')} bytes`);
     assert.deepEqual([await text_of('#tab-sections'), await text_of('h1')], [`Sections ${sections}`, 'goblin what an ELF file holds']);
     assert.match(await field_of('st_other'), /STV_DEFAULT \(0\)/);
+}
+
+// Names of C++: some of each form that is read, and some that are left alone: with an expression, a lambda, and an older name of Rust.
+const READ = ['_ZN5space5ClassILi5ELb1ELm7EEC2ERKS1_', '_ZNKSs4sizeEv', '_ZStlsISt11char_traitsIcEERSt13basic_ostreamIcT_ES5_PKc', '_ZTVN1a1bE',
+    '_ZN1aIiEaSEOS0_', '_Z3mapIPFvPKciEET_S3_', '_ZThn16_N1a1bEv', '_ZN3fooB5cxx11ILN1k1eE3EJidEE3barEv.part.0', '_ZNO1a1bEVPKi', '_ZN12_GLOBAL__N_11aD1Ev'];
+const LEFT_ALONE = ['_Z1fILi1EEvRAT__c', '_ZZ1fvENKUlvE_clEv', '_ZN4core3fmt17h0123456789abcdefE', '_Z', '_ZN', 'main', '_Z1fS9_'];
+
+async function check_demangled() {
+    const library = ['/usr/lib/x86_64-linux-gnu', '/usr/lib64', '/usr/lib'].map((path) => join(path, 'libstdc++.so.6')).find((path) => existsSync(path));
+    const listed = library ? [...run('readelf', '-W', '--dyn-syms', library).matchAll(/ (_Z[^\s@]+)/g)].map(([, name]) => name) : [];
+    const names = [...READ, ...LEFT_ALONE, ...new Set(listed)], wanted = run('c++filt', '-n', ...names).split('\n');
+    await pick_written('mangled', symbols_file(names.map((text) => ({ text }))), 'symbols');
+    const found = rows_of(await saved('symbols')).slice(1).map((cells_of_name) => cells_of_name[2]);
+    assert.deepEqual(found.slice(0, READ.length + LEFT_ALONE.length), [...wanted.slice(0, READ.length), ...LEFT_ALONE.map(() => '')]);
+    const read = found.filter(Boolean).length;
+    assert.ok(read > 0.95 * names.length || !library, `${read} of ${names.length}`);
+    assert.deepEqual(found, found.map((text, i) => text && wanted[i]));
+    await go('symbols/1/1', names[0]);
+    assert.equal(await field_of('demangled'), wanted[0]);
 }
 
 // While a large file is read, the previous one stays, with its name, and can be used. The page shows how much is left.
@@ -1061,7 +1080,7 @@ const checks = [
     check_all_counts, check_refusals, check_trouble, check_unknown, check_own_tables, check_summary, check_core, check_segments, check_padding,
     check_cut, check_labels, check_loading, check_symbol_links, check_early_link, check_section_links, check_history, check_relocation_links,
     check_goto, check_search, check_relocation_names, check_section_indices, check_named_links, check_fields, check_low, check_plain_words,
-    check_copies, check_formula, check_refused_tables, check_words, check_cells, check_widths, check_map, check_narrow, check_themes,
+    check_copies, check_formula, check_refused_tables, check_demangled, check_words, check_cells, check_widths, check_map, check_narrow, check_themes,
     check_names, check_keys, check_requests, check_unsupported,
 ];
 

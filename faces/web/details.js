@@ -1,6 +1,7 @@
 // What the side of the page shows of an item or a location: a title, fields with links, and blocks of the file's bytes.
 import * as goblin from './goblin.js';
 import { registers_of } from './core.js';
+import { demangled } from './demangle.js';
 import {
     called, EM_MIPS, ET_CORE, file, GROUP, is_wide, name_of_section, part, RELOCATION_TYPES, RELR, section_at, section_refusal, sections,
     segment_refusal, size_of, SYMBOL_TYPES, read_or,
@@ -136,6 +137,9 @@ function segment_details(item, index) {
     };
 }
 
+// Returns the field of a name of C++ as it is written there, if it is one that is read.
+const in_source = (name) => [demangled(name)].filter(Boolean).map((text) => field('demangled', text));
+
 function symbol_details(item, index, table) {
     const { st_name, st_value, st_size, st_info, st_other } = item;
     const of = section_of_symbol(table, index, item), place = bytes_of_symbol(table, index, item);
@@ -147,7 +151,7 @@ function symbol_details(item, index, table) {
         kind: of === undefined || !section_at(of) ? undefined : kind_of(section_at(of)),
         link: link_by_name('symbol', name_of_symbol(table, index, item)),
         fields: [
-            field('st_name', hex(st_name)),
+            ...in_source(name_of_symbol(table, index, item)), field('st_name', hex(st_name)),
             field('st_value', hex(st_value), place?.section ? with_offset(called(of), place.from) : '', address),
             field('st_size', st_size, bytes_word(st_size)), field('st_info', hex(st_info), info),
             field('st_other', hex(st_other), `${prefixed('STV_', labels.symbol_visibility(visibility))} (${visibility})`),
@@ -170,7 +174,7 @@ function relocation_details(item, index, of) {
         title: is_packed ? `packed relocation ${count(index)}` : name || labels.relocation_type(r_type),
         what: `relocation ${count(index)} of ${called(of)}`, kind: 'relocations',
         fields: [
-            field('r_offset', hex(r_offset), '', target ?? at_address(r_offset), changed && to_symbol(changed)),
+            ...in_source(name), field('r_offset', hex(r_offset), '', target ?? at_address(r_offset), changed && to_symbol(changed)),
             ...(is_packed ? [field('type', 'relative, packed')] : [
                 field('r_type', r_type, prefixed('', labels.relocation_type(r_type)) === `${r_type}` ? '' : labels.relocation_type(r_type)),
                 field('r_sym', r_sym, '', symbol_link(section.sh_link, r_sym)), field('r_addend', addend(item))]),

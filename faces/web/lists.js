@@ -4,11 +4,12 @@ import * as goblin from './goblin.js';
 import {
     called, file, name_of_section, part, refusal, RELOCATION_TYPES, RELR, section_at, section_refusal, SYMBOL_TYPES, read_or,
 } from './file.js';
+import { demangled } from './demangle.js';
 import { packed_offsets } from './dynamic.js';
 import * as labels from './labels.js';
 import { notes_of } from './notes.js';
 import { parts, titled } from './pieces.js';
-import { name_of_symbol, section_of_symbol, symtab_at } from './resolve.js';
+import { has_mangled, name_of_symbol, section_of_symbol, symtab_at } from './resolve.js';
 import { count, hex } from './text.js';
 
 const SPECIAL = new Map([[0n, 'undefined'], [0xfff1n, 'absolute'], [0xfff2n, 'common'], [0xffffn, 'extended index']]);
@@ -77,7 +78,9 @@ const sources = {
     symbols: (table) => ({
         list: symtab_at(table),
         columns: [
-            text((item, index) => name_of_symbol(table, index, item)), number('st_value'), number('st_size', String),
+            text((item, index) => name_of_symbol(table, index, item)),
+            ...(has_mangled(table) ? [text((item, index) => demangled(name_of_symbol(table, index, item)) ?? '')] : []),
+            number('st_value'), number('st_size', String),
             text(({ st_info }) => labels.symbol_type(goblin.st_type(st_info))),
             text(({ st_info }) => labels.symbol_binding(goblin.st_bind(st_info))),
             text(({ st_other }) => labels.symbol_visibility(goblin.st_visibility(st_other))),

@@ -1,5 +1,6 @@
 // Resolves symbols, relocations and addresses: to sections, segments, symbols and bytes of the file.
 import * as goblin from './goblin.js';
+import { demangled } from './demangle.js';
 import { called, EM_ARM, ET_REL, file, name_at, section_at, sections, segments, SYMBOL_TYPES, symbol_tables, SYMTAB_SHNDX, read_or } from './file.js';
 import { hex } from './text.js';
 
@@ -48,6 +49,18 @@ export function name_of_symbol(table, index, symbol) {
     if (name || goblin.st_type(symbol.st_info) !== STT_SECTION) return name;
     const of = section_of_symbol(table, index, symbol);
     return of !== undefined && section_at(of) ? called(of) : '';
+}
+
+const MOST_TRIED = 1000;
+/** Reports whether a table has names of C++ among its first ones that are like them. */
+export function has_mangled(table) {
+    const { strtab } = symtab_at(table), [from, size] = [strtab.range.offset, strtab.range.size].map(Number), names = file.content.subarray(from, from + size);
+    for (let at = names.indexOf(0x5a), tried = 0; at >= 0 && tried < MOST_TRIED; at = names.indexOf(0x5a, at + 1)) {
+        if (names[at - 1] !== 0x5f || names[at - 2]) continue;
+        if (demangled(name_at(strtab, at - 1))) return true;
+        tried++;
+    }
+    return false;
 }
 
 /** Returns the address of a symbol. (For ARM the lowest bit marks a function in Thumb code. Thread-local symbols have offsets instead.) */

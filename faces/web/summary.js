@@ -2,6 +2,7 @@
 // reads itself, by numbers, such as the dynamic section, and is not proved. The others rest on fields that proved calls return.
 import * as goblin from './goblin.js';
 import { mapped_files, process_of, registers_of, signal_of } from './core.js';
+import { demangled } from './demangle.js';
 import { DT, dynamic, texts_of, value_of, versions } from './dynamic.js';
 import { called, ET_CORE, ET_REL, file, is_debug, name_at, section_at, sections, segments, STRTAB, symbol_tables, read_or } from './file.js';
 import * as labels from './labels.js';
@@ -143,7 +144,10 @@ async function largest_functions(is_wanted) {
         found.set(place, { index, size: st_size, symbol });
     });
     const link = (index, symbol) => to_symbol({ table, index, name: name_of_symbol(table, index, symbol) || `symbol ${index}` });
-    return [...found.values()].sort(by_size(({ size }) => size)).map(({ index, size, symbol }) => row(bytes(size), '', link(index, symbol)));
+    return [...found.values()].sort(by_size(({ size }) => size)).map(({ index, size, symbol }) => {
+        const text = demangled(name_of_symbol(table, index, symbol));
+        return text ? own(bytes(size), text, link(index, symbol)) : row(bytes(size), '', link(index, symbol));
+    });
 }
 
 /** Returns the summary: groups with a title and rows. */

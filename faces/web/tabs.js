@@ -24,14 +24,15 @@ const COLUMNS = {
         right('File size', 'p_filesz', offset, 0.5), right('Address', 'p_vaddr', address, 1),
         right('Memory size', 'p_memsz', Math.max(offset, 80), 0.5), right('Physical', 'p_paddr', address, 1), right('Align', 'p_align', 66),
     ],
-    symbols: ({ address }) => [
-        place(48), left('Name', 'st_name, not demangled', 180, 5), right('Value', 'st_value', address, 0.3), right('Size', 'st_size', 62),
+    symbols: ({ address }, is_mangled) => [
+        place(48), left('Name', 'st_name', 180, 5),
+        ...(is_mangled ? [left('Demangled', 'the name in C++, read by this page, not proved; empty if it is not read', 180, 5)] : []), right('Value', 'st_value', address, 0.3), right('Size', 'st_size', 62),
         left('Type', 'st_info, its low four bits', 74), left('Binding', 'st_info, its high four bits', 64),
         left('Visibility', 'st_other', 78), left('Section', 'st_shndx', 90, 0.5),
     ],
     relocations: ({ address }) => [
         place(48), right('Offset', 'r_offset', address, 0.6), left('Type', 'r_type', 190, 0.5),
-        left('Symbol', 'the name of r_sym, not demangled', 160, 4), right('Addend', 'r_addend', address, 0.6), right('Index', 'r_sym', 56),
+        left('Symbol', 'the name of r_sym', 160, 4), right('Addend', 'r_addend', address, 0.6), right('Index', 'r_sym', 56),
     ],
     notes: () => [
         place(40), left('From', 'the section or segment', 120, 1), left('Owner', 'the name', 72, 0.6), left('Type', 'n_type', 130, 0.8),
@@ -45,11 +46,11 @@ const COLUMNS = {
 export const is_list = (name) => Object.hasOwn(COLUMNS, name);
 
 // Returns the columns of a list of the file that is shown. Numbers fit in their columns, but for some of damaged files.
-function columns_of(name) {
+function columns_of({ name, of }) {
     const { address, offset, align, index } = shown_file.summary.signs;
     const room = (signs, least) => Math.max(Math.ceil(7.6 * signs) + 1, least);
     const rooms = { address: room(address, 60), offset: room(offset, 60), align: room(Math.min(align, 10), 36), index: room(index, 32) };
-    return COLUMNS[name](rooms);
+    return COLUMNS[name](rooms, shown_file.summary[name]?.found?.find(({ index: table }) => table === of)?.is_mangled);
 }
 
 // The open list: its tab, its section or kind, and its grid. And the header's rows.
@@ -144,7 +145,7 @@ async function summary_panel() {
     const group = ([title, rows]) => make('section', {}, make('h3', {}, title), make('table', { class: 'fields', 'aria-label': title },
         make('tbody', {}, ...rows.map(line))));
     const said = make('p', { class: 'others' }, 'Facts rest on fields that proved calls return. Those marked ', mark(),
-        ' rest on the dynamic section or on the contents of notes, which this page reads itself, by numbers.');
+        ' rest on the dynamic section or on the contents of notes, which this page reads itself, by numbers, or are names of C++.');
     return [make('div', { class: 'scroll', tabindex: '0' }, make('div', { class: 'summary' }, ...(await ask('summary')).map(group)), said)];
 }
 
@@ -208,7 +209,7 @@ async function list_panel(mine, wanted) {
     mine.of = wanted ?? longest.of;
     Object.assign(mine, { list, query: '', column: 0, is_descending: false, output: make('output', {}) });
     mine.below = make('div', { class: 'notice' });
-    mine.grid = new Grid(name, columns_of(name), {
+    mine.grid = new Grid(name, columns_of(mine), {
         rows: (from, size) => ask('rows', { list: name, from, size }),
         chosen: (at, is_step) => go_to_row(mine, at, is_step), opened: (at) => open_row(mine, at),
         sorted: (column, is_descending) => { Object.assign(mine, { column, is_descending }); refresh(mine); },
@@ -337,12 +338,12 @@ function copy_active(grid, of, what) {
     if (cells) copy(of(cells.map(visible)), what); else say('Choose a row first');
 }
 
-async function save({ name, output }) {
-    const { reader, title } = shown_file, before = output.textContent;
+async function save(mine) {
+    const { reader, title } = shown_file, { name, output } = mine, before = output.textContent;
     reader.on_progress = ({ progress, done }) => {
         if (progress === 'csv') output.textContent = `saving … ${Math.floor(100 * done)} %`;
     };
-    const content = await ask('csv', { list: name, titles: columns_of(name).map(({ title: column }) => column) });
+    const content = await ask('csv', { list: name, titles: mine.grid.columns.map(({ title: column }) => column) });
     output.textContent = before;
     const link = make('a', { href: URL.createObjectURL(content), download: `${visible(title)}.${name}.csv` });
     link.click();

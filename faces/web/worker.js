@@ -13,7 +13,7 @@ import * as labels from './labels.js';
 import { arranged, cells_of, go_over, open_source, plain_cells_of } from './lists.js';
 import { notes_of } from './notes.js';
 import { KINDS, parts, titled } from './pieces.js';
-import { symtab_at } from './resolve.js';
+import { has_mangled, symtab_at } from './resolve.js';
 import { kind_in_words, summary } from './summary.js';
 import { hex } from './text.js';
 
@@ -43,7 +43,8 @@ function tables(types, list_of) {
         if (!types.includes(section.sh_type) || ++all > MOST_TABLES) continue;
         // (a refusal is shown once the section is chosen)
         const length = read_or(undefined, () => list_of(section, index).length), is_packed = section.sh_type === RELR;
-        found.push({ index, name: called(index, section), length, is_packed, is_own: typeof index === 'string' });
+        const is_mangled = Boolean(length) && SYMBOL_TYPES.includes(section.sh_type) && has_mangled(index);
+        found.push({ index, name: called(index, section), length, is_packed, is_mangled, is_own: typeof index === 'string' });
     }
     return { found, all };
 }
