@@ -303,6 +303,12 @@ async function check_core() {
     await go('notes/segments/0', 'CORE PRSTATUS, thread 71');
     assert.deepEqual([await field_of('rax'), await field_of('rip')], ['0x77', '0x401234']);
     assert.match(await field_of('registers'), /not proved/);
+    for (const [machine, places] of [[183, { x0: 0, sp: 31, pc: 32 }], [243, { pc: 0, sp: 2, t6: 31 }]]) {
+        const status = note('CORE', 1, put(480, ...Object.values(places).map((place) => [112 + 8 * place, 0x1000 + place])));
+        await pick_written(`core${machine}`, elf_file({ type: 4, machine, segments: [{ type: 4, bytes: status }] }));
+        await go('notes/segments/0', 'CORE PRSTATUS, thread 0');
+        for (const [name, place] of Object.entries(places)) assert.equal(await field_of(name), `0x${(0x1000 + place).toString(16)}`, name);
+    }
 }
 
 // Returns the legend's percentages by their names.
@@ -342,6 +348,17 @@ async function check_segments() {
     const covered = all.reduce((sum_of_all, { size: bytes }) => sum_of_all + bytes, 0);
     const { gap } = await shares();
     assert.ok(covered > 0 && Math.abs(gap - 100 * (stripped.length - covered) / stripped.length) < 0.1, `gap ${gap} %`);
+}
+
+// If a file has more segments than its header can say, the first section header says how many.
+async function check_many_segments() {
+    const many = Buffer.concat([elf_file({ type: 4 }), Buffer.alloc(64 + 56 * 70000)]);
+    for (const [at, value, width] of [[0x20, 128, 8], [0x28, 64, 8], [0x38, 0xffff, 2], [0x3a, 64, 2], [0x3c, 1, 2], [64 + 44, 70000, 4]]) {
+        packed([value, width]).copy(many, at);
+    }
+    await pick_written('many', many, 'segments');
+    assert.deepEqual([await text_of('#tab-segments span'), await text_of('#panel output')], ['70,000', '70,000']);
+    await go('segments/69999', 'segment 69999, NULL');
 }
 
 // In a file with sections code is what executable sections hold, and not the padding of an executable segment.
@@ -787,6 +804,13 @@ async function check_fields() {
         await until(`document.querySelector('#chosen .hex .row')?.row`);
         assert.equal((await text_of('#chosen .hex .row :nth-child(2)')).trim().split(' ').length, each, `${width}`);
     }
+    await browser.resize(1280, 1000);
+    for (const each of [32, 8]) {
+        await press_button('Wide');
+        await until(`document.querySelector('#chosen .hex .row :nth-child(2)')?.textContent.trim().split(' ').length === ${each}`);
+        assert.equal(await evaluate(`document.getElementById('panel').offsetParent === null`), each === 32);
+    }
+    await browser.resize(1400, 1000);
     const lit = () => evaluate(`['tr.lit th', '.hex .cell:nth-child(2) .lit'].map((place) =>
         [...document.querySelectorAll('#chosen ' + place)].map((item) => item.textContent).join(''))`);
     await press_button('sh_size');
@@ -859,7 +883,8 @@ async function check_widths() {
                 return range.getClientRects().length > 1;
             }).map(([word]) => word))`), [], `${width}`);
         await open_tab('symbols');
-        assert.equal((await evaluate(`[...document.querySelectorAll('#panel [role=columnheader]')].map((cell) => cell.textContent)`))[1], 'Name');
+        const heads = await evaluate(`[...document.querySelectorAll('#panel [role=columnheader]')].map((cell) => [cell.textContent, cell.offsetWidth])`);
+        assert.deepEqual([heads[1][0], Math.max(...heads.map(([, wide]) => wide))], ['Name', heads[1][1]], `${width}`);
         const bars = await evaluate(`[...document.querySelectorAll('html, body, main, #shown, .columns, .lists, #panel, .grid')]
             .filter((box) => box.offsetParent !== null || box.matches('html, body')).filter((box) => box.scrollHeight > box.clientHeight + 1
                 && !['visible', 'hidden'].includes(getComputedStyle(box).overflowY)).map((box) => box.className || box.tagName)`);
@@ -1077,7 +1102,8 @@ async function check_refusals() {
 }
 
 const checks = [
-    check_all_counts, check_refusals, check_trouble, check_unknown, check_own_tables, check_summary, check_core, check_segments, check_padding,
+    check_all_counts, check_refusals, check_trouble, check_unknown, check_own_tables, check_summary, check_core, check_segments,
+    check_many_segments, check_padding,
     check_cut, check_labels, check_loading, check_symbol_links, check_early_link, check_section_links, check_history, check_relocation_links,
     check_goto, check_search, check_relocation_names, check_section_indices, check_named_links, check_fields, check_low, check_plain_words,
     check_copies, check_formula, check_refused_tables, check_demangled, check_words, check_cells, check_widths, check_map, check_narrow, check_themes,

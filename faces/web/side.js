@@ -29,6 +29,9 @@ async function bytes_box(blocks) {
     let current;
     const content = make('div', { class: 'content' });
     const copying = button('Copy hex', () => copy_hex(current.at, current.size), { class: 'copy' });
+    const is_wide = document.body.classList.contains('wide');
+    const widening = button('Wide', () => { widening.setAttribute('aria-pressed', document.body.classList.toggle('wide')); show(current); },
+        { class: 'widen', 'aria-pressed': `${is_wide}`, title: 'more bytes in a row, in place of the list' });
     const choices = blocks.map((block) => button(visible(block.word), () => show(block), { title: visible(block.word) }));
     const show = async (block) => {
         current = block;
@@ -39,7 +42,7 @@ async function bytes_box(blocks) {
     };
     shown_again = () => show(current);
     await show(blocks[0]);
-    return { box: make('div', { class: 'bytes' }, make('div', { class: 'blocks' }, ...choices, copying), content), show };
+    return { box: make('div', { class: 'bytes' }, make('div', { class: 'blocks' }, ...choices, copying, widening), content), show };
 }
 
 // How many bytes a row has, and what shows the bytes again once the width has changed.
