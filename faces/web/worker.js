@@ -10,10 +10,10 @@ import {
 import { find_own_sections, packed_offsets } from './dynamic.js';
 import { find } from './find.js';
 import * as labels from './labels.js';
-import { arranged, cells_of, go_over, open_source, plain_cells_of } from './lists.js';
+import { arranged, cells_of, columns_of, go_over, open_source, plain_cells_of } from './lists.js';
 import { notes_of } from './notes.js';
 import { KINDS, parts, titled } from './pieces.js';
-import { has_mangled, symtab_at } from './resolve.js';
+import { symtab_at } from './resolve.js';
 import { kind_in_words, summary } from './summary.js';
 import { hex } from './text.js';
 
@@ -43,8 +43,7 @@ function tables(types, list_of) {
         if (!types.includes(section.sh_type) || ++all > MOST_TABLES) continue;
         // (a refusal is shown once the section is chosen)
         const length = read_or(undefined, () => list_of(section, index).length), is_packed = section.sh_type === RELR;
-        const is_mangled = Boolean(length) && SYMBOL_TYPES.includes(section.sh_type) && has_mangled(index);
-        found.push({ index, name: called(index, section), length, is_packed, is_mangled, is_own: typeof index === 'string' });
+        found.push({ index, name: called(index, section), length, is_packed, is_own: typeof index === 'string' });
     }
     return { found, all };
 }
@@ -68,19 +67,6 @@ function map() {
     return { starts: Float64Array.from(starts), kinds, depths: Uint32Array.from(depths), cuts, segments: loaded, KINDS };
 }
 
-// Returns the number of characters of the longest number of some kinds.
-function signs() {
-    let address = 0n, align = 0n, index = 0;
-    const raise = (end) => { if (end > address && end < 1n << 64n) address = end; };
-    for (const { section } of sections()) {
-        raise(section.sh_addr + section.sh_size);
-        if (section.sh_addralign > align) align = section.sh_addralign;
-        index = Math.max(index, section.sh_link, section.sh_info);
-    }
-    for (const { segment } of segments()) raise(segment.p_vaddr + segment.p_memsz);
-    return { address: hex(address).length, offset: hex(file.content.length).length, align: `${align}`.length, index: `${index}`.length };
-}
-
 function overview() {
     const { elf } = file, { header } = elf;
     find_own_sections();
@@ -98,7 +84,7 @@ function overview() {
         symbols: refused ? { refused } : tables(SYMBOL_TYPES, (section, index) => symtab_at(index)),
         relocations: refused ? { refused } : tables([...RELOCATION_TYPES, RELR], relocations_of),
         notes: { sections: notes_summary('sections', headers.sections), segments: notes_summary('segments', headers.segments) },
-        map: map(), signs: signs(),
+        map: map(),
     };
 }
 
@@ -155,6 +141,12 @@ const calls = {
         return { length: views[list].length, all: source.list.length };
     },
 
+    // Returns the columns of a list, whose source is kept.
+    columns({ list, of }) {
+        views[list] = { source: open_source(list, of), of };
+        return columns_of(views[list].source);
+    },
+
     rows({ list, from, size }) {
         const { source, order, length } = views[list], rows = [];
         for (let at = from; at < Math.min(from + size, length); at++) {
@@ -176,8 +168,8 @@ const calls = {
     },
 
     // Returns the list that is shown, as lines of values separated by commas.
-    async csv({ list, titles }) {
-        const { source, order } = views[list], lines = [csv_line(titles)];
+    async csv({ list }) {
+        const { source, order } = views[list], lines = [csv_line(columns_of(source).map(({ title }) => title))];
         if (order) {
             for (const index of order) lines.push(csv_line(plain_cells_of(source, source.list.get(index), index)));
         } else {
