@@ -440,7 +440,7 @@ async function check_demangled() {
     assert.ok(read > 0.95 * names.length || !library, `${read} of ${names.length}`);
     assert.deepEqual(found, found.map((text, i) => text && wanted[i]));
     await go('symbols/1/1', names[0]);
-    assert.equal(await field_of('demangled'), wanted[0]);
+    assert.equal(await field_of('demangled'), `${wanted[0]}, not proved`);
 }
 
 // While a large file is read, the previous one stays, with its name, and can be used. The page shows how much is left.

@@ -138,7 +138,7 @@ function segment_details(item, index) {
 }
 
 // Returns the field of a name of C++ as it is written there, if it is one that is read.
-const in_source = (name) => [demangled(name)].filter(Boolean).map((text) => field('demangled', text));
+const in_source = (name) => [demangled(name)].filter(Boolean).map((text) => field('demangled', text, 'not proved'));
 
 function symbol_details(item, index, table) {
     const { st_name, st_value, st_size, st_info, st_other } = item;

@@ -29,9 +29,6 @@ async function bytes_box(blocks) {
     let current;
     const content = make('div', { class: 'content' });
     const copying = button('Copy hex', () => copy_hex(current.at, current.size), { class: 'copy' });
-    const is_wide = document.body.classList.contains('wide');
-    const widening = button('Wide', () => { widening.setAttribute('aria-pressed', document.body.classList.toggle('wide')); show(current); },
-        { class: 'widen', 'aria-pressed': `${is_wide}`, title: 'more bytes in a row, in place of the list' });
     const choices = blocks.map((block) => button(visible(block.word), () => show(block), { title: visible(block.word) }));
     const show = async (block) => {
         current = block;
@@ -42,7 +39,7 @@ async function bytes_box(blocks) {
     };
     shown_again = () => show(current);
     await show(blocks[0]);
-    return { box: make('div', { class: 'bytes' }, make('div', { class: 'blocks' }, ...choices, copying, widening), content), show };
+    return { box: make('div', { class: 'bytes' }, make('div', { class: 'blocks' }, ...choices, copying), content), show };
 }
 
 // How many bytes a row has, and what shows the bytes again once the width has changed.
@@ -53,6 +50,13 @@ export function set_up_side() {
         get('chosen').addEventListener(event, ({ target }) => light(target.closest('[data-field]')?.dataset.field));
     }
     addEventListener('resize', () => { if (shown_again && bytes_in(room()) !== shown_each) shown_again(); });
+}
+
+// Returns a button that lets what is chosen take the place of the list, with more bytes in a row.
+function widening() {
+    const { classList } = document.body;
+    const widen = ({ target }) => { target.setAttribute('aria-pressed', classList.toggle('wide')); shown_again?.(); };
+    return button('Wide', widen, { class: 'copy widen', 'aria-pressed': `${classList.contains('wide')}`, title: 'in place of the list' });
 }
 
 let asked = 0;
@@ -67,6 +71,7 @@ export async function show_side({ title, what, kind, link, fields = [], blocks =
         dot.style.background = colour(kind);
         sub.prepend(dot);
     }
+    sub.append(widening());
     if (link) sub.append(button('Copy link', () => copy(`${location.href.split('#')[0]}#${link}`, 'a link by the name'), { class: 'copy' }));
     // (the name of a field of a record shows its bytes)
     const rows = fields.map((field) => {
