@@ -664,14 +664,14 @@ const rows_of = (text) => text.trim().split('\r\n').slice(1).map((line) =>
 
 // Saves the open list, and returns the content of the file.
 async function saved(name) {
-    const before = new Set(readdirSync(browser.downloads)), is_done = (file) => file.endsWith('.csv') && !before.has(file);
+    const before = new Set(readdirSync(browser.downloads)), form = new RegExp(`\\.${name}(\\(\\d+\\))?( \\(\\d+\\))?\\.csv$`);
+    const is_done = (file) => form.test(file) && !before.has(file); // (until it is whole, Firefox gives it another name)
     await press_button('Save CSV');
     for (const end = Date.now() + PATIENCE; Date.now() < end;) {
         const now = readdirSync(browser.downloads), file = now.find(is_done);
         if (file && !now.some((other) => /\.(crdownload|part)$/.test(other))) {
             const content = readFileSync(join(browser.downloads, file), 'utf8');
             if (content) {
-                assert.match(file, new RegExp(`\\.${name}(\\(\\d+\\))?( \\(\\d+\\))?\\.csv$`));
                 rmSync(join(browser.downloads, file)); // (else another of its name would replace it)
                 return content;
             }

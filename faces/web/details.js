@@ -277,37 +277,30 @@ export function address_details(address) {
 
 // ---- the header ----
 
-// The fields' meanings, in a few words.
-const WORDS = {
-    ei_class: 'class', ei_data: 'byte order', ei_version: 'version of the format', ei_osabi: 'operating system and ABI',
-    ei_abiversion: 'version of the ABI', e_type: 'what the file is', e_machine: 'machine', e_version: 'version of the format, once more',
-    e_entry: 'address at which the program starts', e_phoff: 'offset of the program headers', e_shoff: 'offset of the section headers',
-    e_flags: 'flags of the machine', e_ehsize: 'size of this header', e_phentsize: 'size of a program header',
-    e_phnum: 'number of program headers', e_shentsize: 'size of a section header', e_shnum: 'number of section headers',
-    e_shstrndx: 'index of the section with the names of sections',
+const named = (name, prefix) => (/^(0x|\d+$)/.test(name) ? '' : prefixed(prefix, name));
+const to_headers = (offset) => (offset ? at_offset(offset) : undefined);
+
+// What each field means, in a few words, and functions of the header that return its number's name and its link, if it has them.
+const FIELDS = {
+    ei_class: ['class', ({ ei_class }) => named(labels.file_class(ei_class), '')],
+    ei_data: ['byte order', ({ ei_data }) => (ei_data === 2 ? 'big endian' : 'little endian')], ei_version: ['version of the format'],
+    ei_osabi: ['operating system and ABI', ({ ei_osabi }) => named(labels.osabi(ei_osabi), 'ELFOSABI_')], ei_abiversion: ['version of the ABI'],
+    e_type: ['what the file is', ({ e_type }) => named(labels.file_type(e_type), 'ET_')],
+    e_machine: ['machine', ({ e_machine }) => named(labels.machine(e_machine), 'EM_')], e_version: ['version of the format, once more'],
+    e_entry: ['address at which the program starts', undefined, ({ e_entry }) => at_address(e_entry)],
+    e_phoff: ['offset of the program headers', undefined, ({ e_phoff }) => to_headers(e_phoff)],
+    e_shoff: ['offset of the section headers', undefined, ({ e_shoff }) => to_headers(e_shoff)], e_flags: ['flags of the machine'],
+    e_ehsize: ['size of this header'], e_phentsize: ['size of a program header'],
+    e_phnum: ['number of program headers', ({ e_phnum }) => (e_phnum === 0xffff ? 'sh_info of section 0 has it' : '')],
+    e_shentsize: ['size of a section header'], e_shnum: ['number of section headers'],
+    e_shstrndx: ['index of the section with the names of sections', undefined, ({ e_shstrndx }) => read_or(undefined, () => to_section_number(e_shstrndx))],
 };
-
-// The names of the header's numbers that have one.
-function header_meanings({ ei_class, ei_data, ei_osabi, e_type, e_machine, e_phnum }) {
-    const known = (name, prefix) => (/^(0x|\d+$)/.test(name) ? '' : prefixed(prefix, name));
-    return {
-        ei_class: known(labels.file_class(ei_class), ''), ei_data: ei_data === 2 ? 'big endian' : 'little endian',
-        ei_osabi: known(labels.osabi(ei_osabi), 'ELFOSABI_'), e_type: known(labels.file_type(e_type), 'ET_'),
-        e_machine: known(labels.machine(e_machine), 'EM_'), e_phnum: e_phnum === 0xffff ? 'sh_info of section 0 has it' : '',
-    };
-}
-
-const header_links = ({ e_entry, e_phoff, e_shoff, e_shstrndx }) => ({
-    e_entry: at_address(e_entry), e_phoff: e_phoff ? at_offset(e_phoff) : undefined, e_shoff: e_shoff ? at_offset(e_shoff) : undefined,
-    e_shstrndx: read_or(undefined, () => to_section_number(e_shstrndx)),
-});
 
 /** Returns the header's fields, each with its bytes. */
 export function header_fields() {
-    const { header } = file.elf, meanings = header_meanings(header), links = header_links(header);
-    return record('ELF header', 'header', 0).fields.filter(({ name }) => WORDS[name]).map(({ name, at, size }) => {
-        const value = ['e_entry', 'e_phoff', 'e_shoff', 'e_flags'].includes(name) ? hex(header[name]) : `${header[name]}`;
-        const [meaning, leads] = [meanings[name] ?? '', links[name] ? [links[name]] : []];
-        return { name, at, size, value, meaning, words: WORDS[name], links: leads };
+    const { header } = file.elf;
+    return record('ELF header', 'header', 0).fields.filter(({ name }) => FIELDS[name]).map(({ name, at, size }) => {
+        const [words, meaning, link] = FIELDS[name], shown = /^e_(entry|phoff|shoff|flags)$/.test(name) ? hex : String;
+        return { at, size, words, ...field(name, shown(header[name]), meaning?.(header), link?.(header)) };
     });
 }

@@ -77,21 +77,22 @@ export function list_refusal(error, what, offset, number) {
     return refusal(error, `${what}: ${values}`, [mark(offset), mark(number)], words_of_cut(what.replace('t', 'T'), header[offset], size));
 }
 
+// Returns the refusal of a range, with the bytes of its header that say where it is.
+function range_refusal(error, what, title, offset, size, mark) {
+    const values = `${what}: offset ${hex(offset)}, size ${hex(size)}, in a file of ${count(file.content.length)} bytes`;
+    return refusal(error, values, [mark], words_of_cut(`The bytes of ${title}`, offset, size));
+}
+
 export function section_refusal(error, what, index) {
-    const { sh_offset, sh_size } = section_at(index);
-    const values = `${what} of section ${index}: offset ${hex(sh_offset)}, size ${hex(sh_size)}`;
-    const at = Number(file.elf.header.e_shoff) + index * size_of('section');
-    const mark = { at: at + (is_wide() ? 0x18 : 0x10), size: is_wide() ? 16 : 8 };
-    return refusal(error, `${values}, in a file of ${count(file.content.length)} bytes`, [mark],
-        words_of_cut(`The bytes of ${called(index)}`, sh_offset, sh_size));
+    const { sh_offset, sh_size } = section_at(index), [before, size] = is_wide() ? [0x18, 16] : [0x10, 8];
+    const mark = { at: Number(file.elf.header.e_shoff) + index * size_of('section') + before, size };
+    return range_refusal(error, `${what} of section ${index}`, called(index), sh_offset, sh_size, mark);
 }
 
 export function segment_refusal(error, index) {
-    const { p_offset, p_filesz } = file.elf.program_header(index);
-    const size = size_of('segment'), at = Number(file.elf.header.e_phoff) + index * size;
-    const values = `the bytes of segment ${index}: offset ${hex(p_offset)}, file size ${hex(p_filesz)}`;
-    return refusal(error, `${values}, in a file of ${count(file.content.length)} bytes`, [{ at, size }],
-        words_of_cut(`The bytes of segment ${index}`, p_offset, p_filesz));
+    const { p_offset, p_filesz } = file.elf.program_header(index), size = size_of('segment');
+    const mark = { at: Number(file.elf.header.e_phoff) + index * size, size };
+    return range_refusal(error, `the bytes of segment ${index}`, `segment ${index}`, p_offset, p_filesz, mark);
 }
 
 // ---- sections ----

@@ -123,12 +123,15 @@ function show_loading(file, reader) {
     };
     return () => {
         clearTimeout(timer);
-        if (loading !== reader) return;
-        loading = undefined;
-        box.textContent = '';
-        document.body.classList.remove('dimmed');
-        document.body.removeAttribute('aria-busy');
+        if (loading === reader) end_loading();
     };
+}
+
+function end_loading() {
+    loading = undefined;
+    get('loading').textContent = '';
+    document.body.classList.remove('dimmed');
+    document.body.removeAttribute('aria-busy');
 }
 
 // Shows only one of the page's parts, and the name of its file in the bar.
@@ -150,14 +153,11 @@ function replace(reader, file, summary) {
 
 function trouble(file, text) {
     loading?.end();
-    loading = undefined;
+    end_loading();
     replace(undefined, file, undefined);
     show_part('start', file);
     put_text(get('trouble'), text);
     get('trouble').hidden = false;
-    get('loading').textContent = '';
-    document.body.classList.remove('dimmed');
-    document.body.removeAttribute('aria-busy');
 }
 
 // What a file is that starts with some characters, each a byte, and is no ELF file.
