@@ -148,6 +148,13 @@ function symbols_of(path) {
             ({ index: Number(index), value: parseInt(value, 16), size: Number(size), type, section, name }));
 }
 
+// Of the program that is picked most: its sections, its symbols and the location of their table, and its function main with its location,
+// address and offset.
+const hex = (number) => `0x${number.toString(16)}`;
+const sections = sections_of(dump), symbols = symbols_of(dump), symtab = `symbols/${sections['.symtab'].index}`, text = sections['.text'];
+const main = symbols.find(({ name }) => name === 'main'), main_place = `${symtab}/${main.index}`, main_address = hex(main.value);
+const main_at = main.value - text.address + text.offset;
+
 // ---- what the page shows of files ----
 
 async function check_counts(path) {
@@ -277,7 +284,7 @@ async function check_summary() {
     for (const [name, , is_own] of rows) assert.equal(is_own, /^(kind|needs|read-only relocations|debug file)$/.test(name), name);
     const largest = Object.entries(sections_of(path)).sort(([, a], [, b]) => b.size - a.size)[0];
     assert.ok(rows.some(([size, value]) => size.startsWith(`${largest[1].size.toLocaleString('en')} bytes, `) && value === largest[0]));
-    const functions = symbols_of(dump).filter(({ type, size }) => type === 'FUNC' && size > 0).sort((a, b) => b.size - a.size).slice(0, 10);
+    const functions = symbols.filter(({ type, size }) => type === 'FUNC' && size > 0).sort((a, b) => b.size - a.size).slice(0, 10);
     const found = (await facts(dump)).slice(-functions.length);
     assert.equal(found[0][1], functions[0].name);
     assert.deepEqual(found.map(([size]) => size), functions.map(({ size }) => `${size.toLocaleString('en')} bytes`));
@@ -413,14 +420,12 @@ async function check_labels() {
     assert.deepEqual(await cells(3), ['STAPSDT', 'GNU_BUILD_ID', '0x3']);
     await click('#tab-header');
     await until(`document.querySelector('[data-field=ei_osabi]')?.textContent.includes('ELFOSABI_GNU')`);
-    const { index } = symbols_of(dump).find(({ name }) => name === 'main');
     await pick(dump);
-    await go(`symbols/${sections_of(dump)['.symtab'].index}/${index}`, 'main');
+    await go(main_place, 'main');
     assert.equal(await field_of('st_info'), '0x12, STB_GLOBAL (1), STT_FUNC (2)');
     // (what belongs together is apart in the text, too, which is copied and read aloud)
-    const { size } = symbols_of(dump)[index], { sections } = counts_of(dump);
-    assert.equal(await field_of('st_size'), `${size}, ${size.toLocaleString('en')} bytes`);
-    assert.deepEqual([await text_of('#tab-sections'), await text_of('h1')], [`Sections ${sections}`, 'goblin what an ELF file holds']);
+    assert.equal(await field_of('st_size'), `${main.size}, ${main.size.toLocaleString('en')} bytes`);
+    assert.deepEqual([await text_of('#tab-sections'), await text_of('h1')], [`Sections ${counts_of(dump).sections}`, 'goblin what an ELF file holds']);
     assert.match(await field_of('st_other'), /STV_DEFAULT \(0\)/);
 }
 
@@ -475,43 +480,37 @@ async function check_loading() {
 const bytes_of = (path, at, size) => readFileSync(path).subarray(at, at + size).toString('hex');
 
 async function check_symbol_links() {
-    const sections = sections_of(dump), main = symbols_of(dump).find(({ name }) => name === 'main');
-    const text = Object.entries(sections).find(([, { index }]) => `${index}` === main.section);
     await pick(dump);
-    await go(`symbols/${sections['.symtab'].index}/${main.index}`, 'main');
-    const at = main.value - text[1].address + text[1].offset, shown = await bytes_shown();
-    assert.ok(shown.length > 40 && bytes_of(dump, at, main.size).startsWith(shown), shown);
+    await go(main_place, 'main');
+    const shown = await bytes_shown(), data = sections['.data'];
+    assert.ok(shown.length > 40 && bytes_of(dump, main_at, main.size).startsWith(shown), shown);
     // (a symbol without a size has the bytes from its offset on)
-    const label = symbols_of(dump).find(({ type, size, section }) => type === 'NOTYPE' && size === 0 && section === `${sections['.data'].index}`);
-    await go(`symbols/${sections['.symtab'].index}/${label.index}`, label.name);
-    const from = label.value - sections['.data'].address + sections['.data'].offset;
+    const label = symbols.find(({ type, size, section }) => type === 'NOTYPE' && size === 0 && section === `${data.index}`);
+    await go(`${symtab}/${label.index}`, label.name);
     assert.ok((await bytes_shown()).length > 0);
-    assert.ok(bytes_of(dump, from, 16).startsWith(await bytes_shown()), label.name);
-    await go(`symbols/${sections['.symtab'].index}/${main.index}`, 'main');
-    const address = `0x${main.value.toString(16)}`;
-    await follow('address', `address ${address}`);
+    assert.ok(bytes_of(dump, label.value - data.address + data.offset, 16).startsWith(await bytes_shown()), label.name);
+    await go(main_place, 'main');
+    await follow('address', `address ${main_address}`);
     assert.match(await side(), /segment \d+, LOAD/);
     await follow('main');
-    await follow(text[0]);
-    assert.equal(await fragment(), `sections/${text[1].index}`);
+    await follow('.text');
+    assert.equal(await fragment(), `sections/${text.index}`);
     await go_in_history('back', 'main');
-    assert.equal(await fragment(), `symbols/${sections['.symtab'].index}/${main.index}`);
-    await go_in_history('back', `address ${address}`);
-    assert.equal(await fragment(), `address/${address}`);
+    assert.equal(await fragment(), main_place);
+    await go_in_history('back', `address ${main_address}`);
+    assert.equal(await fragment(), `address/${main_address}`);
     await go_in_history('forward', 'main');
 }
 
 // A link to a location leads there once the file is picked.
 async function check_early_link() {
-    const { index } = sections_of(dump)['.dynstr'];
-    await browser.open(`${url}#sections/${index}`);
+    await browser.open(`${url}#sections/${sections['.dynstr'].index}`);
     await pick(dump);
     await until_chosen('.dynstr');
     assert.equal(await evaluate(`document.querySelector('#panel .row[aria-selected=true]').children[1].textContent`), '.dynstr');
 }
 
 async function check_section_links() {
-    const sections = sections_of(dump);
     await pick(dump);
     const links = [['.rela.plt', '.dynsym', '.got'], ['.rela.dyn', '.dynsym'], ['.dynsym', '.dynstr'], ['.symtab', '.strtab']];
     for (const [name, link, info] of links) {
@@ -577,17 +576,17 @@ async function check_relocation_links() {
 }
 
 async function check_goto() {
-    const sections = sections_of(dump), main = symbols_of(dump).find(({ name }) => name === 'main');
     await pick(dump);
+    const inside = hex(main.value + 1), until_place = (place) => until(`document.querySelector('#chosen h2').textContent.endsWith('${place}')`);
     await go_by_field(' 0x10 ', 'offset 0x10');
     assert.match(await side(), /in ELF header/);
-    await go_by_field(`0x${(main.value + 1).toString(16)}`);
-    await until(`document.querySelector('#chosen h2').textContent.endsWith('0x${(main.value + 1).toString(16)}')`);
+    await go_by_field(inside);
+    await until_place(inside);
     assert.match(await side(), /main \+ 0x1/);
     await go_by_field('.dynstr', '.dynstr');
     await until(`document.activeElement === document.querySelector('#chosen h2')`);
     await go_by_field('main', 'main');
-    assert.equal(await fragment(), `symbols/${sections['.symtab'].index}/${main.index}`);
+    assert.equal(await fragment(), main_place);
     await go_by_field('there is no such name');
     await until(`!document.getElementById('none').hidden`);
     // Digits without 0x are decimal or hexadecimal. The page says how it reads them, and has a link to the other reading.
@@ -599,8 +598,8 @@ async function check_goto() {
         await until_chosen(other.split(',')[0]);
     }
     await go_by_field(main.value.toString(16).padStart(16, '0'));
-    await until(`document.querySelector('#chosen h2').textContent.endsWith('0x${main.value.toString(16)}')`);
-    await until(`/^\\w+ 0x${main.value.toString(16)}, read as hexadecimal/.test(document.getElementById('said').textContent)`);
+    await until_place(main_address);
+    await until(`/^\\w+ ${main_address}, read as hexadecimal/.test(document.getElementById('said').textContent)`);
     // (a name that could be a number is a name)
     await pick_written('named', elf_file({ sections: [{ name: 'a1', type: 1, bytes: Buffer.alloc(256) }] }));
     await go_by_field('a1', 'a1');
@@ -608,12 +607,11 @@ async function check_goto() {
 }
 
 async function check_search() {
-    const symbols = symbols_of(dump), main = symbols.find(({ name }) => name === 'main');
-    const { index } = sections_of(dump)['.symtab'], all = symbols.length.toLocaleString('en');
+    const all = symbols.length.toLocaleString('en');
     await pick(dump);
-    await open_list(`symbols/${index}`, all);
+    await open_list(symtab, all);
     const holding = symbols.filter(({ value, size }) => value === main.value + 1 || (value < main.value + 1 && main.value + 1 < value + size));
-    await search(`  0x${(main.value + 1).toString(16)} `, `${holding.length} of ${all}`);
+    await search(`  ${hex(main.value + 1)} `, `${holding.length} of ${all}`);
     assert.ok((await cells(1)).includes('main'));
     const kinds = symbols.filter(({ type }) => type === 'SECTION' || type === 'FILE').length;
     assert.ok(kinds > 0);
@@ -695,9 +693,8 @@ async function check_section_indices() {
 }
 
 async function check_copies() {
-    const { index } = sections_of(dump)['.symtab'], symbols = symbols_of(dump), main = symbols.find(({ name }) => name === 'main');
     await pick(dump);
-    await go(`symbols/${index}/${main.index}`, 'main');
+    await go(main_place, 'main');
     await evaluate(`void (navigator.clipboard.writeText = async (text) => { globalThis.copied = text; })`);
     await evaluate(`document.querySelector('#panel .row[aria-selected=true]').children[1].click()`);
     await until_chosen('main');
@@ -715,10 +712,9 @@ async function check_copies() {
         grid.dispatchEvent(event);
         return event.clipboardData.getData('text/plain');
     })()`), 'main');
-    const cells_of_main = [main.index, 'main', `0x${main.value.toString(16)}`, main.size, 'FUNC', 'GLOBAL', 'DEFAULT', '.text'];
+    const cells_of_main = [main.index, 'main', main_address, main.size, 'FUNC', 'GLOBAL', 'DEFAULT', '.text'];
     assert.equal(await copied('Copy row'), cells_of_main.join('\t'));
-    const text = sections_of(dump)['.text'], at = main.value - text.address + text.offset;
-    assert.equal((await copied('Copy hex')).replaceAll(' ', ''), bytes_of(dump, at, main.size));
+    assert.equal((await copied('Copy hex')).replaceAll(' ', ''), bytes_of(dump, main_at, main.size));
     const list = await saved('symbols'), rows = rows_of(list);
     assert.equal(list.split('\r\n')[0], '#,Name,Value,Size,Type,Binding,Visibility,Section');
     assert.deepEqual(rows.map(([number, , value, size]) => [number, value, size].map(Number)), symbols.map((item) => [item.index, item.value, item.size]));
@@ -780,7 +776,6 @@ async function check_plain_words() {
 
 // A link by a name leads to a section or symbol of a file that is built anew, wherever it is there.
 async function check_named_links() {
-    const text = sections_of(dump)['.text'], main = symbols_of(dump).find(({ name }) => name === 'main');
     await pick(dump);
     await evaluate(`void (navigator.clipboard.writeText = async (given) => { globalThis.copied = given; })`);
     for (const [place, name, value] of [['section=.text', 'sh_offset', text.offset], ['symbol=main', 'st_value', main.value]]) {
@@ -795,7 +790,7 @@ async function check_named_links() {
 
 // A row of bytes has as many as there is room for. A field of a record shows its bytes, and a byte its field.
 async function check_fields() {
-    const { index, size, offset } = sections_of(dump)['.text'], little = (number) => packed([number, 8]).toString('hex');
+    const { index, size, offset } = text, little = (number) => packed([number, 8]).toString('hex');
     await pick(dump);
     for (const [width, each] of [[1600, 16], [1280, 8], [800, 16], [400, 8], [1400, 8]]) {
         await browser.resize(width, 1000);
@@ -852,12 +847,12 @@ const sizes = [[1280, 900], [800, 900], [400, 800]];
 async function check_low() {
     const is_seen = (place) => `(({ top, bottom }) => top >= 0 && bottom <= innerHeight)(document.querySelector('${place}').getBoundingClientRect())`;
     await pick(dump);
-    const { index } = sections_of(dump)['.symtab'], all = symbols_of(dump), number = all.filter(({ name }) => name.includes('main')).length;
+    const number = symbols.filter(({ name }) => name.includes('main')).length;
     for (const [width, height] of [[800, 360], [640, 450], [400, 800]]) {
         await browser.resize(width, height);
-        await go(`symbols/${index}`, 'ELF header');
+        await go(symtab, 'ELF header');
         await click('#back');
-        await search('main', `${number} of ${all.length.toLocaleString('en')}`);
+        await search('main', `${number} of ${symbols.length.toLocaleString('en')}`);
         assert.ok(await evaluate(is_seen('#panel .body .row')), `${width} ${height}`);
         await go('section=.text', '.text');
         await until(`document.querySelector('#chosen .hex .row')?.row`);
