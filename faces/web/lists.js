@@ -197,8 +197,6 @@ export const cells_of = ({ columns }, item, index) => [`${index}`, ...columns.ma
 export const plain_cells_of = ({ columns }, item, index) =>
     [`${index}`, ...columns.map((column) => (column.plain ?? column.text)(item, index))];
 
-// ---- views: the items that a search finds, in their order ----
-
 // How long the worker works before it reads messages.
 const SLICE = 25;
 const pause = () => new Promise((resume) => setTimeout(resume, 0));

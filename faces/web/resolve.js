@@ -10,8 +10,6 @@ const SHN_LORESERVE = 0xff00n, SHN_XINDEX = 0xffffn;
 /** Reports whether the file has addresses. In an object file they are offsets in sections. */
 export const has_addresses = () => file.elf.header.e_type !== ET_REL;
 
-// ---- symbols ----
-
 const tables = new Map();
 /** Returns the symbol table of a section, or nothing if it has another type. Throws if the table is refused. */
 export function symtab_at(index) {
@@ -100,8 +98,6 @@ export function place_of_relocation({ sh_info }, { r_offset }) {
     return sh_info ? bytes_at(sh_info, r_offset, PLACE) : undefined;
 }
 
-// ---- addresses ----
-
 const holds = (start, size, address) => start <= address && address < start + size;
 
 /** Returns the loaded segments that hold an address. */
@@ -153,8 +149,6 @@ export function symbol_of_address(address) {
     }
     return undefined;
 }
-
-// ---- links ----
 
 /** Returns a name with a distance from its start. */
 export const with_offset = (name, from) => (from > 0n ? `${name} + ${hex(from)}` : name);
