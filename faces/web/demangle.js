@@ -35,7 +35,7 @@ class Reader {
         return found;
     }
     note(item) { return listed([item]).length > MOST_SIGNS ? this.fail() : this.known[this.known.push(item) - 1]; }
-    // Reads a number that ends with a line: without digits it is 0, and others count from 1 on.
+    // Reads a number that ends with an underscore: without digits it is 0, and others count from 1 on.
     number(base) {
         const digits = this.need(this.match(/[\dA-Z]*_/y)).slice(0, -1);
         return digits ? parseInt(digits, base) + 1 : 0;

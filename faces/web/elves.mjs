@@ -24,7 +24,7 @@ export function note(owner, type, descriptor) {
 export const symbol = ({ name = 0, info = 0, other = 0, shndx = 0, value = 0, size = 0 }) =>
     packed([name, 4], [info, 1], [other, 1], [shndx, 2], [value, 8], [size, 8]);
 
-/** Returns a file with a symbol table: a symbol of zeros, and others, each with its name as `text`. Other sections are behind it. */
+/** Returns a file with a symbol table: a symbol of zeros, and others, each with its name as `text`. Other sections are after it. */
 export function symbols_file(symbols, ...others) {
     const names = Buffer.from(`\0${symbols.map(({ text = '' }) => `${text}\0`).join('')}`);
     let next = 1;
