@@ -17,7 +17,7 @@ const SUFFIXES = { i: '', j: 'u', l: 'l', m: 'ul', x: 'll', y: 'ull' }, MARKS = 
 const WORDS = { r: ' restrict', V: ' volatile', K: ' const', R: ' &', O: ' &&' }, MOST_SIGNS = 8192;
 
 const words = (signs) => signs.split('').map((sign) => WORDS[sign]).join('');
-const listed = (items) => items.flatMap((item) => item.pack ?? item).map(({ left, right }) => left + right).join(', ');
+const listed = (items) => items.map(({ left, right, pack }) => (pack ? listed(pack) : left + right)).filter((text) => text).join(', ');
 
 // A reader of one name. What it reads is { left, right }, between which a name of that type would be. Of a name it is also the last part, the
 // arguments if that is a template, and the words after the parameters. It can be read again by its number in `known`.
