@@ -1019,6 +1019,24 @@ async function check_classes() {
     }
 }
 
+// An area is as large as the share of its section in the file. A click on a function leads to its symbol, and on a section to it.
+async function check_sizes() {
+    const [largest] = symbols.filter(({ type }) => type === 'FUNC').sort((a, b) => b.size - a.size), whole = readFileSync(dump).length;
+    const section = (name) => ({ name, ...sections[name], place: `sections/${sections[name].index}` });
+    await pick(dump);
+    for (const { name, size, place } of [...['.text', '.rodata', '.symtab'].map(section), { ...largest, place: `${symtab}/${largest.index}` }]) {
+        await click('#tab-sizes');
+        await until(`document.querySelector('.areas a') !== null`);
+        const areas = await evaluate(`[...document.querySelectorAll('.areas a')].map(({ hash, title, style: { width, height }, className }) =>
+            ({ hash, title, area: parseFloat(width) * parseFloat(height) / 100, is_inside: className === 'inside' }))`);
+        const { area, hash, is_inside } = areas.find(({ title }) => title.startsWith(`${name}: ${size.toLocaleString('en')} bytes, `));
+        assert.deepEqual([hash, is_inside || Math.abs(area - 100 * size / whole) < 0.1], [`#${place}`, true], `${name}: ${area} %`);
+        assert.ok(Math.abs(areas.reduce((all, item) => all + (item.is_inside ? 0 : item.area), 0) - 100) < 0.1);
+        await click(`.areas [href='${hash}']`);
+        await until_chosen(name);
+    }
+}
+
 const linear = (colour) => colour.map((part) => (part <= 10.31475 ? part / 255 / 12.92 : ((part / 255 + 0.055) / 1.055) ** 2.4));
 const times = (matrix, vector) => matrix.map((row) => row.reduce((all, value, i) => all + value * vector[i], 0));
 
@@ -1157,7 +1175,7 @@ const checks = [
     check_cut, check_labels, check_loading, check_symbol_links, check_early_link, check_section_links, check_history, check_relocation_links,
     check_goto, check_search, check_relocation_names, check_section_indices, check_named_links, check_fields, check_low, check_plain_words,
     check_copies, check_formula, check_refused_tables, check_demangled, check_words, check_cells, check_widths, check_map, check_zoom, check_classes,
-    check_narrow, check_themes,
+    check_sizes, check_narrow, check_themes,
     check_names, check_keys, check_requests, check_unsupported,
 ];
 

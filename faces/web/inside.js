@@ -6,6 +6,7 @@ import { go_over } from './lists.js';
 import { part_at, parts, titled } from './pieces.js';
 import { bytes_of_symbol, name_of_symbol, symtab_at } from './resolve.js';
 import { first_after, visible_ranges } from './spans.js';
+import { count } from './text.js';
 
 const TYPES = new Set([goblin.STT_OBJECT, goblin.STT_FUNC, goblin.STT_GNU_IFUNC]);
 const found = { table: undefined, symbols: [], starts: [], ends: [], functions: [] };
@@ -90,4 +91,35 @@ export function under(byte) {
     const { title, kind } = tops[part] ? titled(tops[part]) : { title: 'gap' };
     const own = symbol?.start <= byte && shown(symbol), content = CLASSES[class_at(byte)];
     return { title, kind, start: starts[part], end: ends[part], depth: depths[part], symbol: own, content };
+}
+
+// ---- sizes ----
+
+const sum_of = (items) => items.reduce((sum, { size }) => sum + size, 0);
+
+// Returns the class, the namespace or the first word of a symbol's name. (A mangled name has the length of each word before it.)
+function family_of(name) {
+    const [start, size] = /^_ZT?[VTISN]?N?[rVKRO]*(?:St)?(\d+)/.exec(name) ?? [];
+    return start ? name.substr(start.length, size) : /^[^\p{L}]*[\p{L}\d]*/u.exec(name)[0];
+}
+
+// Returns the results of a function for items, and groups of those that are smaller than a number of bytes, from the largest on.
+function from_largest(items, least, of, group_of, ...rest) {
+    const small = Map.groupBy(items.filter(({ size }) => size < least), group_of), group = (name, all) =>
+        ({ title: `${name} (${count(all.length)})`, size: sum_of(all), kind: all[0]?.top?.kind, all });
+    const groups = Array.from(small, ([name, all]) => group(name, all)), few = groups.filter(({ size }) => size < least).flatMap(({ all }) => all);
+    const others = [...groups.filter(({ size }) => size >= least), group('others', few)].map(({ all, ...given }) => given);
+    return [...items.filter(({ size }) => size >= least).map(of), ...others, ...rest].filter(({ size }) => size > 0).sort((a, b) => b.size - a.size);
+}
+
+/** Returns the pieces of the file by the bytes where they are drawn, from the largest on, each with the functions and variables inside. */
+export async function sizes(least) {
+    await find_once();
+    const { starts, ends, tops } = parts(), pieces = new Map(tops.map((top) => [top, { top, size: 0, inside: [] }]));
+    tops.forEach((top, i) => { pieces.get(top).size += ends[i] - starts[i]; });
+    for (const symbol of found.symbols) pieces.get(tops[part_at(symbol.start)]).inside.push(symbol);
+    const within = (inside, size) => (inside.length === 0 ? [] : from_largest(inside, least, (symbol) => shown(symbol),
+        (symbol) => family_of(name_of(symbol)), { title: 'in no symbol', size: size - sum_of(inside) }));
+    return from_largest([...pieces.values()], least, ({ top, size, inside }) =>
+        ({ ...(top ? titled(top) : { title: 'gaps' }), size, inside: within(inside, size) }), ({ top }) => top?.kind);
 }

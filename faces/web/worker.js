@@ -12,7 +12,7 @@ import { find } from './find.js';
 import * as labels from './labels.js';
 import { arranged, cells_of, columns_of, go_over, open_source, plain_cells_of } from './lists.js';
 import { notes_of } from './notes.js';
-import { CLASSES, inside, under } from './inside.js';
+import { CLASSES, inside, sizes, under } from './inside.js';
 import { KINDS, parts, titled } from './pieces.js';
 import { symtab_at } from './resolve.js';
 import { kind_in_words, summary } from './summary.js';
@@ -194,7 +194,7 @@ const calls = {
         const best = all.find(({ table, index }) => symtab_at(table).get(index).st_shndx) ?? all[0];
         return best && `symbols/${best.table}/${best.index}`;
     },
-    summary, inside, under,
+    summary, inside, under, sizes,
 };
 
 onmessage = async ({ data: { id, call, given } }) => {
