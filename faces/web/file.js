@@ -23,8 +23,6 @@ export const RELR = 19;
 export const SYMBOL_TYPES = [goblin.SHT_SYMTAB, goblin.SHT_DYNSYM];
 export const RELOCATION_TYPES = [goblin.SHT_REL, goblin.SHT_RELA];
 
-// ---- refusals ----
-
 // Returns the result of reading a part, or that of a function for its refusal.
 function read_part(read, refused) {
     try {
@@ -90,8 +88,6 @@ export function segment_refusal(error, index) {
     const mark = { at: Number(file.elf.header.e_phoff) + index * size, size };
     return range_refusal(error, `the bytes of segment ${index}`, `segment ${index}`, p_offset, p_filesz, mark);
 }
-
-// ---- sections ----
 
 /** The tables that the dynamic section leads to, and no section header, by the name of their tag: as sections, which the page makes. */
 export const own_sections = new Map();

@@ -105,12 +105,12 @@ const sources = {
 
     symbols({ address }, table) {
         const name = (item, index) => name_of_symbol(table, index, item), in_source = (...item) => demangled(name(...item)) ?? '';
-        const words = 'the name in C++, read by this page, not proved; empty if it is not read', list = symtab_at(table), is_mangled = has_mangled(table);
+        const words = 'the name in C++, read by this page; empty if it is not read', list = symtab_at(table), is_mangled = has_mangled(table);
         return {
             list, place: 48,
             columns: [
                 text('Name', 'st_name', is_mangled ? 120 : 180, is_mangled ? 2 : 5, name),
-                ...(is_mangled ? [text('Demangled', words, 240, 5, in_source)] : []),
+                ...(is_mangled ? [text('Demangled (not proved)', words, 240, 5, in_source)] : []),
                 number('Value', 'st_value', address, 0.3), number('Size', 'st_size', 62, 0, String),
                 text('Type', 'st_info, its low four bits', 74, 0, ({ st_info }) => labels.symbol_type(goblin.st_type(st_info))),
                 text('Binding', 'st_info, its high four bits', 64, 0, ({ st_info }) => labels.symbol_binding(goblin.st_bind(st_info))),
@@ -196,8 +196,6 @@ export const cells_of = ({ columns }, item, index) => [`${index}`, ...columns.ma
 /** Returns the cells of an item in a saved list, where numbers are plain. */
 export const plain_cells_of = ({ columns }, item, index) =>
     [`${index}`, ...columns.map((column) => (column.plain ?? column.text)(item, index))];
-
-// ---- views: the items that a search finds, in their order ----
 
 // How long the worker works before it reads messages.
 const SLICE = 25;

@@ -20,16 +20,12 @@ function row(text) {
     return names;
 }
 
-// ---- the header ----
-
 const OSABI = row('SYSV HPUX NETBSD GNU @6 SOLARIS AIX IRIX FREEBSD TRU64 MODESTO OPENBSD OPENVMS NSK AROS FENIXOS CLOUDABI OPENVOS'
     + ' @97 ARM @255 STANDALONE');
 const OSABI_OF = { [EM.ARM]: row('@64 ARM_AEABI @65 ARM_FDPIC'), 224: row('@64 AMDGPU_HSA AMDGPU_PAL AMDGPU_MESA3D') };
 
 /** Returns the name of an `ei_osabi`. */
 export const osabi = (number, machine) => OSABI.get(number) ?? OSABI_OF[machine]?.get(number);
-
-// ---- sections ----
 
 const SECTIONS = new Map([
     [19, 'RELR'], [0x6fff4700, 'GNU_INCREMENTAL_INPUTS'], [0x6fff4c00, 'LLVM_ODRTAB'], [0x6fff4c01, 'LLVM_LINKER_OPTIONS'],
@@ -59,8 +55,6 @@ const FLAGS_OF = {
 /** Returns the name of a section's flag, by its bit, without its prefix. */
 export const section_flag = (bit, machine) => FLAGS_OF[machine]?.[bit] ?? FLAGS[bit];
 
-// ---- segments ----
-
 const SEGMENTS = new Map([[0x6474e553, 'GNU_PROPERTY'], [0x6474e554, 'GNU_SFRAME'], [0x65a3dbe6, 'OPENBSD_RANDOMIZE'],
     [0x65a3dbe7, 'OPENBSD_WXNEEDED'], [0x65a41be6, 'OPENBSD_BOOTDATA']]);
 const SEGMENTS_OF = {
@@ -71,14 +65,10 @@ const SEGMENTS_OF = {
 /** Returns the name of a segment's type, without its prefix. */
 export const segment_type = (type, machine) => SEGMENTS.get(type) ?? SEGMENTS_OF[machine]?.get(type - PROCESSOR);
 
-// ---- symbols ----
-
 const SYMBOLS_OF = { [EM.ARM]: row('@13 ARM_TFUNC @15 ARM_16BIT') };
 
 /** Returns the name of a symbol's type, without its prefix. */
 export const symbol_type = (type, machine) => SYMBOLS_OF[machine]?.get(type);
-
-// ---- notes ----
 
 const CORE = new Map([...row('@1 PRSTATUS FPREGSET PRPSINFO TASKSTRUCT PLATFORM AUXV GWINDOWS ASRS @10 PSTATUS @13 PSINFO PRCRED UTSNAME'
     + ' LWPSTATUS LWPSINFO @20 PRFPXREG'), [0x46494c45, 'FILE'], [0x53494749, 'SIGINFO']]);
@@ -102,8 +92,6 @@ const NOTES = {
 
 /** Returns the name of a note's type, which depends on its owner, without its prefix. */
 export const note_type = (owner, type) => (Object.hasOwn(NOTES, owner) ? NOTES[owner].get(type) : undefined);
-
-// ---- relocations ----
 
 const RELOCATIONS = {
     [EM.X86_64]: ['R_X86_64_', row(`NONE 64 PC32 GOT32 PLT32 COPY GLOB_DAT JUMP_SLOT RELATIVE GOTPCREL 32 32S 16 PC16 8 PC8 DTPMOD64

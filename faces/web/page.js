@@ -14,8 +14,6 @@ const LIMIT = 2 ** 31, LIMIT_WORDS = '2 GiB (2,147,483,648 bytes)';
 // After how many milliseconds the page shows that a file is being read.
 const SOON = 200;
 
-// ---- locations ----
-
 // Returns a whole number of a location, or nothing.
 const whole = (text) => (/^\d{1,10}$/.test(text ?? '') ? Number(text) : undefined);
 const from_hex = (text) => (/^0x[0-9a-f]{1,16}$/i.test(text ?? '') ? BigInt(text) : undefined);
@@ -83,8 +81,6 @@ async function show_place(given) {
 // Returns what the side shows while nothing is chosen.
 const unchosen = () => ({ title: 'ELF header', kind: 'header', what: 'at the start of the file',
     blocks: [{ word: 'bytes', at: 0, size: shown_file.summary.header_size, fields: shown_file.summary.header }] });
-
-// ---- files ----
 
 // Returns why a file is not read, or nothing.
 function why_unread({ size }) {

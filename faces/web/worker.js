@@ -18,8 +18,6 @@ import { symtab_at } from './resolve.js';
 import { kind_in_words, summary } from './summary.js';
 import { hex } from './text.js';
 
-// ---- opening ----
-
 // How many bytes are read before the progress is sent.
 const CHUNK = 1 << 24;
 
@@ -92,8 +90,6 @@ function overview() {
         map: map(),
     };
 }
-
-// ---- the page's calls ----
 
 // What the page's lists show, by the list's name: the source, and the indices in their order if it isn't the list's own. And the last
 // request of each list, and of the search over all.
