@@ -4,6 +4,7 @@
 // request, no script may fail, and no name may be markup.
 import assert from 'node:assert/strict';
 import { spawnSync } from 'node:child_process';
+import { randomBytes } from 'node:crypto';
 import { existsSync, mkdtempSync, readdirSync, readFileSync, rmSync, truncateSync, writeFileSync } from 'node:fs';
 import { tmpdir } from 'node:os';
 import { basename, join } from 'node:path';
@@ -394,15 +395,20 @@ async function check_cut() {
     assert.ok(Math.abs(gap - share(held.filter((byte) => byte === 0).length)) < 0.1, `gap ${gap} %`);
     assert.ok(Math.abs(cut - share(end - start)) < 0.1, `cut ${cut} %`);
     await go(`offset/0x${(end - 1).toString(16)}`, `offset 0x${(end - 1).toString(16)}`);
-    const title = `segment ${last}, LOAD (cut)`;
+    const title = `segment ${last}, LOAD (cut: ${(end - start).toLocaleString('en')} of ${size.toLocaleString('en')} bytes are here)`;
     assert.ok((await side()).includes(`in ${title}`) && (await side()).includes(`${title} + 0x${(end - 1 - start).toString(16)}`), await side());
     // (the lines of the hatching divide its colour)
-    const is_code = await row_of('code', await evaluate(`document.getElementById('canvas').height - 20`));
+    const low = await evaluate(`document.getElementById('canvas').height - 16`), is_code = await row_of('code', low);
     assert.ok(is_code.filter((is_it, i) => is_it && !is_code[i - 1]).length > 20);
+    // (what lies past the end is marked there, and named)
+    const marked = (await row_of('bad', low)).indexOf(true), headers = readFileSync(path).readBigUInt64LE(0x28).toString(16);
+    assert.ok(marked > 0 && Math.abs(marked - is_code.lastIndexOf(true)) < 8, `${marked}, ${is_code.lastIndexOf(true)}`);
+    assert.match(await text_of('#legend .past'), new RegExp(`^past the end: Section headers at 0x${headers}, segment \\d+, `));
     const damaged = elf_file({ sections: [{ name: '.text', type: 1, flags: 6, bytes: Buffer.alloc(64) }] });
     damaged.writeBigUInt64LE(1n << 40n, Number(damaged.readBigUInt64LE(0x28)) + 64 + 0x20);
     await pick_written('damaged', damaged, 'layout');
-    assert.deepEqual(await cells(5), ['ELF header', '.text (cut)', '.shstrtab', '.text (cut)', 'Section headers']);
+    const text = `.text (cut: ${damaged.length - 64} of 1,099,511,627,776 bytes are here)`;
+    assert.deepEqual(await cells(5), ['ELF header', text, '.shstrtab', text, 'Section headers']);
 }
 
 // Names depend on the machine and the owner. Numbers without a name are shown as numbers.
@@ -897,16 +903,23 @@ async function check_widths() {
 
 // What is narrower than a pixel is drawn as a pixel: a file of 60,000 sections, and one whose other parts are large.
 async function check_narrow() {
-    const bytes = Buffer.alloc(8), count = 60000, pixels = async (kind) => (await row_of(kind, 12)).filter((is_it) => is_it).length;
-    await pick_written('many', elf_file({ sections: Array.from({ length: count }, () => ({ name: '', type: 1, flags: 2, bytes })) }));
-    const each = Number(/each row has ([\d,]+) bytes/.exec(await text_of('#readout'))[1].replaceAll(',', ''));
-    const wide = await evaluate(`document.getElementById('canvas').width`) - 30 - 7 * 8 - 10, wanted = wide * count * 8 / each;
-    const many = await pixels('constants');
-    assert.ok(each > count * 8 && wanted > 500 && Math.abs(many - wanted) < 4, `${many} pixels, not ${wanted}`);
+    const bytes = Buffer.alloc(8), count = 60000, content = elf_file({ sections: Array(count).fill({ name: '', type: 1, flags: 2, bytes }) });
+    await pick_written('many', content);
+    const wanted = await bar_of(content.length) * count * 8 / await each_row(), many = await pixels_of('constants', 12);
+    assert.ok(wanted > 500 && Math.abs(many - wanted) < 5, `${many} pixels, not ${wanted}`);
     await pick_written('large', elf_file({ sections: [{ name: '.text', type: 1, flags: 6, bytes: Buffer.alloc(1 << 22) }] }));
-    assert.equal(await pixels('header'), 1);
-    assert.ok(await pixels('code') > 500);
+    assert.deepEqual([await pixels_of('header', 12), await pixels_of('code', 12) > 500], [1, true]);
+    const debug = { name: '.debug_info', type: 1, bytes: Buffer.alloc(1 << 20) }, noted = { name: '.note', type: 7, bytes: note('GNU', 3, bytes) };
+    await pick_written('debug', elf_file({ sections: [debug, noted] }));
+    assert.deepEqual(await shares(), { 'debug information': 100 });
+    assert.match(await text_of('#legend'), /each below 0.05 %: ELF header, header tables, symbols and names, notes, gap/);
 }
+
+// The number of bytes of the map's rows, the map's place, the width of a row without its offset, and a wait for the line above the map.
+const each_row = async () => Number(/each row has ([\d,]+) bytes/.exec(await text_of('#readout'))[1].replaceAll(',', ''));
+const canvas_box = () => evaluate(`document.getElementById('canvas').getBoundingClientRect().toJSON()`);
+const bar_of = async (size) => (await canvas_box()).width - 42 - 7 * hex(size).length;
+const readout = (pattern) => until(`${pattern}.test(document.getElementById('readout').textContent)`);
 
 // Returns the map, and functions that return the bytes of a colour, and of one of the page's by its name.
 const PIXELS = `(() => {
@@ -927,74 +940,135 @@ const row_of = (kind, y) => evaluate(`(() => {
     return Array.from({ length: canvas.width }, (_, i) => data.slice(4 * i, 4 * i + 3).join() === wanted);
 })()`);
 
+// Returns how many pixels have the colour of a kind, in a line of each row.
+async function pixels_of(kind, line) {
+    const lines = Array.from({ length: Math.floor(((await canvas_box()).height - 12) / 24) }, (_, row) => row_of(kind, line + 24 * row));
+    return (await Promise.all(lines)).flat().filter((is_it) => is_it).length;
+}
+
 async function check_map() {
     const path = files.at(-1), all = segments_of(path), index = all.findIndex(({ type, flags }) => type === 'LOAD' && flags === 'R E');
     const { offset: start, size } = all[index];
     await pick(path);
-    const each = Number(/each row has ([\d,]+) bytes/.exec(await text_of('#readout'))[1].replaceAll(',', ''));
-    await check_gap();
+    const each = await each_row();
     await check_colours();
     // A segment is outlined in each of its rows.
     await go(`segments/${index}`, `segment ${index}, LOAD`);
-    const rows = await evaluate(`(() => {
-        const { pen, canvas, style } = ${PIXELS}, ink = style('ink').join();
-        const found = [];
-        for (let row = 0; 8 + row * 23 + 16 < canvas.height; row++) {
-            const { data } = pen.getImageData(0, 8 + row * 23 - 1, canvas.width, 1);
-            let all = 0;
-            for (let at = 0; at < data.length; at += 4) if (data.slice(at, at + 3).join() === ink) all++;
-            if (all > 20) found.push(row);
-        }
-        return found;
-    })()`);
+    const rows = [], high = (await canvas_box()).height - 28;
+    for (let y = 7; y < high; y += 24) if ((await row_of('ink', y)).filter((is_it) => is_it).length > 20) rows.push((y - 7) / 24);
     const first = Math.floor(start / each), last = Math.floor((start + size - 1) / each);
     assert.ok(last > first);
     assert.deepEqual(rows, Array.from({ length: last - first + 1 }, (_, i) => first + i));
-    // The line above the map describes what is below the pointer, until the pointer leaves.
-    const { left, top, width } = await evaluate(`document.getElementById('canvas').getBoundingClientRect().toJSON()`);
-    await browser.point(left + width / 2, top + 10);
-    await until(`/ · 0x[0-9a-f]+ to 0x/.test(document.getElementById('readout').textContent)`);
-    await browser.point(5, 5);
-    await until(`/^\\d+ parts, drawn to scale/.test(document.getElementById('readout').textContent)`);
 }
 
-// The contrast of a gap's edge with the background and with its inside is at least 3 to 1.
-async function check_gap() {
-    const { edge, ground, count } = await evaluate(`(() => {
-        const { pen, canvas, style } = ${PIXELS}, edge = style('gap'), wanted = edge.join();
-        const { data } = pen.getImageData(0, 0, canvas.width, canvas.height);
-        let count = 0;
-        for (let at = 0; at < data.length; at += 4) if (data[at + 3] === 255 && data.slice(at, at + 3).join() === wanted) count++;
-        return { edge, ground: style('raised'), count };
-    })()`);
-    assert.ok(count > 100, `${count} points of gaps`);
-    assert.ok(contrast(edge, ground) >= 3, `${contrast(edge, ground)} to 1`);
+// Points at the map, whose line above says what is below the pointer, until that leaves. Returns the line, and the offset that it names.
+async function pointed(x, y) {
+    await browser.point(5, 5);
+    await readout(/^\d+ parts, drawn to scale/);
+    await browser.point(x, y);
+    await readout(/ · 0x[0-9a-f]+ to 0x.* at 0x[0-9a-f]+$/);
+    const text = await text_of('#readout');
+    return { text, byte: Number(/0x[0-9a-f]+$/.exec(text)[0]) };
 }
+
+// The wheel zooms to what is below the pointer, dragging moves it, and keys zoom and move, too. Zooming shows functions, a click on which
+// leads to their symbol, and then bytes.
+async function check_zoom() {
+    await pick(dump);
+    const { left, top, width } = await canvas_box(), [x, y] = [left + 500, top + 40], whole = await each_row(), { byte } = await pointed(x, y);
+    const zoomed = (each) => readout(new RegExp(`each row has ${each.toLocaleString('en')} bytes`));
+    const is_near = async (at) => assert.ok(Math.abs((await pointed(at, y)).byte - byte) < whole / 400);
+    await browser.wheel(x, y, -120);
+    await zoomed(whole / 2);
+    await is_near(x);
+    await browser.drag([x, y], [x + 90, y]);
+    await is_near(x + 90);
+    await evaluate(`document.getElementById('canvas').focus()`);
+    await browser.press('PageDown');
+    assert.ok((await pointed(x, y)).byte > byte + whole / 2);
+    await browser.press('0');
+    await zoomed(whole);
+    await go(main_place, 'main');
+    let each = whole;
+    for (; each > main.size; await zoomed(each)) { each /= 2; await browser.press('+'); }
+    // (the start of what is chosen stays where it was, and functions have other colours than their section)
+    const bar = await bar_of(readFileSync(dump).length);
+    const spot = [left + width - 7 - bar + bar * (main_at % whole) / whole, top + 15 + 24 * Math.floor(main_at / whole)];
+    assert.match((await pointed(...spot)).text, /^main · \.text · code · /);
+    assert.ok(await pixels_of('code', 12) < bar && await pixels_of('in-3', 24) > bar);
+    await go('header', 'ELF header');
+    await browser.drag(spot, spot);
+    await until_chosen('main');
+    for (; each > 16; await zoomed(each)) { each = Math.max(each / 2, 16); await browser.press('+'); }
+    await pointed(x, y); // (then the worker has sent the bytes, too)
+    assert.ok(await pixels_of('in-3', 12) > bar && await pixels_of('code', 12) === 0);
+}
+
+// The strip below a row says what the bytes are like.
+async function check_classes() {
+    const size = 8192, { offset } = sections_of(files.at(-1))['.text'], code = readFileSync(files.at(-1)).subarray(offset, offset + size);
+    const numbers = Buffer.from(Uint32Array.from({ length: size / 4 }, (_, i) => i).buffer), words = Buffer.alloc(size, 'What is below a row? ');
+    const all = [Buffer.alloc(size), words, numbers, code, randomBytes(size)].map((bytes) => ({ name: '.bytes', type: 1, bytes }));
+    const content = elf_file({ sections: all });
+    await pick_written('classes', content);
+    const { left, top } = await canvas_box(), each = await each_row(), bar = await bar_of(content.length);
+    await pointed(left + 500, top + 20);
+    for (const i of all.keys()) {
+        const bytes = await pixels_of(`in-${i}`, 24) * each / bar;
+        assert.ok(Math.abs(bytes - size) < 0.12 * size, `class ${i}: ${bytes}`);
+    }
+}
+
+// An area is as large as the share of its section in the file. A click on a function leads to its symbol, and on a section to it.
+async function check_sizes() {
+    const [largest] = symbols.filter(({ type }) => type === 'FUNC').sort((a, b) => b.size - a.size), whole = readFileSync(dump).length;
+    const section = (name) => ({ name, ...sections[name], place: `sections/${sections[name].index}` });
+    await pick(dump);
+    for (const { name, size, place } of [...['.text', '.rodata', '.symtab'].map(section), { ...largest, place: `${symtab}/${largest.index}` }]) {
+        await click('#tab-sizes');
+        await until(`document.querySelector('.areas a') !== null`);
+        const areas = await evaluate(`[...document.querySelectorAll('.areas a')].map(({ hash, title, style: { width, height }, className }) =>
+            ({ hash, title, area: parseFloat(width) * parseFloat(height) / 100, is_inside: className === 'inside' }))`);
+        const { area, hash, is_inside } = areas.find(({ title }) => title.startsWith(`${name}: ${size.toLocaleString('en')} bytes, `));
+        assert.deepEqual([hash, is_inside || Math.abs(area - 100 * size / whole) < 0.1], [`#${place}`, true], `${name}: ${area} %`);
+        assert.ok(Math.abs(areas.reduce((all, item) => all + (item.is_inside ? 0 : item.area), 0) - 100) < 0.1);
+        await click(`.areas [href='${hash}']`);
+        await until_chosen(name);
+    }
+}
+
+const linear = (colour) => colour.map((part) => (part <= 10.31475 ? part / 255 / 12.92 : ((part / 255 + 0.055) / 1.055) ** 2.4));
+const times = (matrix, vector) => matrix.map((row) => row.reduce((all, value, i) => all + value * vector[i], 0));
 
 // Returns the contrast of two colours: how many times as light the lighter one is, as the WCAG count it.
 function contrast(...colours) {
-    const [more, less] = colours.map((colour) => colour.map((part) => part / 255)
-        .map((part) => (part <= 0.04045 ? part / 12.92 : ((part + 0.055) / 1.055) ** 2.4))
-        .reduce((all, part, i) => all + part * [0.2126, 0.7152, 0.0722][i], 0.05)).sort((a, b) => b - a);
+    const [more, less] = colours.map((colour) => times([[0.2126, 0.7152, 0.0722]], linear(colour))[0] + 0.05).sort((a, b) => b - a);
     return more / less;
 }
 
-// Edges of what can be used, and names on the map, have a contrast of at least 3 to 1. Kinds whose hues are alike to an eye without green
-// differ in lightness.
+// Returns a colour as an eye without green sees it, by Machado, Oliveira and Fernandes, in OKLab.
+const without_green = (colour) => [
+    [[0.367322, 0.860646, -0.227968], [0.280085, 0.672501, 0.047413], [-0.01182, 0.04294, 0.968881]],
+    [[0.4122215, 0.5363325, 0.0514460], [0.2119035, 0.6806995, 0.1073970], [0.0883025, 0.2817188, 0.6299787]],
+    [[0.2104543, 0.7936178, -0.0040720], [1.9779985, -2.4285922, 0.4505937], [0.0259040, 0.7827718, -0.8086758]],
+].reduce((seen, matrix, i) => times(matrix, i === 2 ? seen.map(Math.cbrt) : seen), linear(colour));
+
+// Edges of what can be used, gaps and names on the map have a contrast of at least 3 to 1. An eye without green sees that kinds differ.
 async function check_colours() {
+    assert.ok(await pixels_of('gap', 14) > 100);
     await open_tab('sections');
     const edges = ['#goto', '.bar .button', '#out', '#canvas', '#legend i', '#panel input', '#panel .saving button'];
     const kinds = ['header', 'tables', 'code', 'data', 'constants', 'names', 'relocations', 'notes', 'debug', 'other'];
     const [edge, ground, kind, on] = await evaluate(`(() => {
         const { probe, style } = ${PIXELS}, edge = (selector) => probe(getComputedStyle(document.querySelector(selector)).borderTopColor);
-        return [${quoted(edges)}.map(edge), ['paper', 'raised'].map(style), ${quoted(kinds)}.map(style), ['paper', 'on-kind'].map(style)];
+        const on = ['paper', 'on-kind'].map(style), ground = ['paper', 'raised'].map(style);
+        return [[...${quoted(edges)}.map(edge), style('gap')], ground, ${quoted(kinds)}.map(style), on];
     })()`);
     edge.forEach((colour, i) => ground.forEach((other) => assert.ok(contrast(colour, other) >= 3, `${edges[i]}: ${contrast(colour, other)}`)));
     kind.forEach((colour, i) => assert.ok(contrast(colour, on[Number(i > 0)]) >= 3, `${kinds[i]}: ${contrast(colour, on[Number(i > 0)])}`));
-    for (const pair of [['code', 'names'], ['data', 'relocations']]) {
-        const between = contrast(...pair.map((name) => kind[kinds.indexOf(name)]));
-        assert.ok(between >= 1.4, `${pair.join(' and ')}: ${between}`);
-    }
+    for (const [a, b] of [[2, 5], [3, 6]]) assert.ok(contrast(kind[a], kind[b]) >= 1.4, `${kinds[a]} and ${kinds[b]}`);
+    const seen = kind.map(without_green), apart = (i, j) => Math.hypot(...seen[i].map((value, k) => value - seen[j][k]));
+    kinds.forEach((name, i) => kinds.slice(0, i).forEach((other, j) => assert.ok(apart(i, j) >= 0.07, `${name} and ${other}: ${apart(i, j)}`)));
 }
 
 async function check_themes() {
@@ -1002,7 +1076,6 @@ async function check_themes() {
         await browser.theme(theme);
         await until(`matchMedia('(prefers-color-scheme: ${theme})').matches`);
         await pick(files.at(-1));
-        await check_gap();
         await check_colours();
     }
 }
@@ -1101,7 +1174,8 @@ const checks = [
     check_many_segments, check_padding,
     check_cut, check_labels, check_loading, check_symbol_links, check_early_link, check_section_links, check_history, check_relocation_links,
     check_goto, check_search, check_relocation_names, check_section_indices, check_named_links, check_fields, check_low, check_plain_words,
-    check_copies, check_formula, check_refused_tables, check_demangled, check_words, check_cells, check_widths, check_map, check_narrow, check_themes,
+    check_copies, check_formula, check_refused_tables, check_demangled, check_words, check_cells, check_widths, check_map, check_zoom, check_classes,
+    check_sizes, check_narrow, check_themes,
     check_names, check_keys, check_requests, check_unsupported,
 ];
 

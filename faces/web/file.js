@@ -23,25 +23,21 @@ export const RELR = 19;
 export const SYMBOL_TYPES = [goblin.SHT_SYMTAB, goblin.SHT_DYNSYM];
 export const RELOCATION_TYPES = [goblin.SHT_REL, goblin.SHT_RELA];
 
-/** Returns the result of reading a part, or its refusal. */
-export function part(read, refused) {
+// Returns the result of reading a part, or that of a function for its refusal.
+function read_part(read, refused) {
     try {
         return read();
     } catch (error) {
         if (!(error instanceof GoblinError)) throw error;
-        return { refused: refused(error) };
+        return refused(error);
     }
 }
 
+/** Returns the result of reading a part, or its refusal. */
+export const part = (read, refused) => read_part(read, (error) => ({ refused: refused(error) }));
+
 /** Returns the result of reading a part, or a default if it is refused. */
-export function read_or(other, read) {
-    try {
-        return read();
-    } catch (error) {
-        if (!(error instanceof GoblinError)) throw error;
-        return other;
-    }
-}
+export const read_or = (other, read) => read_part(read, () => other);
 
 /** Returns a refusal for the page: the library's text, what was being read, the bytes that hold its offset, and perhaps what that means. */
 export function refusal(error, what, marks, words) {
@@ -101,9 +97,7 @@ export const section_at = (index) => (typeof index === 'string' ? own_sections.g
 
 /** Returns all sections with their indices, or none if they are refused. */
 export function* sections() {
-    const list = read_or(undefined, () => file.elf.section_headers());
-    if (!list) return;
-    for (const [index, section] of list.entries()) yield { index, section };
+    for (const [index, section] of read_or([], () => file.elf.section_headers()).entries()) yield { index, section };
 }
 
 /** Reports whether a section has debug information, which its name says. */
@@ -115,9 +109,7 @@ export const symbol_tables = () => [...sections(), ...Array.from(own_sections, (
 
 /** Returns all segments with their indices, or none if they are refused. */
 export function* segments() {
-    const list = read_or(undefined, () => file.elf.program_headers());
-    if (!list) return;
-    for (const [index, segment] of list.entries()) yield { index, segment };
+    for (const [index, segment] of read_or([], () => file.elf.program_headers()).entries()) yield { index, segment };
 }
 
 /** Returns the name at an offset of a table, cut if it is long, or an empty text if there is none or the table is refused. */

@@ -29,7 +29,7 @@ const PLACES = {
 function tab_of(place) {
     const [name, first, second] = place.split('/');
     if (name === 'header') return { name, field: first };
-    if (!is_list(name)) return { name: 'summary' };
+    if (!is_list(name)) return { name: name === 'sizes' ? name : 'summary' };
     if (name === 'notes') return { name, of: ['sections', 'segments'].includes(first) ? first : undefined, index: whole(second) };
     const of = /^DT_[A-Z]+$/.test(first) ? first : whole(first);
     if (name === 'symbols' || name === 'relocations') return { name, of, index: whole(second) };

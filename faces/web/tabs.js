@@ -1,4 +1,5 @@
 // The tabs: the header's fields, and the lists with their searches.
+import { area_panel } from './area.js';
 import { button, copy, get, hex, make, number, plural, say, visible } from './dom.js';
 import { Grid } from './grid.js';
 import { refusal_of } from './hex.js';
@@ -36,7 +37,7 @@ export function show_tabs() {
         ['summary', 'Summary', ''], ['header', 'Header', ''], ['sections', 'Sections', length(summary.sections)],
         ['segments', 'Segments', length(summary.segments)], ['symbols', 'Symbols', sum_of(summary.symbols)],
         ['relocations', 'Relocations', sum_of(summary.relocations)], ['notes', 'Notes', notes_sum(summary.notes)],
-        ['layout', 'Layout', number(summary.map.kinds.length)],
+        ['layout', 'Layout', number(summary.map.kinds.length)], ['sizes', 'Sizes', ''],
     ];
     get('tabs').replaceChildren(...list.map(([name, title, count]) => make('button', {
         type: 'button', role: 'tab', id: `tab-${name}`, 'aria-controls': 'panel', 'aria-selected': 'false', tabindex: '-1',
@@ -80,7 +81,7 @@ export async function open_tab(name, of) {
     const mine = open = { name, of };
     select_tab(name);
     mine.ready = (async () => {
-        const content = name === 'summary' ? await summary_panel() : name === 'header' ? header_panel() : await list_panel(mine, of);
+        const panels = { summary: summary_panel, header: header_panel, sizes: area_panel }, content = await (panels[name] ?? list_panel)(mine, of);
         if (open === mine) get('panel').replaceChildren(...content);
         if (open === mine) mine.grid?.draw();
     })();

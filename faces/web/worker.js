@@ -12,6 +12,7 @@ import { find } from './find.js';
 import * as labels from './labels.js';
 import { arranged, cells_of, columns_of, go_over, open_source, plain_cells_of } from './lists.js';
 import { notes_of } from './notes.js';
+import { CLASSES, inside, sizes, under } from './inside.js';
 import { KINDS, parts, titled } from './pieces.js';
 import { symtab_at } from './resolve.js';
 import { kind_in_words, summary } from './summary.js';
@@ -54,15 +55,19 @@ function notes_summary(by, headers) {
     return { length: items.length, refusals, is_cut };
 }
 
+// Returns in words what lies past the end of the file, if something does, and the list of the first piece.
+function past_end() {
+    const { past } = parts(), words = past.slice(0, 2).map((piece) => titled(piece).title).join(', ');
+    return words ? { words: `past the end: ${words}${past.length > 2 ? ` and ${past.length - 2} more` : ''}`, to: past[0].to } : {};
+}
+
 const MOST_LOADED = 1000;
 function map() {
-    const { starts, tops, depths } = parts(), loaded = [];
-    for (const { segment: { p_type, p_offset, p_filesz, p_flags } } of segments()) {
-        if (p_type === 1 && loaded.length < MOST_LOADED) loaded.push([Number(p_offset), Number(p_offset + p_filesz), p_flags & 7]);
-    }
+    const { starts, tops, depths } = parts(), loaded = [...segments()].filter(({ segment }) => segment.p_type === 1).slice(0, MOST_LOADED)
+        .map(({ segment: { p_offset, p_filesz, p_flags } }) => [Number(p_offset), Number(p_offset + p_filesz), p_flags & 7]);
     const kinds = Int8Array.from(tops, (top) => (top ? KINDS.indexOf(top.kind) : -1));
     const cuts = Uint8Array.from(tops, (top) => Number(top?.is_cut ?? false));
-    return { starts: Float64Array.from(starts), kinds, depths: Uint32Array.from(depths), cuts, segments: loaded, KINDS };
+    return { starts: Float64Array.from(starts), kinds, depths: Uint32Array.from(depths), cuts, segments: loaded, past: past_end(), KINDS, CLASSES };
 }
 
 function overview() {
@@ -113,12 +118,6 @@ const calls = {
             return { refused: header_refusal(error), start: file.content.slice(0, 16) };
         }
         return overview();
-    },
-
-    // Returns the names of parts of the map.
-    titles(indices) {
-        const { tops } = parts();
-        return indices.map((index) => (tops[index] ? titled(tops[index]).title : ''));
     },
 
     bytes([at, size]) { return file.content.slice(at, at + size); },
@@ -191,7 +190,7 @@ const calls = {
         const best = all.find(({ table, index }) => symtab_at(table).get(index).st_shndx) ?? all[0];
         return best && `symbols/${best.table}/${best.index}`;
     },
-    summary: () => summary(begin('summary')),
+    summary, inside, under, sizes,
 };
 
 onmessage = async ({ data: { id, call, given } }) => {
