@@ -37,6 +37,6 @@ export async function area_panel() {
     }
     areas.addEventListener('keydown', ({ key, target: { nextSibling, previousSibling } }) =>
         ({ ArrowRight: nextSibling, ArrowLeft: previousSibling, Home: areas.firstChild, End: areas.lastChild })[key]?.focus());
-    const said = `${number(size)} bytes, each in the piece that the map draws there. Functions and variables are symbols that have a size.`;
+    const said = `${number(size)} bytes, where the map draws them. Functions and variables are symbols with a size. Names of C++ are not proved.`;
     return [make('p', { class: 'others' }, said), areas];
 }

@@ -27,8 +27,7 @@ async function find_symbols() {
     Object.assign(found, { table, functions, symbols, starts: symbols.map(({ start }) => start), ends: symbols.map(({ end }) => end) });
 }
 
-let asked;
-const find_once = () => (asked ??= find_symbols());
+const find_once = () => (found.asked ??= find_symbols());
 const name_of = ({ index }) => name_of_symbol(found.table, index, symtab_at(found.table).get(index)) || `symbol ${index}`;
 
 // Returns a function or variable with its location, and perhaps its name.
@@ -42,8 +41,6 @@ export async function largest(most) {
     await find_once();
     return found.functions.sort((a, b) => b.size - a.size).slice(0, most).map((item) => shown(item));
 }
-
-// ---- what the map shows ----
 
 export const CLASSES = ['zeros', 'text', 'numbers', 'code-like', 'high entropy'];
 const [ZEROS, TEXT, NUMBERS, CODE, RANDOM] = CLASSES.keys();
@@ -68,20 +65,18 @@ function class_of(from, to) {
 // Returns the class of a byte: a zero byte is one of zeros, wherever it is.
 const class_at = (byte) => (file.content[byte] === 0 ? ZEROS : class_of(byte, byte + 1));
 
-/**
- * Returns of a view of the map the class of each column of each row, the bytes if each has a column, the functions and variables that have a
- * least size, and of them and of the parts the titles that have room.
- */
+/** Returns what a view of the map shows inside the parts: classes of bytes, each byte if it has a column, symbols, and titles that have room. */
 export async function inside({ start, end, step, columns, least, least_named }) {
     await find_once();
     const { tops, ...all } = parts(), { symbols } = found, last = Math.min(end, file.content.length), of = step === 1 ? class_at : class_of;
     const wide_ones = ({ starts, ends }, size) => [...visible_ranges(starts, ends, start, last, size)].filter((i) => ends[i] - starts[i] >= size);
     const symbol = (i) => ({ ...shown(symbols[i], symbols[i].size >= least_named), is_odd: i % 2 > 0 });
     const part = (i) => ({ ...(tops[i] ? titled(tops[i]) : { title: '' }), start: all.starts[i], end: all.ends[i] });
+    const cells = { length: Math.ceil((last - start) / step) }, class_of_cell = (from) => of(from, Math.min(from + step, last));
     return {
-        start, step, columns, bytes: step === 1 ? file.content.slice(start, last) : [],
-        classes: Uint8Array.from({ length: Math.ceil((last - start) / step) }, (_, i) => of(start + i * step, Math.min(start + (i + 1) * step, last))),
-        symbols: wide_ones(found, least).map(symbol), parts: wide_ones(all, least_named).map(part),
+        start, step, columns, classes: Uint8Array.from(cells, (_, i) => class_of_cell(start + i * step)),
+        bytes: step === 1 ? file.content.slice(start, last) : [], symbols: wide_ones(found, least).map(symbol),
+        parts: wide_ones(all, least_named).map(part),
     };
 }
 
@@ -92,8 +87,6 @@ export function under(byte) {
     const own = symbol?.start <= byte && shown(symbol), content = CLASSES[class_at(byte)];
     return { title, kind, start: starts[part], end: ends[part], depth: depths[part], symbol: own, content };
 }
-
-// ---- sizes ----
 
 const sum_of = (items) => items.reduce((sum, { size }) => sum + size, 0);
 

@@ -4,12 +4,11 @@ import { ask, shown_file } from './reader.js';
 import { go } from './route.js';
 import { first_after, visible_ranges } from './spans.js';
 
-// In pixels: the heights of a row's bar and of the strip below it, the distance to the next row, the space above, and the space on the right.
-const BAND = 14, STRIP = 4, STEP = 24, TOP = 8, RIGHT = 10;
-// In pixels: the least widths of a function, of a piece with a name, and of a byte with its digits, and how far a click may move.
-const LEAST = 2, LEAST_NAMED = 34, DIGITS = 15, CLICK = 4;
-// Of rows the greatest number, the share of the window, and the fewest bytes of one. And how far the wheel turns for a step.
-const MOST_ROWS = 16, SHARE = 1 / 3, LOW = 600, FEWEST = 16, TURN = 60;
+// In pixels: the heights of a row's bar and of the strip below it, the distance to the next row, the space above, and the space on the right;
+// the least widths of a function, of a piece with a name, and of a byte with its digits; and how far a click moves, and the wheel for a step.
+const BAND = 14, STRIP = 4, STEP = 24, TOP = 8, RIGHT = 10, LEAST = 2, LEAST_NAMED = 34, DIGITS = 15, CLICK = 4, TURN = 60;
+// Of rows the greatest number, the share of the window, and the fewest bytes of one.
+const MOST_ROWS = 16, SHARE = 1 / 3, LOW = 600, FEWEST = 16;
 const KIND_WORDS = { header: 'ELF header', tables: 'header tables', names: 'symbols and names', debug: 'debug information' };
 const words_of = (kind) => KIND_WORDS[kind] ?? kind;
 export const colour = (kind) => getComputedStyle(document.documentElement).getPropertyValue(`--${kind}`);
@@ -70,8 +69,6 @@ const end_of_view = () => Math.min(map.view.start + map.view.each * map.rows, ma
 const rows_of_view = () => Math.max(Math.ceil((end_of_view() - map.view.start) / map.view.each), 1);
 const is_in_view = (byte) => map.view.start <= byte && byte < end_of_view();
 
-// ---- drawing ----
-
 // Draws a range, cut at the ends of the rows, by to(x, width, y) for each piece, in units of the canvas.
 function over_rows(from, to, draw) {
     const { start, each } = map.view, last = Math.min(Math.ceil((to - start) / each), rows_of_view());
@@ -84,7 +81,7 @@ function over_rows(from, to, draw) {
 function sized_pen() {
     const canvas = get('canvas'), scale = window.devicePixelRatio || 1, pen = canvas.getContext('2d');
     const wide = canvas.clientWidth, high = TOP + rows_of_view() * STEP + 2, left = 30 + 7 * hex(map.size).length;
-    Object.assign(map, { left, bar: Math.max(wide - left - RIGHT, 1) });
+    Object.assign(map, { wide, left, bar: Math.max(wide - left - RIGHT, 1) });
     canvas.style.height = `${high + 2 * canvas.clientTop}px`;
     Object.assign(canvas, { width: Math.round(wide * scale), height: Math.round(high * scale) });
     pen.scale(scale, scale);
@@ -151,10 +148,7 @@ function draw_symbols({ down, high, fill }) {
     return drawn;
 }
 
-function write(pen, text, shade, x, y) {
-    pen.fillStyle = colour(shade);
-    pen.fillText(text, x, y + BAND / 2 + 1);
-}
+const write = (pen, text, shade, x, y) => Object.assign(pen, { fillStyle: colour(shade) }).fillText(text, x, y + BAND / 2 + 1);
 
 // Draws the classes of bytes, each run of columns with the same class at once, or each byte with its digits.
 function draw_contents(pen, { down, high, fill }, has_digits) {
@@ -223,8 +217,6 @@ function outline(pen, { start, end }, shade, width) {
     over_rows(start, end, (x, wide, y) => pen.strokeRect(x - 0.5, y - 0.5, Math.max(wide, 2) + 1, BAND + STRIP + 1));
 }
 
-// ---- what is chosen ----
-
 // Describes what is at a byte in the line above the map, and outlines it, or describes how the map is drawn.
 async function describe(byte) {
     const readout = get('readout'), { reader } = shown_file, found = (map.pointed = byte) === undefined ? undefined : await ask('under', byte);
@@ -263,12 +255,10 @@ function step(by, byte = map.at + by) {
     if (starts.length) choose(starts.reduce((best, start) => (by * (start - best) < 0 ? start : best)), true);
 }
 
-// ---- the view ----
-
 // Shows rows of a number of bytes, from a byte on.
 function move_to(start, each = map.view.each) {
-    const last = Math.max(map.size - each * (map.rows - 0.5), 0); // (a part of the last row stays free)
-    map.view = { start: each === map.whole ? 0 : Math.round(Math.min(Math.max(start, 0), last)), each };
+    const last = Math.max(map.size - each * (map.rows - 0.5), 0), unit = 2 ** Math.max(Math.floor(Math.log2(each / map.bar)), 0); // (a pixel)
+    map.view = { start: each === map.whole ? 0 : Math.round(Math.min(Math.max(start, 0), last) / unit) * unit, each };
     draw_map();
     describe(undefined);
 }
@@ -312,8 +302,8 @@ const ACTS = {
         zoom(turned > 0 ? 2 : 0.5, byte_at(event));
         turned = 0;
     },
-    pointerdown({ target, pointerId, clientX, clientY }) {
-        from = { x: clientX, y: clientY, start: map.view.start, is_moved: false };
+    pointerdown({ target, pointerId, clientX, clientY, button }) {
+        from = button === 0 ? { x: clientX, y: clientY, start: map.view.start, is_moved: false } : undefined;
         target.setPointerCapture(pointerId);
     },
     pointermove(event) {
@@ -323,7 +313,7 @@ const ACTS = {
         if (from?.is_moved) move_to(from.start + (x / map.bar + Math.round(y / STEP)) * map.view.each);
     },
     pointerup(event) {
-        const byte = from?.is_moved ? undefined : byte_at(event);
+        const byte = from?.is_moved === false ? byte_at(event) : undefined;
         from = undefined;
         if (byte !== undefined) choose(byte);
     },
@@ -334,11 +324,7 @@ const ACTS = {
 export function set_up_map() {
     for (const [name, act] of Object.entries(ACTS)) get('canvas').addEventListener(name, act, { passive: false });
     for (const [id, pressed] of [['in', '+'], ['out', '-'], ['whole', '0']]) get(id).addEventListener('click', KEYS[pressed]);
-    let before = 0;
-    new ResizeObserver(([{ contentRect: { width } }]) => {
-        if (width !== before) fit();
-        before = width;
-    }).observe(get('canvas').parentElement);
+    new ResizeObserver(() => { if (get('canvas').clientWidth !== map.wide) fit(); }).observe(get('canvas').parentElement);
     addEventListener('resize', fit);
     matchMedia('(prefers-color-scheme: dark)').addEventListener('change', () => { if (shown_file.summary) { show_legend(); draw_map(); } });
 }

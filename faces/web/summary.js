@@ -125,8 +125,7 @@ function largest_sections() {
     const share = ({ sh_type, sh_size }) => (sh_type === goblin.SHT_NOBITS ? 'in memory only'
         : `${(100 * Number(sh_size) / file.content.length).toFixed(1)} %`);
     const all = [...sections()].filter(({ section }) => section.sh_size > 0n).sort((a, b) => Number(b.section.sh_size - a.section.sh_size));
-    return all.slice(0, LARGEST)
-        .map(({ index, section }) => row(`${bytes(section.sh_size)}, ${share(section)}`, '', to_section(index)));
+    return all.slice(0, LARGEST).map(({ index, section }) => row(`${bytes(section.sh_size)}, ${share(section)}`, '', to_section(index)));
 }
 
 async function largest_functions() {
