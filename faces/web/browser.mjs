@@ -999,6 +999,9 @@ async function check_zoom() {
     await go('header', 'ELF header');
     await browser.drag(spot, spot);
     await until_chosen('main');
+    const [next] = symbols.filter(({ type, size, value }) => type === 'FUNC' && size > 8 && value > main.value).sort((a, b) => a.value - b.value);
+    await browser.press('ArrowRight');
+    await until_chosen(next.name);
     for (; each > 16; await zoomed(each)) { each = Math.max(each / 2, 16); await browser.press('+'); }
     await pointed(x, y); // (then the worker has sent the bytes, too)
     assert.ok(await pixels_of('in-3', 12) > bar && await pixels_of('code', 12) === 0);
@@ -1009,9 +1012,8 @@ async function check_classes() {
     const size = 8192, { offset } = sections_of(files.at(-1))['.text'], code = readFileSync(files.at(-1)).subarray(offset, offset + size);
     const numbers = Buffer.from(Uint32Array.from({ length: size / 4 }, (_, i) => i).buffer), words = Buffer.alloc(size, 'What is below a row? ');
     const all = [Buffer.alloc(size), words, numbers, code, randomBytes(size)].map((bytes) => ({ name: '.bytes', type: 1, bytes }));
-    const content = elf_file({ sections: all });
-    await pick_written('classes', content);
-    const { left, top } = await canvas_box(), each = await each_row(), bar = await bar_of(content.length);
+    const path = await pick_written('classes', elf_file({ sections: all })), bar = await bar_of(readFileSync(path).length);
+    const { left, top } = await canvas_box(), each = await each_row();
     await pointed(left + 500, top + 20);
     for (const i of all.keys()) {
         const bytes = await pixels_of(`in-${i}`, 24) * each / bar;

@@ -22,7 +22,7 @@ async function find_symbols() {
     });
     all.sort((a, b) => a.start - b.start || b.end - a.end);
     let last = 0;
-    const functions = all.filter(({ start, is_function }, i) => is_function && start !== all[i - 1]?.start); // (other names of one don't count)
+    const functions = all.filter((item) => item.is_function).filter(({ start }, i, list) => start !== list[i - 1]?.start); // (without other names)
     const symbols = all.filter(({ start, end }) => start >= last && (last = end));
     Object.assign(found, { table, functions, symbols, starts: symbols.map(({ start }) => start), ends: symbols.map(({ end }) => end) });
 }

@@ -68,6 +68,7 @@ const part_at = (byte) => Math.min(first_after(map.ends, byte), map.kinds.length
 const end_of_view = () => Math.min(map.view.start + map.view.each * map.rows, map.size);
 const rows_of_view = () => Math.max(Math.ceil((end_of_view() - map.view.start) / map.view.each), 1);
 const is_in_view = (byte) => map.view.start <= byte && byte < end_of_view();
+const write = (pen, text, shade, x, y) => Object.assign(pen, { fillStyle: colour(shade) }).fillText(text, x, y + BAND / 2 + 1);
 
 // Draws a range, cut at the ends of the rows, by to(x, width, y) for each piece, in units of the canvas.
 function over_rows(from, to, draw) {
@@ -147,8 +148,6 @@ function draw_symbols({ down, high, fill }) {
     }));
     return drawn;
 }
-
-const write = (pen, text, shade, x, y) => Object.assign(pen, { fillStyle: colour(shade) }).fillText(text, x, y + BAND / 2 + 1);
 
 // Draws the classes of bytes, each run of columns with the same class at once, or each byte with its digits.
 function draw_contents(pen, { down, high, fill }, has_digits) {

@@ -1,5 +1,4 @@
 // Ranges of bytes in ascending order that do not overlap, by their starts and their ends.
-
 /** Returns the index of the first range that ends after a byte, or the number of ranges. */
 export function first_after(ends, byte) {
     let low = 0, high = ends.length;
