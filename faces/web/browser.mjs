@@ -883,9 +883,11 @@ async function check_widths() {
                 range.setEnd(cell.firstChild, index + word.length);
                 return range.getClientRects().length > 1;
             }).map(([word]) => word))`), [], `${width}`);
-        await open_tab('symbols');
-        const heads = await evaluate(`[...document.querySelectorAll('#panel [role=columnheader]')].map((cell) => [cell.textContent, cell.offsetWidth])`);
-        assert.deepEqual([heads[1][0], Math.max(...heads.map(([, wide]) => wide))], ['Name', heads[1][1]], `${width}`);
+        for (const [name, widest] of [['sections', 'Name'], ['relocations', 'Symbol'], ['symbols', 'Name']]) {
+            await open_tab(name);
+            const heads = await evaluate(`[...document.querySelectorAll('#panel [role=columnheader]')].map((cell) => [cell.offsetWidth, cell.textContent])`);
+            assert.equal(heads.sort(([a], [b]) => b - a)[0][1], widest, `${name}, ${width}`);
+        }
         const bars = await evaluate(`[...document.querySelectorAll('html, body, main, #shown, .columns, .lists, #panel, .grid')]
             .filter((box) => box.offsetParent !== null || box.matches('html, body')).filter((box) => box.scrollHeight > box.clientHeight + 1
                 && !['visible', 'hidden'].includes(getComputedStyle(box).overflowY)).map((box) => box.className || box.tagName)`);

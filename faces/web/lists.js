@@ -77,7 +77,7 @@ const sources = {
         return {
             list: file.elf.section_headers(), place: 30,
             columns: [
-                text('Name', 'sh_name', 110, 4, name_of_section), text('Type', 'sh_type', 92, 0.6, ({ sh_type }) => labels.section_type(sh_type)),
+                text('Name', 'sh_name', 126, 4, name_of_section), text('Type', 'sh_type', 92, 0.6, ({ sh_type }) => labels.section_type(sh_type)),
                 number('Address', 'sh_addr', address, 0.4), number('Offset', 'sh_offset', offset, 0.3), number('Size', 'sh_size', offset, 0.3),
                 text('Flags', 'sh_flags', 118, 0.3, ({ sh_flags }) => labels.section_flags(sh_flags)), number('Link', 'sh_link', index, 0, String),
                 number('Info', 'sh_info', index, 0, String), number('Align', 'sh_addralign', align, 0, String),
@@ -129,8 +129,8 @@ const sources = {
         return {
             list: is_packed ? packed(packed_offsets(section)) : file.elf.relocs(section), place: 48,
             columns: [
-                number('Offset', 'r_offset', address, 0.6), column('Type', 'r_type', 190, 0.5, type),
-                text('Symbol', 'the name of r_sym', 160, 4, (item) => symbol_of_relocation(section.sh_link, item)),
+                number('Offset', 'r_offset', address, 0.6), column('Type', 'r_type', 165, 0.5, type),
+                text('Symbol', 'the name of r_sym', 190, 4, (item) => symbol_of_relocation(section.sh_link, item)),
                 column('Addend', 'r_addend', address, 0.6, added), number('Index', 'r_sym', 56, 0, (index) => (is_packed ? '' : `${index}`)),
             ],
             holds: ({ r_offset }, value) => r_offset === value,
