@@ -104,7 +104,8 @@ const sources = {
     },
 
     symbols({ address }, table) {
-        const name = (item, index) => name_of_symbol(table, index, item), in_source = (...item) => demangled(name(...item)) ?? '';
+        const name = (item, index) => name_of_symbol(table, index, item), known = []; // (a search reads them again and again)
+        const in_source = (item, index) => (known[index] ??= demangled(name(item, index)) ?? '');
         const words = 'the name in C++, read by this page; empty if it is not read', list = symtab_at(table), is_mangled = has_mangled(table);
         return {
             list, place: 48,

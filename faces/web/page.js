@@ -135,7 +135,7 @@ function show_part(part, file, ...words) {
     for (const name of ['start', 'refused', 'shown']) get(name).hidden = name !== part;
     get('search').hidden = part !== 'shown';
     get('trouble').hidden = true;
-    document.body.classList.remove('chosen');
+    document.body.classList.remove('chosen', 'wide');
     document.title = `${visible(file.name)}: goblin`;
     get('file').replaceChildren(put_text(make('b', { title: visible(file.name) }), file.name), make('span', {}, plural(file.size, 'byte')),
         ...words.map((word) => make('span', {}, word)));

@@ -49,15 +49,11 @@ export function name_of_symbol(table, index, symbol) {
     return of !== undefined && section_at(of) ? called(of) : '';
 }
 
-const MOST_TRIED = 1000;
-/** Reports whether a table has names of C++ among its first ones that are like them. */
+const MOST_TRIED = 10000;
+/** Reports whether a table has a name of C++ that is read, among its first ones. */
 export function has_mangled(table) {
-    const { strtab } = symtab_at(table), [from, size] = [strtab.range.offset, strtab.range.size].map(Number), names = file.content.subarray(from, from + size);
-    for (let at = names.indexOf(0x5a), tried = 0; at >= 0 && tried < MOST_TRIED; at = names.indexOf(0x5a, at + 1)) {
-        if (names[at - 1] !== 0x5f || names[at - 2]) continue;
-        if (demangled(name_at(strtab, at - 1))) return true;
-        tried++;
-    }
+    const symbols = symtab_at(table), tried = Math.min(symbols.length, MOST_TRIED);
+    for (let at = 0; at < tried; at++) if (demangled(name_of_symbol(table, at, symbols.get(at)))) return true;
     return false;
 }
 
