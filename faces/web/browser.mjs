@@ -1029,8 +1029,7 @@ async function check_sizes() {
     const section = (name) => ({ name, ...sections[name], place: `sections/${sections[name].index}` });
     await pick(dump);
     for (const { name, size, place } of [...['.text', '.rodata', '.symtab'].map(section), { ...largest, place: `${symtab}/${largest.index}` }]) {
-        await click('#tab-sizes');
-        await until(`document.querySelector('.areas a') !== null`);
+        await Promise.all([click('#tab-sizes'), until(`document.querySelector('.areas a') !== null`)]);
         const areas = await evaluate(`[...document.querySelectorAll('.areas a')].map(({ hash, title, style: { width, height }, className }) =>
             ({ hash, title, area: parseFloat(width) * parseFloat(height) / 100, is_inside: className === 'inside' }))`);
         const { area, hash, is_inside } = areas.find(({ title }) => title.startsWith(`${name}: ${size.toLocaleString('en')} bytes, `));
@@ -1094,7 +1093,7 @@ function renamed(content, name, bytes) {
 async function check_names() {
     const markup = '<img src onerror=a>';
     let content = renamed(readFileSync(made), 'weak_undefined_data', Buffer.from(markup));
-    content = renamed(content, 'zeros', Buffer.from([0xc2, 0x80, 0xe2, 0x80, 0xa8]));
+    content = renamed(renamed(content, 'zeros', Buffer.from([0xc2, 0x80, 0xe2, 0x80, 0xa8])), 'weak_function', Buffer.from('<img src=abc>'));
     content = renamed(content, 'data', Buffer.from([0xff, 0x41, 0x1b, 0x0a]));
     await pick_written('<img src=a>', content, 'symbols');
     const names = await cells(1);
@@ -1104,6 +1103,7 @@ async function check_names() {
     await search('ONERROR', '1 of 21');
     assert.deepEqual(await cells(1), [markup]);
     await go_by_field('onerror', markup);
+    await Promise.all([click('#tab-sizes'), until(`document.querySelector('.areas [title^="<img"]') !== null`)]);
     assert.equal(await evaluate(`document.querySelectorAll('img').length`), 0);
 }
 
