@@ -4,15 +4,17 @@
 // request, no script may fail, and no name may be markup.
 import assert from 'node:assert/strict';
 import { spawnSync } from 'node:child_process';
-import { mkdtempSync, readdirSync, readFileSync, rmSync, truncateSync, writeFileSync } from 'node:fs';
+import { randomBytes } from 'node:crypto';
+import { existsSync, mkdtempSync, readdirSync, readFileSync, rmSync, truncateSync, writeFileSync } from 'node:fs';
 import { tmpdir } from 'node:os';
 import { basename, join } from 'node:path';
 import { pathToFileURL } from 'node:url';
 import { PATIENCE, Chromium, Firefox } from './browsers.mjs';
-import { elf_file, note, packed, rela, symbol } from './elves.mjs';
+import { elf_file, note, packed, rela, symbols_file } from './elves.mjs';
 
 const [, , kind, program, page, dump, made_files, ...files] = process.argv;
-const made = join(made_files, 'little64');
+const made = join(made_files, 'little64'), content = readFileSync(made);
+const counted = [...readdirSync(made_files).map((name) => join(made_files, name)), dump, ...files];
 const folder = mkdtempSync(join(tmpdir(), 'goblin-'));
 const browser = new { chromium: Chromium, firefox: Firefox }[kind](folder);
 const url = pathToFileURL(page).href;
@@ -32,19 +34,27 @@ async function pick(path) {
     await until(`document.querySelector('#file b')?.textContent === ${quoted(basename(path))} && !(${is_busy})`);
 }
 
-// Writes a file, and picks it.
-async function pick_written(name, content) {
+// Writes a file, and picks it, and perhaps opens a tab.
+async function pick_written(name, content, tab) {
     const path = join(folder, name);
     writeFileSync(path, content);
     await pick(path);
+    if (tab) await open_tab(tab);
     return path;
 }
 
+const click = (selector) => evaluate(`document.querySelector(${quoted(selector)}).click()`);
 const drawn = `document.querySelector('#panel .body .row')?.row !== undefined || document.querySelector('#panel .grid')?.ariaRowCount === '1'`;
 
 async function open_tab(name) {
-    await evaluate(`document.getElementById('tab-${name}').click()`);
+    await click(`#tab-${name}`);
     await until(`document.querySelector('#panel .grid[aria-label=${name}]') && (${drawn})`);
+}
+
+// Goes to a list, and waits until the page says how many items it has, or `none` or `refused`.
+async function open_list(place, said) {
+    await evaluate(`void (location.hash = ${quoted(place)})`);
+    await until(`document.querySelector('#panel output')?.textContent === '${said}' && (${drawn} || ${/[a-z]/.test(said)})`);
 }
 
 // Goes to a location, and waits until the title of what is chosen has a text.
@@ -54,10 +64,22 @@ async function go(place, title) {
 }
 
 const until_chosen = (title) => until(`document.querySelector('#chosen h2')?.textContent === ${quoted(title)}`);
+
+// Goes back, or forward, and waits until the title of what is chosen has a text.
+async function go_in_history(way, title) {
+    await evaluate(`history.${way}()`);
+    await until_chosen(title);
+}
+
 const fragment = () => evaluate('location.hash.slice(1)');
 const side = () => text_of('#chosen');
 const cells = (column) => evaluate(`[...document.querySelectorAll('#panel .body .row')].map((row) => row.children[${column}].textContent)`);
-const follow = (text) => evaluate(`[...document.querySelectorAll('#chosen a')].find((link) => link.textContent === ${quoted(text)}).click()`);
+
+async function follow(text, title = text) {
+    await evaluate(`[...document.querySelectorAll('#chosen a')].find((link) => link.textContent === ${quoted(text)}).click()`);
+    await until_chosen(title);
+}
+
 const press_button = (text) =>
     evaluate(`[...document.querySelectorAll('main button')].find((button) => button.textContent === ${quoted(text)}).click()`);
 const field_of = (name) =>
@@ -81,9 +103,10 @@ async function search(text, shown) {
     await until(`document.querySelector('#panel output').textContent === ${quoted(shown)} && (${drawn} || ${quoted(shown)} === 'none')`);
 }
 
-async function go_by_field(text) {
+async function go_by_field(text, title) {
     await evaluate(`(() => { const field = document.getElementById('goto'); field.focus(); field.value = ${quoted(text)}; })()`);
     await browser.press('Enter');
+    if (title) await until_chosen(title);
 }
 
 // ---- what readelf and C report ----
@@ -93,6 +116,10 @@ function run(command, ...words) {
     if (error) throw error;
     return stdout;
 }
+
+// Returns the segments of a file.
+const segments_of = (path) => [...run('readelf', '-W', '-l', path).matchAll(/^ {2}([A-Z_]+) +(0x\S+) \S+ \S+ (0x\S+) \S+ +([RWE ]+) (0x\S+)$/gm)]
+    .map(([, type, offset, size, flags, align]) => ({ type, offset: Number(offset), size: Number(size), flags: flags.trim(), align }));
 
 const sum = (text, pattern) => [...text.matchAll(pattern)].reduce((all, [, count]) => all + Number(count), 0);
 
@@ -121,6 +148,13 @@ function symbols_of(path) {
         .map(([, index, value, size, type, section, name]) =>
             ({ index: Number(index), value: parseInt(value, 16), size: Number(size), type, section, name }));
 }
+
+// Of the program that is picked most: its sections, its symbols and the location of their table, and its function main with its location,
+// address and offset.
+const hex = (number) => `0x${number.toString(16)}`;
+const sections = sections_of(dump), symbols = symbols_of(dump), symtab = `symbols/${sections['.symtab'].index}`, text = sections['.text'];
+const main = symbols.find(({ name }) => name === 'main'), main_place = `${symtab}/${main.index}`, main_address = hex(main.value);
+const main_at = main.value - text.address + text.offset;
 
 // ---- what the page shows of files ----
 
@@ -151,7 +185,7 @@ async function check_refusal(content, what, ...words) {
 }
 
 // A file that is not read: the page shows why, instead of the previous file.
-async function check_trouble(content) {
+async function check_trouble() {
     await pick(made);
     await pick_written('empty', '');
     assert.equal(await text_of('#trouble:not([hidden])'), 'The file is empty: it has 0 bytes.');
@@ -168,14 +202,15 @@ async function check_trouble(content) {
 }
 
 // If the section headers are refused, no list that is made from them is shown as empty.
-async function check_unknown(content) {
+async function check_unknown() {
     const cut = Buffer.from(content);
     cut.writeBigUInt64LE(BigInt(content.length), 0x28);
     await pick_written('headers', cut);
     const words = [];
     for (const name of ['sections', 'symbols', 'relocations', 'notes']) {
         assert.equal(await text_of(`#tab-${name} span`), 'refused', name);
-        await evaluate(`(document.getElementById('panel').replaceChildren(), document.getElementById('tab-${name}').click())`);
+        await evaluate(`document.getElementById('panel').replaceChildren()`);
+        await click(`#tab-${name}`);
         await until(`document.querySelector('#panel .refused') !== null`);
         words.push(await text_of('#panel .refused'));
     }
@@ -183,13 +218,12 @@ async function check_unknown(content) {
     assert.deepEqual(new Set(words), new Set([words[0]]));
     const cut_note = note('GNU', 1, Buffer.alloc(16)).subarray(0, -4);
     const notes = [note('GNU', 3, Buffer.alloc(4)), note('GA\0\xff', 0x100, Buffer.alloc(4)), cut_note];
-    const note_section = { name: '.note', type: 7, bytes: Buffer.concat(notes) };
-    await pick_written('none', elf_file({ sections: [note_section] }));
-    await evaluate(`document.getElementById('tab-symbols').click()`);
+    await pick_written('none', elf_file({ sections: [{ name: '.note', type: 7, bytes: Buffer.concat(notes) }] }));
+    await click('#tab-symbols');
     await until(`document.getElementById('panel').textContent.startsWith('The file has no symbols')`);
     // (a location may name a section that is not such a list; then nothing is found)
-    await evaluate(`void (location.hash = 'symbols/1')`);
-    await until(`document.querySelector('#panel .notice')?.textContent === 'Section 1 holds no symbols.'`);
+    await open_list('symbols/1', 'none');
+    assert.equal(await text_of('#panel .notice'), 'Section 1 holds no symbols.');
     await search('a', 'none');
     // (a note whose owner is not UTF-8 is read; a cut one is refused, and those after it are not read)
     await open_tab('notes');
@@ -202,24 +236,22 @@ async function check_unknown(content) {
 // both that they are outside of what is proved.
 async function check_own_tables() {
     const words = [[0x1000, 8], [0b1011, 8], [0b11, 8], [0x2000, 8]], wanted = ['0x1000', '0x1008', '0x1018', '0x1200', '0x2000'];
-    const path = await pick_written('packed', elf_file({ type: 3, sections: [{ name: '.relr.dyn', type: 19, flags: 2, bytes: packed(...words) }] }));
+    const file = elf_file({ type: 3, sections: [{ name: '.relr.dyn', type: 19, flags: 2, bytes: packed(...words) }] });
+    const path = await pick_written('packed', file, 'relocations');
     const listed = run('readelf', '-W', '-r', path).split('offsets')[1].trim().split('\n').map((line) => `0x${parseInt(line, 16).toString(16)}`);
-    await open_tab('relocations');
     assert.deepEqual([listed, await cells(1), await text_of('#tab-relocations span')], [wanted, wanted, '5']);
     assert.match(await text_of('#panel .others'), /packed relocations .* outside of what is proved/i);
     await go('relocations/1/3', 'packed relocation 3');
     assert.match(await field_of('r_offset'), /^0x1200/);
-    const whole = files.at(-1), content = readFileSync(whole), of = sections_of(whole), output = run('readelf', '-W', '-s', '-r', whole);
-    await pick_written('headless', content.fill(0, 0x28, 0x30).fill(0, 0x3a, 0x40));
+    const whole = files.at(-1), of = sections_of(whole), output = run('readelf', '-W', '-s', '-r', whole);
+    await pick_written('headless', readFileSync(whole).fill(0, 0x28, 0x30).fill(0, 0x3a, 0x40), 'symbols');
     const [symbols, ...relocations] = ['.dynsym', '.rela.dyn', '.rela.plt'].map((name) => of[name].size / 24);
     assert.equal(await text_of('#tab-symbols span'), `${symbols}`);
     assert.equal(await text_of('#tab-relocations span'), `${relocations[0] + relocations[1]}`);
     const names = [...output.split("'.dynsym'")[1].matchAll(/^ *\d+: .* (?:UND|ABS|\d+) ?([^@ \n]*)/gm)].map(([, name]) => name);
-    await open_tab('symbols');
     assert.match(await text_of('#panel .others'), /the numbers of the dynamic section, which is outside of what is proved/);
     assert.deepEqual((await cells(1)).slice(0, 20), names.slice(0, 20));
-    await evaluate(`void (location.hash = 'relocations/DT_JMPREL')`);
-    await until(`document.querySelector('#panel output')?.textContent === '${relocations[1]}' && (${drawn})`);
+    await open_list('relocations/DT_JMPREL', relocations[1]);
     const of_plt = [...output.split("'.rela.plt'")[1].matchAll(/R_\w+ +[0-9a-f]+ ([^@ ]+)/g)].map(([, name]) => name);
     assert.deepEqual((await cells(3)).slice(0, 20), of_plt.slice(0, 20));
 }
@@ -227,7 +259,7 @@ async function check_own_tables() {
 // Returns the rows of the summary: the name and value of each, and whether it is marked as not proved.
 async function facts(path) {
     await pick(path);
-    await evaluate(`document.querySelector('[role=tab]').click()`);
+    await click('[role=tab]');
     await until(`document.querySelector('#panel .summary h3')`);
     const rows = await evaluate(`[...document.querySelectorAll('#panel .summary tr')].map(({ children: [name, value] }) =>
         [name.textContent, value.textContent])`);
@@ -253,7 +285,7 @@ async function check_summary() {
     for (const [name, , is_own] of rows) assert.equal(is_own, /^(kind|needs|read-only relocations|debug file)$/.test(name), name);
     const largest = Object.entries(sections_of(path)).sort(([, a], [, b]) => b.size - a.size)[0];
     assert.ok(rows.some(([size, value]) => size.startsWith(`${largest[1].size.toLocaleString('en')} bytes, `) && value === largest[0]));
-    const functions = symbols_of(dump).filter(({ type, size }) => type === 'FUNC' && size > 0).sort((a, b) => b.size - a.size).slice(0, 10);
+    const functions = symbols.filter(({ type, size }) => type === 'FUNC' && size > 0).sort((a, b) => b.size - a.size).slice(0, 10);
     const found = (await facts(dump)).slice(-functions.length);
     assert.equal(found[0][1], functions[0].name);
     assert.deepEqual(found.map(([size]) => size), functions.map(({ size }) => `${size.toLocaleString('en')} bytes`));
@@ -279,6 +311,12 @@ async function check_core() {
     await go('notes/segments/0', 'CORE PRSTATUS, thread 71');
     assert.deepEqual([await field_of('rax'), await field_of('rip')], ['0x77', '0x401234']);
     assert.match(await field_of('registers'), /not proved/);
+    for (const [machine, places] of [[183, { x0: 0, sp: 31, pc: 32 }], [243, { pc: 0, sp: 2, t6: 31 }]]) {
+        const status = note('CORE', 1, put(480, ...Object.values(places).map((place) => [112 + 8 * place, 0x1000 + place])));
+        await pick_written(`core${machine}`, elf_file({ type: 4, machine, segments: [{ type: 4, bytes: status }] }));
+        await go('notes/segments/0', 'CORE PRSTATUS, thread 0');
+        for (const [name, place] of Object.entries(places)) assert.equal(await field_of(name), `0x${(0x1000 + place).toString(16)}`, name);
+    }
 }
 
 // Returns the legend's percentages by their names.
@@ -301,27 +339,34 @@ async function check_segments() {
     const notes = core_notes.map(([owner, type, name, thread]) => note(owner, type, name === 'PRSTATUS' ? status(thread) : Buffer.alloc(64)));
     const segments = [{ type: 4, bytes: Buffer.concat(notes) }, { flags: 5, vaddr: 0x400000, bytes: Buffer.alloc(4096, 1) },
         { flags: 6, vaddr: 0x600000, bytes: Buffer.alloc(8192, 2) }];
-    const path = await pick_written('core', elf_file({ type: 4, segments }));
+    const path = await pick_written('core', elf_file({ type: 4, segments }), 'notes');
     const core = await shares(), size = readFileSync(path).length, part = (bytes) => Math.round(1000 * bytes / size) / 10;
     assert.equal(core.code, part(4096));
     assert.equal(core.data, part(8192));
     assert.equal(core.notes, part(Buffer.concat(notes).length));
     assert.ok((core.gap ?? 0) < 0.2, `gap ${core.gap} %`);
-    await open_tab('notes');
     assert.deepEqual(await cells(3), core_notes.map(([, , name]) => name));
     assert.deepEqual(await cells(4), core_notes.map(([, , , thread]) => `${thread ?? ''}`));
     await open_tab('layout');
     const pieces = await cells(5), named = (name, thread) => (thread ? `${name}, thread ${thread}` : name);
     for (const [owner, , name, thread] of core_notes) assert.ok(pieces.includes(named(`${owner} ${name}`, thread)), pieces.join('; '));
     assert.ok(pieces.includes('segment 1, LOAD') && pieces.includes('segment 2, LOAD'), pieces.join('; '));
-    const stripped = readFileSync(files.at(-1));
-    stripped.fill(0, 0x28, 0x30);
-    stripped.fill(0, 0x3c, 0x40);
-    await pick_written('stripped', stripped);
-    const loaded = [...run('readelf', '-W', '-l', join(folder, 'stripped')).matchAll(/^ {2}LOAD +(\S+) \S+ \S+ (\S+)/gm)];
-    const covered = loaded.reduce((all, [, , bytes]) => all + Number(bytes), 0);
+    const stripped = readFileSync(files.at(-1)).fill(0, 0x28, 0x30).fill(0, 0x3c, 0x40);
+    const all = segments_of(await pick_written('stripped', stripped)).filter(({ type }) => type === 'LOAD');
+    const covered = all.reduce((sum_of_all, { size: bytes }) => sum_of_all + bytes, 0);
     const { gap } = await shares();
     assert.ok(covered > 0 && Math.abs(gap - 100 * (stripped.length - covered) / stripped.length) < 0.1, `gap ${gap} %`);
+}
+
+// If a file has more segments than its header can say, the first section header says how many.
+async function check_many_segments() {
+    const many = Buffer.concat([elf_file({ type: 4 }), Buffer.alloc(64 + 56 * 70000)]);
+    for (const [at, value, width] of [[0x20, 128, 8], [0x28, 64, 8], [0x38, 0xffff, 2], [0x3a, 64, 2], [0x3c, 1, 2], [64 + 44, 70000, 4]]) {
+        packed([value, width]).copy(many, at);
+    }
+    await pick_written('many', many, 'segments');
+    assert.deepEqual([await text_of('#tab-segments span'), await text_of('#panel output')], ['70,000', '70,000']);
+    await go('segments/69999', 'segment 69999, NULL');
 }
 
 // In a file with sections code is what executable sections hold, and not the padding of an executable segment.
@@ -340,27 +385,30 @@ async function check_padding() {
 
 // The part of a segment that a cut file has is named and hatched. It is no gap.
 async function check_cut() {
-    const path = files.at(-1), pattern = /^ {2}[A-Z_]+ +(0x\S+) \S+ \S+ (0x\S+) \S+ +([RWE ]+) /gm;
-    const all = [...run('readelf', '-W', '-l', path).matchAll(pattern)], last = all.findIndex(([, , , flags]) => flags.trim() === 'R E');
-    const [start, size] = all[last].slice(1, 3).map(Number), end = start + Math.floor(size / 2);
+    const path = files.at(-1), all = segments_of(path), last = all.findIndex(({ flags }) => flags === 'R E');
+    const { offset: start, size } = all[last], end = start + Math.floor(size / 2);
     await pick_written('cut', readFileSync(path).subarray(0, end));
     const held = Buffer.alloc(end).fill(1, 0, 64 + 56 * all.length);
-    for (const [, offset, bytes] of all) held.fill(1, Math.min(Number(offset), end), Math.min(Number(offset) + Number(bytes), end));
+    for (const { offset, size: bytes } of all) held.fill(1, Math.min(offset, end), Math.min(offset + bytes, end));
     const { gap = 0, 'hatched: cut at the file’s end': cut } = await shares();
     const share = (bytes) => 100 * bytes / end;
     assert.ok(Math.abs(gap - share(held.filter((byte) => byte === 0).length)) < 0.1, `gap ${gap} %`);
     assert.ok(Math.abs(cut - share(end - start)) < 0.1, `cut ${cut} %`);
     await go(`offset/0x${(end - 1).toString(16)}`, `offset 0x${(end - 1).toString(16)}`);
-    const title = `segment ${last}, LOAD (cut)`;
+    const title = `segment ${last}, LOAD (cut: ${(end - start).toLocaleString('en')} of ${size.toLocaleString('en')} bytes are here)`;
     assert.ok((await side()).includes(`in ${title}`) && (await side()).includes(`${title} + 0x${(end - 1 - start).toString(16)}`), await side());
     // (the lines of the hatching divide its colour)
-    const is_code = await row_of('code', await evaluate(`document.getElementById('canvas').height - 20`));
+    const low = await evaluate(`document.getElementById('canvas').height - 16`), is_code = await row_of('code', low);
     assert.ok(is_code.filter((is_it, i) => is_it && !is_code[i - 1]).length > 20);
+    // (what lies past the end is marked there, and named)
+    const marked = (await row_of('bad', low)).indexOf(true), headers = readFileSync(path).readBigUInt64LE(0x28).toString(16);
+    assert.ok(marked > 0 && Math.abs(marked - is_code.lastIndexOf(true)) < 8, `${marked}, ${is_code.lastIndexOf(true)}`);
+    assert.match(await text_of('#legend .past'), new RegExp(`^past the end: Section headers at 0x${headers}, segment \\d+, `));
     const damaged = elf_file({ sections: [{ name: '.text', type: 1, flags: 6, bytes: Buffer.alloc(64) }] });
     damaged.writeBigUInt64LE(1n << 40n, Number(damaged.readBigUInt64LE(0x28)) + 64 + 0x20);
-    await pick_written('damaged', damaged);
-    await open_tab('layout');
-    assert.deepEqual(await cells(5), ['ELF header', '.text (cut)', '.shstrtab', '.text (cut)', 'Section headers']);
+    await pick_written('damaged', damaged, 'layout');
+    const text = `.text (cut: ${damaged.length - 64} of 1,099,511,627,776 bytes are here)`;
+    assert.deepEqual(await cells(5), ['ELF header', text, '.shstrtab', text, 'Section headers']);
 }
 
 // Names depend on the machine and the owner. Numbers without a name are shown as numbers.
@@ -370,28 +418,44 @@ async function check_labels() {
     const given = [notes, text('.unwind', 0x70000001), text('.relr.dyn', 19), text('.unknown', 0x61234567), text('.kept', 1, 0x200002)];
     const names = { 62: 'X86_64_UNWIND', 40: 'ARM_EXIDX', 243: '0x70000001' };
     for (const [machine, name] of Object.entries(names)) {
-        await pick_written(`labels${machine}`, elf_file({ machine: Number(machine), osabi: 3, sections: given }));
-        await open_tab('sections');
+        await pick_written(`labels${machine}`, elf_file({ machine: Number(machine), osabi: 3, sections: given }), 'sections');
         assert.deepEqual((await cells(2)).slice(2, 6), [name, 'RELR', '0x61234567', 'PROGBITS']);
         assert.equal((await cells(6))[5], 'ALLOC GNU_RETAIN');
     }
     await open_tab('notes');
     assert.deepEqual(await cells(3), ['STAPSDT', 'GNU_BUILD_ID', '0x3']);
-    await evaluate(`document.getElementById('tab-header').click()`);
+    await click('#tab-header');
     await until(`document.querySelector('[data-field=ei_osabi]')?.textContent.includes('ELFOSABI_GNU')`);
-    const { index } = symbols_of(dump).find(({ name }) => name === 'main');
     await pick(dump);
-    await go(`symbols/${sections_of(dump)['.symtab'].index}/${index}`, 'main');
+    await go(main_place, 'main');
     assert.equal(await field_of('st_info'), '0x12, STB_GLOBAL (1), STT_FUNC (2)');
     // (what belongs together is apart in the text, too, which is copied and read aloud)
-    const { size } = symbols_of(dump)[index], { sections } = counts_of(dump);
-    assert.equal(await field_of('st_size'), `${size}, ${size.toLocaleString('en')} bytes`);
-    assert.deepEqual([await text_of('#tab-sections'), await text_of('h1')], [`Sections ${sections}`, 'goblin what an ELF file holds']);
+    assert.equal(await field_of('st_size'), `${main.size}, ${main.size.toLocaleString('en')} bytes`);
+    assert.deepEqual([await text_of('#tab-sections'), await text_of('h1')], [`Sections ${counts_of(dump).sections}`, 'goblin what an ELF file holds']);
     assert.match(await field_of('st_other'), /STV_DEFAULT \(0\)/);
 }
 
+// Names of C++: some of each form that is read, and some that are left alone: with an expression, a lambda, and an older name of Rust.
+const READ = ['_ZN5space5ClassILi5ELb1ELm7EEC2ERKS1_', '_ZNKSs4sizeEv', '_ZStlsISt11char_traitsIcEERSt13basic_ostreamIcT_ES5_PKc', '_ZTVN1a1bE',
+    '_ZN1aIiEaSEOS0_', '_Z3mapIPFvPKciEET_S3_', '_ZThn16_N1a1bEv', '_ZN3fooB5cxx11ILN1k1eE3EJidEE3barEv.part.0', '_ZNO1a1bEVPKi', '_ZN12_GLOBAL__N_11aD1Ev'];
+const LEFT_ALONE = ['_Z1fILi1EEvRAT__c', '_ZZ1fvENKUlvE_clEv', '_ZN4core3fmt17h0123456789abcdefE', '_Z', '_ZN', 'main', '_Z1fS9_'];
+
+async function check_demangled() {
+    const library = ['/usr/lib/x86_64-linux-gnu', '/usr/lib64', '/usr/lib'].map((path) => join(path, 'libstdc++.so.6')).find((path) => existsSync(path));
+    const listed = library ? [...run('readelf', '-W', '--dyn-syms', library).matchAll(/ (_Z[^\s@]+)/g)].map(([, name]) => name) : [];
+    const names = [...READ, ...LEFT_ALONE, ...new Set(listed)], wanted = run('c++filt', '-n', ...names).split('\n');
+    await pick_written('mangled', symbols_file(names.map((text) => ({ text }))), 'symbols');
+    const found = rows_of(await saved('symbols')).slice(1).map((cells_of_name) => cells_of_name[2]);
+    assert.deepEqual(found.slice(0, READ.length + LEFT_ALONE.length), [...wanted.slice(0, READ.length), ...LEFT_ALONE.map(() => '')]);
+    const read = found.filter(Boolean).length;
+    assert.ok(read > 0.95 * names.length || !library, `${read} of ${names.length}`);
+    assert.deepEqual(found, found.map((text, i) => text && wanted[i]));
+    await go('symbols/1/1', names[0]);
+    assert.equal(await field_of('demangled'), `${wanted[0]}, not proved`);
+}
+
 // While a large file is read, the previous one stays, with its name, and can be used. The page shows how much is left.
-async function check_loading(content) {
+async function check_loading() {
     await pick(dump);
     await open_tab('sections');
     const large = join(folder, 'large');
@@ -422,49 +486,37 @@ async function check_loading(content) {
 const bytes_of = (path, at, size) => readFileSync(path).subarray(at, at + size).toString('hex');
 
 async function check_symbol_links() {
-    const sections = sections_of(dump), main = symbols_of(dump).find(({ name }) => name === 'main');
-    const text = Object.entries(sections).find(([, { index }]) => `${index}` === main.section);
     await pick(dump);
-    await go(`symbols/${sections['.symtab'].index}/${main.index}`, 'main');
-    const at = main.value - text[1].address + text[1].offset, shown = await bytes_shown();
-    assert.ok(shown.length > 40 && bytes_of(dump, at, main.size).startsWith(shown), shown);
+    await go(main_place, 'main');
+    const shown = await bytes_shown(), data = sections['.data'];
+    assert.ok(shown.length > 40 && bytes_of(dump, main_at, main.size).startsWith(shown), shown);
     // (a symbol without a size has the bytes from its offset on)
-    const label = symbols_of(dump).find(({ type, size, section }) => type === 'NOTYPE' && size === 0 && section === `${sections['.data'].index}`);
-    await go(`symbols/${sections['.symtab'].index}/${label.index}`, label.name);
-    const from = label.value - sections['.data'].address + sections['.data'].offset;
+    const label = symbols.find(({ type, size, section }) => type === 'NOTYPE' && size === 0 && section === `${data.index}`);
+    await go(`${symtab}/${label.index}`, label.name);
     assert.ok((await bytes_shown()).length > 0);
-    assert.ok(bytes_of(dump, from, 16).startsWith(await bytes_shown()), label.name);
-    await go(`symbols/${sections['.symtab'].index}/${main.index}`, 'main');
-    await follow('address');
-    await until_chosen(`address 0x${main.value.toString(16)}`);
+    assert.ok(bytes_of(dump, label.value - data.address + data.offset, 16).startsWith(await bytes_shown()), label.name);
+    await go(main_place, 'main');
+    await follow('address', `address ${main_address}`);
     assert.match(await side(), /segment \d+, LOAD/);
     await follow('main');
-    await until_chosen('main');
-    await follow(text[0]);
-    await until_chosen(text[0]);
-    const order = [`sections/${text[1].index}`, `symbols/${sections['.symtab'].index}/${main.index}`, `address/0x${main.value.toString(16)}`];
-    assert.equal(await fragment(), order[0]);
-    await evaluate('history.back()');
-    await until_chosen('main');
-    assert.equal(await fragment(), order[1]);
-    await evaluate('history.back()');
-    await until_chosen(`address 0x${main.value.toString(16)}`);
-    assert.equal(await fragment(), order[2]);
-    await evaluate('history.forward()');
-    await until_chosen('main');
+    await follow('.text');
+    assert.equal(await fragment(), `sections/${text.index}`);
+    await go_in_history('back', 'main');
+    assert.equal(await fragment(), main_place);
+    await go_in_history('back', `address ${main_address}`);
+    assert.equal(await fragment(), `address/${main_address}`);
+    await go_in_history('forward', 'main');
 }
 
 // A link to a location leads there once the file is picked.
 async function check_early_link() {
-    const { index } = sections_of(dump)['.dynstr'];
-    await browser.open(`${url}#sections/${index}`);
+    await browser.open(`${url}#sections/${sections['.dynstr'].index}`);
     await pick(dump);
     await until_chosen('.dynstr');
     assert.equal(await evaluate(`document.querySelector('#panel .row[aria-selected=true]').children[1].textContent`), '.dynstr');
 }
 
 async function check_section_links() {
-    const sections = sections_of(dump);
     await pick(dump);
     const links = [['.rela.plt', '.dynsym', '.got'], ['.rela.dyn', '.dynsym'], ['.dynsym', '.dynstr'], ['.symtab', '.strtab']];
     for (const [name, link, info] of links) {
@@ -473,7 +525,6 @@ async function check_section_links() {
         assert.match(await field_of('sh_link'), new RegExp(`^\\d+, ${link.replace('.', '\\.')}$`));
         if (info) assert.match(await field_of('sh_info'), /^\d+, \.got/);
         await follow(link);
-        await until_chosen(link);
     }
 }
 
@@ -482,23 +533,20 @@ async function check_history() {
     await pick(dump);
     await open_tab('sections');
     const [, first, second, third] = await cells(1);
-    const click = (row) => evaluate(`document.querySelectorAll('#panel .body .row')[${row}].children[1].click()`);
-    await click(1);
-    await until_chosen(first);
-    await click(2);
-    await until_chosen(second);
+    for (const [row, title] of [[1, first], [2, second]]) {
+        await evaluate(`document.querySelectorAll('#panel .body .row')[${row}].children[1].click()`);
+        await until_chosen(title);
+    }
     await evaluate(`document.querySelector('#panel .grid').focus()`);
     await browser.press('ArrowDown');
     await until_chosen(third);
-    await evaluate('history.back()');
-    await until_chosen(first);
+    await go_in_history('back', first);
     assert.equal(await evaluate(`document.querySelector('#panel .row[aria-selected=true]').children[1].textContent`), first);
     // (a tab where nothing is chosen shows nothing of the tab before)
     await open_tab('segments');
     await until_chosen('ELF header');
-    await evaluate('history.back()');
-    await until_chosen(first);
-    await evaluate(`document.getElementById('tab-sections').click()`);
+    await go_in_history('back', first);
+    await click('#tab-sections');
     await until_chosen('ELF header');
     assert.equal(await evaluate(`document.querySelector('#panel .row[aria-selected=true]')`), null);
     // (what is not a location leaves a tab open; a failing script would be reported at the end)
@@ -520,10 +568,8 @@ async function check_relocation_links() {
         section.address > 0 && address >= section.address && address < section.address + section.size && section.type !== 'NOBITS');
     assert.equal(await bytes_shown(), bytes_of(path, address - got.address + got.offset, 8));
     assert.match(await field_of('r_type'), /R_X86_64_GLOB_DAT/);
-    await follow('address');
-    await until_chosen(`address 0x${address.toString(16)}`);
-    await evaluate('history.back()');
-    await until_chosen(all[at][3]);
+    await follow('address', `address 0x${address.toString(16)}`);
+    await go_in_history('back', all[at][3]);
     await follow(all[at][3]);
     await until(`location.hash.startsWith('#symbols/${sections['.dynsym'].index}/')`);
     await until(`[...document.querySelectorAll('#chosen th')].some((cell) => cell.textContent === 'st_info')`);
@@ -536,50 +582,42 @@ async function check_relocation_links() {
 }
 
 async function check_goto() {
-    const sections = sections_of(dump), main = symbols_of(dump).find(({ name }) => name === 'main');
     await pick(dump);
-    await go_by_field(' 0x10 ');
-    await until_chosen('offset 0x10');
+    const inside = hex(main.value + 1), until_place = (place) => until(`document.querySelector('#chosen h2').textContent.endsWith('${place}')`);
+    await go_by_field(' 0x10 ', 'offset 0x10');
     assert.match(await side(), /in ELF header/);
-    await go_by_field(`0x${(main.value + 1).toString(16)}`);
-    await until(`document.querySelector('#chosen h2').textContent.endsWith('0x${(main.value + 1).toString(16)}')`);
+    await go_by_field(inside);
+    await until_place(inside);
     assert.match(await side(), /main \+ 0x1/);
-    await go_by_field('.dynstr');
-    await until_chosen('.dynstr');
+    await go_by_field('.dynstr', '.dynstr');
     await until(`document.activeElement === document.querySelector('#chosen h2')`);
-    await go_by_field('main');
-    await until_chosen('main');
-    assert.equal(await fragment(), `symbols/${sections['.symtab'].index}/${main.index}`);
+    await go_by_field('main', 'main');
+    assert.equal(await fragment(), main_place);
     await go_by_field('there is no such name');
     await until(`!document.getElementById('none').hidden`);
     // Digits without 0x are decimal or hexadecimal. The page says how it reads them, and has a link to the other reading.
     const readings = ['offset 0x64, read as decimal', 'offset 0x100, read as hexadecimal'];
     for (const [text, [taken, other]] of [['100', readings], ['0000000000000100', [...readings].reverse()]]) {
-        await go_by_field(text);
+        await go_by_field(text, taken.split(',')[0]);
         await until(`document.getElementById('said').textContent === ${quoted(`${taken}, or ${other}`)}`);
-        await until_chosen(taken.split(',')[0]);
-        await evaluate(`document.querySelector('#said a').click()`);
+        await click('#said a');
         await until_chosen(other.split(',')[0]);
     }
     await go_by_field(main.value.toString(16).padStart(16, '0'));
-    await until(`document.querySelector('#chosen h2').textContent.endsWith('0x${main.value.toString(16)}')`);
-    await until(`/^\\w+ 0x${main.value.toString(16)}, read as hexadecimal/.test(document.getElementById('said').textContent)`);
+    await until_place(main_address);
+    await until(`/^\\w+ ${main_address}, read as hexadecimal/.test(document.getElementById('said').textContent)`);
     // (a name that could be a number is a name)
     await pick_written('named', elf_file({ sections: [{ name: 'a1', type: 1, bytes: Buffer.alloc(256) }] }));
-    await go_by_field('a1');
-    await until_chosen('a1');
-    await go_by_field('a2');
-    await until_chosen('offset 0xa2');
+    await go_by_field('a1', 'a1');
+    await go_by_field('a2', 'offset 0xa2');
 }
 
 async function check_search() {
-    const symbols = symbols_of(dump), main = symbols.find(({ name }) => name === 'main');
-    const { index } = sections_of(dump)['.symtab'], all = symbols.length.toLocaleString('en');
+    const all = symbols.length.toLocaleString('en');
     await pick(dump);
-    await evaluate(`void (location.hash = 'symbols/${index}')`);
-    await until(`document.querySelector('#panel output')?.textContent === '${all}'`);
+    await open_list(symtab, all);
     const holding = symbols.filter(({ value, size }) => value === main.value + 1 || (value < main.value + 1 && main.value + 1 < value + size));
-    await search(`  0x${(main.value + 1).toString(16)} `, `${holding.length} of ${all}`);
+    await search(`  ${hex(main.value + 1)} `, `${holding.length} of ${all}`);
     assert.ok((await cells(1)).includes('main'));
     const kinds = symbols.filter(({ type }) => type === 'SECTION' || type === 'FILE').length;
     assert.ok(kinds > 0);
@@ -609,9 +647,8 @@ async function check_relocation_names() {
         const path = await pick_written(`types${machine}`, elf_file({ machine, sections: [{ name: '.rela', type: 4, entsize: 24, bytes }] }));
         const names = new Map([...run('readelf', '-W', '-r', path).matchAll(/^0{16} +([0-9a-f]{16}) (R_\w+)/gm)].map(([, info, name]) =>
             [Number(BigInt(`0x${info}`) & 0xffffffffn), name]));
-        await evaluate(`void (location.hash = 'relocations/1')`);
-        await until(`document.querySelector('#panel output')?.textContent === '1,040'`);
-        const own = (await saved('relocations')).trim().split('\r\n').slice(1).map((line) => line.split(',')[2]);
+        await open_list('relocations/1', '1,040');
+        const own = rows_of(await saved('relocations')).map(([, , type]) => type);
         const both = own.flatMap((name, type) => (name.startsWith('R_') && names.has(type) && !NAMED_OTHERWISE[machine]?.includes(type)
             ? [[name, names.get(type)]] : []));
         assert.deepEqual(both.map(([name]) => name), both.map(([, name]) => name), `machine ${machine}`);
@@ -620,22 +657,25 @@ async function check_relocation_names() {
     // (in 64-bit files for MIPS a relocation has three types, the first one in the last byte)
     const three = rela({ type: 0 });
     three.set([0, 24, 5, 7], 12);
-    const path = await pick_written('mips', elf_file({ machine: 8, sections: [{ name: '.rela', type: 4, entsize: 24, bytes: three }] }));
-    await open_tab('relocations');
+    const path = await pick_written('mips', elf_file({ machine: 8, sections: [{ name: '.rela', type: 4, entsize: 24, bytes: three }] }), 'relocations');
     const types = [...run('readelf', '-W', '-r', path).matchAll(/R_MIPS_\w+/g)].map(([name]) => name);
     assert.deepEqual([types, await cells(2)], [['R_MIPS_GPREL16', 'R_MIPS_HI16', 'R_MIPS_SUB'], [types.join(' ')]]);
 }
 
+// Returns the cells of each line of a saved list but the first.
+const rows_of = (text) => text.trim().split('\r\n').slice(1).map((line) =>
+    [...line.matchAll(/(?:^|,)(?:"((?:[^"]|"")*)"|([^,]*))/g)].map(([, inside, plain]) => inside?.replaceAll('""', '"') ?? plain));
+
 // Saves the open list, and returns the content of the file.
 async function saved(name) {
-    const before = new Set(readdirSync(browser.downloads)), is_done = (file) => file.endsWith('.csv') && !before.has(file);
+    const before = new Set(readdirSync(browser.downloads)), form = new RegExp(`\\.${name}(\\(\\d+\\))?( \\(\\d+\\))?\\.csv$`);
+    const is_done = (file) => form.test(file) && !before.has(file); // (until it is whole, Firefox gives it another name)
     await press_button('Save CSV');
     for (const end = Date.now() + PATIENCE; Date.now() < end;) {
         const now = readdirSync(browser.downloads), file = now.find(is_done);
         if (file && !now.some((other) => /\.(crdownload|part)$/.test(other))) {
             const content = readFileSync(join(browser.downloads, file), 'utf8');
             if (content) {
-                assert.match(file, new RegExp(`\\.${name}(\\(\\d+\\))?( \\(\\d+\\))?\\.csv$`));
                 rmSync(join(browser.downloads, file)); // (else another of its name would replace it)
                 return content;
             }
@@ -647,25 +687,20 @@ async function saved(name) {
 
 // A section's index that does not fit in its symbol, and the symbol of a section.
 async function check_section_indices() {
-    const names = Buffer.from('\0past\0'), at = (index) => ({ name: `.s${index}`, type: 1, bytes: Buffer.alloc(0) });
-    const symbols = Buffer.concat([symbol({}), symbol({ info: 3, shndx: 5 }), symbol({ name: 1, info: 0x12, shndx: 0xffff })]);
-    const path = await pick_written('indices', elf_file({ sections: [
-        { name: '.symtab', type: 2, link: 2, info: 2, entsize: 24, bytes: symbols }, { name: '.strtab', type: 3, bytes: names },
-        { name: '.shndx', type: 18, link: 1, entsize: 4, bytes: packed([0, 4], [0, 4], [6, 4]) }, ...[4, 5, 6].map(at),
-    ] }));
+    const others = [4, 5, 6].map((index) => ({ name: `.s${index}`, type: 1, bytes: Buffer.alloc(0) }));
+    const indices = { name: '.shndx', type: 18, link: 1, entsize: 4, bytes: packed([0, 4], [0, 4], [6, 4]) };
+    const content = symbols_file([{ info: 3, shndx: 5 }, { text: 'past', info: 0x12, shndx: 0xffff }], indices, ...others);
+    const path = await pick_written('indices', content, 'symbols');
     assert.deepEqual(symbols_of(path).map(({ section }) => section), ['UND', '5', '6']);
-    await open_tab('symbols');
     assert.deepEqual(await cells(1), ['', '.s5', 'past']);
     assert.deepEqual(await cells(7), ['undefined', '.s5', '.s6']);
     await go('symbols/1/2', 'past');
     await follow('.s6');
-    await until_chosen('.s6');
 }
 
 async function check_copies() {
-    const { index } = sections_of(dump)['.symtab'], symbols = symbols_of(dump), main = symbols.find(({ name }) => name === 'main');
     await pick(dump);
-    await go(`symbols/${index}/${main.index}`, 'main');
+    await go(main_place, 'main');
     await evaluate(`void (navigator.clipboard.writeText = async (text) => { globalThis.copied = text; })`);
     await evaluate(`document.querySelector('#panel .row[aria-selected=true]').children[1].click()`);
     await until_chosen('main');
@@ -683,35 +718,25 @@ async function check_copies() {
         grid.dispatchEvent(event);
         return event.clipboardData.getData('text/plain');
     })()`), 'main');
-    const cells_of_main = [main.index, 'main', `0x${main.value.toString(16)}`, main.size, 'FUNC', 'GLOBAL', 'DEFAULT', '.text'];
+    const cells_of_main = [main.index, 'main', main_address, main.size, 'FUNC', 'GLOBAL', 'DEFAULT', '.text'];
     assert.equal(await copied('Copy row'), cells_of_main.join('\t'));
-    const text = sections_of(dump)['.text'], at = main.value - text.address + text.offset;
-    assert.equal((await copied('Copy hex')).replaceAll(' ', ''), bytes_of(dump, at, main.size));
-    const lines = (await saved('symbols')).trim().split('\r\n').map((line) => line.split(','));
-    assert.deepEqual(lines[0], ['#', 'Name', 'Value', 'Size', 'Type', 'Binding', 'Visibility', 'Section']);
-    // (names may have commas)
-    assert.deepEqual(lines.slice(1).map(([number, ...others]) => [number, ...others.slice(-6, -4)].map(Number)),
-        symbols.map((item) => [item.index, item.value, item.size]));
-    assert.equal(lines[1 + main.index][1], 'main');
-    // (a text that a spreadsheet would run, and one that would end a cell)
-    await check_formula();
+    assert.equal((await copied('Copy hex')).replaceAll(' ', ''), bytes_of(dump, main_at, main.size));
+    const list = await saved('symbols'), rows = rows_of(list);
+    assert.equal(list.split('\r\n')[0], '#,Name,Value,Size,Type,Binding,Visibility,Section');
+    assert.deepEqual(rows.map(([number, , value, size]) => [number, value, size].map(Number)), symbols.map((item) => [item.index, item.value, item.size]));
+    assert.equal(rows[main.index][1], 'main');
 }
 
+// A text that a spreadsheet would run, and one that would end a cell.
 async function check_formula() {
-    const names = Buffer.from('\0=1+1\0a,"b"\0'), symbols = Buffer.concat([symbol({}), symbol({ name: 1 }), symbol({ name: 6 })]);
-    await pick_written('formula', elf_file({ sections: [
-        { name: '.symtab', type: 2, link: 2, entsize: 24, bytes: symbols }, { name: '.strtab', type: 3, bytes: names } ] }));
-    await open_tab('symbols');
+    await pick_written('formula', symbols_file([{ text: '=1+1' }, { text: 'a,"b"' }]), 'symbols');
     const lines = (await saved('symbols')).trim().split('\r\n');
     assert.ok(lines[2].startsWith("1,'=1+1,0x0,") && lines[3].startsWith('2,"a,""b""",0x0,'), lines.join('\n'));
     // (numbers that the page shows as words and signs are saved as numbers)
     const content = elf_file({ segments: [{ flags: 5, bytes: Buffer.alloc(4096) }],
         sections: [{ name: '.rela', type: 4, entsize: 24, bytes: rela({ type: 2, addend: (1n << 64n) - 16n }) }] });
     await pick_written('numbers', content);
-    const saved_cells = async (name) => {
-        await open_tab(name);
-        return (await saved(name)).trim().split('\r\n').slice(1).map((line) => line.split(','));
-    };
+    const saved_cells = async (name) => { await open_tab(name); return rows_of(await saved(name)); };
     assert.equal((await saved_cells('relocations'))[0][4], '-0x10');
     assert.equal((await saved_cells('segments'))[0][2], '0x5');
     const parts = (await saved_cells('layout')).map(([, from, to, size, share]) => [Number(to) - Number(from), Number(size), share]);
@@ -728,8 +753,7 @@ async function check_refused_tables() {
         for (const opened of [[2], [1, 2], [1, 3]]) {
             await pick_written(`refused-${name}`, content);
             for (const index of opened) {
-                await evaluate(`void (location.hash = '${name}/${index}')`);
-                await until(`document.querySelector('#panel output')?.textContent === '${{ 1: 3, 2: 'refused', 3: 'none' }[index]}'`);
+                await open_list(`${name}/${index}`, { 1: 3, 2: 'refused', 3: 'none' }[index]);
                 assert.equal(await evaluate(`document.querySelector('#panel .saving').offsetParent !== null`), index === 1);
                 const lines = (await saved(name)).trim().split('\r\n');
                 assert.equal(lines.length, index === 1 ? 4 : 1, `${name} of section ${index}: ${lines}`);
@@ -747,18 +771,17 @@ async function check_plain_words() {
         await check_refusal(Buffer.from(begin.padEnd(80, ' '), 'latin1'), words, 'This is not an ELF file');
     }
     await pick_written('short', content.subarray(0, 0x1000));
-    await evaluate(`document.getElementById('tab-sections').click()`);
+    await click('#tab-sections');
     await until(`document.querySelector('#panel .plainly') !== null`);
     assert.match(await text_of('#panel .plainly'), /^The section headers begin at 0x1800, the file ends at 0x1000: it is cut/);
     assert.ok((await facts(join(folder, 'short'))).some(([, value]) => value === 'unknown, the section headers are refused'));
-    await browser.evaluate(`document.getElementById('example').click()`);
+    await click('#example');
     await until(`document.querySelector('#file b')?.textContent === 'example'`);
     assert.match(await text_of('#file'), /program at fixed addresses for x86-64/);
 }
 
 // A link by a name leads to a section or symbol of a file that is built anew, wherever it is there.
 async function check_named_links() {
-    const text = sections_of(dump)['.text'], main = symbols_of(dump).find(({ name }) => name === 'main');
     await pick(dump);
     await evaluate(`void (navigator.clipboard.writeText = async (given) => { globalThis.copied = given; })`);
     for (const [place, name, value] of [['section=.text', 'sh_offset', text.offset], ['symbol=main', 'st_value', main.value]]) {
@@ -773,7 +796,7 @@ async function check_named_links() {
 
 // A row of bytes has as many as there is room for. A field of a record shows its bytes, and a byte its field.
 async function check_fields() {
-    const { index, size, offset } = sections_of(dump)['.text'], little = (number) => packed([number, 8]).toString('hex');
+    const { index, size, offset } = text, little = (number) => packed([number, 8]).toString('hex');
     await pick(dump);
     for (const [width, each] of [[1600, 16], [1280, 8], [800, 16], [400, 8], [1400, 8]]) {
         await browser.resize(width, 1000);
@@ -782,6 +805,13 @@ async function check_fields() {
         await until(`document.querySelector('#chosen .hex .row')?.row`);
         assert.equal((await text_of('#chosen .hex .row :nth-child(2)')).trim().split(' ').length, each, `${width}`);
     }
+    await browser.resize(1280, 1000);
+    for (const each of [32, 8]) {
+        await press_button('Wide');
+        await until(`document.querySelector('#chosen .hex .row :nth-child(2)')?.textContent.trim().split(' ').length === ${each}`);
+        assert.equal(await evaluate(`document.getElementById('panel').offsetParent === null`), each === 32);
+    }
+    await browser.resize(1400, 1000);
     const lit = () => evaluate(`['tr.lit th', '.hex .cell:nth-child(2) .lit'].map((place) =>
         [...document.querySelectorAll('#chosen ' + place)].map((item) => item.textContent).join(''))`);
     await press_button('sh_size');
@@ -794,9 +824,8 @@ async function check_fields() {
 async function check_words() {
     await pick(made);
     assert.match(await text_of('#file'), /little endian/);
-    await pick_written('big', readFileSync(join(made_files, 'big64')));
+    await pick_written('big', readFileSync(join(made_files, 'big64')), 'segments');
     assert.match(await text_of('#file'), /big endian/);
-    await open_tab('segments');
     const heads = await evaluate(`[...document.querySelectorAll('#panel [role=columnheader]')].map((cell) => [cell.textContent, cell.title])`);
     assert.deepEqual(heads.slice(3, 7), [['Offset', 'p_offset'], ['File size', 'p_filesz'], ['Address', 'p_vaddr'], ['Memory size', 'p_memsz']]);
 }
@@ -809,15 +838,12 @@ async function check_cells() {
     const cut = (at) => evaluate(`[...document.querySelectorAll('#panel .body .cell')].filter((cell) => cell.scrollWidth > cell.clientWidth
         || !${seen}([cell.getBoundingClientRect(), document.querySelector('#panel .grid').getBoundingClientRect()]))${at}`);
     await open_tab('segments');
-    const aligned = [...run('readelf', '-W', '-l', files.at(-1)).matchAll(/^ {2}[A-Z_]+ +0x.* (0x[0-9a-f]+)$/gm)].map(([, number]) => number);
+    const aligned = segments_of(files.at(-1)).map(({ align }) => align);
     assert.ok(aligned.includes('0x1000'));
     assert.deepEqual(await cells(8), aligned);
     assert.equal(await cut('.length'), 0);
-    const name = 'a_name_that_has_no_room_in_any_list_'.repeat(9), names = Buffer.from(`\0${name}\0`);
-    await pick_written('long', elf_file({ sections: [
-        { name: '.symtab', type: 2, link: 2, entsize: 24, bytes: Buffer.concat([symbol({}), symbol({ name: 1 })]) },
-        { name: '.strtab', type: 3, bytes: names } ] }));
-    await open_tab('symbols');
+    const name = 'a_name_that_has_no_room_in_any_list_'.repeat(9);
+    await pick_written('long', symbols_file([{ text: name }]), 'symbols');
     assert.deepEqual(await cut('.map((cell) => cell.title)'), [name]);
 }
 
@@ -827,12 +853,12 @@ const sizes = [[1280, 900], [800, 900], [400, 800]];
 async function check_low() {
     const is_seen = (place) => `(({ top, bottom }) => top >= 0 && bottom <= innerHeight)(document.querySelector('${place}').getBoundingClientRect())`;
     await pick(dump);
-    const { index } = sections_of(dump)['.symtab'], all = symbols_of(dump), number = all.filter(({ name }) => name.includes('main')).length;
+    const number = symbols.filter(({ name }) => name.includes('main')).length;
     for (const [width, height] of [[800, 360], [640, 450], [400, 800]]) {
         await browser.resize(width, height);
-        await go(`symbols/${index}`, 'ELF header');
-        await evaluate(`document.getElementById('back').click()`);
-        await search('main', `${number} of ${all.length.toLocaleString('en')}`);
+        await go(symtab, 'ELF header');
+        await click('#back');
+        await search('main', `${number} of ${symbols.length.toLocaleString('en')}`);
         assert.ok(await evaluate(is_seen('#panel .body .row')), `${width} ${height}`);
         await go('section=.text', '.text');
         await until(`document.querySelector('#chosen .hex .row')?.row`);
@@ -847,9 +873,9 @@ async function check_widths() {
     for (const [width, height] of sizes) {
         await browser.resize(width, height);
         await until(`innerWidth === ${width} && document.querySelector('section.map').offsetHeight <= innerHeight / 3`);
-        await evaluate(`document.getElementById('tab-header').click()`);
+        await click('#tab-header');
         await until(`document.querySelector('[data-field=ei_data]')`);
-        await evaluate(`document.getElementById('back').click()`);
+        await click('#back');
         assert.deepEqual(await evaluate(`[...document.querySelectorAll('.fields.header span, .fields.header .words')].flatMap((cell) =>
             [...cell.textContent.matchAll(/\\S+/g)].filter(({ 0: word, index }) => {
                 const range = new Range();
@@ -857,8 +883,11 @@ async function check_widths() {
                 range.setEnd(cell.firstChild, index + word.length);
                 return range.getClientRects().length > 1;
             }).map(([word]) => word))`), [], `${width}`);
-        await open_tab('symbols');
-        assert.equal((await evaluate(`[...document.querySelectorAll('#panel [role=columnheader]')].map((cell) => cell.textContent)`))[1], 'Name');
+        for (const [name, widest] of [['sections', 'Name'], ['relocations', 'Symbol'], ['symbols', 'Name']]) {
+            await open_tab(name);
+            const heads = await evaluate(`[...document.querySelectorAll('#panel [role=columnheader]')].map((cell) => [cell.offsetWidth, cell.textContent])`);
+            assert.equal(heads.sort(([a], [b]) => b - a)[0][1], widest, `${name}, ${width}`);
+        }
         const bars = await evaluate(`[...document.querySelectorAll('html, body, main, #shown, .columns, .lists, #panel, .grid')]
             .filter((box) => box.offsetParent !== null || box.matches('html, body')).filter((box) => box.scrollHeight > box.clientHeight + 1
                 && !['visible', 'hidden'].includes(getComputedStyle(box).overflowY)).map((box) => box.className || box.tagName)`);
@@ -876,16 +905,23 @@ async function check_widths() {
 
 // What is narrower than a pixel is drawn as a pixel: a file of 60,000 sections, and one whose other parts are large.
 async function check_narrow() {
-    const bytes = Buffer.alloc(8), count = 60000, pixels = async (kind) => (await row_of(kind, 12)).filter((is_it) => is_it).length;
-    await pick_written('many', elf_file({ sections: Array.from({ length: count }, () => ({ name: '', type: 1, flags: 2, bytes })) }));
-    const each = Number(/each row has ([\d,]+) bytes/.exec(await text_of('#readout'))[1].replaceAll(',', ''));
-    const wide = await evaluate(`document.getElementById('canvas').width`) - 30 - 7 * 8 - 10, wanted = wide * count * 8 / each;
-    const many = await pixels('constants');
-    assert.ok(each > count * 8 && wanted > 500 && Math.abs(many - wanted) < 4, `${many} pixels, not ${wanted}`);
+    const bytes = Buffer.alloc(8), count = 60000, content = elf_file({ sections: Array(count).fill({ name: '', type: 1, flags: 2, bytes }) });
+    await pick_written('many', content);
+    const wanted = await bar_of(content.length) * count * 8 / await each_row(), many = await pixels_of('constants', 12);
+    assert.ok(wanted > 500 && Math.abs(many - wanted) < 5, `${many} pixels, not ${wanted}`);
     await pick_written('large', elf_file({ sections: [{ name: '.text', type: 1, flags: 6, bytes: Buffer.alloc(1 << 22) }] }));
-    assert.equal(await pixels('header'), 1);
-    assert.ok(await pixels('code') > 500);
+    assert.deepEqual([await pixels_of('header', 12), await pixels_of('code', 12) > 500], [1, true]);
+    const debug = { name: '.debug_info', type: 1, bytes: Buffer.alloc(1 << 20) }, noted = { name: '.note', type: 7, bytes: note('GNU', 3, bytes) };
+    await pick_written('debug', elf_file({ sections: [debug, noted] }));
+    assert.deepEqual(await shares(), { 'debug information': 100 });
+    assert.match(await text_of('#legend'), /each below 0.05 %: ELF header, header tables, symbols and names, notes, gap/);
 }
+
+// The number of bytes of the map's rows, the map's place, the width of a row without its offset, and a wait for the line above the map.
+const each_row = async () => Number(/each row has ([\d,]+) bytes/.exec(await text_of('#readout'))[1].replaceAll(',', ''));
+const canvas_box = () => evaluate(`document.getElementById('canvas').getBoundingClientRect().toJSON()`);
+const bar_of = async (size) => (await canvas_box()).width - 42 - 7 * hex(size).length;
+const readout = (pattern) => until(`${pattern}.test(document.getElementById('readout').textContent)`);
 
 // Returns the map, and functions that return the bytes of a colour, and of one of the page's by its name.
 const PIXELS = `(() => {
@@ -906,75 +942,136 @@ const row_of = (kind, y) => evaluate(`(() => {
     return Array.from({ length: canvas.width }, (_, i) => data.slice(4 * i, 4 * i + 3).join() === wanted);
 })()`);
 
+// Returns how many pixels have the colour of a kind, in a line of each row.
+async function pixels_of(kind, line) {
+    const lines = Array.from({ length: Math.floor(((await canvas_box()).height - 12) / 24) }, (_, row) => row_of(kind, line + 24 * row));
+    return (await Promise.all(lines)).flat().filter((is_it) => is_it).length;
+}
+
 async function check_map() {
-    const path = files.at(-1), [segment] = [...run('readelf', '-W', '-l', path).matchAll(/^ {2}LOAD +(\S+) \S+ \S+ (\S+) \S+ R E/gm)];
-    const [start, size] = [Number(segment[1]), Number(segment[2])];
+    const path = files.at(-1), all = segments_of(path), index = all.findIndex(({ type, flags }) => type === 'LOAD' && flags === 'R E');
+    const { offset: start, size } = all[index];
     await pick(path);
-    const each = Number(/each row has ([\d,]+) bytes/.exec(await text_of('#readout'))[1].replaceAll(',', ''));
-    await check_gap();
+    const each = await each_row();
     await check_colours();
     // A segment is outlined in each of its rows.
-    const index = [...run('readelf', '-W', '-l', path).matchAll(/^ {2}[A-Z_]+ +(0x\S+)/gm)].findIndex(([, offset]) => Number(offset) === start);
     await go(`segments/${index}`, `segment ${index}, LOAD`);
-    const rows = await evaluate(`(() => {
-        const { pen, canvas, style } = ${PIXELS}, ink = style('ink').join();
-        const found = [];
-        for (let row = 0; 8 + row * 23 + 16 < canvas.height; row++) {
-            const { data } = pen.getImageData(0, 8 + row * 23 - 1, canvas.width, 1);
-            let all = 0;
-            for (let at = 0; at < data.length; at += 4) if (data.slice(at, at + 3).join() === ink) all++;
-            if (all > 20) found.push(row);
-        }
-        return found;
-    })()`);
+    const rows = [], high = (await canvas_box()).height - 28;
+    for (let y = 7; y < high; y += 24) if ((await row_of('ink', y)).filter((is_it) => is_it).length > 20) rows.push((y - 7) / 24);
     const first = Math.floor(start / each), last = Math.floor((start + size - 1) / each);
     assert.ok(last > first);
     assert.deepEqual(rows, Array.from({ length: last - first + 1 }, (_, i) => first + i));
-    // The line above the map describes what is below the pointer, until the pointer leaves.
-    const { left, top, width } = await evaluate(`document.getElementById('canvas').getBoundingClientRect().toJSON()`);
-    await browser.point(left + width / 2, top + 10);
-    await until(`/ · 0x[0-9a-f]+ to 0x/.test(document.getElementById('readout').textContent)`);
-    await browser.point(5, 5);
-    await until(`/^\\d+ parts, drawn to scale/.test(document.getElementById('readout').textContent)`);
 }
 
-// The contrast of a gap's edge with the background and with its inside is at least 3 to 1.
-async function check_gap() {
-    const { edge, ground, count } = await evaluate(`(() => {
-        const { pen, canvas, style } = ${PIXELS}, edge = style('gap'), wanted = edge.join();
-        const { data } = pen.getImageData(0, 0, canvas.width, canvas.height);
-        let count = 0;
-        for (let at = 0; at < data.length; at += 4) if (data[at + 3] === 255 && data.slice(at, at + 3).join() === wanted) count++;
-        return { edge, ground: style('raised'), count };
-    })()`);
-    assert.ok(count > 100, `${count} points of gaps`);
-    assert.ok(contrast(edge, ground) >= 3, `${contrast(edge, ground)} to 1`);
+// Points at the map, whose line above says what is below the pointer, until that leaves. Returns the line, and the offset that it names.
+async function pointed(x, y) {
+    await browser.point(5, 5);
+    await readout(/^\d+ parts, drawn to scale/);
+    await browser.point(x, y);
+    await readout(/ · 0x[0-9a-f]+ to 0x.* at 0x[0-9a-f]+$/);
+    const text = await text_of('#readout');
+    return { text, byte: Number(/0x[0-9a-f]+$/.exec(text)[0]) };
 }
+
+// The wheel zooms to what is below the pointer, dragging moves it, and keys zoom and move, too. Zooming shows functions, a click on which
+// leads to their symbol, and then bytes.
+async function check_zoom() {
+    await pick(dump);
+    const { left, top, width } = await canvas_box(), [x, y] = [left + 500, top + 40], whole = await each_row(), { byte } = await pointed(x, y);
+    const zoomed = (each) => readout(new RegExp(`each row has ${each.toLocaleString('en')} bytes`));
+    const is_near = async (at) => assert.ok(Math.abs((await pointed(at, y)).byte - byte) < whole / 400);
+    await browser.wheel(x, y, -120);
+    await zoomed(whole / 2);
+    await is_near(x);
+    await browser.drag([x, y], [x + 90, y]);
+    await is_near(x + 90);
+    await evaluate(`document.getElementById('canvas').focus()`);
+    await browser.press('PageDown');
+    assert.ok((await pointed(x, y)).byte > byte + whole / 2);
+    await browser.press('0');
+    await zoomed(whole);
+    await go(main_place, 'main');
+    let each = whole;
+    for (; each > main.size; await zoomed(each)) { each /= 2; await browser.press('+'); }
+    // (the start of what is chosen stays where it was, and functions have other colours than their section)
+    const bar = await bar_of(readFileSync(dump).length);
+    const spot = [left + width - 7 - bar + bar * (main_at % whole) / whole, top + 15 + 24 * Math.floor(main_at / whole)];
+    assert.match((await pointed(...spot)).text, /^main · \.text · code · /);
+    assert.ok(await pixels_of('code', 12) < bar && await pixels_of('in-3', 24) > bar);
+    await go('header', 'ELF header');
+    await browser.drag(spot, spot);
+    await until_chosen('main');
+    const [next] = symbols.filter(({ type, size, value }) => type === 'FUNC' && size > 8 && value > main.value).sort((a, b) => a.value - b.value);
+    await browser.press('ArrowRight');
+    await until_chosen(next.name);
+    for (; each > 16; await zoomed(each)) { each = Math.max(each / 2, 16); await browser.press('+'); }
+    await pointed(x, y); // (then the worker has sent the bytes, too)
+    assert.ok(await pixels_of('in-3', 12) > bar && await pixels_of('code', 12) === 0);
+}
+
+// The strip below a row says what the bytes are like.
+async function check_classes() {
+    const size = 8192, { offset } = sections_of(files.at(-1))['.text'], code = readFileSync(files.at(-1)).subarray(offset, offset + size);
+    const numbers = Buffer.from(Uint32Array.from({ length: size / 4 }, (_, i) => i).buffer), words = Buffer.alloc(size, 'What is below a row? ');
+    const all = [Buffer.alloc(size), words, numbers, code, randomBytes(size)].map((bytes) => ({ name: '.bytes', type: 1, bytes }));
+    const path = await pick_written('classes', elf_file({ sections: all })), bar = await bar_of(readFileSync(path).length);
+    const { left, top } = await canvas_box(), each = await each_row();
+    await pointed(left + 500, top + 20);
+    for (const i of all.keys()) {
+        const bytes = await pixels_of(`in-${i}`, 24) * each / bar;
+        assert.ok(Math.abs(bytes - size) < 0.12 * size, `class ${i}: ${bytes}`);
+    }
+}
+
+// An area is as large as the share of its section in the file. A click on a function leads to its symbol, and on a section to it.
+async function check_sizes() {
+    const [largest] = symbols.filter(({ type }) => type === 'FUNC').sort((a, b) => b.size - a.size), whole = readFileSync(dump).length;
+    const section = (name) => ({ name, ...sections[name], place: `sections/${sections[name].index}` });
+    await pick(dump);
+    for (const { name, size, place } of [...['.text', '.rodata', '.symtab'].map(section), { ...largest, place: `${symtab}/${largest.index}` }]) {
+        await Promise.all([click('#tab-sizes'), until(`document.querySelector('.areas a') !== null`)]);
+        const areas = await evaluate(`[...document.querySelectorAll('.areas a')].map(({ hash, title, style: { width, height }, className }) =>
+            ({ hash, title, area: parseFloat(width) * parseFloat(height) / 100, is_inside: className === 'inside' }))`);
+        const { area, hash, is_inside } = areas.find(({ title }) => title.startsWith(`${name}: ${size.toLocaleString('en')} bytes, `));
+        assert.deepEqual([hash, is_inside || Math.abs(area - 100 * size / whole) < 0.1], [`#${place}`, true], `${name}: ${area} %`);
+        assert.ok(Math.abs(areas.reduce((all, item) => all + (item.is_inside ? 0 : item.area), 0) - 100) < 0.1);
+        await click(`.areas [href='${hash}']`);
+        await until_chosen(name);
+    }
+}
+
+const linear = (colour) => colour.map((part) => (part <= 10.31475 ? part / 255 / 12.92 : ((part / 255 + 0.055) / 1.055) ** 2.4));
+const times = (matrix, vector) => matrix.map((row) => row.reduce((all, value, i) => all + value * vector[i], 0));
 
 // Returns the contrast of two colours: how many times as light the lighter one is, as the WCAG count it.
 function contrast(...colours) {
-    const [more, less] = colours.map((colour) => colour.map((part) => part / 255)
-        .map((part) => (part <= 0.04045 ? part / 12.92 : ((part + 0.055) / 1.055) ** 2.4))
-        .reduce((all, part, i) => all + part * [0.2126, 0.7152, 0.0722][i], 0.05)).sort((a, b) => b - a);
+    const [more, less] = colours.map((colour) => times([[0.2126, 0.7152, 0.0722]], linear(colour))[0] + 0.05).sort((a, b) => b - a);
     return more / less;
 }
 
-// Edges of what can be used, and names on the map, have a contrast of at least 3 to 1. Kinds whose hues are alike to an eye without green
-// differ in lightness.
+// Returns a colour as an eye without green sees it, by Machado, Oliveira and Fernandes, in OKLab.
+const without_green = (colour) => [
+    [[0.367322, 0.860646, -0.227968], [0.280085, 0.672501, 0.047413], [-0.01182, 0.04294, 0.968881]],
+    [[0.4122215, 0.5363325, 0.0514460], [0.2119035, 0.6806995, 0.1073970], [0.0883025, 0.2817188, 0.6299787]],
+    [[0.2104543, 0.7936178, -0.0040720], [1.9779985, -2.4285922, 0.4505937], [0.0259040, 0.7827718, -0.8086758]],
+].reduce((seen, matrix, i) => times(matrix, i === 2 ? seen.map(Math.cbrt) : seen), linear(colour));
+
+// Edges of what can be used, gaps and names on the map have a contrast of at least 3 to 1. An eye without green sees that kinds differ.
 async function check_colours() {
+    assert.ok(await pixels_of('gap', 14) > 100);
     await open_tab('sections');
     const edges = ['#goto', '.bar .button', '#out', '#canvas', '#legend i', '#panel input', '#panel .saving button'];
     const kinds = ['header', 'tables', 'code', 'data', 'constants', 'names', 'relocations', 'notes', 'debug', 'other'];
     const [edge, ground, kind, on] = await evaluate(`(() => {
         const { probe, style } = ${PIXELS}, edge = (selector) => probe(getComputedStyle(document.querySelector(selector)).borderTopColor);
-        return [${quoted(edges)}.map(edge), ['paper', 'raised'].map(style), ${quoted(kinds)}.map(style), ['paper', 'on-kind'].map(style)];
+        const on = ['paper', 'on-kind'].map(style), ground = ['paper', 'raised'].map(style);
+        return [[...${quoted(edges)}.map(edge), style('gap')], ground, ${quoted(kinds)}.map(style), on];
     })()`);
     edge.forEach((colour, i) => ground.forEach((other) => assert.ok(contrast(colour, other) >= 3, `${edges[i]}: ${contrast(colour, other)}`)));
     kind.forEach((colour, i) => assert.ok(contrast(colour, on[Number(i > 0)]) >= 3, `${kinds[i]}: ${contrast(colour, on[Number(i > 0)])}`));
-    for (const pair of [['code', 'names'], ['data', 'relocations']]) {
-        const between = contrast(...pair.map((name) => kind[kinds.indexOf(name)]));
-        assert.ok(between >= 1.4, `${pair.join(' and ')}: ${between}`);
-    }
+    for (const [a, b] of [[2, 5], [3, 6]]) assert.ok(contrast(kind[a], kind[b]) >= 1.4, `${kinds[a]} and ${kinds[b]}`);
+    const seen = kind.map(without_green), apart = (i, j) => Math.hypot(...seen[i].map((value, k) => value - seen[j][k]));
+    kinds.forEach((name, i) => kinds.slice(0, i).forEach((other, j) => assert.ok(apart(i, j) >= 0.07, `${name} and ${other}: ${apart(i, j)}`)));
 }
 
 async function check_themes() {
@@ -982,7 +1079,6 @@ async function check_themes() {
         await browser.theme(theme);
         await until(`matchMedia('(prefers-color-scheme: ${theme})').matches`);
         await pick(files.at(-1));
-        await check_gap();
         await check_colours();
     }
 }
@@ -997,18 +1093,17 @@ function renamed(content, name, bytes) {
 async function check_names() {
     const markup = '<img src onerror=a>';
     let content = renamed(readFileSync(made), 'weak_undefined_data', Buffer.from(markup));
-    content = renamed(content, 'zeros', Buffer.from([0xc2, 0x80, 0xe2, 0x80, 0xa8]));
+    content = renamed(renamed(content, 'zeros', Buffer.from([0xc2, 0x80, 0xe2, 0x80, 0xa8])), 'weak_function', Buffer.from('<img src=abc>'));
     content = renamed(content, 'data', Buffer.from([0xff, 0x41, 0x1b, 0x0a]));
-    await pick_written('<img src=a>', content);
-    await open_tab('symbols');
+    await pick_written('<img src=a>', content, 'symbols');
     const names = await cells(1);
     assert.ok(names.includes(markup) && names.includes('U+0080U+2028') && names.includes('\\xffAU+001BU+000A'), names.join(' '));
     assert.ok(names.includes('été'));
     assert.equal(await evaluate(`document.querySelectorAll('#panel .esc').length`), 5);
     await search('ONERROR', '1 of 21');
     assert.deepEqual(await cells(1), [markup]);
-    await go_by_field('onerror');
-    await until_chosen(markup);
+    await go_by_field('onerror', markup);
+    await Promise.all([click('#tab-sizes'), until(`document.querySelector('.areas [title^="<img"]') !== null`)]);
     assert.equal(await evaluate(`document.querySelectorAll('img').length`), 0);
 }
 
@@ -1024,7 +1119,8 @@ async function check_keys() {
     await until_chosen('.text');
     const active = `document.activeElement.getAttribute('aria-activedescendant')`;
     assert.equal(await evaluate(`document.getElementById(${active}).children[1].textContent`), '.text');
-    await evaluate(`(document.getElementById('tab-header').click(), document.querySelector('[popovertarget]').click())`);
+    await click('#tab-header');
+    await click('[popovertarget]');
     await until(`document.querySelector('.fields.header')?.getAttribute('role') === 'grid' && document.querySelector('#keys:popover-open') !== null`);
     await evaluate(`(document.querySelector('#keys').hidePopover(), ['click', 'focus'].forEach((act) => document.querySelector('#tab-sections')[act]()))`);
     await browser.press('ArrowRight');
@@ -1067,25 +1163,25 @@ async function check_requests() {
     assert.deepEqual(browser.faults, []);
 }
 
-const content = readFileSync(made);
-const counted = [...readdirSync(made_files).map((name) => join(made_files, name)), dump, ...files];
-const checks = {
-    counts: async () => { for (const path of counted) await check_counts(path); },
-    refusals: async () => {
-        await check_refusal(content.subarray(0, 40), 'the file header');
-        await check_refusal(Buffer.concat([Buffer.from('MZ'), content.subarray(2)]), 'the file header', 'This is not an ELF file', '4d 5a 4c 46');
-        await check_refusal(Buffer.from('text\n'), 'the file header', 'This is not an ELF file', '74 65 78 74 0a');
-    },
-    trouble: () => check_trouble(content), unknown: () => check_unknown(content), own_tables: check_own_tables,
-    summary: check_summary, core: check_core, segments: check_segments, padding: check_padding,
-    cut: check_cut, labels: check_labels, loading: () => check_loading(content), symbol_links: check_symbol_links,
-    early_link: check_early_link, section_links: check_section_links, history: check_history, relocation_links: check_relocation_links,
-    goto: check_goto, search: check_search, relocation_names: check_relocation_names, section_indices: check_section_indices,
-    named_links: check_named_links, fields: check_fields, low: check_low, plain_words: check_plain_words, 
-    copies: check_copies, refused_tables: check_refused_tables, words: check_words, cells: check_cells, widths: check_widths,
-    map: check_map, narrow: check_narrow, themes: check_themes, names: check_names, keys: check_keys, requests: check_requests,
-    unsupported: check_unsupported,
-};
+async function check_all_counts() {
+    for (const path of counted) await check_counts(path);
+}
+
+async function check_refusals() {
+    await check_refusal(content.subarray(0, 40), 'the file header');
+    await check_refusal(Buffer.concat([Buffer.from('MZ'), content.subarray(2)]), 'the file header', 'This is not an ELF file', '4d 5a 4c 46');
+    await check_refusal(Buffer.from('text\n'), 'the file header', 'This is not an ELF file', '74 65 78 74 0a');
+}
+
+const checks = [
+    check_all_counts, check_refusals, check_trouble, check_unknown, check_own_tables, check_summary, check_core, check_segments,
+    check_many_segments, check_padding,
+    check_cut, check_labels, check_loading, check_symbol_links, check_early_link, check_section_links, check_history, check_relocation_links,
+    check_goto, check_search, check_relocation_names, check_section_indices, check_named_links, check_fields, check_low, check_plain_words,
+    check_copies, check_formula, check_refused_tables, check_demangled, check_words, check_cells, check_widths, check_map, check_zoom, check_classes,
+    check_sizes, check_narrow, check_themes,
+    check_names, check_keys, check_requests, check_unsupported,
+];
 
 // Reports whether the browser has 64-bit memories, which the library needs.
 const is_able = `WebAssembly.validate(new Uint8Array([0, 97, 115, 109, 1, 0, 0, 0, 5, 3, 1, 4, 0]))`;
@@ -1099,17 +1195,17 @@ async function run_checks() {
     await browser.resize(1400, 1600);
     await browser.open(url);
     await until(`document.getElementById('unmade')?.hidden`);
-    for (current of Object.keys(checks)) await checks[current]();
-    console.log(`${browser.constructor.title}: the page passes ${Object.keys(checks).length} checks over ${counted.length} files, and over`
+    for (current of checks) await current();
+    console.log(`${browser.constructor.title}: the page passes ${checks.length} checks over ${counted.length} files, and over`
         + ' those that they write, and asks for nothing');
 }
 
-let current = 'hearing';
+let current = check_hearing;
 try {
     await browser.start(program);
     await run_checks();
 } catch (error) {
-    console.log(`${browser.constructor.title}: ${current}`);
+    console.log(`${browser.constructor.title}: ${current.name}`);
     throw error;
 } finally {
     await browser.end();

@@ -196,6 +196,13 @@ export class Chromium extends Browser {
 
     async point(x, y) { await this.#ask('Input.dispatchMouseEvent', { type: 'mouseMoved', x, y }); }
 
+    async wheel(x, y, deltaY) { await this.#ask('Input.dispatchMouseEvent', { type: 'mouseWheel', x, y, deltaX: 0, deltaY }); }
+
+    async drag(from, to) {
+        const act = (type, [x, y]) => this.#ask('Input.dispatchMouseEvent', { type, x, y, button: 'left', buttons: 1, clickCount: 1 });
+        await Promise.all([act('mousePressed', from), act('mouseMoved', to), act('mouseReleased', to)]);
+    }
+
     async resize(width, height) {
         await this.#ask('Emulation.setDeviceMetricsOverride', { width, height, deviceScaleFactor: 1, mobile: false });
     }
@@ -205,7 +212,7 @@ export class Chromium extends Browser {
     async screenshot() { return Buffer.from((await this.#ask('Page.captureScreenshot')).data, 'base64'); }
 }
 
-const NAMED_KEYS = { Enter: '\uE007', Tab: '\uE004', ArrowLeft: '\uE012', ArrowUp: '\uE013', ArrowRight: '\uE014', ArrowDown: '\uE015' };
+const NAMED_KEYS = { Enter: '\uE007', Tab: '\uE004', ArrowLeft: '\uE012', ArrowUp: '\uE013', ArrowRight: '\uE014', ArrowDown: '\uE015', PageDown: '\uE00F' };
 
 export class Firefox extends Browser {
     static title = 'Firefox';
@@ -275,12 +282,18 @@ export class Firefox extends Browser {
 
     async press(...keys) {
         const actions = keys.flatMap((key) => ['keyDown', 'keyUp'].map((type) => ({ type, value: NAMED_KEYS[key] ?? key })));
-        await this.#ask('input.performActions', { context: this.tab, actions: [{ type: 'key', id: 'keys', actions }] });
+        await this.#act('key', ...actions);
     }
 
-    async point(x, y) {
-        const actions = [{ type: 'pointerMove', x: Math.round(x), y: Math.round(y) }];
-        await this.#ask('input.performActions', { context: this.tab, actions: [{ type: 'pointer', id: 'mouse', actions }] });
+    async #act(type, ...actions) { await this.#ask('input.performActions', { context: this.tab, actions: [{ type, id: type, actions }] }); }
+
+    async point(x, y) { await this.#act('pointer', { type: 'pointerMove', x: Math.round(x), y: Math.round(y) }); }
+
+    async wheel(x, y, deltaY) { await this.#act('wheel', { type: 'scroll', x: Math.round(x), y: Math.round(y), deltaX: 0, deltaY }); }
+
+    async drag(...points) {
+        const [from, to] = points.map(([x, y]) => ({ type: 'pointerMove', x: Math.round(x), y: Math.round(y) }));
+        await this.#act('pointer', from, { type: 'pointerDown', button: 0 }, to, { type: 'pointerUp', button: 0 });
     }
 
     async resize(width, height) { await this.#ask('browsingContext.setViewport', { context: this.tab, viewport: { width, height } }); }

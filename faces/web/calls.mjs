@@ -22,6 +22,8 @@ files.push(noted);
 
 const WITHOUT_EXPORTS = Uint8Array.of(0, 0x61, 0x73, 0x6d, 1, 0, 0, 0);
 
+// Returns what reading throws.
+const error_of = (read) => { try { return read(); } catch (error) { return error; } };
 const is_refusal = (kind) => (error) => error instanceof GoblinError && (kind === undefined || error.kind === kind);
 
 // ---- engines ----
@@ -522,7 +524,7 @@ function check_json() {
     assert.equal(section.sh_addr, (1n << 64n) - 1n);
     assert.equal(BigInt(JSON.parse(JSON.stringify(section)).sh_addr), section.sh_addr);
     assert.equal(JSON.parse(JSON.stringify(elf.section_header(0))).sh_addr, '0');
-    const refused = (() => { try { return Elf.parse(own.subarray(0, 20)); } catch (error) { return error; } })();
+    const refused = error_of(() => Elf.parse(own.subarray(0, 20)));
     const { name, message, kind, numbers } = JSON.parse(JSON.stringify(refused));
     assert.deepEqual([name, message, kind, numbers], ['GoblinError', refused.message, Kind.TOO_BIG, ['64', '20', '0', '0']]);
     return `${items.length} items as JSON`;
@@ -627,13 +629,7 @@ function check_names() {
 
 // Where errors begin in the file, and where their numbers count from, as the comments of `offset` and `Kind` say.
 function check_offsets_of_errors() {
-    const why = (read) => {
-        try {
-            return read();
-        } catch ({ kind, numbers, offset }) {
-            return [kind, ...numbers.slice(0, 2), offset];
-        }
-    };
+    const why = (read) => (({ kind, numbers, offset }) => [kind, ...numbers.slice(0, 2), offset])(error_of(read));
     const { TOO_BIG, BAD_OFFSET, NOTE_ALIGN } = Kind, whole = Elf.parse(own), list = whole.header.e_shoff, header_5 = list + 5n * 64n;
     for (const [length, ...refusal] of [[header_5 + 10n, TOO_BIG, 64n, 10n], [header_5, BAD_OFFSET, header_5, 0n]]) {
         const cut = Elf.parse(own.subarray(0, Number(length)));
@@ -822,7 +818,7 @@ function check_declarations() {
             assert.ok(type.split(' | ').includes(found) || (found === 'object' && /^[A-Z]/.test(type)), `${name}.${field}: ${type}`);
         }
     }
-    const elf = Elf.parse(own), refused = (() => { try { return elf.number(own.length, 1); } catch (error) { return error; } })();
+    const elf = Elf.parse(own), refused = error_of(() => elf.number(own.length, 1));
     const made = { GoblinError: refused, Elf: elf, List: elf.section_headers(), Symtab: elf.syms(), Strtab: elf.shdr_strtab(),
         AddressMap: elf.syms().address_map(), Writer: elf.writer(new Uint8Array(own)) };
     const classes = declared_members(declared, 'class');
@@ -853,19 +849,9 @@ await check_missing_memories();
 const modules = await check_modules();
 await goblin.default();
 const tested = [
-    modules,
-    check_bytes(), check_lists(), check_whole(), check_writer(), check_moved_sections(), check_linked_sections(), check_types_of_sections(), check_notes(), check_json(), await check_constants(),
-    check_address_map(), check_declarations(),
+    modules, check_bytes(), check_lists(), check_whole(), check_writer(), check_moved_sections(), check_linked_sections(),
+    check_types_of_sections(), check_notes(), check_json(), await check_constants(), check_address_map(), check_declarations(),
+    check_arguments(), check_header(), check_readable_data(), check_numbers_in(), check_addresses(), check_names(), check_offsets_of_errors(),
+    check_number_of_segments(), check_notes_as_bytes(), check_segments(), check_package(),
 ];
-check_arguments();
-check_header();
-check_readable_data();
-check_numbers_in();
-check_addresses();
-check_names();
-check_offsets_of_errors();
-check_number_of_segments();
-check_notes_as_bytes();
-check_segments();
-check_package();
-console.log(`goblin.js does what its comments say: ${tested.join(', ')}`);
+console.log(`goblin.js does what its comments say: ${tested.filter((said) => said).join(', ')}`);

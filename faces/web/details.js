@@ -1,6 +1,7 @@
 // What the side of the page shows of an item or a location: a title, fields with links, and blocks of the file's bytes.
 import * as goblin from './goblin.js';
 import { registers_of } from './core.js';
+import { demangled } from './demangle.js';
 import {
     called, EM_MIPS, ET_CORE, file, GROUP, is_wide, name_of_section, part, RELOCATION_TYPES, RELR, section_at, section_refusal, sections,
     segment_refusal, size_of, SYMBOL_TYPES, read_or,
@@ -136,6 +137,9 @@ function segment_details(item, index) {
     };
 }
 
+// Returns the field of a name of C++ as it is written there, if it is one that is read.
+const in_source = (name) => [demangled(name)].filter(Boolean).map((text) => field('demangled', text, 'not proved'));
+
 function symbol_details(item, index, table) {
     const { st_name, st_value, st_size, st_info, st_other } = item;
     const of = section_of_symbol(table, index, item), place = bytes_of_symbol(table, index, item);
@@ -147,7 +151,7 @@ function symbol_details(item, index, table) {
         kind: of === undefined || !section_at(of) ? undefined : kind_of(section_at(of)),
         link: link_by_name('symbol', name_of_symbol(table, index, item)),
         fields: [
-            field('st_name', hex(st_name)),
+            ...in_source(name_of_symbol(table, index, item)), field('st_name', hex(st_name)),
             field('st_value', hex(st_value), place?.section ? with_offset(called(of), place.from) : '', address),
             field('st_size', st_size, bytes_word(st_size)), field('st_info', hex(st_info), info),
             field('st_other', hex(st_other), `${prefixed('STV_', labels.symbol_visibility(visibility))} (${visibility})`),
@@ -170,7 +174,7 @@ function relocation_details(item, index, of) {
         title: is_packed ? `packed relocation ${count(index)}` : name || labels.relocation_type(r_type),
         what: `relocation ${count(index)} of ${called(of)}`, kind: 'relocations',
         fields: [
-            field('r_offset', hex(r_offset), '', target ?? at_address(r_offset), changed && to_symbol(changed)),
+            ...in_source(name), field('r_offset', hex(r_offset), '', target ?? at_address(r_offset), changed && to_symbol(changed)),
             ...(is_packed ? [field('type', 'relative, packed')] : [
                 field('r_type', r_type, prefixed('', labels.relocation_type(r_type)) === `${r_type}` ? '' : labels.relocation_type(r_type)),
                 field('r_sym', r_sym, '', symbol_link(section.sh_link, r_sym)), field('r_addend', addend(item))]),
@@ -273,37 +277,30 @@ export function address_details(address) {
 
 // ---- the header ----
 
-// The fields' meanings, in a few words.
-const WORDS = {
-    ei_class: 'class', ei_data: 'byte order', ei_version: 'version of the format', ei_osabi: 'operating system and ABI',
-    ei_abiversion: 'version of the ABI', e_type: 'what the file is', e_machine: 'machine', e_version: 'version of the format, once more',
-    e_entry: 'address at which the program starts', e_phoff: 'offset of the program headers', e_shoff: 'offset of the section headers',
-    e_flags: 'flags of the machine', e_ehsize: 'size of this header', e_phentsize: 'size of a program header',
-    e_phnum: 'number of program headers', e_shentsize: 'size of a section header', e_shnum: 'number of section headers',
-    e_shstrndx: 'index of the section with the names of sections',
+const named = (name, prefix) => (/^(0x|\d+$)/.test(name) ? '' : prefixed(prefix, name));
+const to_headers = (offset) => (offset ? at_offset(offset) : undefined);
+
+// What each field means, in a few words, and functions of the header that return its number's name and its link, if it has them.
+const FIELDS = {
+    ei_class: ['class', ({ ei_class }) => named(labels.file_class(ei_class), '')],
+    ei_data: ['byte order', ({ ei_data }) => (ei_data === 2 ? 'big endian' : 'little endian')], ei_version: ['version of the format'],
+    ei_osabi: ['operating system and ABI', ({ ei_osabi }) => named(labels.osabi(ei_osabi), 'ELFOSABI_')], ei_abiversion: ['version of the ABI'],
+    e_type: ['what the file is', ({ e_type }) => named(labels.file_type(e_type), 'ET_')],
+    e_machine: ['machine', ({ e_machine }) => named(labels.machine(e_machine), 'EM_')], e_version: ['version of the format, once more'],
+    e_entry: ['address at which the program starts', undefined, ({ e_entry }) => at_address(e_entry)],
+    e_phoff: ['offset of the program headers', undefined, ({ e_phoff }) => to_headers(e_phoff)],
+    e_shoff: ['offset of the section headers', undefined, ({ e_shoff }) => to_headers(e_shoff)], e_flags: ['flags of the machine'],
+    e_ehsize: ['size of this header'], e_phentsize: ['size of a program header'],
+    e_phnum: ['number of program headers', ({ e_phnum }) => (e_phnum === 0xffff ? 'sh_info of section 0 has it' : '')],
+    e_shentsize: ['size of a section header'], e_shnum: ['number of section headers'],
+    e_shstrndx: ['index of the section with the names of sections', undefined, ({ e_shstrndx }) => read_or(undefined, () => to_section_number(e_shstrndx))],
 };
-
-// The names of the header's numbers that have one.
-function header_meanings({ ei_class, ei_data, ei_osabi, e_type, e_machine, e_phnum }) {
-    const known = (name, prefix) => (/^(0x|\d+$)/.test(name) ? '' : prefixed(prefix, name));
-    return {
-        ei_class: known(labels.file_class(ei_class), ''), ei_data: ei_data === 2 ? 'big endian' : 'little endian',
-        ei_osabi: known(labels.osabi(ei_osabi), 'ELFOSABI_'), e_type: known(labels.file_type(e_type), 'ET_'),
-        e_machine: known(labels.machine(e_machine), 'EM_'), e_phnum: e_phnum === 0xffff ? 'sh_info of section 0 has it' : '',
-    };
-}
-
-const header_links = ({ e_entry, e_phoff, e_shoff, e_shstrndx }) => ({
-    e_entry: at_address(e_entry), e_phoff: e_phoff ? at_offset(e_phoff) : undefined, e_shoff: e_shoff ? at_offset(e_shoff) : undefined,
-    e_shstrndx: read_or(undefined, () => to_section_number(e_shstrndx)),
-});
 
 /** Returns the header's fields, each with its bytes. */
 export function header_fields() {
-    const { header } = file.elf, meanings = header_meanings(header), links = header_links(header);
-    return record('ELF header', 'header', 0).fields.filter(({ name }) => WORDS[name]).map(({ name, at, size }) => {
-        const value = ['e_entry', 'e_phoff', 'e_shoff', 'e_flags'].includes(name) ? hex(header[name]) : `${header[name]}`;
-        const [meaning, leads] = [meanings[name] ?? '', links[name] ? [links[name]] : []];
-        return { name, at, size, value, meaning, words: WORDS[name], links: leads };
+    const { header } = file.elf;
+    return record('ELF header', 'header', 0).fields.filter(({ name }) => FIELDS[name]).map(({ name, at, size }) => {
+        const [words, meaning, link] = FIELDS[name], shown = /^e_(entry|phoff|shoff|flags)$/.test(name) ? hex : String;
+        return { at, size, words, ...field(name, shown(header[name]), meaning?.(header), link?.(header)) };
     });
 }

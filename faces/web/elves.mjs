@@ -24,6 +24,17 @@ export function note(owner, type, descriptor) {
 export const symbol = ({ name = 0, info = 0, other = 0, shndx = 0, value = 0, size = 0 }) =>
     packed([name, 4], [info, 1], [other, 1], [shndx, 2], [value, 8], [size, 8]);
 
+/** Returns a file with a symbol table: a symbol of zeros, and others, each with its name as `text`. Other sections are after it. */
+export function symbols_file(symbols, ...others) {
+    const names = Buffer.from(`\0${symbols.map(({ text = '' }) => `${text}\0`).join('')}`);
+    let next = 1;
+    const items = symbols.map(({ text = '', ...given }) => symbol({ name: text ? next : 0, ...given, end: next += Buffer.byteLength(text) + 1 }));
+    return elf_file({ sections: [
+        { name: '.symtab', type: 2, link: 2, info: 2, entsize: 24, bytes: Buffer.concat([symbol({}), ...items]) },
+        { name: '.strtab', type: 3, bytes: names }, ...others,
+    ] });
+}
+
 /** Returns a relocation with an addend. */
 export const rela = ({ offset = 0, sym = 0, type, addend = 0 }) => packed([offset, 8], [type, 4], [sym, 4], [addend, 8]);
 

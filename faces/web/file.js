@@ -23,27 +23,21 @@ export const RELR = 19;
 export const SYMBOL_TYPES = [goblin.SHT_SYMTAB, goblin.SHT_DYNSYM];
 export const RELOCATION_TYPES = [goblin.SHT_REL, goblin.SHT_RELA];
 
-// ---- refusals ----
+// Returns the result of reading a part, or that of a function for its refusal.
+function read_part(read, refused) {
+    try {
+        return read();
+    } catch (error) {
+        if (!(error instanceof GoblinError)) throw error;
+        return refused(error);
+    }
+}
 
 /** Returns the result of reading a part, or its refusal. */
-export function part(read, refused) {
-    try {
-        return read();
-    } catch (error) {
-        if (!(error instanceof GoblinError)) throw error;
-        return { refused: refused(error) };
-    }
-}
+export const part = (read, refused) => read_part(read, (error) => ({ refused: refused(error) }));
 
 /** Returns the result of reading a part, or a default if it is refused. */
-export function read_or(other, read) {
-    try {
-        return read();
-    } catch (error) {
-        if (!(error instanceof GoblinError)) throw error;
-        return other;
-    }
-}
+export const read_or = (other, read) => read_part(read, () => other);
 
 /** Returns a refusal for the page: the library's text, what was being read, the bytes that hold its offset, and perhaps what that means. */
 export function refusal(error, what, marks, words) {
@@ -77,24 +71,23 @@ export function list_refusal(error, what, offset, number) {
     return refusal(error, `${what}: ${values}`, [mark(offset), mark(number)], words_of_cut(what.replace('t', 'T'), header[offset], size));
 }
 
+// Returns the refusal of a range, with the bytes of its header that say where it is.
+function range_refusal(error, what, title, offset, size, mark) {
+    const values = `${what}: offset ${hex(offset)}, size ${hex(size)}, in a file of ${count(file.content.length)} bytes`;
+    return refusal(error, values, [mark], words_of_cut(`The bytes of ${title}`, offset, size));
+}
+
 export function section_refusal(error, what, index) {
-    const { sh_offset, sh_size } = section_at(index);
-    const values = `${what} of section ${index}: offset ${hex(sh_offset)}, size ${hex(sh_size)}`;
-    const at = Number(file.elf.header.e_shoff) + index * size_of('section');
-    const mark = { at: at + (is_wide() ? 0x18 : 0x10), size: is_wide() ? 16 : 8 };
-    return refusal(error, `${values}, in a file of ${count(file.content.length)} bytes`, [mark],
-        words_of_cut(`The bytes of ${called(index)}`, sh_offset, sh_size));
+    const { sh_offset, sh_size } = section_at(index), [before, size] = is_wide() ? [0x18, 16] : [0x10, 8];
+    const mark = { at: Number(file.elf.header.e_shoff) + index * size_of('section') + before, size };
+    return range_refusal(error, `${what} of section ${index}`, called(index), sh_offset, sh_size, mark);
 }
 
 export function segment_refusal(error, index) {
-    const { p_offset, p_filesz } = file.elf.program_header(index);
-    const size = size_of('segment'), at = Number(file.elf.header.e_phoff) + index * size;
-    const values = `the bytes of segment ${index}: offset ${hex(p_offset)}, file size ${hex(p_filesz)}`;
-    return refusal(error, `${values}, in a file of ${count(file.content.length)} bytes`, [{ at, size }],
-        words_of_cut(`The bytes of segment ${index}`, p_offset, p_filesz));
+    const { p_offset, p_filesz } = file.elf.program_header(index), size = size_of('segment');
+    const mark = { at: Number(file.elf.header.e_phoff) + index * size, size };
+    return range_refusal(error, `the bytes of segment ${index}`, `segment ${index}`, p_offset, p_filesz, mark);
 }
-
-// ---- sections ----
 
 /** The tables that the dynamic section leads to, and no section header, by the name of their tag: as sections, which the page makes. */
 export const own_sections = new Map();
@@ -104,9 +97,7 @@ export const section_at = (index) => (typeof index === 'string' ? own_sections.g
 
 /** Returns all sections with their indices, or none if they are refused. */
 export function* sections() {
-    const list = read_or(undefined, () => file.elf.section_headers());
-    if (!list) return;
-    for (const [index, section] of list.entries()) yield { index, section };
+    for (const [index, section] of read_or([], () => file.elf.section_headers()).entries()) yield { index, section };
 }
 
 /** Reports whether a section has debug information, which its name says. */
@@ -118,9 +109,7 @@ export const symbol_tables = () => [...sections(), ...Array.from(own_sections, (
 
 /** Returns all segments with their indices, or none if they are refused. */
 export function* segments() {
-    const list = read_or(undefined, () => file.elf.program_headers());
-    if (!list) return;
-    for (const [index, segment] of list.entries()) yield { index, segment };
+    for (const [index, segment] of read_or([], () => file.elf.program_headers()).entries()) yield { index, segment };
 }
 
 /** Returns the name at an offset of a table, cut if it is long, or an empty text if there is none or the table is refused. */

@@ -2,18 +2,44 @@
 // without text are sorted by, and whether an item holds an offset or address.
 import * as goblin from './goblin.js';
 import {
-    called, file, name_of_section, part, refusal, RELOCATION_TYPES, RELR, section_at, section_refusal, SYMBOL_TYPES, read_or,
+    called, file, name_of_section, part, refusal, RELOCATION_TYPES, RELR, section_at, section_refusal, sections, segments, SYMBOL_TYPES,
+    read_or,
 } from './file.js';
+import { demangled } from './demangle.js';
 import { packed_offsets } from './dynamic.js';
 import * as labels from './labels.js';
 import { notes_of } from './notes.js';
 import { parts, titled } from './pieces.js';
-import { name_of_symbol, section_of_symbol, symtab_at } from './resolve.js';
+import { has_mangled, name_of_symbol, section_of_symbol, symtab_at } from './resolve.js';
 import { count, hex } from './text.js';
 
 const SPECIAL = new Map([[0n, 'undefined'], [0xfff1n, 'absolute'], [0xfff2n, 'common'], [0xffffn, 'extended index']]);
-const text = (say) => ({ text: say });
-const number = (key, say = hex) => ({ text: (item) => say(item[key]), number: (item) => item[key] });
+
+// A column has a title, a hint, such as the standard's name of the field, the least width, the share of the rest of the width, and functions of
+// an item that return its text, and, where they are others, the number to sort by and the text in a saved list.
+const column = (title, hint, least, share, given) =>
+    ({ title, hint, least, wide: share ? `minmax(${least}px, ${share}fr)` : `${least}px`, ...given });
+const text = (title, hint, least, share, say) => column(title, hint, least, share, { text: say });
+const number = (title, key, least, share, say = hex) =>
+    column(title, key, least, share, { is_right: true, text: (item) => say(item[key]), number: (item) => item[key] });
+
+let known_rooms;
+// Returns the widths of columns of some kinds of numbers, in which those of the file fit, but for some of damaged files.
+function rooms() {
+    if (known_rooms) return known_rooms;
+    let address = 0n, align = 0n, index = 0;
+    const raise = (end) => { if (end > address && end < 1n << 64n) address = end; };
+    for (const { section } of sections()) {
+        raise(section.sh_addr + section.sh_size);
+        if (section.sh_addralign > align) align = section.sh_addralign;
+        index = Math.max(index, section.sh_link, section.sh_info);
+    }
+    for (const { segment } of segments()) raise(segment.p_vaddr + segment.p_memsz);
+    const room = (shown, least, most = 20) => Math.max(Math.ceil(7.6 * Math.min(shown.length, most)) + 1, least);
+    const offset = room(hex(file.content.length), 60);
+    return (known_rooms = { address: room(hex(address), 60), offset, align: room(`${align}`, 36, 10), index: room(`${index}`, 32) });
+}
+
 const within = (start, size, value) => start <= value && value < start + size;
 const is_refused = (range) => part(() => { range(); return {}; }, () => true).refused;
 
@@ -43,91 +69,101 @@ function descriptor({ note }) {
 // Returns the list of packed relocations, which have nothing but their offsets. A number that is added is in place.
 function packed(offsets) {
     const item = (at) => (at < offsets.length ? { r_offset: offsets[at], r_type: 0, r_sym: 0, r_addend: undefined } : undefined);
-    return {
-        list: { length: offsets.length, get: item, *from(at = 0) { for (; at < offsets.length; at++) yield item(at); } },
-        columns: [number('r_offset'), text(() => 'packed, relative'), text(() => ''), text(addend), text(() => '')],
-        holds: ({ r_offset }, value) => r_offset === value,
-    };
+    return { length: offsets.length, get: item, *from(at = 0) { for (; at < offsets.length; at++) yield item(at); } };
 }
 
 const sources = {
-    sections: () => ({
-        list: file.elf.section_headers(),
-        columns: [
-            text(name_of_section), text(({ sh_type }) => labels.section_type(sh_type)), number('sh_addr'), number('sh_offset'),
-            number('sh_size'), text(({ sh_flags }) => labels.section_flags(sh_flags)), number('sh_link', String),
-            number('sh_info', String), number('sh_addralign', String), number('sh_entsize', String),
-        ],
-        mark: (item) => is_refused(() => file.elf.range(item)),
-        holds: ({ sh_addr, sh_offset, sh_size, sh_type, sh_flags }, value) => (sh_flags & 2n && within(sh_addr, sh_size, value))
-            || (sh_type !== goblin.SHT_NOBITS && within(sh_offset, sh_size, value)),
-    }),
-
-    segments: () => ({
-        list: file.elf.program_headers(),
-        columns: [
-            text(({ p_type }) => labels.segment_type(p_type)),
-            { text: ({ p_flags }) => labels.segment_flags(p_flags), plain: ({ p_flags }) => hex(p_flags) },
-            number('p_offset'), number('p_filesz'), number('p_vaddr'), number('p_memsz'), number('p_paddr'), number('p_align'),
-        ],
-        mark: (item) => is_refused(() => file.elf.range(item)),
-        holds: ({ p_offset, p_filesz, p_vaddr, p_memsz }, value) => within(p_offset, p_filesz, value) || within(p_vaddr, p_memsz, value),
-    }),
-
-    symbols: (table) => ({
-        list: symtab_at(table),
-        columns: [
-            text((item, index) => name_of_symbol(table, index, item)), number('st_value'), number('st_size', String),
-            text(({ st_info }) => labels.symbol_type(goblin.st_type(st_info))),
-            text(({ st_info }) => labels.symbol_binding(goblin.st_bind(st_info))),
-            text(({ st_other }) => labels.symbol_visibility(goblin.st_visibility(st_other))),
-            text((item, index) => section_word(table, index, item)),
-        ],
-        holds: ({ st_value, st_size }, value) => st_value === value || within(st_value, st_size, value),
-    }),
-
-    relocations(index) {
-        const section = section_at(index), half = 1n << 63n;
-        if (section.sh_type === RELR) return packed(packed_offsets(section));
+    sections({ address, offset, align, index }) {
         return {
-            list: file.elf.relocs(section),
+            list: file.elf.section_headers(), place: 30,
             columns: [
-                number('r_offset'), { text: ({ r_type }) => labels.relocation_type(r_type), number: ({ r_type }) => r_type },
-                text((item) => symbol_of_relocation(section.sh_link, item)),
-                { text: addend, plain: (item) => addend(item).replace('−', '-'), number: ({ r_addend = 0n }) => r_addend + half },
-                number('r_sym', String),
+                text('Name', 'sh_name', 126, 4, name_of_section), text('Type', 'sh_type', 92, 0.6, ({ sh_type }) => labels.section_type(sh_type)),
+                number('Address', 'sh_addr', address, 0.4), number('Offset', 'sh_offset', offset, 0.3), number('Size', 'sh_size', offset, 0.3),
+                text('Flags', 'sh_flags', 118, 0.3, ({ sh_flags }) => labels.section_flags(sh_flags)), number('Link', 'sh_link', index, 0, String),
+                number('Info', 'sh_info', index, 0, String), number('Align', 'sh_addralign', align, 0, String),
+                number('Entry', 'sh_entsize', 36, 0, String),
+            ],
+            mark: (item) => is_refused(() => file.elf.range(item)),
+            holds: ({ sh_addr, sh_offset, sh_size, sh_type, sh_flags }, value) => (sh_flags & 2n && within(sh_addr, sh_size, value))
+                || (sh_type !== goblin.SHT_NOBITS && within(sh_offset, sh_size, value)),
+        };
+    },
+
+    segments({ address, offset }) {
+        const flags = { text: ({ p_flags }) => labels.segment_flags(p_flags), plain: ({ p_flags }) => hex(p_flags) };
+        return {
+            list: file.elf.program_headers(), place: 40,
+            columns: [
+                text('Type', 'p_type', 104, 1, ({ p_type }) => labels.segment_type(p_type)), column('Flags', 'p_flags', 46, 0, flags),
+                number('Offset', 'p_offset', offset, 0.5), number('File size', 'p_filesz', offset, 0.5), number('Address', 'p_vaddr', address, 1),
+                number('Memory size', 'p_memsz', Math.max(offset, 80), 0.5), number('Physical', 'p_paddr', address, 1), number('Align', 'p_align', 66),
+            ],
+            mark: (item) => is_refused(() => file.elf.range(item)),
+            holds: ({ p_offset, p_filesz, p_vaddr, p_memsz }, value) => within(p_offset, p_filesz, value) || within(p_vaddr, p_memsz, value),
+        };
+    },
+
+    symbols({ address }, table) {
+        const name = (item, index) => name_of_symbol(table, index, item), known = []; // (a search reads them again and again)
+        const in_source = (item, index) => (known[index] ??= demangled(name(item, index)) ?? '');
+        const words = 'the name in C++, read by this page; empty if it is not read', list = symtab_at(table), is_mangled = has_mangled(table);
+        return {
+            list, place: 48,
+            columns: [
+                text('Name', 'st_name', is_mangled ? 120 : 180, is_mangled ? 2 : 5, name),
+                ...(is_mangled ? [text('Demangled (not proved)', words, 240, 5, in_source)] : []),
+                number('Value', 'st_value', address, 0.3), number('Size', 'st_size', 62, 0, String),
+                text('Type', 'st_info, its low four bits', 74, 0, ({ st_info }) => labels.symbol_type(goblin.st_type(st_info))),
+                text('Binding', 'st_info, its high four bits', 64, 0, ({ st_info }) => labels.symbol_binding(goblin.st_bind(st_info))),
+                text('Visibility', 'st_other', 78, 0, ({ st_other }) => labels.symbol_visibility(goblin.st_visibility(st_other))),
+                text('Section', 'st_shndx', 90, 0.5, (item, index) => section_word(table, index, item)),
+            ],
+            holds: ({ st_value, st_size }, value) => st_value === value || within(st_value, st_size, value),
+        };
+    },
+
+    relocations({ address }, of) {
+        const section = section_at(of), half = 1n << 63n, is_packed = section.sh_type === RELR;
+        const type = { text: ({ r_type }) => (is_packed ? 'packed, relative' : labels.relocation_type(r_type)), number: ({ r_type }) => r_type };
+        const added = { is_right: true, text: addend, plain: (item) => addend(item).replace('−', '-'), number: ({ r_addend = 0n }) => r_addend + half };
+        return {
+            list: is_packed ? packed(packed_offsets(section)) : file.elf.relocs(section), place: 48,
+            columns: [
+                number('Offset', 'r_offset', address, 0.6), column('Type', 'r_type', 165, 0.5, type),
+                text('Symbol', 'the name of r_sym', 190, 4, (item) => symbol_of_relocation(section.sh_link, item)),
+                column('Addend', 'r_addend', address, 0.6, added), number('Index', 'r_sym', 56, 0, (index) => (is_packed ? '' : `${index}`)),
             ],
             holds: ({ r_offset }, value) => r_offset === value,
         };
     },
 
-    notes(by) {
-        const { items } = notes_of(by);
+    notes(_, by) {
+        const { items } = notes_of(by), type = { text: ({ note }) => labels.note_type(note), number: ({ note }) => note.n_type };
+        const of_thread = { is_right: true, text: ({ thread = '' }) => `${thread}`, number: ({ thread = 0n }) => thread };
+        const size = { is_right: true, text: ({ note }) => `${note.desc_range.size}`, number: ({ note }) => note.desc_range.size };
         return {
-            list: { length: items.length, get: (at) => items[at], from: (at = 0) => items.slice(at) },
+            list: { length: items.length, get: (at) => items[at], from: (at = 0) => items.slice(at) }, place: 40,
             columns: [
-                text(({ holder }) => holder.title), text(({ note }) => note.name),
-                { text: ({ note }) => labels.note_type(note), number: ({ note }) => note.n_type },
-                { text: ({ thread = '' }) => `${thread}`, number: ({ thread = 0n }) => thread },
-                { text: ({ note }) => `${note.desc_range.size}`, number: ({ note }) => note.desc_range.size }, text(descriptor),
+                text('From', 'the section or segment', 120, 1, ({ holder }) => holder.title), text('Owner', 'the name', 72, 0.6, ({ note }) => note.name),
+                column('Type', 'n_type', 130, 0.8, type), column('Thread', 'of a core', 60, 0, of_thread), column('Size', 'n_descsz', 56, 0, size),
+                text('Descriptor', 'its first bytes', 160, 2, descriptor),
             ],
             holds: ({ start, end }, value) => within(BigInt(start), BigInt(end - start), value),
         };
     },
 
-    layout() {
-        const { starts, tops, depths } = parts();
-        const size = (at) => starts[at + 1] - starts[at];
-        const share = (at) => (100 * size(at) / file.content.length).toFixed(2);
+    layout({ offset }) {
+        const { starts, tops, depths } = parts(), size = (at) => starts[at + 1] - starts[at];
+        const share = (at) => (100 * size(at) / file.content.length).toFixed(2), title = (at) => (tops[at] ? titled(tops[at]).title : 'gap');
+        const sized = (title_of, hint, least, given) => column(title_of, hint, least, 0, { is_right: true, number: size, ...given });
+        const place = (name, by) => column(name, 'offset', offset, 0, { is_right: true, text: (at) => hex(starts[at + by]), number: (at) => starts[at + by] });
         return {
-            list: { length: tops.length, get: (at) => at, *from(at = 0) { for (; at < tops.length; at++) yield at; } },
+            list: { length: tops.length, get: (at) => at, *from(at = 0) { for (; at < tops.length; at++) yield at; } }, place: 56,
             columns: [
-                { text: (at) => hex(starts[at]), number: (at) => starts[at] },
-                { text: (at) => hex(starts[at + 1]), number: (at) => starts[at + 1] },
-                { text: (at) => count(size(at)), plain: (at) => `${size(at)}`, number: size },
-                { text: (at) => `${share(at)} %`, plain: share, number: size },
-                text((at) => (tops[at] ? titled(tops[at]).title : 'gap')),
-                { text: (at) => (depths[at] > 1 ? `${depths[at]} pieces overlap` : ''), number: (at) => depths[at] },
+                place('From', 0), place('To', 1), sized('Bytes', 'size', 96, { text: (at) => count(size(at)), plain: (at) => `${size(at)}` }),
+                sized('Share', 'of the file', 72, { text: (at) => `${share(at)} %`, plain: share }), text('What', 'the piece that is drawn', 160, 2, title),
+                column('Overlap', 'how many pieces lie there', 120, 1,
+                    { text: (at) => (depths[at] > 1 ? `${depths[at]} pieces overlap` : ''), number: (at) => depths[at] }),
             ],
             holds: (at, value) => within(BigInt(starts[at]), BigInt(size(at)), value),
         };
@@ -144,20 +180,23 @@ function is_there(list, of) {
 export function open_source(list, of) {
     try {
         if (!is_there(list, of)) return undefined;
-        return sources[list](of);
+        return sources[list](rooms(), of);
     } catch (error) {
         if (list === 'symbols' || list === 'relocations') return { refused: section_refusal(error, `the ${list}`, of) };
         return { refused: refusal(error, `the ${list}`, []) };
     }
 }
 
+/** Returns the columns of a list, for the page, or none if there is no such list or it is refused. The first is that of the index. */
+export const columns_of = ({ place = 0, columns = [] } = {}) =>
+    [column('#', 'index', place, 0, { is_right: true, is_dim: true }), ...columns].map(({ title, hint, least, wide, is_right, is_dim }) =>
+        ({ title, hint, least, wide, is_right, is_dim }));
+
 /** Returns the cells of an item. The first is its index. */
 export const cells_of = ({ columns }, item, index) => [`${index}`, ...columns.map((column) => column.text(item, index))];
 /** Returns the cells of an item in a saved list, where numbers are plain. */
 export const plain_cells_of = ({ columns }, item, index) =>
     [`${index}`, ...columns.map((column) => (column.plain ?? column.text)(item, index))];
-
-// ---- views: the items that a search finds, in their order ----
 
 // How long the worker works before it reads messages.
 const SLICE = 25;

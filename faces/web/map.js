@@ -1,306 +1,329 @@
-// The map: the file's parts, drawn to scale, with what is loaded and what is chosen.
+// The map: the file's parts, drawn to scale, with the functions inside them, what their bytes are like, what is loaded, and what is chosen.
 import { get, hex, make, number, plural, put_text, visible } from './dom.js';
 import { ask, shown_file } from './reader.js';
 import { go } from './route.js';
+import { first_after, visible_ranges } from './spans.js';
 
-// In pixels: the height of a row's bar, the distance to the next one, and the space above. In rows: their greatest number.
-const BAND = 15, STEP = 23, TOP = 8, MOST_ROWS = 16, SHARE = 1 / 3, LOW = 600;
-const map = { part: -1, over: -1, chosen: undefined, rows: MOST_ROWS, view: { start: 0, each: 1 } };
+// In pixels: the heights of a row's bar and of the strip below it, the distance to the next row, the space above, and the space on the right;
+// the least widths of a function, of a piece with a name, and of a byte with its digits; and how far a click moves, and the wheel for a step.
+const BAND = 14, STRIP = 4, STEP = 24, TOP = 8, RIGHT = 10, LEAST = 2, LEAST_NAMED = 34, DIGITS = 15, CLICK = 4, TURN = 60;
+// Of rows the greatest number, the share of the window, and the fewest bytes of one.
+const MOST_ROWS = 16, SHARE = 1 / 3, LOW = 600, FEWEST = 16;
 const KIND_WORDS = { header: 'ELF header', tables: 'header tables', names: 'symbols and names', debug: 'debug information' };
 const words_of = (kind) => KIND_WORDS[kind] ?? kind;
 export const colour = (kind) => getComputedStyle(document.documentElement).getPropertyValue(`--${kind}`);
 
+
+/** Returns a dot in the colour of a kind. */
+export function dot(kind) {
+    const item = make('i', { 'data-kind': kind });
+    item.style.background = colour(kind);
+    return item;
+}
+
+// The map's parts, the view, and what the worker has sent of a view.
+const map = { rows: MOST_ROWS, view: { start: 0, each: 1 } };
+
 /** Shows the parts of a file. */
 export function show_map(parts, size) {
-    Object.assign(map, parts, { size, part: -1, over: -1, chosen: undefined, titles: new Map() });
+    const nothing = { inside: { classes: [], bytes: [], symbols: [], parts: [] }, asked: {}, over: undefined, chosen: undefined, whole: undefined };
+    Object.assign(map, parts, nothing, { ends: parts.starts.subarray(1), size, at: -1 });
     get('canvas').setAttribute('aria-valuemax', Math.max(map.kinds.length - 1, 0));
     show_legend();
     fit();
-    describe_part(-1);
+    describe(undefined);
 }
 
+const CUT = 'hatched: cut at the file’s end', OVERLAPPING = 'hatched: overlapping';
 function show_legend() {
-    const sums = new Map();
+    const sums = new Map(), add = (name, i) => sums.set(name, (sums.get(name) ?? 0) + map.ends[i] - map.starts[i]);
     map.kinds.forEach((kind, i) => {
-        const name = kind < 0 ? 'gap' : map.KINDS[kind];
-        sums.set(name, (sums.get(name) ?? 0) + map.starts[i + 1] - map.starts[i]);
+        add(map.KINDS[kind] ?? 'gap', i);
+        if (map.depths[i] > 1) add(OVERLAPPING, i);
+        if (map.cuts[i]) add(CUT, i);
     });
-    const sum = (is_wanted) => map.kinds.reduce((all, _, i) => (is_wanted(i) ? all + map.starts[i + 1] - map.starts[i] : all), 0);
-    const [overlapped, cut] = [sum((i) => map.depths[i] > 1), sum((i) => map.cuts[i])];
-    const part = (size) => `${(100 * size / map.size).toFixed(1)} %`, is_small = (name) => sums.get(name) / map.size < 0.0005;
-    const named = [...map.KINDS, 'gap'].filter((name) => sums.has(name)), small = named.filter(is_small).map(words_of);
-    const items = named.filter((name) => !is_small(name)).map((name) => {
-        const dot = make('i', { class: name === 'gap' && 'hollow' });
-        if (name !== 'gap') dot.style.background = colour(name);
-        return make('li', {}, dot, `${words_of(name)} ${part(sums.get(name))}`);
-    });
-    if (small.length) items.push(make('li', {}, `each below 0.05 %: ${small.join(', ')}`));
-    if (overlapped) items.push(make('li', {}, `hatched: overlapping ${part(overlapped)}`));
-    if (cut) items.push(make('li', {}, `hatched: cut at the file’s end ${part(cut)}`));
-    if (map.segments.length) items.push(make('li', {}, 'line below: loaded'));
-    get('legend').replaceChildren(...items);
+    const line = (content, shade) => make('li', {}, ...(shade ? [dot(shade)] : []), content);
+    const share = (name) => `${words_of(name)} ${(100 * sums.get(name) / map.size).toFixed(1)} %`, { words, to } = map.past;
+    const kinds = [...map.KINDS, 'gap'].filter((name) => sums.has(name)), is_small = (name) => sums.get(name) / map.size < 0.0005;
+    const small = kinds.filter(is_small).map(words_of).join(', ');
+    get('legend').replaceChildren(...kinds.filter((name) => !is_small(name)).map((name) => line(share(name), name)),
+        ...(small ? [line(`each below 0.05 %: ${small}`)] : []),
+        ...[OVERLAPPING, CUT].filter((name) => sums.has(name)).map((name) => line(share(name))),
+        ...(words ? [line(put_text(make('a', { class: 'past', href: `#${to}` }), words))] : []),
+        line('strip below:'), ...map.CLASSES.map((name, i) => line(name, `in-${i}`)), ...(map.segments.length ? [line('line below: loaded')] : []));
 }
 
 // Computes the number of rows, which gives the map its share of the window, and the bytes of a row. The whole file is shown if it was before.
 function fit() {
-    const canvas = get('canvas'), was_whole = map.view.each === map.whole || !map.whole;
-    const others = canvas.parentElement.offsetHeight - canvas.offsetHeight;
+    if (!shown_file.summary) return;
+    const canvas = get('canvas'), others = canvas.parentElement.offsetHeight - canvas.offsetHeight, is_whole = !(map.view.each < map.whole);
     map.rows = Math.min(Math.max(Math.floor((innerHeight * (innerHeight > LOW ? SHARE : SHARE / 3) - others - TOP - 4) / STEP), 1), MOST_ROWS);
-    map.whole = Math.max(2 ** Math.ceil(Math.log2(Math.max(map.size, 1) / map.rows)), 16);
-    if (was_whole || map.view.each > map.whole) map.view = { start: 0, each: map.whole };
+    const least = Math.max(map.size / map.rows, FEWEST), quarter = 2 ** Math.floor(Math.log2(least)) / 4; // (so offsets are round numbers)
+    map.whole = Math.ceil(least / quarter) * quarter;
+    if (is_whole || map.view.each >= map.whole) map.view = { start: 0, each: map.whole };
     draw_map();
 }
 
-/** Returns the part that holds a byte. */
-export function part_at(byte) {
-    let low = 0, high = map.kinds.length - 1;
-    while (low < high) {
-        const middle = (low + high + 1) >> 1;
-        if (map.starts[middle] <= byte) low = middle; else high = middle - 1;
-    }
-    return map.kinds.length ? low : -1;
-}
-
-const rows_of_view = () => Math.max(Math.min(map.rows, Math.ceil((map.size - map.view.start) / map.view.each)), 1);
+const part_at = (byte) => Math.min(first_after(map.ends, byte), map.kinds.length - 1);
+const end_of_view = () => Math.min(map.view.start + map.view.each * map.rows, map.size);
+const rows_of_view = () => Math.max(Math.ceil((end_of_view() - map.view.start) / map.view.each), 1);
+const is_in_view = (byte) => map.view.start <= byte && byte < end_of_view();
+const write = (pen, text, shade, x, y) => Object.assign(pen, { fillStyle: colour(shade) }).fillText(text, x, y + BAND / 2 + 1);
 
 // Draws a range, cut at the ends of the rows, by to(x, width, y) for each piece, in units of the canvas.
 function over_rows(from, to, draw) {
-    const { start, each } = map.view, wide = map.wide - map.left - 10;
-    const first = Math.max(Math.floor((from - start) / each), 0), last = Math.min(Math.ceil((to - start) / each), rows_of_view());
-    for (let row = first; row < last; row++) {
-        const base = start + row * each;
-        const left = Math.max(from - base, 0) / each * wide, right = Math.min(to - base, each) / each * wide;
+    const { start, each } = map.view, last = Math.min(Math.ceil((to - start) / each), rows_of_view());
+    for (let row = Math.max(Math.floor((from - start) / each), 0); row < last; row++) {
+        const base = start + row * each, left = Math.max(from - base, 0) / each * map.bar, right = Math.min(to - base, each) / each * map.bar;
         if (right > left) draw(map.left + left, right - left, TOP + row * STEP);
     }
 }
 
 function sized_pen() {
-    const canvas = get('canvas'), scale = window.devicePixelRatio || 1, high = TOP + rows_of_view() * STEP + 2;
-    map.wide = canvas.parentElement.clientWidth;
-    map.left = 30 + 7 * hex(map.size).length;
-    canvas.style.height = `${high}px`;
-    if (canvas.width !== Math.round(map.wide * scale) || canvas.height !== Math.round(high * scale)) {
-        canvas.width = Math.round(map.wide * scale);
-        canvas.height = Math.round(high * scale);
-    }
-    const pen = canvas.getContext('2d');
-    pen.setTransform(scale, 0, 0, scale, 0, 0);
-    pen.clearRect(0, 0, map.wide, high);
+    const canvas = get('canvas'), scale = window.devicePixelRatio || 1, pen = canvas.getContext('2d');
+    const wide = canvas.clientWidth, high = TOP + rows_of_view() * STEP + 2, left = 30 + 7 * hex(map.size).length;
+    Object.assign(map, { wide, left, bar: Math.max(wide - left - RIGHT, 1) });
+    canvas.style.height = `${high + 2 * canvas.clientTop}px`;
+    Object.assign(canvas, { width: Math.round(wide * scale), height: Math.round(high * scale) });
+    pen.scale(scale, scale);
+    pen.textBaseline = 'middle';
     return pen;
 }
 
+// Draws the map. If bytes have room for their digits, these are in the bars, and the kinds in the strips below, else the other way round.
 function draw_map() {
-    const pen = sized_pen();
+    const pen = sized_pen(), has_digits = map.inside.bytes.length && map.bar / map.view.each >= DIGITS;
+    const fill = (shade, x, y, width, high) => { pen.fillStyle = shade; pen.fillRect(x, y, width, high); };
+    const bars = { down: 0, high: BAND, fill }, strips = { down: BAND, high: STRIP, fill };
+    const [kinds, contents] = has_digits ? [strips, bars] : [bars, strips];
     draw_offsets(pen);
-    draw_segments(pen);
-    draw_names(pen, draw_parts(pen));
-    if (map.over >= 0) outline(pen, map.starts[map.over], map.starts[map.over + 1], colour('dim'), 1);
-    if (map.chosen) outline(pen, map.chosen.start, map.chosen.end, colour('ink'), 2);
+    draw_segments(fill);
+    draw_parts(pen, kinds);
+    const drawn = draw_symbols(kinds);
+    draw_contents(pen, contents, has_digits);
+    if (!has_digits) draw_names(pen, drawn, fill);
+    if (map.over) outline(pen, map.over, colour('dim'), 1);
+    if (map.chosen) outline(pen, map.chosen, colour('ink'), 2);
+    draw_past(pen, fill);
+    ask_inside();
 }
 
-// Calls draw(part, x, width, y) for each piece of a row.
-function over_parts(draw) {
-    const { start, each } = map.view, end = start + each * map.rows;
-    for (let part = Math.max(part_at(start), 0); part < map.kinds.length && map.starts[part] < end; part++) {
-        over_rows(map.starts[part], map.starts[part + 1], (x, width, y) => draw(part, x, width, y));
+// Asks the worker for what is inside the parts of the view, one view at a time, and draws the map again.
+async function ask_inside() {
+    const { view: { start, each }, bar, rows, asked } = map, columns = Math.min(each, Math.ceil(bar / 2)), least = LEAST * each / bar;
+    const view = { start, end: start + each * rows, step: each / columns, columns, least, least_named: LEAST_NAMED * each / bar };
+    if (asked.is_busy || asked.key === JSON.stringify(view)) return;
+    Object.assign(asked, { key: JSON.stringify(view), is_busy: true });
+    const inside = await ask('inside', view);
+    asked.is_busy = false;
+    if (asked !== map.asked) return;
+    map.inside = inside;
+    draw_map();
+}
+
+// Draws the parts. Those narrower than a pixel are drawn over the others, as a pixel. (A gap as narrow as that has the colour of what follows.)
+function draw_parts(pen, { down, high, fill }) {
+    const shades = map.KINDS.map(colour), gap = colour('gap'), line = colour('raised'), hatch = hatching(pen, 'ink'), narrow = [];
+    const { starts, ends, view, bar } = map;
+    for (const i of visible_ranges(starts, ends, view.start, end_of_view(), view.each / bar)) {
+        const shade = shades[map.kinds[i]], is_hatched = map.depths[i] > 1 || map.cuts[i], is_narrow = ends[i] - starts[i] < view.each / bar;
+        over_rows(starts[i], ends[i], (x, width, y) => {
+            if (is_narrow) { narrow.push([shade ?? shades[map.kinds[i + 1]] ?? gap, Math.floor(x), y + down, 1, high]); return; }
+            if (!shade) { fill(gap, x, y + down + high / 2 - 1, width, 2); return; }
+            fill(shade, x, y + down, width, high);
+            if (is_hatched) fill(hatch, x, y + down, width, high);
+            if (width > 3) fill(line, x + width - 0.75, y + down, 0.75, high);
+        });
     }
+    narrow.forEach((given) => fill(...given));
 }
 
-// Draws the parts, and returns those that are wide enough for a name. Those narrower than a pixel are drawn over the others, as a pixel.
-function draw_parts(pen) {
-    const shades = map.KINDS.map(colour), gap = colour('gap'), hatch = hatching(pen), line = colour('raised'), named = [];
-    over_parts((part, x, width, y) => {
-        if (width < 1) return;
-        if (map.kinds[part] < 0) { draw_gap(pen, gap, x, width, y); return; }
-        pen.fillStyle = shades[map.kinds[part]];
-        pen.fillRect(x, y, width, BAND);
-        if (map.depths[part] > 1 || map.cuts[part]) { pen.fillStyle = hatch; pen.fillRect(x, y, width, BAND); }
-        if (width > 3) { pen.fillStyle = line; pen.fillRect(x + width - 0.75, y, 0.75, BAND); }
-        if (width > 34) named.push({ part, x, width, y });
-    });
-    let seen = {}; // (of several that meet in a pixel the first one is drawn)
-    over_parts((part, x, width, y) => {
-        const pixel = Math.floor(x);
-        if (width >= 1 || map.kinds[part] < 0 || (y === seen.y && pixel === seen.pixel)) return;
-        seen = { pixel, y };
-        pen.fillStyle = shades[map.kinds[part]];
-        pen.fillRect(pixel, y, 1, BAND);
-    });
-    return named;
+// Draws functions and variables lighter than their parts, each second one more so, and returns their pieces.
+function draw_symbols({ down, high, fill }) {
+    const line = colour('raised'), drawn = [];
+    map.inside.symbols.forEach((item) => over_rows(item.start, item.end, (x, width, y) => {
+        fill(`rgb(255 255 255 / ${item.is_odd ? 0.18 : 0.4})`, x, y + down, width, high);
+        if (width > CLICK) fill(line, x, y + down, 0.75, high);
+        drawn.push({ item, x, width, y });
+    }));
+    return drawn;
 }
 
-// Draws a gap: hollow, with an edge that differs from the background, or full if it is too narrow.
-function draw_gap(pen, shade, x, width, y) {
-    if (width < 5) {
-        pen.fillStyle = shade;
-        pen.fillRect(x, y + BAND / 2 - 1, width, 2);
-        return;
+// Draws the classes of bytes, each run of columns with the same class at once, or each byte with its digits.
+function draw_contents(pen, { down, high, fill }, has_digits) {
+    const { start, step, columns, classes, bytes } = map.inside, shades = map.CLASSES.map((_, i) => colour(`in-${i}`));
+    Object.assign(pen, { font: `11px ${colour('mono')}`, textAlign: 'center' });
+    for (let from = 0, to; from < classes.length; from = to) {
+        for (to = from + 1; !has_digits && to % columns !== 0 && classes[to] === classes[from];) to++;
+        over_rows(start + from * step, start + to * step, (x, width, y) => {
+            fill(shades[classes[from]], x, y + down, width, high);
+            if (has_digits) write(pen, bytes[from].toString(16).padStart(2, '0'), 'on-kind', x + width / 2, y);
+        });
     }
-    pen.strokeStyle = shade;
-    pen.lineWidth = 1;
-    pen.strokeRect(Math.round(x) + 1.5, y + 0.5, Math.round(width) - 3, BAND - 1);
 }
 
 // Writes the offsets of the rows.
 function draw_offsets(pen) {
-    pen.font = `11px ${colour('mono')}`;
-    pen.textBaseline = 'middle';
-    pen.textAlign = 'right';
-    pen.fillStyle = colour('dim');
-    for (let row = 0; row < rows_of_view(); row++) {
-        pen.fillText(hex(map.view.start + row * map.view.each), map.left - 12, TOP + row * STEP + BAND / 2 + 0.5);
-    }
+    Object.assign(pen, { font: `11px ${colour('mono')}`, textAlign: 'right' });
+    for (let row = 0; row < rows_of_view(); row++) write(pen, hex(map.view.start + row * map.view.each), 'dim', map.left - 12, TOP + row * STEP);
 }
 
-function hatching(pen) {
-    const tile = document.createElement('canvas');
-    tile.width = tile.height = 6;
-    const on = tile.getContext('2d');
-    on.strokeStyle = colour('ink');
-    on.globalAlpha = 0.55;
-    on.lineWidth = 1;
-    on.beginPath();
+function hatching(pen, shade) {
+    const tile = Object.assign(document.createElement('canvas'), { width: 6, height: 6 }), on = tile.getContext('2d');
+    Object.assign(on, { strokeStyle: colour(shade), globalAlpha: 0.55 });
     for (const x of [-6, 0, 6]) { on.moveTo(x, 6); on.lineTo(x + 6, 0); }
     on.stroke();
     return pen.createPattern(tile, 'repeat');
 }
 
 // Draws a line below what is loaded, in the colour of code, data or constants.
-function draw_segments(pen) {
+function draw_segments(fill) {
     for (const [from, to, flags] of map.segments) {
-        pen.fillStyle = colour(flags & 1 ? 'code' : flags & 2 ? 'data' : 'constants');
-        over_rows(from, Math.min(to, map.size), (x, width, y) => pen.fillRect(x, y + BAND + 1.5, Math.max(width, 1), 2));
+        const shade = colour(flags & 1 ? 'code' : flags & 2 ? 'data' : 'constants');
+        over_rows(from, Math.min(to, map.size), (x, width, y) => fill(shade, x, y + BAND + STRIP + 1, Math.max(width, 1), 2));
     }
 }
 
-// How many names are read at once.
-const MOST_NAMES = 400;
-
-// Writes the names of the pieces that are wide enough, once the worker has sent them.
-function draw_names(pen, named) {
-    ask_names([...new Set(named.map(({ part }) => part))].filter((part) => !map.titles.has(part)).slice(0, MOST_NAMES));
-    pen.font = `11px ${colour('text')}`;
-    pen.textAlign = 'left';
-    const drawn = new Set();
-    for (const { part, x, width, y } of named) {
-        const title = map.titles.get(part);
-        if (!title || drawn.has(part) || pen.measureText(title).width > width - 10) continue;
-        drawn.add(part);
-        pen.fillStyle = colour(map.KINDS[map.kinds[part]] === 'header' ? 'paper' : 'on-kind');
-        pen.fillText(title, x + 5, y + BAND / 2 + 0.5);
-    }
+// Writes the names of functions and variables, and those of the parts where none of these is, once each, if they have room.
+function draw_names(pen, symbols, fill) {
+    const drawn = new Set(), put = (item, { x, width, y }, shade) => {
+        const text = visible(item.title), wide = pen.measureText(text).width;
+        if (!text || drawn.has(item) || wide > width - 10) return;
+        drawn.add(item);
+        if (item.is_cut) fill(colour(item.kind), x + 2, y + 1, wide + 6, BAND - 2); // (so hatching doesn't cross the name)
+        write(pen, text, shade, x + 5, y);
+    };
+    Object.assign(pen, { font: `11px ${colour('text')}`, textAlign: 'left' });
+    symbols.forEach((piece) => put(piece.item, piece, 'on-kind'));
+    map.inside.parts.forEach((part) => over_rows(part.start, part.end, (x, width, y) => {
+        const next = symbols.find((piece) => piece.y === y && piece.x + piece.width > x)?.x ?? Infinity; // (a function may begin soon)
+        put(part, { x, width: Math.min(width, next - x), y }, part.kind === 'header' ? 'paper' : 'on-kind');
+    }));
 }
 
-function ask_names(missing) {
-    if (missing.length === 0) return;
-    const { titles } = map;
-    missing.forEach((part) => titles.set(part, ''));
-    ask('titles', missing).then((found) => {
-        missing.forEach((part, i) => titles.set(part, visible(found[i])));
-        if (titles === map.titles) draw_map();
+// Marks at the file's end that something lies past it.
+function draw_past(pen, fill) {
+    if (!map.past.words) return;
+    over_rows(map.size - 1, map.size, (left, width, y) => {
+        const edge = map.left + map.bar + RIGHT, x = Math.round(Math.min(left + width, edge - 8));
+        fill(hatching(pen, 'bad'), x, y, edge - x, BAND + STRIP);
+        fill(colour('bad'), x, y - 3, 2, BAND + STRIP + 6);
     });
 }
 
-function outline(pen, from, to, shade, width) {
-    pen.strokeStyle = shade;
-    pen.lineWidth = width;
-    over_rows(from, to, (x, wide, y) => pen.strokeRect(x - 0.5, y - 0.5, Math.max(wide, 2) + 1, BAND + 1));
+function outline(pen, { start, end }, shade, width) {
+    Object.assign(pen, { strokeStyle: shade, lineWidth: width });
+    over_rows(start, end, (x, wide, y) => pen.strokeRect(x - 0.5, y - 0.5, Math.max(wide, 2) + 1, BAND + STRIP + 1));
 }
 
-// ---- what is chosen ----
-
-const name_of = ({ title, kind }) => `${title ?? 'gap'} · ${kind ? words_of(kind) : 'in no section or segment'}`;
-
-// Describes a part in the line above the map, or how the map is drawn if there is none.
-async function describe_part(part) {
-    const readout = get('readout');
-    if (part < 0) {
-        readout.textContent = `${plural(map.kinds.length, 'part')}, drawn to scale; each row has ${number(map.view.each)} bytes`;
-        return;
-    }
-    const { reader } = shown_file, item = await ask('item', { list: 'layout', index: part });
-    if (map.over !== part || reader !== shown_file.reader) return;
-    const [start, end] = [map.starts[part], map.starts[part + 1]];
-    const depth = map.depths[part] > 1 ? ` · ${map.depths[part]} pieces overlap` : '';
-    put_text(readout, `${name_of(item)} · ${hex(start)} to ${hex(end)} · ${plural(end - start, 'byte')}${depth}`);
-    readout.title = readout.textContent;
+// Describes what is at a byte in the line above the map, and outlines it, or describes how the map is drawn.
+async function describe(byte) {
+    const readout = get('readout'), { reader } = shown_file, found = (map.pointed = byte) === undefined ? undefined : await ask('under', byte);
+    if (map.pointed !== byte || reader !== shown_file.reader) return;
+    const { title, kind, symbol, depth, content } = found ?? {}, { start, end } = symbol || found || {};
+    const words = found ? [symbol?.title, title, kind ? words_of(kind) : 'in no section or segment', `${hex(start)} to ${hex(end)}`,
+        plural(end - start, 'byte'), depth > 1 && `${depth} pieces overlap`, `${content} at ${hex(byte)}`].filter(Boolean).join(' · ')
+        : `${plural(map.kinds.length, 'part')}, drawn to scale; each row has ${number(map.view.each)} bytes; the wheel zooms, dragging moves`;
+    readout.title = put_text(readout, words).textContent;
+    if (map.over?.start === start && map.over?.end === end) return;
+    map.over = found && { start, end };
+    draw_map();
 }
 
 /** Outlines the chosen range, or nothing, and scrolls to its first byte. */
 export function mark_range(range, title = '') {
     map.chosen = range && range.size > 0 && range.at < map.size ? { start: range.at, end: range.at + range.size } : undefined;
-    if (map.chosen) {
-        map.part = part_at(map.chosen.start);
-        const { start, each } = map.view;
-        if (map.chosen.start < start || map.chosen.start >= start + each * map.rows) look(map.chosen.start, each);
-        const canvas = get('canvas'), lies = `${hex(map.chosen.start)} to ${hex(map.chosen.end)}`;
-        canvas.setAttribute('aria-valuenow', map.part);
-        canvas.setAttribute('aria-valuetext', `${visible(title)}: ${lies}, ${plural(range.size, 'byte')}`);
-    }
+    if (!map.chosen) { draw_map(); return; }
+    const { start, end } = map.chosen, canvas = get('canvas');
+    if (map.at < start || map.at >= end) map.at = start;
+    canvas.setAttribute('aria-valuenow', part_at(map.at));
+    canvas.setAttribute('aria-valuetext', `${visible(title)}: ${hex(start)} to ${hex(end)}, ${plural(range.size, 'byte')}`);
+    if (is_in_view(map.at)) draw_map(); else move_to(map.at - map.view.each * Math.floor(map.rows / 2));
+}
+
+// Chooses the function or variable that holds a byte, if it is drawn, else the part. A step chooses one that starts there.
+function choose(byte, is_step = false) {
+    map.at = byte;
+    const symbol = map.inside.symbols.find(({ start, end }) => (is_step ? start === byte : start <= byte && byte < end));
+    go(symbol?.to ?? `part/${part_at(byte)}`, is_step);
+}
+
+// Chooses the next function, variable or part from a byte on, or the previous one up to it.
+function step(by, byte = map.at + by) {
+    const starts = [...map.inside.symbols.map(({ start }) => start), ...map.starts.slice(0, -1)].filter((start) => by * (start - byte) >= 0);
+    if (starts.length) choose(starts.reduce((best, start) => (by * (start - best) < 0 ? start : best)), true);
+}
+
+// Shows rows of a number of bytes, from a byte on.
+function move_to(start, each = map.view.each) {
+    const last = Math.max(map.size - each * (map.rows - 0.5), 0), unit = 2 ** Math.max(Math.floor(Math.log2(each / map.bar)), 0); // (a pixel)
+    map.view = { start: each === map.whole ? 0 : Math.round(Math.min(Math.max(start, 0), last) / unit) * unit, each };
     draw_map();
+    describe(undefined);
 }
 
-function choose_part(part, is_replaced = false) {
-    if (map.kinds.length) go(`part/${Math.min(Math.max(part, 0), map.kinds.length - 1)}`, is_replaced);
+const move_by = (rows) => move_to(map.view.start + rows * map.view.each);
+
+// Zooms, so that a byte stays where it is: the one below the pointer, the chosen one if it is shown, or that in the middle.
+function zoom(by, byte = is_in_view(map.at) ? map.at : (map.view.start + end_of_view()) / 2) {
+    const { start, each } = map.view, next = Math.min(Math.max(each * by, FEWEST), map.whole);
+    move_to(byte - (byte - start) * next / each, next);
 }
 
-// Shows rows of a number of bytes, with a byte among them.
-function look(byte, each) {
-    each = Math.min(Math.max(each, 16), map.whole);
-    const last = Math.max(Math.ceil(map.size / each) - map.rows, 0) * each;
-    const start = Math.min(Math.max(Math.floor((byte - each * map.rows / 2) / each) * each, 0), last);
-    map.view = { start: each === map.whole ? 0 : start, each };
-    draw_map();
-    describe_part(-1);
+function byte_at({ clientX, clientY }) {
+    const canvas = get('canvas'), { left, top } = canvas.getBoundingClientRect(), border = canvas.clientTop;
+    const row = Math.floor((clientY - top - border - TOP + 3) / STEP), part = (clientX - left - border - map.left) / map.bar;
+    const byte = Math.floor(map.view.start + (row + part) * map.view.each);
+    return row >= 0 && row < rows_of_view() && part >= 0 && part < 1 && byte < map.size ? byte : undefined;
 }
 
-const middle = () => (map.part >= 0 ? map.starts[map.part] : map.view.start + map.view.each * map.rows / 2);
+const KEYS = {
+    ArrowRight: () => step(1), ArrowLeft: () => step(-1), ArrowDown: () => step(1, map.at + map.view.each), Home: () => step(1, 0),
+    ArrowUp: () => step(-1, map.at - map.view.each), End: () => step(-1, map.size), PageDown: () => move_by(map.rows - 1),
+    PageUp: () => move_by(1 - map.rows), 0: () => zoom(Infinity), '+': () => zoom(0.5), '-': () => zoom(2),
+};
 
-function byte_at(event) {
-    const { left, top } = get('canvas').getBoundingClientRect();
-    const row = Math.floor((event.clientY - top - TOP + 3) / STEP), part = (event.clientX - left - map.left) / (map.wide - map.left - 10);
-    const byte = map.view.start + (row + part) * map.view.each;
-    return row >= 0 && row < rows_of_view() && part >= 0 && part <= 1 && byte < map.size ? byte : undefined;
-}
-
-function hover(part) {
-    if (part === map.over) return;
-    map.over = part;
-    draw_map();
-    describe_part(part);
-}
-
-function key(event) {
-    const keys = {
-        ArrowRight: () => choose_part(map.part + 1, true), ArrowLeft: () => choose_part(map.part - 1, true), Home: () => choose_part(0, true),
-        ArrowDown: () => choose_part(Math.max(part_at(middle() + map.view.each), map.part + 1), true),
-        ArrowUp: () => choose_part(Math.min(part_at(Math.max(middle() - map.view.each, 0)), Math.max(map.part - 1, 0)), true),
-        End: () => choose_part(map.kinds.length, true), 0: () => look(0, map.whole),
-        '+': () => look(middle(), map.view.each / 2), '-': () => look(middle(), map.view.each * 2),
-    };
-    if (!(event.key in keys) || event.ctrlKey || event.metaKey) return;
-    event.preventDefault();
-    keys[event.key]();
-}
+// What the keyboard, the wheel and the pointer do. The pointer moves the map by whole rows and by parts of one, or chooses what is below it.
+let turned = 0, from;
+const ACTS = {
+    keydown(event) {
+        if (!Object.hasOwn(KEYS, event.key) || event.ctrlKey || event.metaKey) return;
+        event.preventDefault();
+        KEYS[event.key]();
+    },
+    wheel(event) {
+        const { deltaX, deltaY, deltaMode } = event;
+        if (deltaY > 0 && map.view.each === map.whole) return; // (the page may scroll)
+        event.preventDefault();
+        if (Math.abs(deltaX) > Math.abs(deltaY)) move_by(deltaX / map.bar);
+        turned += deltaY * (deltaMode ? TURN : 1);
+        if (Math.abs(turned) < TURN) return;
+        zoom(turned > 0 ? 2 : 0.5, byte_at(event));
+        turned = 0;
+    },
+    pointerdown({ target, pointerId, clientX, clientY, button }) {
+        from = button === 0 ? { x: clientX, y: clientY, start: map.view.start, is_moved: false } : undefined;
+        target.setPointerCapture(pointerId);
+    },
+    pointermove(event) {
+        const byte = byte_at(event), [x, y] = from ? [from.x - event.clientX, from.y - event.clientY] : [0, 0];
+        if (!from && byte !== map.pointed) describe(byte);
+        if (Math.hypot(x, y) > CLICK) from.is_moved = true;
+        if (from?.is_moved) move_to(from.start + (x / map.bar + Math.round(y / STEP)) * map.view.each);
+    },
+    pointerup(event) {
+        const byte = from?.is_moved === false ? byte_at(event) : undefined;
+        from = undefined;
+        if (byte !== undefined) choose(byte);
+    },
+    pointercancel() { from = undefined; },
+    pointerleave() { describe(undefined); },
+};
 
 export function set_up_map() {
-    const canvas = get('canvas');
-    canvas.addEventListener('pointermove', (event) => { const byte = byte_at(event); hover(byte === undefined ? -1 : part_at(byte)); });
-    canvas.addEventListener('pointerleave', () => hover(-1));
-    canvas.addEventListener('click', (event) => { const byte = byte_at(event); if (byte !== undefined) choose_part(part_at(byte)); });
-    canvas.addEventListener('dblclick', (event) => {
-        const byte = byte_at(event);
-        if (byte !== undefined) look(byte, map.view.each / 4);
-    });
-    canvas.addEventListener('keydown', key);
-    get('in').addEventListener('click', () => look(middle(), map.view.each / 2));
-    get('out').addEventListener('click', () => look(middle(), map.view.each * 2));
-    get('whole').addEventListener('click', () => look(0, map.whole));
-    let before = 0;
-    new ResizeObserver(([{ contentRect: { width } }]) => {
-        if (map.kinds && width !== before) fit();
-        before = width;
-    }).observe(canvas.parentElement);
-    addEventListener('resize', () => { if (map.kinds) fit(); });
-    matchMedia('(prefers-color-scheme: dark)').addEventListener('change', () => { if (map.kinds) { show_legend(); draw_map(); } });
+    for (const [name, act] of Object.entries(ACTS)) get('canvas').addEventListener(name, act, { passive: false });
+    for (const [id, pressed] of [['in', '+'], ['out', '-'], ['whole', '0']]) get(id).addEventListener('click', KEYS[pressed]);
+    new ResizeObserver(() => { if (get('canvas').clientWidth !== map.wide) fit(); }).observe(get('canvas').parentElement);
+    addEventListener('resize', fit);
+    matchMedia('(prefers-color-scheme: dark)').addEventListener('change', () => { if (shown_file.summary) { show_legend(); draw_map(); } });
 }

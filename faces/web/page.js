@@ -14,8 +14,6 @@ const LIMIT = 2 ** 31, LIMIT_WORDS = '2 GiB (2,147,483,648 bytes)';
 // After how many milliseconds the page shows that a file is being read.
 const SOON = 200;
 
-// ---- locations ----
-
 // Returns a whole number of a location, or nothing.
 const whole = (text) => (/^\d{1,10}$/.test(text ?? '') ? Number(text) : undefined);
 const from_hex = (text) => (/^0x[0-9a-f]{1,16}$/i.test(text ?? '') ? BigInt(text) : undefined);
@@ -31,7 +29,7 @@ const PLACES = {
 function tab_of(place) {
     const [name, first, second] = place.split('/');
     if (name === 'header') return { name, field: first };
-    if (!is_list(name)) return { name: 'summary' };
+    if (!is_list(name)) return { name: name === 'sizes' ? name : 'summary' };
     if (name === 'notes') return { name, of: ['sections', 'segments'].includes(first) ? first : undefined, index: whole(second) };
     const of = /^DT_[A-Z]+$/.test(first) ? first : whole(first);
     if (name === 'symbols' || name === 'relocations') return { name, of, index: whole(second) };
@@ -84,8 +82,6 @@ async function show_place(given) {
 const unchosen = () => ({ title: 'ELF header', kind: 'header', what: 'at the start of the file',
     blocks: [{ word: 'bytes', at: 0, size: shown_file.summary.header_size, fields: shown_file.summary.header }] });
 
-// ---- files ----
-
 // Returns why a file is not read, or nothing.
 function why_unread({ size }) {
     if (size === 0) return 'The file is empty: it has 0 bytes.';
@@ -123,12 +119,15 @@ function show_loading(file, reader) {
     };
     return () => {
         clearTimeout(timer);
-        if (loading !== reader) return;
-        loading = undefined;
-        box.textContent = '';
-        document.body.classList.remove('dimmed');
-        document.body.removeAttribute('aria-busy');
+        if (loading === reader) end_loading();
     };
+}
+
+function end_loading() {
+    loading = undefined;
+    get('loading').textContent = '';
+    document.body.classList.remove('dimmed');
+    document.body.removeAttribute('aria-busy');
 }
 
 // Shows only one of the page's parts, and the name of its file in the bar.
@@ -136,7 +135,7 @@ function show_part(part, file, ...words) {
     for (const name of ['start', 'refused', 'shown']) get(name).hidden = name !== part;
     get('search').hidden = part !== 'shown';
     get('trouble').hidden = true;
-    document.body.classList.remove('chosen');
+    document.body.classList.remove('chosen', 'wide');
     document.title = `${visible(file.name)}: goblin`;
     get('file').replaceChildren(put_text(make('b', { title: visible(file.name) }), file.name), make('span', {}, plural(file.size, 'byte')),
         ...words.map((word) => make('span', {}, word)));
@@ -150,14 +149,11 @@ function replace(reader, file, summary) {
 
 function trouble(file, text) {
     loading?.end();
-    loading = undefined;
+    end_loading();
     replace(undefined, file, undefined);
     show_part('start', file);
     put_text(get('trouble'), text);
     get('trouble').hidden = false;
-    get('loading').textContent = '';
-    document.body.classList.remove('dimmed');
-    document.body.removeAttribute('aria-busy');
 }
 
 // What a file is that starts with some characters, each a byte, and is no ELF file.

@@ -3,6 +3,8 @@ import * as goblin from './goblin.js';
 import { called, file, is_debug, RELOCATION_TYPES, RELR, section_at, sections, segments, size_of, STRTAB, SYMBOL_TYPES, read_or } from './file.js';
 import { segment_type } from './labels.js';
 import { notes_of, title_of } from './notes.js';
+import { first_after } from './spans.js';
+import { count, hex } from './text.js';
 
 export const KINDS = ['header', 'tables', 'code', 'data', 'constants', 'names', 'relocations', 'notes', 'debug', 'other'];
 
@@ -24,89 +26,61 @@ export function kind_of_segment({ p_type, p_flags }) {
 
 export const title_of_segment = (index, { p_type }) => `segment ${index}, ${segment_type(p_type)}`;
 
-// Collects pieces inside the file. Each is cut at the end of the file, and those that are cut are collected apart.
+// Collects pieces. Each is cut at the end of the file. Those that are cut are collected apart, and so are those that begin past the end.
 function collector() {
-    const found = [], cut = [];
-    const add = (start, size, given) => {
-        const whole_end = start + size, end = Math.min(whole_end, file.content.length), is_cut = end < whole_end;
-        if (end > start) (is_cut ? cut : found).push({ ...given, start, end, whole_end, is_cut });
+    const found = [], cut = [], past = [];
+    const add = (offset, size, given) => {
+        const start = Number(offset), whole_end = start + Number(size), end = Math.min(whole_end, file.content.length), is_cut = end < whole_end;
+        if (whole_end > start) (start >= end ? past : is_cut ? cut : found).push({ ...given, start, end, whole_end, size, is_cut });
     };
-    return { found, cut, add };
+    return { found, cut, past, add };
 }
 
-// Returns the pieces that are drawn first: header, program headers, section headers, and the bytes of sections. And those of them that end
-// past the end of the file, which the library refuses.
+// Collects the pieces that are drawn first: header, program headers, section headers, and the bytes of sections. (The library refuses those
+// that end past the end of the file.)
 function pieces_of_sections() {
-    const { found, cut, add } = collector();
+    const { add, ...collected } = collector();
     const { e_phoff, e_phnum, e_shoff, e_shnum } = file.elf.header;
     add(0, size_of('header'), { title: 'ELF header', kind: 'header', to: 'header' });
     const segments = read_or(e_phnum, () => file.elf.program_headers().length);
-    if (segments) add(Number(e_phoff), segments * size_of('segment'), { title: 'Program headers', kind: 'tables', to: 'segments' });
+    if (segments) add(e_phoff, segments * size_of('segment'), { title: 'Program headers', kind: 'tables', to: 'segments' });
     const length = read_or(e_shnum, () => file.elf.section_headers().length);
-    if (length) add(Number(e_shoff), length * size_of('section'), { title: 'Section headers', kind: 'tables', to: 'sections' });
+    if (length) add(e_shoff, length * size_of('section'), { title: 'Section headers', kind: 'tables', to: 'sections' });
     for (const { index, section } of sections()) {
         const range = read_or({ offset: section.sh_offset, size: section.sh_size }, () => file.elf.range(section));
-        if (range) add(Number(range.offset), Number(range.size), { section: index, kind: kind_of(section), to: `sections/${index}` });
+        if (range) add(range.offset, range.size, { section: index, kind: kind_of(section), to: `sections/${index}` });
     }
-    return { found, cut };
+    return collected;
 }
 
-// Returns the pieces that are drawn elsewhere: segments, those that end past the end of the file too, and their notes above them. In a file
-// with sections, what a loaded segment has outside of them is mostly padding, and neither code nor data.
+// Collects the pieces that are drawn elsewhere: segments, and their notes above them. In a file with sections, what a loaded segment has
+// outside of them is mostly padding, and neither code nor data.
 function pieces_of_segments() {
-    const { found, cut, add } = collector(), has_sections = [...sections()].some(({ section }) => section.sh_type !== goblin.SHT_NULL);
+    const { add, ...collected } = collector(), has_sections = [...sections()].some(({ section }) => section.sh_type !== goblin.SHT_NULL);
     for (const { index, segment } of segments()) {
         const { p_type, p_offset, p_filesz } = segment, kind = has_sections && p_type === goblin.PT_LOAD ? 'other' : kind_of_segment(segment);
-        add(Number(p_offset), Number(p_filesz), { title: title_of_segment(index, segment), kind, to: `segments/${index}` });
+        add(p_offset, p_filesz, { title: title_of_segment(index, segment), kind, to: `segments/${index}` });
     }
     notes_of('segments').items.forEach((item, index) => add(item.start, Math.min(item.end, file.content.length) - item.start,
         { title: title_of(item), kind: 'notes', to: `notes/segments/${index}` }));
-    return [...found, ...cut];
+    return collected;
 }
 
-// A heap of pieces. The one with the last start is on top, and of those with the same start the shortest.
-class Heap {
-    items = [];
-    before(a, b) { return a.start > b.start || (a.start === b.start && a.whole_end < b.whole_end); }
-    swap(a, b) { [this.items[a], this.items[b]] = [this.items[b], this.items[a]]; }
-    push(item) {
-        let at = this.items.push(item) - 1;
-        for (let up; at > 0 && this.before(this.items[at], this.items[up = (at - 1) >> 1]); at = up) this.swap(at, up);
-    }
-    pop() {
-        const last = this.items.pop();
-        if (this.items.length === 0) return;
-        this.items[0] = last;
-        for (let at = 0; ;) {
-            let least = at;
-            for (const down of [2 * at + 1, 2 * at + 2]) {
-                if (down < this.items.length && this.before(this.items[down], this.items[least])) least = down;
-            }
-            if (least === at) return;
-            this.swap(at, least);
-            at = least;
-        }
-    }
-}
-
-// The pieces that hold a byte, for ascending bytes.
+// The pieces that hold a byte, for ascending bytes. The one that starts last is on top, and of those with the same start the shortest.
 class Cover {
-    #by_start; #ends; #heap = new Heap(); #opened = 0; #closed = 0;
+    #in_order; #ends; #stack = []; #opened = 0; #closed = 0;
 
     constructor(pieces) {
-        this.#by_start = [...pieces].sort((a, b) => a.start - b.start);
+        this.#in_order = [...pieces].reverse().sort((a, b) => a.start - b.start || b.whole_end - a.whole_end);
         this.#ends = Float64Array.from(pieces, ({ end }) => end).sort();
     }
 
     // Moves to a byte, and returns the piece there that starts last, if any, and the number of pieces there.
     go_to(byte) {
-        const { items } = this.#heap;
-        while (this.#opened < this.#by_start.length && this.#by_start[this.#opened].start <= byte) {
-            this.#heap.push(this.#by_start[this.#opened++]);
-        }
-        while (this.#closed < this.#ends.length && this.#ends[this.#closed] <= byte) this.#closed++;
-        while (items.length && items[0].end <= byte) this.#heap.pop();
-        return { top: items[0], depth: this.#opened - this.#closed };
+        while (this.#in_order[this.#opened]?.start <= byte) this.#stack.push(this.#in_order[this.#opened++]);
+        while (this.#ends[this.#closed] <= byte) this.#closed++;
+        while (this.#stack.at(-1)?.end <= byte) this.#stack.pop();
+        return { top: this.#stack.at(-1), depth: this.#opened - this.#closed };
     }
 }
 
@@ -114,12 +88,13 @@ const ends_of = (pieces) => pieces.flatMap(({ start, end }) => [start, end]);
 
 let known;
 /**
- * Returns the file's parts: the start of each, the piece that is drawn there, or none in a gap, and the number of pieces of sections there.
- * A part ends where a piece of sections ends, and where another piece of segments is drawn.
+ * Returns the file's parts: the start and end of each, the piece that is drawn there, or none in a gap, and the number of pieces of sections there.
+ * A part ends where a piece of sections ends, and where another piece of segments is drawn. And the pieces past the end of the file.
  */
 export function parts() {
     if (known) return known;
-    const { found: first, cut } = pieces_of_sections(), second = [...cut, ...pieces_of_segments()], size = file.content.length;
+    const of_sections = pieces_of_sections(), of_segments = pieces_of_segments(), size = file.content.length;
+    const first = of_sections.found, second = [...of_sections.cut, ...of_segments.found, ...of_segments.cut];
     const ends = new Set([0, size, ...ends_of(first)]);
     const cuts = [...new Set([...ends, ...ends_of(second)])].sort((a, b) => a - b);
     const over = new Cover(first), under = new Cover(second), starts = [], tops = [], depths = [];
@@ -133,35 +108,25 @@ export function parts() {
         depths.push(depth);
     }
     starts.push(size);
-    return (known = { starts, tops, depths, first, second });
+    return (known = { starts, ends: starts.slice(1), tops, depths, first, second, past: [...of_sections.past, ...of_segments.past] });
 }
 
-/** Returns a piece with its title. */
-export const titled = ({ section, title = called(section, section_at(section)), ...piece }) =>
-    ({ ...piece, title: piece.is_cut ? `${title} (cut)` : title });
+/** Returns a piece with its title. That of a piece that is cut says how much of it is in the file. */
+export function titled({ section, title = called(section, section_at(section)), ...piece }) {
+    const { start, end, size, is_cut } = piece;
+    if (is_cut && start >= end) return { ...piece, title: `${title} at ${hex(start)}` };
+    return { ...piece, title: is_cut ? `${title} (cut: ${count(end - start)} of ${count(size)} bytes are here)` : title };
+}
 
 // How many pieces of a part are named at most.
 const MOST_NAMED = 8;
 
 /** Returns the pieces of a part, at most a number: the one that is drawn, then others of its kind. */
 export function pieces_at(index) {
-    const { starts, tops, first, second, depths } = parts(), top = tops[index];
-    const [start, end] = [starts[index], starts[index + 1]];
-    const found = top ? [titled(top)] : [];
-    for (const piece of depths[index] > 0 ? first : second) {
-        if (found.length > MOST_NAMED) break;
-        if (piece !== top && piece.start <= start && end <= piece.end) found.push(titled(piece));
-    }
-    return found;
+    const { starts, ends, tops, first, second, depths } = parts(), top = tops[index];
+    const is_other = (piece) => piece !== top && piece.start <= starts[index] && ends[index] <= piece.end;
+    return [...(top ? [top] : []), ...(depths[index] > 0 ? first : second).filter(is_other).slice(0, MOST_NAMED)].map((piece) => titled(piece));
 }
 
 /** Returns the part that holds a byte. */
-export function part_at(byte) {
-    const { starts } = parts();
-    let low = 0, high = starts.length - 2;
-    while (low < high) {
-        const middle = (low + high + 1) >> 1;
-        if (starts[middle] <= byte) low = middle; else high = middle - 1;
-    }
-    return low;
-}
+export const part_at = (byte) => Math.min(first_after(parts().ends, byte), parts().tops.length - 1);

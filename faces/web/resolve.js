@@ -1,5 +1,6 @@
 // Resolves symbols, relocations and addresses: to sections, segments, symbols and bytes of the file.
 import * as goblin from './goblin.js';
+import { demangled } from './demangle.js';
 import { called, EM_ARM, ET_REL, file, name_at, section_at, sections, segments, SYMBOL_TYPES, symbol_tables, SYMTAB_SHNDX, read_or } from './file.js';
 import { hex } from './text.js';
 
@@ -8,8 +9,6 @@ const SHN_LORESERVE = 0xff00n, SHN_XINDEX = 0xffffn;
 
 /** Reports whether the file has addresses. In an object file they are offsets in sections. */
 export const has_addresses = () => file.elf.header.e_type !== ET_REL;
-
-// ---- symbols ----
 
 const tables = new Map();
 /** Returns the symbol table of a section, or nothing if it has another type. Throws if the table is refused. */
@@ -50,6 +49,14 @@ export function name_of_symbol(table, index, symbol) {
     return of !== undefined && section_at(of) ? called(of) : '';
 }
 
+const MOST_TRIED = 10000;
+/** Reports whether a table has a name of C++ that is read, among its first ones. */
+export function has_mangled(table) {
+    const symbols = symtab_at(table), tried = Math.min(symbols.length, MOST_TRIED);
+    for (let at = 0; at < tried; at++) if (demangled(name_of_symbol(table, at, symbols.get(at)))) return true;
+    return false;
+}
+
 /** Returns the address of a symbol. (For ARM the lowest bit marks a function in Thumb code. Thread-local symbols have offsets instead.) */
 export function address_of_symbol({ st_value, st_info }) {
     const type = goblin.st_type(st_info);
@@ -62,40 +69,30 @@ export function address_of_symbol({ st_value, st_info }) {
 // How many bytes are shown of a symbol of unknown size, and of a relocation, whose number of bytes depends on its type.
 const UNSIZED = 16n, PLACE = 8n;
 
+// Returns a number of bytes at an address, or in an object file at an offset of a section, cut at the section's end; or nothing if they are
+// not in the file.
+function bytes_at(of, address, size) {
+    const section = of === undefined ? undefined : section_at(of), from = address - (has_addresses() ? section?.sh_addr ?? 0n : 0n);
+    if (!section) {
+        const at = has_addresses() ? offset_of_address(address) : undefined;
+        return at === undefined ? undefined : { at, size: Math.min(Number(size), file.content.length - at) };
+    }
+    const left = section.sh_size - from;
+    if (section.sh_type === goblin.SHT_NOBITS || from < 0n || left <= 0n) return undefined;
+    return { section: of, from, at: Number(section.sh_offset + from), size: Number(size < left ? size : left) };
+}
+
 /** Returns the bytes of a symbol in the file, or some if its size is unknown, or nothing if it has none there. */
 export function bytes_of_symbol(table, index, symbol) {
-    const of = section_of_symbol(table, index, symbol), section = of === undefined ? undefined : section_at(of);
-    const at = of !== undefined && !section && has_addresses() ? offset_of_address(address_of_symbol(symbol)) : undefined;
-    if (at !== undefined) return { at, size: Math.min(Number(symbol.st_size || UNSIZED), file.content.length - at) };
-    if (!section || section.sh_type === goblin.SHT_NOBITS) return undefined;
-    return bytes_in(section, of, address_of_symbol(symbol) - (has_addresses() ? section.sh_addr : 0n), symbol.st_size || UNSIZED);
+    const of = section_of_symbol(table, index, symbol);
+    return of === undefined ? undefined : bytes_at(of, address_of_symbol(symbol), symbol.st_size || UNSIZED);
 }
-
-// Returns a number of bytes from an offset of a section on, cut at its end.
-function bytes_in(section, index, from, size) {
-    if (from < 0n || from >= section.sh_size) return undefined;
-    const left = section.sh_size - from;
-    return { section: index, from, at: Number(section.sh_offset + from), size: Number(size < left ? size : left) };
-}
-
-// ---- relocations ----
 
 /** Returns the bytes that a relocation changes, or nothing if they are not in the file. */
 export function place_of_relocation({ sh_info }, { r_offset }) {
-    if (!has_addresses()) {
-        const section = sh_info ? section_at(sh_info) : undefined;
-        return section && section.sh_type !== goblin.SHT_NOBITS ? bytes_in(section, sh_info, r_offset, PLACE) : undefined;
-    }
-    const of = section_of_address(r_offset);
-    if (of === undefined) {
-        const at = offset_of_address(r_offset);
-        return at === undefined ? undefined : { at, size: Math.min(Number(PLACE), file.content.length - at) };
-    }
-    const section = section_at(of);
-    return section.sh_type === goblin.SHT_NOBITS ? undefined : bytes_in(section, of, r_offset - section.sh_addr, PLACE);
+    if (has_addresses()) return bytes_at(section_of_address(r_offset), r_offset, PLACE);
+    return sh_info ? bytes_at(sh_info, r_offset, PLACE) : undefined;
 }
-
-// ---- addresses ----
 
 const holds = (start, size, address) => start <= address && address < start + size;
 
@@ -148,8 +145,6 @@ export function symbol_of_address(address) {
     }
     return undefined;
 }
-
-// ---- links ----
 
 /** Returns a name with a distance from its start. */
 export const with_offset = (name, from) => (from > 0n ? `${name} + ${hex(from)}` : name);

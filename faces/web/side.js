@@ -1,7 +1,7 @@
 // The side: what is chosen, with its fields, links and bytes.
 import { button, copy, get, hex, joined, make, plural, put_text, visible } from './dom.js';
 import { bytes_in, copy_hex, hex_view, light, refusal_of } from './hex.js';
-import { colour } from './map.js';
+import { dot } from './map.js';
 import { ask } from './reader.js';
 
 const SIDE_BYTES = 8, SIDE_WIDTH = 372;
@@ -52,6 +52,13 @@ export function set_up_side() {
     addEventListener('resize', () => { if (shown_again && bytes_in(room()) !== shown_each) shown_again(); });
 }
 
+// Returns a button that lets what is chosen take the place of the list, with more bytes in a row.
+function widening() {
+    const { classList } = document.body;
+    const widen = ({ target }) => { target.setAttribute('aria-pressed', classList.toggle('wide')); shown_again?.(); };
+    return button('Wide', widen, { class: 'copy widen', 'aria-pressed': `${classList.contains('wide')}`, title: 'in place of the list' });
+}
+
 let asked = 0;
 /** Shows the worker's description of what is chosen. */
 export async function show_side({ title, what, kind, link, fields = [], blocks = [] }) {
@@ -59,11 +66,8 @@ export async function show_side({ title, what, kind, link, fields = [], blocks =
     const bytes = blocks.length ? await bytes_box(blocks) : undefined, record = blocks.find((block) => block.fields);
     if (mine !== asked) return;
     const sub = put_text(make('p', { class: 'sub' }), what);
-    if (kind) {
-        const dot = make('i', { 'data-kind': kind });
-        dot.style.background = colour(kind);
-        sub.prepend(dot);
-    }
+    if (kind) sub.prepend(dot(kind));
+    sub.append(widening());
     if (link) sub.append(button('Copy link', () => copy(`${location.href.split('#')[0]}#${link}`, 'a link by the name'), { class: 'copy' }));
     // (the name of a field of a record shows its bytes)
     const rows = fields.map((field) => {

@@ -4,13 +4,13 @@ import * as goblin from './goblin.js';
 import { mapped_files, process_of, registers_of, signal_of } from './core.js';
 import { DT, dynamic, texts_of, value_of, versions } from './dynamic.js';
 import { called, ET_CORE, ET_REL, file, is_debug, name_at, section_at, sections, segments, STRTAB, symbol_tables, read_or } from './file.js';
+import { largest } from './inside.js';
 import * as labels from './labels.js';
-import { go_over } from './lists.js';
 import { notes_of } from './notes.js';
-import { has_addresses, name_of_symbol, symtab_at, to_address, to_section, to_symbol } from './resolve.js';
+import { has_addresses, symtab_at, to_address, to_section, to_symbol } from './resolve.js';
 import { count, hex, name_of } from './text.js';
 
-const ET_EXEC = 2, ET_DYN = 3, STT_FUNC = 2, LARGEST = 10, MOST_ROWS = 200;
+const ET_EXEC = 2, ET_DYN = 3, LARGEST = 10, MOST_ROWS = 200;
 const DF_TEXTREL = 4n, DF_BIND_NOW = 8n, DF_1_NOW = 1n, DF_1_PIE = 0x8000000n;
 const MACHINES = { 3: 'x86', 8: 'MIPS', 20: 'PowerPC', 21: '64-bit PowerPC', 22: 's390', 40: 'ARM', 62: 'x86-64', 183: 'AArch64', 243: 'RISC-V' };
 
@@ -121,36 +121,23 @@ function what_was_running() {
     return rows.filter(({ name }, i) => name !== 'signal' || rows.findIndex((other) => other.name === name) === i).slice(0, MOST_ROWS);
 }
 
-const by_size = (size_of) => (a, b) => (size_of(a) < size_of(b) ? 1 : size_of(a) > size_of(b) ? -1 : 0);
 function largest_sections() {
     const share = ({ sh_type, sh_size }) => (sh_type === goblin.SHT_NOBITS ? 'in memory only'
         : `${(100 * Number(sh_size) / file.content.length).toFixed(1)} %`);
-    return [...sections()].filter(({ section }) => section.sh_size > 0n).sort(by_size(({ section }) => section.sh_size)).slice(0, LARGEST)
-        .map(({ index, section }) => row(`${bytes(section.sh_size)}, ${share(section)}`, '', to_section(index)));
+    const all = [...sections()].filter(({ section }) => section.sh_size > 0n).sort((a, b) => Number(b.section.sh_size - a.section.sh_size));
+    return all.slice(0, LARGEST).map(({ index, section }) => row(`${bytes(section.sh_size)}, ${share(section)}`, '', to_section(index)));
 }
 
-async function largest_functions(is_wanted) {
-    const tables = symbol_tables(), table = tables.find((index) => section_at(index).sh_type === goblin.SHT_SYMTAB) ?? tables[0];
-    const list = read_or(undefined, () => symtab_at(table)) ?? { length: 0, from: () => [] }, found = new Map();
-    await go_over({ list }, 'summary', is_wanted, (symbol, index) => {
-        const { st_info, st_shndx, st_value, st_size } = symbol, place = `${st_shndx} ${st_value}`; // (other names of a function count once)
-        if (goblin.st_type(st_info) !== STT_FUNC || st_size === 0n || found.has(place)) return;
-        if (found.size === LARGEST) {
-            const [least, { size }] = [...found].sort(([, a], [, b]) => by_size((item) => item.size)(b, a))[0];
-            if (st_size <= size) return;
-            found.delete(least);
-        }
-        found.set(place, { index, size: st_size, symbol });
-    });
-    const link = (index, symbol) => to_symbol({ table, index, name: name_of_symbol(table, index, symbol) || `symbol ${index}` });
-    return [...found.values()].sort(by_size(({ size }) => size)).map(({ index, size, symbol }) => row(bytes(size), '', link(index, symbol)));
+async function largest_functions() {
+    return (await largest(LARGEST)).map(({ size, name, title, to }) =>
+        (title === name ? row(bytes(size), '', { text: name, to }) : own(bytes(size), title, { text: name, to })));
 }
 
 /** Returns the summary: groups with a title and rows. */
-export async function summary(is_wanted) {
+export async function summary() {
     return Object.entries({
         'What it is': what_it_is(), 'What was running': what_was_running(), 'What it runs with': what_it_needs(),
         'How it was built': how_it_was_built(), 'How it is protected': how_it_is_protected(), 'Largest sections': largest_sections(),
-        'Largest functions': await largest_functions(is_wanted),
+        'Largest functions': await largest_functions(),
     }).filter(([, rows]) => rows.length > 0);
 }

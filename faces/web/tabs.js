@@ -1,4 +1,5 @@
 // The tabs: the header's fields, and the lists with their searches.
+import { area_panel } from './area.js';
 import { button, copy, get, hex, make, number, plural, say, visible } from './dom.js';
 import { Grid } from './grid.js';
 import { refusal_of } from './hex.js';
@@ -6,51 +7,8 @@ import { ask, shown_file } from './reader.js';
 import { go } from './route.js';
 import { value_of } from './side.js';
 
-// Columns: the title, the least width, whether the column shares the rest of the width, and the standard's name of the field.
-const wide = (least, share) => (share ? `minmax(${least}px, ${share}fr)` : `${least}px`);
-const left = (title, hint, least, share) => ({ title, hint, least, wide: wide(least, share) });
-const right = (...given) => ({ ...left(...given), is_right: true });
-const place = (least) => ({ ...right('#', 'index', least), is_dim: true });
-
-// Returns the columns of each list, for the widths of some kinds of numbers.
-const COLUMNS = {
-    sections: ({ address, offset, align, index }) => [
-        place(30), left('Name', 'sh_name', 110, 4), left('Type', 'sh_type', 92, 0.6), right('Address', 'sh_addr', address, 0.4),
-        right('Offset', 'sh_offset', offset, 0.3), right('Size', 'sh_size', offset, 0.3), left('Flags', 'sh_flags', 118, 0.3),
-        right('Link', 'sh_link', index), right('Info', 'sh_info', index), right('Align', 'sh_addralign', align), right('Entry', 'sh_entsize', 36),
-    ],
-    segments: ({ address, offset }) => [
-        place(40), left('Type', 'p_type', 104, 1), left('Flags', 'p_flags', 46), right('Offset', 'p_offset', offset, 0.5),
-        right('File size', 'p_filesz', offset, 0.5), right('Address', 'p_vaddr', address, 1),
-        right('Memory size', 'p_memsz', Math.max(offset, 80), 0.5), right('Physical', 'p_paddr', address, 1), right('Align', 'p_align', 66),
-    ],
-    symbols: ({ address }) => [
-        place(48), left('Name', 'st_name, not demangled', 180, 5), right('Value', 'st_value', address, 0.3), right('Size', 'st_size', 62),
-        left('Type', 'st_info, its low four bits', 74), left('Binding', 'st_info, its high four bits', 64),
-        left('Visibility', 'st_other', 78), left('Section', 'st_shndx', 90, 0.5),
-    ],
-    relocations: ({ address }) => [
-        place(48), right('Offset', 'r_offset', address, 0.6), left('Type', 'r_type', 190, 0.5),
-        left('Symbol', 'the name of r_sym, not demangled', 160, 4), right('Addend', 'r_addend', address, 0.6), right('Index', 'r_sym', 56),
-    ],
-    notes: () => [
-        place(40), left('From', 'the section or segment', 120, 1), left('Owner', 'the name', 72, 0.6), left('Type', 'n_type', 130, 0.8),
-        right('Thread', 'of a core', 60), right('Size', 'n_descsz', 56), left('Descriptor', 'its first bytes', 160, 2),
-    ],
-    layout: ({ offset }) => [
-        place(56), right('From', 'offset', offset), right('To', 'offset', offset), right('Bytes', 'size', 96), right('Share', 'of the file', 72),
-        left('What', 'the piece that is drawn', 160, 2), left('Overlap', 'how many pieces lie there', 120, 1),
-    ],
-};
-export const is_list = (name) => Object.hasOwn(COLUMNS, name);
-
-// Returns the columns of a list of the file that is shown. Numbers fit in their columns, but for some of damaged files.
-function columns_of(name) {
-    const { address, offset, align, index } = shown_file.summary.signs;
-    const room = (signs, least) => Math.max(Math.ceil(7.6 * signs) + 1, least);
-    const rooms = { address: room(address, 60), offset: room(offset, 60), align: room(Math.min(align, 10), 36), index: room(index, 32) };
-    return COLUMNS[name](rooms);
-}
+const LISTS = ['sections', 'segments', 'symbols', 'relocations', 'notes', 'layout'];
+export const is_list = (name) => LISTS.includes(name);
 
 // The open list: its tab, its section or kind, and its grid. And the header's rows.
 let open = { name: undefined };
@@ -79,7 +37,7 @@ export function show_tabs() {
         ['summary', 'Summary', ''], ['header', 'Header', ''], ['sections', 'Sections', length(summary.sections)],
         ['segments', 'Segments', length(summary.segments)], ['symbols', 'Symbols', sum_of(summary.symbols)],
         ['relocations', 'Relocations', sum_of(summary.relocations)], ['notes', 'Notes', notes_sum(summary.notes)],
-        ['layout', 'Layout', number(summary.map.kinds.length)],
+        ['layout', 'Layout', number(summary.map.kinds.length)], ['sizes', 'Sizes', ''],
     ];
     get('tabs').replaceChildren(...list.map(([name, title, count]) => make('button', {
         type: 'button', role: 'tab', id: `tab-${name}`, 'aria-controls': 'panel', 'aria-selected': 'false', tabindex: '-1',
@@ -123,7 +81,7 @@ export async function open_tab(name, of) {
     const mine = open = { name, of };
     select_tab(name);
     mine.ready = (async () => {
-        const content = name === 'summary' ? await summary_panel() : name === 'header' ? header_panel() : await list_panel(mine, of);
+        const panels = { summary: summary_panel, header: header_panel, sizes: area_panel }, content = await (panels[name] ?? list_panel)(mine, of);
         if (open === mine) get('panel').replaceChildren(...content);
         if (open === mine) mine.grid?.draw();
     })();
@@ -144,7 +102,7 @@ async function summary_panel() {
     const group = ([title, rows]) => make('section', {}, make('h3', {}, title), make('table', { class: 'fields', 'aria-label': title },
         make('tbody', {}, ...rows.map(line))));
     const said = make('p', { class: 'others' }, 'Facts rest on fields that proved calls return. Those marked ', mark(),
-        ' rest on the dynamic section or on the contents of notes, which this page reads itself, by numbers.');
+        ' rest on the dynamic section or on the contents of notes, which this page reads itself, by numbers, or are names of C++.');
     return [make('div', { class: 'scroll', tabindex: '0' }, make('div', { class: 'summary' }, ...(await ask('summary')).map(group)), said)];
 }
 
@@ -208,7 +166,7 @@ async function list_panel(mine, wanted) {
     mine.of = wanted ?? longest.of;
     Object.assign(mine, { list, query: '', column: 0, is_descending: false, output: make('output', {}) });
     mine.below = make('div', { class: 'notice' });
-    mine.grid = new Grid(name, columns_of(name), {
+    mine.grid = new Grid(name, await ask('columns', { list: name, of: mine.of }), {
         rows: (from, size) => ask('rows', { list: name, from, size }),
         chosen: (at, is_step) => go_to_row(mine, at, is_step), opened: (at) => open_row(mine, at),
         sorted: (column, is_descending) => { Object.assign(mine, { column, is_descending }); refresh(mine); },
@@ -342,7 +300,7 @@ async function save({ name, output }) {
     reader.on_progress = ({ progress, done }) => {
         if (progress === 'csv') output.textContent = `saving … ${Math.floor(100 * done)} %`;
     };
-    const content = await ask('csv', { list: name, titles: columns_of(name).map(({ title: column }) => column) });
+    const content = await ask('csv', { list: name });
     output.textContent = before;
     const link = make('a', { href: URL.createObjectURL(content), download: `${visible(title)}.${name}.csv` });
     link.click();

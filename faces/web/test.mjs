@@ -170,22 +170,16 @@ class Dump {
         this.ask('goblin_reloc', () => relocs.get(count), put);
     }
 
-    notes({ notes, refusal }) {
-        const put = ({ name_range, desc_range, next, n_type, name, desc }) => fields({
-            name_offset: name_range.offset, name_size: name_range.size, desc_offset: desc_range.offset, desc_size: desc_range.size,
-            next, n_type,
-        }) + ` ${goblin.note_type_to_str({ name, n_type })}${bytes(Buffer.from(name))}${bytes(desc)}`;
-        for (const note of notes) this.ask('goblin_note', () => note, put);
-        this.ask('goblin_note', () => { if (refusal) throw refusal; });
-    }
-
-    notes_bytes({ notes, refusal }) {
-        const put = ({ name_range, desc_range, next, n_type, name, desc }) => fields({
-            name_offset: name_range.offset, name_size: name_range.size, desc_offset: desc_range.offset, desc_size: desc_range.size,
-            next, n_type,
-        }) + bytes(name) + bytes(desc);
-        for (const note of notes) this.ask('goblin_note_bytes', () => note, put);
-        this.ask('goblin_note_bytes', () => { if (refusal) throw refusal; });
+    // Adds the lines of the notes of a section or segment, first with names that must be UTF-8, and then as bytes.
+    notes(elf, holder) {
+        for (const [call, { notes, refusal }] of [['goblin_note', elf.readable_notes(holder)], ['goblin_note_bytes', elf.readable_notes_bytes(holder)]]) {
+            const put = ({ name_range, desc_range, next, n_type, name, desc }) => fields({
+                name_offset: name_range.offset, name_size: name_range.size, desc_offset: desc_range.offset, desc_size: desc_range.size,
+                next, n_type,
+            }) + (call === 'goblin_note' ? ` ${goblin.note_type_to_str({ name, n_type })}` : '') + bytes(name) + bytes(desc);
+            for (const note of notes) this.ask(call, () => note, put);
+            this.ask(call, () => { if (refusal) throw refusal; });
+        }
     }
 
     segments(elf) {
@@ -200,8 +194,7 @@ class Dump {
             for (const before of [0n, half, 2n * half]) {
                 this.ask('goblin_address_to_offset', () => elf.address_to_offset(BigInt.asUintN(64, p_vaddr + before)));
             }
-            this.notes(elf.readable_notes(segment));
-            this.notes_bytes(elf.readable_notes_bytes(segment));
+            this.notes(elf, segment);
             const changed = { ...segment, p_flags: segment.p_flags ^ goblin.PF_X, p_memsz: segment.p_memsz + any_high(index) };
             if (index < FEW) this.write('goblin_put_segment', (writer) => writer.put_program_header(index, changed));
         }
@@ -230,8 +223,7 @@ class Dump {
             this.numbers_in(sh_size, (offset, width) => elf.number_in(section, offset, width));
             this.symbols(elf, section);
             this.relocs(elf, section);
-            this.notes(elf.readable_notes(section));
-            this.notes_bytes(elf.readable_notes_bytes(section));
+            this.notes(elf, section);
             const at = index++, changed = { ...section, sh_flags: section.sh_flags ^ goblin.SHF_WRITE, sh_name: section.sh_name + any_high(at) };
             if (at < FEW) this.write('goblin_put_section', (writer) => writer.put_section_header(at, changed));
         }

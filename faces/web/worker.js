@@ -10,14 +10,13 @@ import {
 import { find_own_sections, packed_offsets } from './dynamic.js';
 import { find } from './find.js';
 import * as labels from './labels.js';
-import { arranged, cells_of, go_over, open_source, plain_cells_of } from './lists.js';
+import { arranged, cells_of, columns_of, go_over, open_source, plain_cells_of } from './lists.js';
 import { notes_of } from './notes.js';
+import { CLASSES, inside, sizes, under } from './inside.js';
 import { KINDS, parts, titled } from './pieces.js';
 import { symtab_at } from './resolve.js';
 import { kind_in_words, summary } from './summary.js';
 import { hex } from './text.js';
-
-// ---- opening ----
 
 // How many bytes are read before the progress is sent.
 const CHUNK = 1 << 24;
@@ -56,28 +55,19 @@ function notes_summary(by, headers) {
     return { length: items.length, refusals, is_cut };
 }
 
-const MOST_LOADED = 1000;
-function map() {
-    const { starts, tops, depths } = parts(), loaded = [];
-    for (const { segment: { p_type, p_offset, p_filesz, p_flags } } of segments()) {
-        if (p_type === 1 && loaded.length < MOST_LOADED) loaded.push([Number(p_offset), Number(p_offset + p_filesz), p_flags & 7]);
-    }
-    const kinds = Int8Array.from(tops, (top) => (top ? KINDS.indexOf(top.kind) : -1));
-    const cuts = Uint8Array.from(tops, (top) => Number(top?.is_cut ?? false));
-    return { starts: Float64Array.from(starts), kinds, depths: Uint32Array.from(depths), cuts, segments: loaded, KINDS };
+// Returns in words what lies past the end of the file, if something does, and the list of the first piece.
+function past_end() {
+    const { past } = parts(), words = past.slice(0, 2).map((piece) => titled(piece).title).join(', ');
+    return words ? { words: `past the end: ${words}${past.length > 2 ? ` and ${past.length - 2} more` : ''}`, to: past[0].to } : {};
 }
 
-// Returns the number of characters of the longest number of some kinds.
-function signs() {
-    let address = 0n, align = 0n, index = 0;
-    const raise = (end) => { if (end > address && end < 1n << 64n) address = end; };
-    for (const { section } of sections()) {
-        raise(section.sh_addr + section.sh_size);
-        if (section.sh_addralign > align) align = section.sh_addralign;
-        index = Math.max(index, section.sh_link, section.sh_info);
-    }
-    for (const { segment } of segments()) raise(segment.p_vaddr + segment.p_memsz);
-    return { address: hex(address).length, offset: hex(file.content.length).length, align: `${align}`.length, index: `${index}`.length };
+const MOST_LOADED = 1000;
+function map() {
+    const { starts, tops, depths } = parts(), loaded = [...segments()].filter(({ segment }) => segment.p_type === 1).slice(0, MOST_LOADED)
+        .map(({ segment: { p_offset, p_filesz, p_flags } }) => [Number(p_offset), Number(p_offset + p_filesz), p_flags & 7]);
+    const kinds = Int8Array.from(tops, (top) => (top ? KINDS.indexOf(top.kind) : -1));
+    const cuts = Uint8Array.from(tops, (top) => Number(top?.is_cut ?? false));
+    return { starts: Float64Array.from(starts), kinds, depths: Uint32Array.from(depths), cuts, segments: loaded, past: past_end(), KINDS, CLASSES };
 }
 
 function overview() {
@@ -97,11 +87,9 @@ function overview() {
         symbols: refused ? { refused } : tables(SYMBOL_TYPES, (section, index) => symtab_at(index)),
         relocations: refused ? { refused } : tables([...RELOCATION_TYPES, RELR], relocations_of),
         notes: { sections: notes_summary('sections', headers.sections), segments: notes_summary('segments', headers.segments) },
-        map: map(), signs: signs(),
+        map: map(),
     };
 }
-
-// ---- the page's calls ----
 
 // What the page's lists show, by the list's name: the source, and the indices in their order if it isn't the list's own. And the last
 // request of each list, and of the search over all.
@@ -132,12 +120,6 @@ const calls = {
         return overview();
     },
 
-    // Returns the names of parts of the map.
-    titles(indices) {
-        const { tops } = parts();
-        return indices.map((index) => (tops[index] ? titled(tops[index]).title : ''));
-    },
-
     bytes([at, size]) { return file.content.slice(at, at + size); },
 
     // Prepares a list: the items of a source that have a text, sorted by a column.
@@ -152,6 +134,12 @@ const calls = {
         if (!is_wanted()) return { is_over: true };
         views[list] = { source, of, order, length: order ? order.length : source.list.length };
         return { length: views[list].length, all: source.list.length };
+    },
+
+    // Returns the columns of a list, whose source is kept.
+    columns({ list, of }) {
+        views[list] = { source: open_source(list, of), of };
+        return columns_of(views[list].source);
     },
 
     rows({ list, from, size }) {
@@ -175,8 +163,8 @@ const calls = {
     },
 
     // Returns the list that is shown, as lines of values separated by commas.
-    async csv({ list, titles }) {
-        const { source, order } = views[list], lines = [csv_line(titles)];
+    async csv({ list }) {
+        const { source, order } = views[list], lines = [csv_line(columns_of(source).map(({ title }) => title))];
         if (order) {
             for (const index of order) lines.push(csv_line(plain_cells_of(source, source.list.get(index), index)));
         } else {
@@ -202,7 +190,7 @@ const calls = {
         const best = all.find(({ table, index }) => symtab_at(table).get(index).st_shndx) ?? all[0];
         return best && `symbols/${best.table}/${best.index}`;
     },
-    summary: () => summary(begin('summary')),
+    summary, inside, under, sizes,
 };
 
 onmessage = async ({ data: { id, call, given } }) => {
