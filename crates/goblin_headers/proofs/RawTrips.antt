@@ -4,52 +4,20 @@
 -- The image begins with the identification, whose data byte names the byte order: so what is written in that order is
 -- read in it too (`raw_reads_back`). What was read says in which order and that the bytes were enough
 -- (`was_read_in_order`), so it is written in that order, over the same bytes (`raw_writes_back`).
-use Rattle.std.proofs.Common.{◌≡◌, ◌<◌, ◌≤◌, ℕ, List, ◌++◌, length, take, drop, slice_index, Some, Result, Ok, refl}
-use Rattle.std.proofs.Common.{sym, ap, ◌∙◌, arith, Bool, true, false, not, Option, None, Err}
+use Rattle.goblin_headers.proofs.Common.{◌≡◌, ◌<◌, ◌≤◌, ℕ, List, ◌++◌, length, take, drop, slice_index, Some, Result}
+use Rattle.goblin_headers.proofs.Common.{Ok, refl, sym, ap, ◌∙◌, arith, Endian, Error, Layout, Writes, room_of_fits}
+use Rattle.goblin_headers.proofs.Common.{fits-room_of, order_named, order_of, WritesInOrder, room_of}
 use Rattle.std.proofs.lemmas.List.{append_assoc, get_or_append_left, get_or-take, length-append, take-append-drop}
-use Rattle.goblin_base.specs.declared.container.Endian.{Endian}
-use Rattle.goblin_base.specs.declared.error.Error.{Error}
 use Rattle.goblin_base.specs.declared.error.Fault.{Fault}
-use Rattle.goblin_base.specs.Common.{Layout, Writes, room_of, ◌>>=◌, or_refuse, refuse_if, refuse_as}
-use Rattle.goblin_base.specs.RecordLaws.{room_of_fits, fits-room_of}
-use Rattle.goblin_headers.specs.Header.{order_named, order_of}
 use Rattle.goblin_headers.specs.HeaderTrips.{IsReadBack, IsWrittenAndReadBack, IsWrittenBack}
 use Rattle.goblin_headers.specs.ReadHeader.{needs, read_in_order}
-use Rattle.goblin_headers.specs.WriteHeader.{WritesInOrder}
 use Rattle.goblin_headers.proofs.HeaderLemmas.{IsHeader}
-use Rattle.goblin_base.specs.declared.scroll.Error.{Error as Misplaced}
-
--- ---- what each of several steps returned, if all of them succeeded
--- the value of the first step, and the success of the steps after it
-pub record Step {X Y : Type 0} (first : Result X Error) (next : X → Result Y Error) (y : Y) : Type 0 where
-  pub value : X
-  pub is : first ≡ Ok value
-  pub rest : next value ≡ Ok y
-
-pub step : {X Y : Type 0} (first : Result X Error) (next : X → Result Y Error) (y : Y)
-    → (first >>= next) ≡ Ok y → Step first next y
-step (Ok x) next y is = record { value = x; is = refl; rest = is }
-step (Err e) next y is = absurd (cc)
-
--- a test that did not refuse
-pub passed : (test : Bool) (e : Error) (u : Unit {0}) → refuse_if (not test) e ≡ Ok u → test ≡ true
-passed true e u is = refl
-passed false e u is = absurd (cc)
-
--- a value that was there
-pub found : {X : Type 0} (option : Option X) (e : Error) (x : X) → or_refuse option e ≡ Ok x → option ≡ Some x
-found (Some y) e x is = cc
-found None e x is = absurd (cc)
+use Rattle.goblin_base.proofs.StepLemmas.{step, found, found_within}
 
 -- bytes that were enough
-room_was : (room : Result (Unit {0}) Misplaced) (within : Misplaced → Error) (u : Unit {0})
-    → refuse_as within room ≡ Ok u → room ≡ Ok tt
-room_was (Ok _) within u is = refl
-room_was (Err e) within u is = absurd (cc)
-
 pub had_room : (bytes : List ℕ) (size : ℕ) (u : Unit {0}) → needs size bytes ≡ Ok u → size ≤ length bytes
 had_room bytes size u is =
-    let fits = fits-room_of (length bytes) 0 size tt (room_was (room_of (length bytes) 0 size) _ u is) in omega arith
+    let fits = fits-room_of (length bytes) 0 size u (found_within _ (room_of (length bytes) 0 size) u is) in omega arith
 
 -- ---- reading and writing in the byte order that is named
 -- the result of writing into a buffer that is large enough, and what it leaves there
