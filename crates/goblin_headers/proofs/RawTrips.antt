@@ -14,11 +14,6 @@ use Rattle.goblin_headers.specs.ReadHeader.{needs, read_in_order}
 use Rattle.goblin_headers.proofs.HeaderLemmas.{IsHeader}
 use Rattle.goblin_base.proofs.StepLemmas.{step, found, found_within}
 
--- bytes that were enough
-pub had_room : (bytes : List ℕ) (size : ℕ) (u : Unit {0}) → needs size bytes ≡ Ok u → size ≤ length bytes
-had_room bytes size u is =
-    let fits = fits-room_of (length bytes) 0 size u (found_within _ (room_of (length bytes) 0 size) u is) in omega arith
-
 -- ---- reading and writing in the byte order that is named
 -- the result of writing into a buffer that is large enough, and what it leaves there
 pub record Wrote {R : Type 0} (l : Layout R) (h : R) (old new : List ℕ) (answer : Result ℕ Error) : Type 0 where
@@ -69,10 +64,11 @@ was_read_in_order layout fault bytes h is =
     let order = step (order_of fault bytes) _ h ident.rest in
     let size = (layout order.value).size in
     let room = step (needs size bytes) _ h order.rest in
+    let was = found_within _ (room_of (length bytes) 0 size) room.value room.is in
     record {
       order = order.value;
       ordered = found (order_named (slice_index bytes 5)) _ order.value order.is;
-      enough = had_room bytes size room.value room.is;
+      enough = omega (arith, fits-room_of (length bytes) 0 size room.value was);
       header = cc room.rest;
     }
 
@@ -88,12 +84,6 @@ front_byte image front after rest i is h =
 pub ident_byte : (ident bytes : List ℕ) (i : ℕ)
     → ident ≡ take 16 bytes → i < 16 → slice_index ident i ≡ slice_index bytes i
 ident_byte ident bytes i is h = ap (λ (all : List ℕ). slice_index all i) is ∙ rw (get_or-take 16 bytes i 0) refl
-
--- bytes that are written over themselves don't change
-over_itself : (size : ℕ) (image bytes new : List ℕ)
-    → new ≡ image ++ drop size bytes → image ≡ take size bytes → new ≡ bytes
-over_itself size image bytes new is same =
-    is ∙ ap (λ (front : List ℕ). front ++ drop size bytes) same ∙ take-append-drop size bytes
 
 module _ {R : Type 0} {ident : R → List ℕ} {layout : Endian → Layout R}
     (all : (order : Endian) → IsHeader ident (layout order)) where
@@ -125,5 +115,5 @@ module _ {R : Type 0} {ident : R → List ℕ} {layout : Endian → Layout R}
       let wrote = writes_in_order (ident h) layout h bytes new answer from.order ordered from.enough so in
       let same = ap (l.image) from.header ∙ laws.writes_back bytes are from.enough in (
         wrote.answers ∙ ap (λ (n : ℕ). Ok n) (sized from.order),
-        over_itself (l.size) (l.image h) bytes new wrote.leaves same,
+        wrote.leaves ∙ ap (λ (front : List ℕ). front ++ drop l.size bytes) same ∙ take-append-drop l.size bytes,
       )

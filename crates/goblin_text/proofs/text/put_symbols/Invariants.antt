@@ -1,4 +1,4 @@
--- The lines so far were put, and took no more looks than they may: each turn puts those of one symbol.
+-- The lines so far were put, and took no more looks than they may: each turn puts the line of one symbol.
 use Rattle.goblin_text.proofs.Common.{◌≡◌, ◌+◌, ◌<◌, length, strings_in, symbol_lines}
 use Prim.Native.Nat.{◌^◌}
 use Rattle.goblin_text.proofs.TargetLemmas.{PutSoFar}
