@@ -3,22 +3,17 @@
 -- A mask of sixteen bytes has its lowest bit at the first byte that passes a test. A search of all bytes is one of the
 -- next sixteen, and, if none of them passes, one of those after them. So the run that is found ends at the first byte
 -- that is the delimiter or not ASCII; it is ASCII, and it is the whole piece unless a byte that isn't ASCII ends it.
-use Rattle.std.proofs.Common.{◌≡◌, ℕ, ◌+◌, ◌-◌, ◌%◌, ◌^◌, ◌<◌, ◌≤◌, ◌==◌, eqb, leb, cond, Bool, true, false, not, ◌||◌}
-use Rattle.std.proofs.Common.{bit_or, List, ◌++◌, map, take, drop, length, get_or, refl, ap, ◌∙◌, ⊎_elim, arith, Ok}
-use Rattle.std.proofs.lemmas.Bool.{cases_lt, cond-true, cond-false, eq-eqb, ne_eqb, leb-false, or_parts}
-use Rattle.std.proofs.lemmas.List.{length-map, length-take, get_or-take, get_or_past, take_rest}
-use Rattle.std.proofs.lemmas.List.Folds.{prefix_len-append}
-use Rattle.std.proofs.lemmas.List.Sums.{prefix_len-le-length, fails_before_first, position_or_len_is}
-use Rattle.std.proofs.lemmas.Simd.{map-map, mask_l-mod, first_set_mask_l, chunk-drop, length-chunk}
-use Rattle.std.proofs.lemmas.Str.{IsUtf8-from_ascii, is_utf8-from_IsUtf8}
-use Rattle.std.specs.List.{position_or_len, prefix_len}
-use Rattle.std.specs.Str.{IsAscii, IsUtf8, is_utf8}
+use Rattle.goblin_base.proofs.Common.{◌≡◌, ℕ, ◌+◌, ◌-◌, ◌%◌, ◌^◌, ◌<◌, ◌≤◌, ◌==◌, eqb, leb, cond, Bool, true, false}
+use Rattle.goblin_base.proofs.Common.{not, ◌||◌, bit_or, List, ◌++◌, map, take, drop, length, get_or, refl, ap, ◌∙◌}
+use Rattle.goblin_base.proofs.Common.{arith, Ok, cond-true, cond-false, eq-eqb, leb-false, or_parts, length-map}
+use Rattle.goblin_base.proofs.Common.{take_rest, prefix_len-append, prefix_len-le-length, fails_before_first}
+use Rattle.goblin_base.proofs.Common.{position_or_len_is, map-map, mask_l-mod, first_set_mask_l, chunk-drop}
+use Rattle.goblin_base.proofs.Common.{length-chunk, is_utf8-from_IsUtf8, position_or_len, prefix_len, IsUtf8, is_utf8}
+use Rattle.goblin_base.proofs.Common.{ends_run, lowest_set, piece, plain, text_or_fault, ◌-◌, subst}
+use Rattle.std.proofs.lemmas.Bool.{ne_eqb}
 use lib.Lanes.{chunk, mask_l, top}
 use Rattle.goblin_base.proofs.StrtabLemmas.{first_or_length}
-use Rattle.goblin_base.specs.Ascii.{ends_run, lowest_set}
-use Rattle.goblin_base.specs.Pieces.{piece}
-use Rattle.goblin_base.specs.Strtab.{plain}
-use Rattle.goblin_base.specs.Utf8.{text_or_fault}
+use Rattle.goblin_base.proofs.MarksLemmas.{low_is_text}
 
 -- the lane of one byte
 abbrev pub lane : ℕ → ℕ → ℕ
@@ -131,20 +126,10 @@ module _ (d n : ℕ) (bytes : List ℕ) (is : n ≡ position_or_len (ends_run d)
       (or_parts (eqb (get_or bytes k 0) d) (leb 128 (get_or bytes k 0)) (in_run k l)).1 in
       leb-false 128 (get_or bytes k 0) low
 
-  run_is_ascii : IsAscii (take n bytes)
-  run_is_ascii i = ⊎_elim
-      (λ (l : i < n).
-      let at : get_or (take n bytes) i 0 ≡ get_or bytes i 0 = get_or-take n bytes i 0 l in
-      let low : get_or bytes i 0 < 128 = below_128 i l in
-      omega (arith, at, low))
-      (λ (l : n ≤ i).
-      let past : length (take n bytes) ≤ i = omega (arith, length-take n bytes) in
-      let none : get_or (take n bytes) i 0 ≡ 0 = get_or_past (take n bytes) i 0 past in
-      omega (arith, none))
-      (cases_lt i n)
-
   pub run_is_text : IsUtf8 (take n bytes)
-  run_is_text = IsUtf8-from_ascii (take n bytes) run_is_ascii
+  run_is_text =
+      let all : n - 0 ≡ n = omega arith in
+      subst (λ k. IsUtf8 (take k bytes)) all (low_is_text bytes 0 n (λ k from below. below_128 k below))
 
   -- if the delimiter ends it, or the end of the bytes, it is the piece
   pub run_is_plain : (n < length bytes → eqb (get_or bytes n 0) d ≡ true) → plain bytes d 0 ≡ Ok (take n bytes)

@@ -1,7 +1,7 @@
 -- Halving a number takes one binary digit off it.
-use Rattle.std.proofs.Math.Nat.{pow-suc}
-use Rattle.std.proofs.Common.{◌*◌, ◌^◌, ◌↔◌, ◌≡◌, ℕ, zero, suc, ◌+◌, ◌/◌, ◌≤◌, ◌<◌, refl, sym, ap, arith}
-use Rattle.goblin_base.specs.Search.{digits, digits_within}
+use Rattle.goblin_base.proofs.Common.{pow-suc, ◌*◌, ◌^◌, ◌↔◌, ◌≡◌, ℕ, zero, suc, ◌+◌, ◌/◌, ◌≤◌, ◌<◌, refl, sym, ap}
+use Rattle.goblin_base.proofs.Common.{arith, digits_within}
+use Rattle.goblin_base.specs.Search.{digits}
 
 within_zero : (n : ℕ) → digits_within n 0 ≡ 0
 within_zero zero = refl

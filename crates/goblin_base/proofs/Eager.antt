@@ -4,20 +4,15 @@
 -- those that are left decide for all (`ReadSoFar`). So it ends with the list, or with the error of the first record
 -- that doesn't lie in the bytes. A division finds that record: all fit (`all_fit`), or it is the one after those that
 -- fit (`first_without`).
-use Rattle.std.proofs.Common.{◌≡◌, ◌<◌, ◌≤◌, ◌+◌, ◌*◌, ◌/◌, ◌-◌, ℕ, zero, suc, List, [], ◌∷◌, ◌++◌, length, take, drop}
-use Rattle.std.proofs.Common.{false, nat_lt, Result, Ok, Err, refl, sym, ap, ◌∙◌, arith}
-use Rattle.std.proofs.Math.Nat.{le-div_iff_mul-le, div-lt_iff_lt-mul, div-mul-le_self}
-use Rattle.std.proofs.lemmas.Bool.Decides.{nat_tests}
-use Rattle.std.proofs.lemmas.List.{drop-drop, take_rest}
-use Rattle.goblin_base.specs.declared.error.Error.{Error}
+use Rattle.goblin_base.proofs.Common.{◌≡◌, ◌<◌, ◌≤◌, ◌+◌, ◌*◌, ◌/◌, ◌-◌, ℕ, zero, suc, List, [], ◌∷◌, ◌++◌, length}
+use Rattle.goblin_base.proofs.Common.{take, drop, false, nat_lt, Result, Ok, Err, refl, sym, ap, ◌∙◌, arith}
+use Rattle.goblin_base.proofs.Common.{le-div_iff_mul-le, div-lt_iff_lt-mul, div-mul-le_self, nat_tests, drop-drop}
+use Rattle.goblin_base.proofs.Common.{take_rest, Error, unless_fault, ◌>>=◌, records}
 use Rattle.goblin_base.specs.declared.scroll.Error.{Error as Misplaced}
 use Rattle.goblin_base.specs.Eager.{room_of_each, records_from, records_in}
-use Rattle.goblin_base.specs.Record.{unless_fault}
 use Rattle.goblin_base.specs.RecordLaws.{room_of_fits, fits-room_of, unless_fault-is, unless_fault-err}
 use Rattle.goblin_base.specs.Refusal.{buffer_too_short, misplaced, refusal_of}
 use Rattle.goblin_base.specs.Room.{room_of}
-use Rattle.goblin_base.specs.Steps.{◌>>=◌}
-use Rattle.goblin_base.specs.Table.{records}
 use Rattle.goblin_base.specs.TableLaws.{no_records, records-take}
 use Rattle.goblin_base.proofs.Records.{read_field, last_record}
 

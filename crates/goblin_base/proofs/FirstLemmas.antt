@@ -1,9 +1,8 @@
 -- Where a byte stands first in a range of bytes: before it none is equal to it.
-use Rattle.std.proofs.Common.{◌≡◌, ℕ, ◌+◌, ◌-◌, ◌<◌, ◌≤◌, ◌==◌, ◌∙◌, true, false, eqb, List, length}
-use Rattle.std.proofs.Common.{drop, get_or, sym, ap, arith, slice_range}
-use Rattle.std.proofs.lemmas.List.{get_or-drop, get_or-take, length-drop, length-take-le}
-use Rattle.std.proofs.lemmas.List.Sums.{position_or_len_is}
-use Rattle.std.specs.List.{position_or_len}
+use Rattle.goblin_base.proofs.Common.{◌≡◌, ℕ, ◌+◌, ◌-◌, ◌<◌, ◌≤◌, ◌==◌, ◌∙◌, true, false, eqb, List, length, drop}
+use Rattle.goblin_base.proofs.Common.{get_or, sym, ap, arith, get_or-drop, get_or-take, length-drop, length-take-le}
+use Rattle.goblin_base.proofs.Common.{position_or_len_is, position_or_len}
+use Rattle.std.proofs.Common.{slice_range}
 
 -- the byte at an index of a range
 pub get_in_range : (bytes : List ℕ) (from to k : ℕ) → k < to - from

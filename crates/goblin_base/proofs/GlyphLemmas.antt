@@ -1,13 +1,8 @@
 -- The digits of a number in some base.
-use Rattle.std.proofs.Common.{◌≡◌, ℕ, zero, suc, ◌/◌, ◌%◌, ◌^◌, ◌<◌, ◌≤◌, Bool, true, false, if◌then◌else◌, List, []}
-use Rattle.std.proofs.Common.{◌∷◌, ap, arith, eqb, subst}
-use Rattle.std.proofs.Math.Nat.{div-eq_of_lt, mod-lt, pow-suc}
-use Rattle.std.proofs.lemmas.Bool.{eq-eqb}
-use Rattle.std.proofs.lemmas.Bool.Decides.{nat_tests}
-use Rattle.std.proofs.lemmas.Nat.{div_below, le-div}
+use Rattle.goblin_base.proofs.Common.{◌≡◌, ℕ, zero, suc, ◌/◌, ◌%◌, ◌^◌, ◌<◌, ◌≤◌, Bool, true, false, if◌then◌else◌}
+use Rattle.goblin_base.proofs.Common.{List, [], ◌∷◌, ap, arith, eqb, subst, div-eq_of_lt, mod-lt, pow-suc, eq-eqb}
+use Rattle.goblin_base.proofs.Common.{nat_tests, div_below, le-div, digit_glyph, digits, digits_onto, IsAscii}
 use Rattle.std.proofs.lemmas.Str.Ascii.{IsAscii-cons, IsAscii-nil}
-use Rattle.std.specs.Fmt.{digit_glyph, digits, digits_onto}
-use Rattle.std.specs.Str.{IsAscii}
 
 -- a digit before others
 pub digits-more : (base k n : ℕ) (acc : List ℕ)

@@ -3,18 +3,15 @@
 -- If each whole piece is UTF-8, the entry at the start of one is that piece, and the next entry begins after its
 -- delimiter. So the entries from a start on, joined, are the bytes from there on, by induction on the bytes that are
 -- left (`joined_from`). After a delimiter at the end no entry begins: that one is what `tail` adds.
-use Rattle.std.proofs.Common.{◌≡◌, ℕ, zero, suc, ◌+◌, ◌-◌, ◌<◌, ◌≤◌, ⊎_elim, true, false, cond, eqb, List, [], ◌∷◌}
-use Rattle.std.proofs.Common.{◌++◌, map, length, get_or, take, drop, refl, sym, ap, ◌∙◌, arith, append_assoc}
-use Rattle.std.proofs.lemmas.Bool.{cases_lt, cases_Bool, cond-true, cond-false, lt-ltb, le-ltb, eqb-true, and_from}
-use Rattle.std.proofs.lemmas.Bool.{and_left, and_right, both_ways}
-use Rattle.std.proofs.lemmas.List.{drop_more, drop_all, take-append-drop, drop-drop, append_assoc}
-use Rattle.std.proofs.lemmas.List.FromFn.{get_or-range_with_len}
-use Rattle.std.proofs.lemmas.List.Sums.{fails_before_first}
-use Rattle.std.specs.List.{join_with_byte, range_with_len}
-use Rattle.goblin_base.specs.Entries.{text_of}
+use Rattle.goblin_base.proofs.Common.{◌≡◌, ℕ, zero, suc, ◌+◌, ◌-◌, ◌<◌, ◌≤◌, ⊎_elim, true, false, cond, eqb, List, []}
+use Rattle.goblin_base.proofs.Common.{◌∷◌, ◌++◌, map, length, get_or, take, drop, refl, sym, ap, ◌∙◌, arith}
+use Rattle.goblin_base.proofs.Common.{append_assoc, cases_lt, cases_Bool, cond-true, cond-false, lt-ltb, le-ltb}
+use Rattle.goblin_base.proofs.Common.{eqb-true, and_from, and_left, and_right, both_ways, drop_more, drop_all}
+use Rattle.goblin_base.proofs.Common.{take-append-drop, drop-drop, get_or-range_with_len, fails_before_first}
+use Rattle.goblin_base.proofs.Common.{join_with_byte, range_with_len, text_of, piece_end, piece, piece_start}
+use Rattle.goblin_base.proofs.Common.{is_readable, entries_from, entries, is_bad_start, first_bad}
+use Rattle.std.proofs.lemmas.List.{append_assoc}
 use Rattle.goblin_base.specs.StrtabLaws.{ends_in, joined}
-use Rattle.goblin_base.specs.Pieces.{piece_end, piece, piece_start, is_readable, entries_from, entries, is_bad_start}
-use Rattle.goblin_base.specs.Pieces.{first_bad}
 use Rattle.goblin_base.proofs.PiecesLemmas.{end_from, at_end, inside_piece, piece_is_range, start_next}
 use Rattle.goblin_base.proofs.WalkLemmas.{entries_more_readable, entries_past, bad_start_from}
 

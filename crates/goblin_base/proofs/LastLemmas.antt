@@ -3,21 +3,16 @@
 -- No bit of a mask of r binary digits is set from r on, and the one before is: so the last marked byte of sixteen is
 -- found by counting leading zeros (`last_is`). A piece begins after the last delimiter: in these bytes if one of them
 -- is it (`start_in`), and otherwise where it begins for the bytes before them (`start_across`).
-use Rattle.std.proofs.Common.{◌≡◌, ◌≢◌, ℕ, zero, suc, ◌+◌, ◌-◌, ◌*◌, ◌/◌, ◌%◌, ◌^◌, ◌<◌, ◌≤◌, eqb}
-use Rattle.std.proofs.Common.{Bool, true, false, cond, List, map, length, get_or, refl, sym, ap, subst, ◌∙◌}
-use Rattle.std.proofs.Common.{⊎_elim, arith}
-use Rattle.std.proofs.Math.Nat.{div-eq_of_lt, div-eq_of_lt-le, pow-le-pow_right, pow-suc}
-use Rattle.std.proofs.lemmas.Bool.{cases_Bool, cases_lt, eq-eqb, ne_eqb}
-use Rattle.std.proofs.lemmas.List.{get_or-map, length-map}
-use Rattle.std.proofs.lemmas.Nat.{leading_length}
-use Rattle.std.proofs.lemmas.Simd.{bit_mask_l, get_or-chunk, length-chunk, mask_l-lt}
+use Rattle.goblin_base.proofs.Common.{◌≡◌, ◌≢◌, ℕ, zero, suc, ◌+◌, ◌-◌, ◌*◌, ◌/◌, ◌%◌, ◌^◌, ◌<◌, ◌≤◌, eqb, Bool, true}
+use Rattle.goblin_base.proofs.Common.{false, cond, List, map, length, get_or, refl, sym, ap, subst, ◌∙◌, ⊎_elim, arith}
+use Rattle.goblin_base.proofs.Common.{div-eq_of_lt, div-eq_of_lt-le, pow-le-pow_right, pow-suc, cases_Bool, cases_lt}
+use Rattle.goblin_base.proofs.Common.{eq-eqb, get_or-map, length-map, leading_length, bit_mask_l, get_or-chunk}
+use Rattle.goblin_base.proofs.Common.{length-chunk, mask_l-lt, slice_range, mask_l, piece_start}
+use Rattle.std.proofs.lemmas.Bool.{ne_eqb}
 use Rattle.std.specs.Int.Count.{count_leading_zeros}
-use Rattle.std.specs.List.{slice_range}
-use Rattle.std.specs.Simd.Lanes.{mask_l}
 use lib.Lanes.{chunk}
 use Rattle.goblin_base.proofs.FirstLemmas.{get_in_range}
 use Rattle.goblin_base.proofs.PiecesLemmas.{start_after_delim, start_more}
-use Rattle.goblin_base.specs.Pieces.{piece_start}
 
 -- ---- the digits of a mask
 not_set : (b : Bool) → cond b 1 zero ≡ zero → b ≡ false

@@ -3,33 +3,25 @@
 -- If a strict walk succeeds, no whole piece is bad (`good_if_walked`): joining the strings and the strict look-up rest
 -- on that. If strict mode accepts a range, permissive mode cuts out the same bytes (`range_alike`), and the table of a
 -- range is that of its bytes: the laws of ranges rest on these two.
-use Rattle.std.proofs.Common.{◌≡◌, ℕ, ◌+◌, ◌-◌, ◌^◌, ◌<◌, ◌≤◌, ⊎_elim, Bool, true, false, cond, not, ltb, leb, List, []}
-use Rattle.std.proofs.Common.{length, take, drop, map, refl, sym, ap, ◌∙◌, arith, Some, Result, Ok, Err}
-use Rattle.std.proofs.lemmas.Bool.{cases_lt, cases_Bool, cond-true, cond-false, lt-ltb, le-ltb, both_ways}
-use Rattle.std.proofs.lemmas.List.{length-drop, take_all}
-use Rattle.std.proofs.lemmas.List.FromFn.{length-range_with_len}
-use Rattle.std.proofs.lemmas.List.Sums.{prefix_len-le-length}
-use Rattle.std.proofs.lemmas.Str.{IsUtf8-from_is_utf8, is_utf8-from_IsUtf8}
-use Rattle.std.specs.List.{range_with_len}
-use Rattle.std.specs.Result.{is_ok, result_ok}
-use Rattle.std.specs.Str.{is_utf8}
+use Rattle.goblin_base.proofs.Common.{◌≡◌, ℕ, ◌+◌, ◌-◌, ◌^◌, ◌<◌, ◌≤◌, ⊎_elim, Bool, true, false, cond, not, ltb, leb}
+use Rattle.goblin_base.proofs.Common.{List, [], length, take, drop, map, refl, sym, ap, ◌∙◌, arith, Some, Result, Ok}
+use Rattle.goblin_base.proofs.Common.{Err, cases_lt, cases_Bool, cond-true, cond-false, lt-ltb, le-ltb, both_ways}
+use Rattle.goblin_base.proofs.Common.{length-drop, take_all, length-range_with_len, prefix_len-le-length}
+use Rattle.goblin_base.proofs.Common.{IsUtf8-from_is_utf8, is_utf8-from_IsUtf8, range_with_len, is_ok, result_ok}
+use Rattle.goblin_base.proofs.Common.{is_utf8, ParseMode, Strict, Permissive, text_of, piece, piece_start, is_readable}
+use Rattle.goblin_base.proofs.Common.{is_bad_start, first_bad, text_at, Refusal, malformed, ◌>>=◌, refuse_as}
+use Rattle.goblin_base.proofs.Common.{StringTable, range_in, strtab_of, table_of, walked, plain, look_up, invalid_utf8}
 use Rattle.goblin_base.specs.declared.error.Fault.{Fault}
 use Rattle.goblin_base.specs.declared.error.Fault.TheVariants.{StrtabOffset, StrtabRange}
-use Rattle.goblin_base.specs.declared.options.ParseMode.{ParseMode}
-use Rattle.goblin_base.specs.declared.options.ParseMode.TheVariants.{Strict, Permissive}
-use Rattle.goblin_base.specs.Entries.{text_of}
-use Rattle.goblin_base.specs.Pieces.{piece, piece_start, is_readable, is_bad_start, first_bad, text_at}
-use Rattle.goblin_base.specs.Refusal.{Refusal, malformed}
-use Rattle.goblin_base.specs.Steps.{◌>>=◌, refuse_as}
-use Rattle.goblin_base.specs.Strtab.{StringTable, or_cut, range_in, strtab_of, table_of, walked, plain, look_up}
+use Rattle.goblin_base.specs.Strtab.{or_cut}
 use Rattle.goblin_base.specs.StrtabLaws.{TextIsUtf8, ClosedForm, JoinsAgain, PermissiveAccepts, StrictIsPermissive}
 use Rattle.goblin_base.specs.StrtabLaws.{LookUpHasPlain, StrictLookUpIsPlain, DependsOnRange, joined}
-use Rattle.goblin_base.specs.Utf8.{invalid_utf8}
 use Rattle.goblin_base.proofs.PiecesLemmas.{start_to, start_of_start}
 use Rattle.goblin_base.proofs.WalkLemmas.{entries_closed, no_entry_place}
 use Rattle.goblin_base.proofs.LookUpLemmas.{text_at_readable, text_at_inside}
 use Rattle.goblin_base.proofs.JoinedLemmas.{joined_again, readable_start}
 use Rattle.goblin_base.proofs.StrtabLemmas.{strtab_in_range, walked_entries}
+use Rattle.goblin_base.proofs.StepLemmas.{step, found_within}
 
 pub text_is_utf8 : TextIsUtf8
 text_is_utf8 bytes = (IsUtf8-from_is_utf8 bytes, is_utf8-from_IsUtf8 bytes)
@@ -76,29 +68,19 @@ permissive_table bytes d = refl
 -- the table of a strict walk; each piece of its bytes is UTF-8
 strict_table : (bytes : List ℕ) (d : ℕ) (t : StringTable)
     → table_of Strict bytes d ≡ Ok t → (whole bytes d ≡ t) × (first_bad bytes d ≡ length bytes)
-strict_table bytes d t h = by_walked (walked Strict bytes d) refl h
-  where
-    by_walked : (x : Result (List (ℕ × List ℕ)) Refusal)
-        → walked Strict bytes d ≡ x → (x >>= (λ _. Ok (whole bytes d))) ≡ Ok t
-        → (whole bytes d ≡ t) × (first_bad bytes d ≡ length bytes)
-    by_walked (Ok es) e h = (
-      (let x : ◌≡◌ {A = Result StringTable Refusal} (Ok (whole bytes d)) (Ok t) = h in cc),
-      good_if_walked bytes d es e,
-    )
-    by_walked (Err f) e h = absurd (let x : ◌≡◌ {A = Result StringTable Refusal} (Err f) (Ok t) = h in cc)
+strict_table bytes d t h =
+    let walk = step (walked Strict bytes d) (λ _. Ok (whole bytes d)) t h in
+    let same : ◌≡◌ {A = Result StringTable Refusal} (Ok (whole bytes d)) (Ok t) = walk.rest in
+    (cc, good_if_walked bytes d walk.value walk.is)
 
 -- the range of a strict table
 strict_range : (file : List ℕ) (o n d : ℕ) (t : StringTable)
     → strtab_of Strict file o n d ≡ Ok t
     → (r : List ℕ) × (range_in Strict file o n ≡ Ok r) × (table_of Strict r d ≡ Ok t)
 unfolding strtab_of
-strict_range file o n d t h = by_range (range_in Strict file o n) refl h
-  where
-    by_range : (x : Result (List ℕ) Fault)
-        → range_in Strict file o n ≡ x → (refuse_as malformed x >>= (λ r. table_of Strict r d)) ≡ Ok t
-        → (r : List ℕ) × (range_in Strict file o n ≡ Ok r) × (table_of Strict r d ≡ Ok t)
-    by_range (Ok r) e h = (r, e, h)
-    by_range (Err f) e h = absurd (let x : ◌≡◌ {A = Result StringTable Refusal} (Err (malformed f)) (Ok t) = h in cc)
+strict_range file o n d t h =
+    let range = step (refuse_as malformed (range_in Strict file o n)) (λ r. table_of Strict r d) t h in
+    (range.value, found_within malformed (range_in Strict file o n) range.value range.is, range.rest)
 
 -- a range that strict mode accepts is not cut
 uncut : (b c : Bool) (f g : Fault) (x y z r : List ℕ)

@@ -1,8 +1,6 @@
 -- Lines after others.
-use Rattle.std.proofs.Common.{◌≡◌, ◌++◌, ℕ, List, Result, Ok, Err, ap, append_assoc, refl, sym}
-use Rattle.goblin_base.specs.Refusal.{Refusal}
-use Rattle.goblin_base.specs.Steps.{◌>>=◌}
-use Rattle.goblin_base.specs.Texts.{◌&◌}
+use Rattle.goblin_base.proofs.Common.{◌≡◌, ◌++◌, ℕ, List, Result, Ok, Err, ap, append_assoc, refl, sym, Refusal, ◌>>=◌}
+use Rattle.goblin_base.proofs.Common.{◌&◌}
 
 -- the same lines after some others
 abbrev pub after : List ℕ → Result (List ℕ) Refusal → Result (List ℕ) Refusal

@@ -3,20 +3,14 @@
 -- The entry that follows the last one at or before an offset begins after the offset (`entry_at`). If the last one's
 -- piece is UTF-8, the offset is in it, and the piece at the offset is the rest of it (`piece_rest`), which is UTF-8
 -- exactly if a character begins there. Otherwise the entry is empty and stands at the offset itself (`look_up`).
-use Rattle.std.proofs.Common.{◌≡◌, ℕ, zero, suc, ◌+◌, ◌-◌, ◌<◌, ◌≤◌, ⊎_elim, true, false, List, [], ◌∷◌, length, get_or}
-use Rattle.std.proofs.Common.{take, drop, refl, sym, ap, subst, ◌∙◌, arith, Option, Some, None}
-use Rattle.std.proofs.lemmas.Bool.{cases_lt, cases_Bool, cond-true, cond-false, lt-ltb, le-ltb, both_ways}
-use Rattle.std.proofs.lemmas.Bool.{false_from_ne_true}
-use Rattle.std.proofs.lemmas.List.{drop-drop, drop-take, length-map}
-use Rattle.std.proofs.lemmas.Str.{IsUtf8-from_is_utf8, is_utf8-from_IsUtf8, IsUtf8-drop, IsCharBoundary-from_drop}
-use Rattle.std.specs.Borrow.{Bor}
-use Rattle.std.specs.List.{slice_range, EachIndex}
-use Rattle.std.specs.Option.{MatchOption, option_map}
-use Rattle.std.specs.Str.{IsUtf8, IsCharBoundary}
-use Rattle.goblin_base.specs.Search.{IsLastUpTo}
-use Rattle.goblin_base.specs.Entries.{place_of, places_of, text_of}
-use Rattle.goblin_base.specs.Pieces.{piece_end, piece, is_readable, entry_text, entries_from, entries, is_entry_place}
-use Rattle.goblin_base.specs.Pieces.{text_at}
+use Rattle.goblin_base.proofs.Common.{◌≡◌, ℕ, zero, suc, ◌+◌, ◌-◌, ◌<◌, ◌≤◌, ⊎_elim, true, false, List, [], ◌∷◌, length}
+use Rattle.goblin_base.proofs.Common.{get_or, take, drop, refl, sym, ap, subst, ◌∙◌, arith, Option, Some, None}
+use Rattle.goblin_base.proofs.Common.{cases_lt, cases_Bool, cond-true, cond-false, lt-ltb, le-ltb, both_ways}
+use Rattle.goblin_base.proofs.Common.{false_from_ne_true, drop-drop, drop-take, length-map, IsUtf8-from_is_utf8}
+use Rattle.goblin_base.proofs.Common.{is_utf8-from_IsUtf8, Bor, slice_range, EachIndex, MatchOption, option_map, IsUtf8}
+use Rattle.goblin_base.proofs.Common.{IsCharBoundary, IsLastUpTo, place_of, places_of, text_of, piece_end, piece}
+use Rattle.goblin_base.proofs.Common.{is_readable, entry_text, entries_from, entries, is_entry_place, text_at}
+use Rattle.std.proofs.lemmas.Str.{IsUtf8-drop, IsCharBoundary-from_drop}
 use Rattle.goblin_base.proofs.PiecesLemmas.{end_same, length-piece, piece_is_range, start_same, start_to}
 use Rattle.goblin_base.proofs.WalkLemmas.{next_place, entries_more, entries_past, entry_place_next, entry_place_from}
 use Rattle.goblin_base.proofs.WalkLemmas.{no_entry_place, text_if_readable, text_if_not, next_if_readable, next_if_not}

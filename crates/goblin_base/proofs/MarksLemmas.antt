@@ -3,22 +3,15 @@
 -- Shifting a mask down leaves the bits of the bytes from a place on (`mask_down`), so the lowest of them is at the next
 -- byte that passes the test (`next_is`). In the mask of the delimiter that is where the piece ends (`next_delim`); in
 -- the mask of the bytes from 128 on it says whether the piece is ASCII up to there (`ascii_more`).
-use Rattle.std.proofs.Common.{◌≡◌, ℕ, zero, suc, ◌+◌, ◌-◌, ◌/◌, ◌^◌, ◌<◌, ◌≤◌, ◌↔◌, eqb, leb, Bool, true, false}
-use Rattle.std.proofs.Common.{not, ◌&&◌, List, [], ◌∷◌, map, take, drop, length, get_or, shr-shr, refl, sym, ap, ◌∙◌}
-use Rattle.std.proofs.Common.{⊎_elim, arith}
-use Rattle.std.proofs.lemmas.Bool.{cases_lt, both_ways, and_parts, and_from, le-leb, leb-true, leb-false}
-use Rattle.std.proofs.lemmas.List.{drop-drop, drop-map, drop-take, get_or-take, get_or-drop, get_or_past, length-take}
-use Rattle.std.proofs.lemmas.Simd.{first_set_mask_l, length-chunk, run_in_chunk_le, run_in_chunk_fails}
-use Rattle.std.proofs.lemmas.Simd.{run_in_chunk_stops}
-use Rattle.std.proofs.lemmas.Str.{IsUtf8-from_ascii}
-use Rattle.std.specs.List.{slice_range, prefix_len}
-use Rattle.std.specs.Str.{IsUtf8}
-use Rattle.std.specs.Simd.Lanes.{mask_l}
+use Rattle.goblin_base.proofs.Common.{◌≡◌, ℕ, zero, suc, ◌+◌, ◌-◌, ◌/◌, ◌^◌, ◌<◌, ◌≤◌, ◌↔◌, eqb, leb, Bool, true, false}
+use Rattle.goblin_base.proofs.Common.{not, ◌&&◌, List, [], ◌∷◌, map, take, drop, length, get_or, shr-shr, refl, sym, ap}
+use Rattle.goblin_base.proofs.Common.{◌∙◌, ⊎_elim, arith, cases_lt, both_ways, and_parts, and_from, le-leb, leb-true}
+use Rattle.goblin_base.proofs.Common.{leb-false, drop-drop, drop-map, drop-take, get_or-take, get_or-drop, get_or_past}
+use Rattle.goblin_base.proofs.Common.{length-take, first_set_mask_l, length-chunk, run_in_chunk_le, run_in_chunk_fails}
+use Rattle.goblin_base.proofs.Common.{run_in_chunk_stops, IsUtf8-from_ascii, slice_range, prefix_len, IsUtf8, mask_l}
+use Rattle.goblin_base.proofs.Common.{lowest_set, AreAscii, AreMarks, marks_before, piece_end}
 use lib.Lanes.{chunk}
-use Rattle.goblin_base.specs.Ascii.{lowest_set}
 use Rattle.goblin_base.specs.declared.marks.Marks.{Marks}
-use Rattle.goblin_base.specs.Marks.{AreAscii, AreMarks, marks_before}
-use Rattle.goblin_base.specs.Pieces.{piece_end}
 use Rattle.goblin_base.proofs.PiecesLemmas.{at_end, end_from, end_same}
 
 half_of : (m : Bool) (ms : List Bool) → mask_l (m ∷ ms) / 2 ^ 1 ≡ mask_l ms

@@ -1,9 +1,7 @@
 -- Texts in parts.
-use Rattle.std.proofs.Common.{◌≡◌, ◌+◌, ◌<◌, ℕ, List, [], ◌∷◌, ◌++◌, length, get_or, take, refl, sym, ap, ◌∙◌}
-use Rattle.std.proofs.Common.{append_assoc}
-use Rattle.std.proofs.lemmas.List.{take_more}
+use Rattle.goblin_base.proofs.Common.{◌≡◌, ◌+◌, ◌<◌, ℕ, List, [], ◌∷◌, ◌++◌, length, get_or, take, refl, sym, ap, ◌∙◌}
+use Rattle.goblin_base.proofs.Common.{append_assoc, take_more, Facts, joined, part_text}
 use Rattle.goblin_base.specs.declared.texts.Part.{Part}
-use Rattle.goblin_base.specs.Texts.{Facts, joined, part_text}
 
 joined_push : (e : Facts) (ps : List Part) (p : Part) → joined e (ps ++ p ∷ []) ≡ joined e ps ++ part_text e p
 joined_push e [] p = refl

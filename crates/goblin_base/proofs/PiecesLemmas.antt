@@ -1,11 +1,10 @@
 -- Where pieces begin and end.
-use Rattle.std.proofs.Common.{◌≡◌, ℕ, zero, suc, ◌+◌, ◌-◌, ◌<◌, ◌≤◌, ⊎_elim, Bool, true, false, not, eqb, List}
-use Rattle.std.proofs.Common.{[], ◌∷◌, length, get_or, take, drop, refl, sym, ap, ◌∙◌, arith}
-use Rattle.std.proofs.lemmas.Bool.{cases_Bool, cases_lt, both_ways, cond-true, cond-false}
-use Rattle.std.proofs.lemmas.List.{get_or-drop, get_or-take, length-drop, length-take-le, drop_more}
-use Rattle.std.proofs.lemmas.List.Sums.{prefix_len-le-length, fails_before_first, passes_at_first, position_or_len_is}
-use Rattle.std.specs.List.{slice_range, position_or_len}
-use Rattle.goblin_base.specs.Pieces.{piece_end, piece, piece_start}
+use Rattle.goblin_base.proofs.Common.{◌≡◌, ℕ, zero, suc, ◌+◌, ◌-◌, ◌<◌, ◌≤◌, ⊎_elim, Bool, true, false, not, eqb, List}
+use Rattle.goblin_base.proofs.Common.{[], ◌∷◌, length, get_or, take, drop, refl, sym, ap, ◌∙◌, arith, cases_Bool}
+use Rattle.goblin_base.proofs.Common.{cases_lt, both_ways, cond-true, cond-false, get_or-drop, get_or-take, length-drop}
+use Rattle.goblin_base.proofs.Common.{length-take-le, drop_more, prefix_len-le-length, fails_before_first}
+use Rattle.goblin_base.proofs.Common.{passes_at_first, position_or_len_is, slice_range, position_or_len, piece_end}
+use Rattle.goblin_base.proofs.Common.{piece, piece_start}
 pub use Rattle.goblin_base.specs.TextLaws.{start_to}
 
 abbrev is_delim : ℕ → ℕ → Bool

@@ -3,19 +3,14 @@
 -- The record with an index is the one that its own bytes are read as (`get_records`). These are as many as it needs, so
 -- reading them doesn't fail (`read_field`, `read_first`). What an iterator takes is the first record, and what is left
 -- are the records of the bytes after it (`next_is`).
-use Rattle.std.proofs.Common.{◌≡◌, ◌<◌, ◌≤◌, ◌+◌, ◌*◌, ◌-◌, ℕ, zero, suc, List, [], ◌∷◌, ◌++◌, map, length, take, drop}
-use Rattle.std.proofs.Common.{Option, Some, None, Result, Ok, refl, sym, ap, ◌∙◌, arith}
-use Rattle.std.specs.List.{slice_get, slice_range, range_with_len}
+use Rattle.goblin_base.proofs.Common.{◌≡◌, ◌<◌, ◌≤◌, ◌+◌, ◌*◌, ◌-◌, ℕ, zero, suc, List, [], ◌∷◌, ◌++◌, map, length}
+use Rattle.goblin_base.proofs.Common.{take, drop, Option, Some, None, Result, Ok, refl, sym, ap, ◌∙◌, arith, slice_get}
+use Rattle.goblin_base.proofs.Common.{slice_range, range_with_len, result_ok, rows, take_rest, length-take-le}
+use Rattle.goblin_base.proofs.Common.{length-drop, Error, read_within, records}
 use Rattle.std.proofs.lemmas.List.FromFn.{length-map-range_with_len, map-range_with_len_more}
-use Rattle.std.specs.Result.{result_ok}
 use Rattle.std.proofs.lemmas.Grind.{common_steps}
-use Rattle.std.proofs.lemmas.Nat.{rows}
 use Rattle.std.proofs.lemmas.Option.{slice_get_past}
-use Rattle.std.proofs.lemmas.List.{take_rest, length-take-le, length-drop}
-use Rattle.goblin_base.specs.declared.error.Error.{Error}
-use Rattle.goblin_base.specs.Record.{read_within}
 use Rattle.goblin_base.specs.RecordLaws.{room_of_fits, read_within-ok}
-use Rattle.goblin_base.specs.Table.{records}
 use Rattle.goblin_base.specs.TableLaws.{slice, slice-is, no_records, first_record}
 
 pub length_records : {R : Type 0} (size : ℕ) (read : List ℕ → R) (n : ℕ) (bytes : List ℕ)

@@ -1,13 +1,11 @@
 -- An attempt to read a piece as UTF-8: what is known at each byte.
-use Rattle.std.proofs.Common.{◌≡◌, ℕ, zero, suc, ◌+◌, ◌<◌, ◌≤◌, true, false, eqb, List, [], ◌∷◌, length, get_or, max}
-use Rattle.std.proofs.Common.{refl, sym, ap, ◌∙◌, subst, ⊎_elim, arith, Some, None, eq-eqb, ne_eqb}
-use Rattle.std.proofs.lemmas.Bool.{cases_lt, cases_eq, both_ways, false_from_ne_true, cond-true, cond-false}
-use Rattle.std.proofs.lemmas.Str.{IsUtf8-from_is_utf8, is_utf8-from_IsUtf8}
-use Rattle.goblin_base.specs.declared.utf8.Awaited.{Awaited}
+use Rattle.goblin_base.proofs.Common.{◌≡◌, ℕ, zero, suc, ◌+◌, ◌<◌, ◌≤◌, true, false, eqb, List, [], ◌∷◌, length, get_or}
+use Rattle.goblin_base.proofs.Common.{max, refl, sym, ap, ◌∙◌, subst, ⊎_elim, arith, Some, None, ne_eqb, cases_lt}
+use Rattle.goblin_base.proofs.Common.{cases_eq, both_ways, false_from_ne_true, cond-true, cond-false}
+use Rattle.goblin_base.proofs.Common.{IsUtf8-from_is_utf8, is_utf8-from_IsUtf8, Awaited, awaits_first, after_byte}
+use Rattle.goblin_base.proofs.Common.{piece_end, piece, is_readable, IsDamaged, IsScan, scan_end}
+use Rattle.std.proofs.Common.{eq-eqb}
 use Rattle.goblin_base.specs.declared.walk.Found.TheVariants.{Whole, Fault}
-use Rattle.goblin_base.specs.Utf8.{awaits_first, after_byte}
-use Rattle.goblin_base.specs.Pieces.{piece_end, piece, is_readable}
-use Rattle.goblin_base.specs.Scan.{IsDamaged, IsScan, scan_end}
 use Rattle.goblin_base.proofs.Utf8Lemmas.{Completes, any_bounds, IsUtf8-from_Completes, Completes-from_IsUtf8}
 use Rattle.goblin_base.proofs.Utf8ByteLemmas.{CompletesFrom, IsInner, Steps, StepsTo, steps}
 use Rattle.goblin_base.proofs.WalkLemmas.{bad_within}

@@ -3,23 +3,14 @@
 -- The table of a range is defined in steps that can fail. Where the range is cut out, it is the table of these bytes
 -- (`strtab_in_range`); where the walk succeeds, it has all entries (`walked_entries`). A look-up in it is the one in
 -- the bytes, because its entries are theirs (`look_up_among`).
-use Rattle.std.proofs.Common.{◌≡◌, ℕ, ◌+◌, ◌-◌, ◌≤◌, Bool, true, false, cond, ltb, drop, List, [], length, get_or, refl}
-use Rattle.std.proofs.Common.{sym, ap, subst, ◌∙◌, ◌<◌, ⊎_elim, not, arith, Option, None, Result, Ok, Err}
-use Rattle.std.proofs.lemmas.Bool.{cases_lt, cond-true, cond-false, lt-ltb, le-ltb}
-use Rattle.std.proofs.lemmas.List.{length-take-le, take_all, take_rest}
-use Rattle.std.proofs.lemmas.List.Sums.{prefix_len-le-length}
-use Rattle.std.specs.List.{EachIndex, before_first, position_or_len, position}
-use Rattle.std.specs.Borrow.{Bor}
-use Rattle.std.specs.Option.{unwrap_or, option_map, MatchOption}
-use Rattle.std.specs.Str.{IsCharBoundary}
-use Rattle.goblin_base.specs.declared.options.ParseMode.{ParseMode}
-use Rattle.goblin_base.specs.declared.options.ParseMode.TheVariants.{Strict, Permissive}
-use Rattle.goblin_base.specs.Pieces.{entry_text, entries, first_bad, text_at}
-use Rattle.goblin_base.specs.Entries.{places_of, text_of}
-use Rattle.goblin_base.specs.Search.{IsLastUpTo}
-use Rattle.goblin_base.specs.Refusal.{Refusal, malformed}
-use Rattle.goblin_base.specs.Steps.{◌>>=◌, refuse_as}
-use Rattle.goblin_base.specs.Strtab.{StringTable, look_up, range_in, strtab_of, table_of, walked}
+use Rattle.goblin_base.proofs.Common.{◌≡◌, ℕ, ◌+◌, ◌-◌, ◌≤◌, Bool, true, false, cond, ltb, drop, List, [], length}
+use Rattle.goblin_base.proofs.Common.{get_or, refl, sym, ap, subst, ◌∙◌, ◌<◌, ⊎_elim, not, arith, Option, None, Result}
+use Rattle.goblin_base.proofs.Common.{Ok, Err, cases_lt, cond-true, cond-false, lt-ltb, le-ltb, length-take-le}
+use Rattle.goblin_base.proofs.Common.{take_all, take_rest, prefix_len-le-length, EachIndex, before_first}
+use Rattle.goblin_base.proofs.Common.{position_or_len, position, Bor, unwrap_or, option_map, MatchOption}
+use Rattle.goblin_base.proofs.Common.{IsCharBoundary, ParseMode, Strict, Permissive, entry_text, entries, first_bad}
+use Rattle.goblin_base.proofs.Common.{text_at, places_of, text_of, IsLastUpTo, Refusal, malformed, ◌>>=◌, refuse_as}
+use Rattle.goblin_base.proofs.Common.{StringTable, look_up, range_in, strtab_of, table_of, walked}
 use Rattle.goblin_base.proofs.LookUpLemmas.{IsLookUp, text_at_past, found_look_up, not_all_after, answered}
 use Rattle.goblin_base.proofs.LookUpLemmas.{entry_text_at}
 use Rattle.goblin_base.proofs.WalkLemmas.{entries_past}

@@ -4,13 +4,11 @@
 -- bytes complete the state after it exactly if they complete the next one; if it leads to none, no bytes that begin
 -- with it complete the state (`steps`). A byte that may go on with a character begins none, because the bounds lie
 -- within 0x80 and 0xBF (`IsInner`).
-use Rattle.std.proofs.Common.{◌≡◌, ℕ, zero, suc, ◌-◌, ◌<◌, ◌≤◌, Bool, true, false, cond, ◌&&◌, ltb, leb, List, ◌∷◌}
-use Rattle.std.proofs.Common.{refl, sym, subst, inl, inr, arith, lt-ltb, le-leb, ne_eqb, Option, Some, None}
-use Rattle.std.proofs.lemmas.Bool.{and_parts, and_from, both_ways, cond-true, ltb-true, ltb-false, leb-true}
-use Rattle.std.specs.Str.{continuation_len}
-use Rattle.std.specs.Str.Lossy.{second_byte_min, second_byte_max}
-use Rattle.goblin_base.specs.declared.utf8.Awaited.{Awaited}
-use Rattle.goblin_base.specs.Utf8.{awaits_first, after_byte}
+use Rattle.goblin_base.proofs.Common.{◌≡◌, ℕ, zero, suc, ◌-◌, ◌<◌, ◌≤◌, Bool, true, false, cond, ◌&&◌, ltb, leb, List}
+use Rattle.goblin_base.proofs.Common.{◌∷◌, refl, sym, subst, inl, inr, arith, ne_eqb, Option, Some, None, and_parts}
+use Rattle.goblin_base.proofs.Common.{and_from, both_ways, cond-true, ltb-true, ltb-false, leb-true, continuation_len}
+use Rattle.goblin_base.proofs.Common.{second_byte_min, second_byte_max, Awaited, awaits_first, after_byte}
+use Rattle.std.proofs.Common.{lt-ltb, le-leb}
 use Rattle.goblin_base.proofs.Utf8Lemmas.{IsFirst, Completes, any_bounds, least_is, most_is}
 
 abbrev pub CompletesFrom : Awaited → List ℕ → Type 0

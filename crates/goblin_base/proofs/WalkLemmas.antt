@@ -4,18 +4,16 @@
 -- none between the two passes it (`inside_entry`). So the entries of the walk are those of the offsets that pass it,
 -- each tested for itself (`entries_closed`). Inside a piece no other whole piece begins (`no_bad_start_inside`), so
 -- strict mode, which tests each piece from its start, fails where `first_bad` says (`first_bad_is`).
-use Rattle.std.proofs.Common.{◌≡◌, ℕ, zero, suc, ◌+◌, ◌-◌, ◌<◌, ◌≤◌, ⊎_elim, true, false, cond, ltb, List, [], ◌∷◌, map}
-use Rattle.std.proofs.Common.{length, refl, sym, ap, subst, ◌∙◌, arith}
-use Rattle.std.proofs.lemmas.Bool.{cases_lt, cases_Bool, cond-true, cond-false, lt-ltb, le-ltb, eq-eqb, ne_eqb}
-use Rattle.std.proofs.lemmas.Bool.{both_ways, and_parts, and_from, not-true, false_from_ne_true, not_from_true}
-use Rattle.std.proofs.lemmas.Bool.{not_from_false, and_left, and_right}
-use Rattle.std.proofs.lemmas.List.FromFn.{length-range_with_len, get_or-range_with_len}
-use Rattle.std.proofs.lemmas.List.Sums.{position_or_len_is}
-use Rattle.std.proofs.lemmas.Str.{is_utf8-from_IsUtf8, IsUtf8-nil}
-use Rattle.std.specs.List.{filter, range_with_len}
-use Rattle.std.specs.Str.{is_utf8}
-use Rattle.goblin_base.specs.Pieces.{piece_end, piece, piece_start, is_readable, entry_text, walk_within, entries_from}
-use Rattle.goblin_base.specs.Pieces.{entries, none_readable, is_entry_place, entries_by_place, is_bad_start, first_bad}
+use Rattle.goblin_base.proofs.Common.{◌≡◌, ℕ, zero, suc, ◌+◌, ◌-◌, ◌<◌, ◌≤◌, ⊎_elim, true, false, cond, ltb, List, []}
+use Rattle.goblin_base.proofs.Common.{◌∷◌, map, length, refl, sym, ap, subst, ◌∙◌, arith, cases_lt, cases_Bool}
+use Rattle.goblin_base.proofs.Common.{cond-true, cond-false, lt-ltb, le-ltb, eq-eqb, both_ways, and_parts, and_from}
+use Rattle.goblin_base.proofs.Common.{not-true, false_from_ne_true, not_from_true, not_from_false, and_left, and_right}
+use Rattle.goblin_base.proofs.Common.{length-range_with_len, get_or-range_with_len, position_or_len_is}
+use Rattle.goblin_base.proofs.Common.{is_utf8-from_IsUtf8, IsUtf8-nil, filter, range_with_len, is_utf8, piece_end}
+use Rattle.goblin_base.proofs.Common.{piece, piece_start, is_readable, entry_text, entries_from, entries}
+use Rattle.goblin_base.proofs.Common.{is_entry_place, is_bad_start, first_bad}
+use Rattle.std.proofs.lemmas.Bool.{ne_eqb}
+use Rattle.goblin_base.specs.Pieces.{walk_within, none_readable, entries_by_place}
 use Rattle.goblin_base.proofs.PiecesLemmas.{end_from, end_same, length-piece, piece_at_end, start_to, start_same}
 use Rattle.goblin_base.proofs.PiecesLemmas.{start_next}
 

@@ -3,19 +3,13 @@
 -- The piece at i, if it is UTF-8, is the next entry of the definition (`entry_of_text`), so the entries so far and
 -- those from there on stay all entries (`found_more`). While each piece was text, no bad piece begins before i: so a
 -- piece at i that isn't text is the first bad one, where strict mode fails (`walked_fault`).
-use Rattle.std.proofs.Common.{◌≡◌, ℕ, ◌+◌, ◌-◌, ◌<◌, ◌≤◌, ⊎_elim, true, false, cond, ltb, List, [], ◌∷◌, ◌++◌, length}
-use Rattle.std.proofs.Common.{refl, sym, ap, ◌∙◌, arith, Ok, Err, append_assoc, append-nil}
-use Rattle.std.proofs.lemmas.Bool.{cases_lt, both_ways, cond-true, cond-false, lt-ltb, le-ltb, false≢true}
-use Rattle.std.proofs.lemmas.Str.{is_utf8-from_IsUtf8}
+use Rattle.goblin_base.proofs.Common.{◌≡◌, ℕ, ◌+◌, ◌-◌, ◌<◌, ◌≤◌, ⊎_elim, true, false, cond, ltb, List, [], ◌∷◌, ◌++◌}
+use Rattle.goblin_base.proofs.Common.{length, refl, sym, ap, ◌∙◌, arith, Ok, Err, append_assoc, append-nil, cases_lt}
+use Rattle.goblin_base.proofs.Common.{both_ways, cond-true, cond-false, lt-ltb, le-ltb, false≢true, is_utf8-from_IsUtf8}
+use Rattle.goblin_base.proofs.Common.{slice_range, IsUtf8, is_utf8, piece_end, piece_start, is_readable, entries_from}
+use Rattle.goblin_base.proofs.Common.{entries, is_bad_start, first_bad, walked, invalid_utf8, ParseMode, Strict}
+use Rattle.goblin_base.proofs.Common.{Permissive}
 use Rattle.std.specs.Bool.{IsTrue}
-use Rattle.std.specs.List.{slice_range}
-use Rattle.std.specs.Str.{IsUtf8, is_utf8}
-use Rattle.goblin_base.specs.Pieces.{piece_end, piece_start, is_readable, entries_from, entries, is_bad_start}
-use Rattle.goblin_base.specs.Pieces.{first_bad}
-use Rattle.goblin_base.specs.Strtab.{walked}
-use Rattle.goblin_base.specs.Utf8.{invalid_utf8}
-use Rattle.goblin_base.specs.declared.options.ParseMode.{ParseMode}
-use Rattle.goblin_base.specs.declared.options.ParseMode.TheVariants.{Strict, Permissive}
 use Rattle.goblin_base.proofs.TextTests.{not_utf8}
 use Rattle.goblin_base.proofs.PiecesLemmas.{end_within, piece_is_range, start_next}
 use Rattle.goblin_base.proofs.WalkLemmas.{readable_at_end, entries_past, entries_more_readable, bad_start_from}

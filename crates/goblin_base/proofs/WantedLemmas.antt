@@ -3,21 +3,16 @@
 -- A text that stands at an offset and doesn't contain the delimiter is the piece there (`piece-name`). The piece itself
 -- stands there and doesn't contain it (`piece-stands`, `piece-apart`). So comparing bytes decides whether the piece is
 -- the text, without a search for the piece's end, and the UTF-8 of the name is that of the piece (`stands_Decides`).
-use Rattle.std.proofs.Common.{◌≡◌, ℕ, ◌<◌, ◌≤◌, Bool, true, false, if◌then◌else◌, not, ◌&&◌, eqb, leb, ltb, List}
-use Rattle.std.proofs.Common.{length, get_or, take, drop, refl, sym, ap, subst, ◌∙◌, ⊎_elim, arith, Ok, Err}
-use Rattle.std.proofs.lemmas.Bool.{cases_lt, le-leb, leb-true, and_parts, and_from, or_cases, or_left, or_right}
-use Rattle.std.proofs.lemmas.Bool.{not-true, not_from_false, false_from_ne_true, both_ways, false≢true}
-use Rattle.std.proofs.lemmas.Bool.Decides.{same_from_decides}
-use Rattle.std.proofs.lemmas.List.{get_or-take, length-take-le, length-take}
-use Rattle.std.proofs.lemmas.List.Folds.{list_any_at, list_any_none}
-use Rattle.std.proofs.lemmas.List.Sums.{prefix_len-le-length, fails_before_first, passes_at_first, position_or_len_is}
+use Rattle.goblin_base.proofs.Common.{◌≡◌, ℕ, ◌<◌, ◌≤◌, Bool, true, false, if◌then◌else◌, not, ◌&&◌, eqb, leb, ltb}
+use Rattle.goblin_base.proofs.Common.{List, length, get_or, take, drop, refl, sym, ap, subst, ◌∙◌, ⊎_elim, arith, Ok}
+use Rattle.goblin_base.proofs.Common.{Err, cases_lt, le-leb, leb-true, and_parts, and_from, or_cases, or_left, or_right}
+use Rattle.goblin_base.proofs.Common.{not-true, not_from_false, false_from_ne_true, both_ways, false≢true}
+use Rattle.goblin_base.proofs.Common.{same_from_decides, get_or-take, length-take-le, length-take, list_any_at}
+use Rattle.goblin_base.proofs.Common.{list_any_none, prefix_len-le-length, fails_before_first, passes_at_first}
+use Rattle.goblin_base.proofs.Common.{position_or_len_is, position_or_len, list_any, bytes_eq, is_utf8, piece, Refusal}
 use Rattle.std.proofs.lemmas.Slice.Eq.{bytes_eq-Decides}
 use Rattle.std.proofs.Math.Seq.{take-take}
 use Rattle.std.specs.Bool.{Decides}
-use Rattle.std.specs.List.{position_or_len, list_any}
-use Rattle.std.specs.Str.{bytes_eq, is_utf8}
-use Rattle.goblin_base.specs.Pieces.{piece}
-use Rattle.goblin_base.specs.Refusal.{Refusal}
 use Rattle.goblin_base.specs.Strtab.{has_name, is_text_of}
 use Rattle.goblin_base.specs.Wanted.{begins_at, can_be_string, is_apart, is_piece, stands_at, starts_piece}
 

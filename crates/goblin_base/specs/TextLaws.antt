@@ -26,18 +26,21 @@ use Rattle.goblin_base.specs.Utf8.{invalid_utf8}
 
 -- ---- ranges that are UTF-8
 
--- two ranges that are UTF-8, one right after the other, are one that is
-pub texts-join : (bytes : List ℕ) (i j k : ℕ)
-    → i ≤ j → j ≤ k → IsUtf8 (slice_range bytes i j) → IsUtf8 (slice_range bytes j k) → IsUtf8 (slice_range bytes i k)
-texts-join bytes i j k l m a b =
+-- a range is two ranges, one right after the other
+pub ranges-join : (bytes : List ℕ) (i j k : ℕ)
+    → i ≤ j → j ≤ k → slice_range bytes i k ≡ slice_range bytes i j ++ slice_range bytes j k
+ranges-join bytes i j k l m =
     let len : k - i ≡ (j - i) + (k - j) = omega arith in
     let place : i + (j - i) ≡ j = omega arith in
     let there : drop (j - i) (drop i bytes) ≡ drop j bytes = drop-drop (j - i) i bytes ∙ ap (λ x. drop x bytes) place in
-    let is : slice_range bytes i k ≡ slice_range bytes i j ++ slice_range bytes j k =
     ap (λ n. take n (drop i bytes)) len
     ∙ take-add (j - i) (k - j) (drop i bytes)
-    ∙ ap (λ r. take (j - i) (drop i bytes) ++ take (k - j) r) there in
-    subst IsUtf8 (sym is) (IsUtf8-append _ _ a b)
+    ∙ ap (λ r. take (j - i) (drop i bytes) ++ take (k - j) r) there
+
+-- if both are UTF-8, so is the whole
+pub texts-join : (bytes : List ℕ) (i j k : ℕ)
+    → i ≤ j → j ≤ k → IsUtf8 (slice_range bytes i j) → IsUtf8 (slice_range bytes j k) → IsUtf8 (slice_range bytes i k)
+texts-join bytes i j k l m a b = subst IsUtf8 (sym (ranges-join bytes i j k l m)) (IsUtf8-append _ _ a b)
 
 -- a whole piece begins no later than any byte of it
 pub start_to : (bytes : List ℕ) (d o : ℕ) → piece_start bytes d o ≤ o
@@ -98,7 +101,7 @@ module _ (bytes : List ℕ) (d : ℕ) (ascii : d < 128) where
       ap (is_bad_start bytes d) e ∙ no_bad_start k u h)
       (λ h. absurd (omega (arith, n)))
 
-  table_of-text : (mode : ParseMode)
+  pub table_of-text : (mode : ParseMode)
       → IsUtf8 bytes → table_of mode bytes d ≡ Ok (record { bytes = bytes; delim = d; is_parsed = true })
   unfolding walked
   table_of-text Permissive u = refl

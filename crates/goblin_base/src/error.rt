@@ -1,5 +1,5 @@
 //! The errors of reading and writing.
-ghost use Rattle.std.specs.Prelude.{◌≡◌, IfOk, Some, string_bytes};
+ghost use Rattle.std.specs.Prelude.{◌≡◌, IfOk, Some, false, string_bytes};
 ghost use Rattle.goblin_base.specs.Refusal.{misplaced, refusal_of};
 ghost use Rattle.goblin_base.specs.Texts.{facts_of, fault_facts, fault_text, numbers, refusal_facts, refusal_text, with_item};
 
@@ -174,13 +174,27 @@ fn numbers(kind: Kind, first: u64, second: u64, third: u64, overflow: bool) -> R
     }
 }
 
+// Returns that of a kind with one number.
+fn one(kind: Kind, first: u64) -> Report
+    ensures { facts_of result ≡ numbers kind first 0 0 false }
+{
+    numbers(kind, first, 0, 0, false)
+}
+
+// Returns that of a kind with two numbers.
+fn two(kind: Kind, first: usize, second: usize) -> Report
+    ensures { facts_of result ≡ numbers kind first second 0 false }
+{
+    numbers(kind, first as u64, second as u64, 0, false)
+}
+
 // Returns the report of an error of a kind with a number and an item.
 fn with_item(kind: Kind, first: usize, item: &'static str) -> Report
     ensures { facts_of result ≡ with_item kind first item.now }
 {
     Report {
         item,
-        ..numbers(kind, first as u64, 0, 0, false)
+        ..one(kind, first as u64)
     }
 }
 
@@ -190,34 +204,20 @@ impl Fault {
         ensures { facts_of result ≡ fault_facts self.now }
     {
         match *self {
-            Fault::InvalidClass(class) => numbers(Kind::InvalidClass, class as u64, 0, 0, false),
-            Fault::InvalidEndianness(order) => {
-                numbers(Kind::InvalidEndianness, order as u64, 0, 0, false)
-            }
+            Fault::InvalidClass(class) => one(Kind::InvalidClass, class as u64),
+            Fault::InvalidEndianness(order) => one(Kind::InvalidEndianness, order as u64),
             Fault::TooSmall => numbers(Kind::TooSmall, 0, 0, 0, false),
-            Fault::ElfClass(class) => numbers(Kind::ElfClass, class as u64, 0, 0, false),
-            Fault::DataType(order) => numbers(Kind::DataType, order as u64, 0, 0, false),
-            Fault::Data(order) => numbers(Kind::Data, order as u64, 0, 0, false),
-            Fault::NoteAlign(align) => numbers(Kind::NoteAlign, align as u64, 0, 0, false),
-            Fault::SymtabOffset { offset, len } => {
-                numbers(Kind::SymtabOffset, offset as u64, len as u64, 0, false)
-            }
-            Fault::TooManySymbols { offset, count } => {
-                numbers(Kind::TooManySymbols, offset as u64, count as u64, 0, false)
-            }
+            Fault::ElfClass(class) => one(Kind::ElfClass, class as u64),
+            Fault::DataType(order) => one(Kind::DataType, order as u64),
+            Fault::Data(order) => one(Kind::Data, order as u64),
+            Fault::NoteAlign(align) => one(Kind::NoteAlign, align as u64),
+            Fault::SymtabOffset { offset, len } => two(Kind::SymtabOffset, offset, len),
+            Fault::TooManySymbols { offset, count } => two(Kind::TooManySymbols, offset, count),
             Fault::SymtabPast {
                 requested,
                 available,
-            } => numbers(
-                Kind::SymtabPast,
-                requested as u64,
-                available as u64,
-                0,
-                false,
-            ),
-            Fault::StrtabOffset { offset, len } => {
-                numbers(Kind::StrtabOffset, offset as u64, len as u64, 0, false)
-            }
+            } => two(Kind::SymtabPast, requested, available),
+            Fault::StrtabOffset { offset, len } => two(Kind::StrtabOffset, offset, len),
             Fault::StrtabRange {
                 size,
                 offset,
@@ -253,16 +253,8 @@ impl scroll::Error {
         ensures { facts_of result ≡ refusal_facts (misplaced self.now) }
     {
         match *self {
-            scroll::Error::TooBig { size, len } => {
-                numbers(Kind::TooBig, size as u64, len as u64, 0, false)
-            }
-            scroll::Error::BadOffset(offset) => numbers(
-                Kind::BadOffset,
-                offset as u64,
-                0,
-                0,
-                false,
-            ),
+            scroll::Error::TooBig { size, len } => two(Kind::TooBig, size, len),
+            scroll::Error::BadOffset(offset) => one(Kind::BadOffset, offset as u64),
             scroll::Error::BadInput { size, msg } => with_item(Kind::BadInput, size, msg),
         }
     }
@@ -275,7 +267,7 @@ impl Error {
     {
         match self {
             Error::Malformed(fault) => fault.report(),
-            Error::BadMagic(magic) => numbers(Kind::BadMagic, *magic, 0, 0, false),
+            Error::BadMagic(magic) => one(Kind::BadMagic, *magic),
             Error::Scroll(e) => e.report(),
             Error::BufferTooShort(count, item) => with_item(Kind::BufferTooShort, *count, item),
             Error::Memory(_) => numbers(Kind::OutOfMemory, 0, 0, 0, false),

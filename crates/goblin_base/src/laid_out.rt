@@ -8,7 +8,7 @@ ghost use Rattle.goblin_base.specs.Steps.{with_size};
 use crate::error::Result;
 use crate::record::Record;
 use crate::room::room;
-use crate::scroll::{SizeWith, TryFromCtx, TryIntoCtx};
+use crate::scroll::{IntoCtx, SizeWith, TryFromCtx, TryIntoCtx};
 
 /// A record whose layout depends on a context alone. It is a [`Record`].
 pub trait LaidOut<C: Copy>: Drop {
@@ -63,6 +63,18 @@ impl<R: LaidOut<C>, C: Copy> TryIntoCtx<C> for R {
         room(bytes.len(), 0, size)?;
         self.put(bytes, ctx);
         Ok(size)
+    }
+}
+
+/// The buffer must hold the record.
+impl<R: LaidOut<C>, C: Copy> IntoCtx<C> for R {
+    ghost can_into = { λ _ ctx old. (R.layout ctx).size ≤ length old };
+
+    ghost into_gives = { λ x ctx old new. let l = R.layout ctx in
+        new ≡ l.image x ++ drop l.size old };
+
+    fn into_ctx(self, bytes: &mut [u8], ctx: C) {
+        self.put(bytes, ctx);
     }
 }
 

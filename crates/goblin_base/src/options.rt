@@ -41,18 +41,14 @@ impl ParseOptions {
     pub fn permissive() -> Self
         ensures { result ≡ record { parse_mode = ParseMode.Permissive } }
     {
-        ParseOptions {
-            parse_mode: ParseMode::Permissive,
-        }
+        ParseOptions::new().with_parse_mode(ParseMode::Permissive)
     }
 
     /// Returns the options that refuse damaged parts.
     pub fn strict() -> Self
         ensures { result ≡ record { parse_mode = ParseMode.Strict } }
     {
-        ParseOptions {
-            parse_mode: ParseMode::Strict,
-        }
+        ParseOptions::new().with_parse_mode(ParseMode::Strict)
     }
 
     /// Returns these options with another mode.

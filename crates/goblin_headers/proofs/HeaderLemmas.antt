@@ -4,21 +4,18 @@
 -- the laws of fields, the identification because it is the first 16 bytes. A header of either class has them because
 -- widening and narrowing undo each other (`widened_laws`). What bytes are read as a header follows from the laws alone
 -- (`one_header_image`).
-use Rattle.std.proofs.Common.{◌≡◌, ◌≤◌, ℕ, List, [], ◌++◌, length, take, refl, sym, ap, ◌∙◌, arith}
+use Rattle.goblin_headers.proofs.Common.{◌≡◌, ◌≤◌, ℕ, List, [], ◌++◌, length, take, refl, sym, ap, ◌∙◌, arith}
+use Rattle.goblin_headers.proofs.Common.{Container, Endian, Field, image_of_fields, values_at, fields_at, total}
+use Rattle.goblin_headers.proofs.Common.{widths_of, values_of, lows_of, Layout, widened, IsBytes, headed, header32}
+use Rattle.goblin_headers.proofs.Common.{header64, header_layout, as32, as64, widened32, widened64}
 use Rattle.std.proofs.Math.Seq.{take-add}
 use Rattle.std.proofs.lemmas.List.{append_assoc, append-nil, length-append, take_all, take_at}
-use Rattle.goblin_base.specs.declared.container.Container.{Container}
-use Rattle.goblin_base.specs.declared.container.Endian.{Endian}
-use Rattle.goblin_base.specs.Common.{Field, image_of_fields, values_at, fields_at, total, widths_of, values_of, lows_of}
-use Rattle.goblin_base.specs.Common.{Layout, widened, IsBytes}
 use Rattle.goblin_base.specs.declared.container.Container.TheVariants as class
 use Rattle.goblin_base.specs.FieldLaws.{values_at-image, lows_of-fits, image-fields_at, length-image_of_fields}
 use Rattle.goblin_base.specs.FieldLaws.{IsBytes-image_of_fields}
 use Rattle.goblin_base.specs.LayoutLaws.{size_of_fields-is}
 use Rattle.goblin_base.specs.NumberLaws.{IsBytes-append}
-use Rattle.goblin_headers.specs.Header.{HeaderShape, field_widths, headed, header32, header64, header_layout, as32}
-use Rattle.goblin_headers.specs.Header.{as64}
-use Rattle.goblin_headers.specs.Header.{widened32, widened64}
+use Rattle.goblin_headers.specs.Header.{HeaderShape, field_widths}
 use Rattle.goblin_headers.specs.HeaderTrips.{IsOneHeaderImage}
 
 -- headers that begin with an identification, and what holds of reading and writing them

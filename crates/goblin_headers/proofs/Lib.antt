@@ -1,3 +1,4 @@
+pub mod Common
 pub mod HeaderLemmas
 pub mod RawTrips
 pub mod ReadSections

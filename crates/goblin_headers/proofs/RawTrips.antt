@@ -4,52 +4,15 @@
 -- The image begins with the identification, whose data byte names the byte order: so what is written in that order is
 -- read in it too (`raw_reads_back`). What was read says in which order and that the bytes were enough
 -- (`was_read_in_order`), so it is written in that order, over the same bytes (`raw_writes_back`).
-use Rattle.std.proofs.Common.{◌≡◌, ◌<◌, ◌≤◌, ℕ, List, ◌++◌, length, take, drop, slice_index, Some, Result, Ok, refl}
-use Rattle.std.proofs.Common.{sym, ap, ◌∙◌, arith, Bool, true, false, not, Option, None, Err}
+use Rattle.goblin_headers.proofs.Common.{◌≡◌, ◌<◌, ◌≤◌, ℕ, List, ◌++◌, length, take, drop, slice_index, Some, Result}
+use Rattle.goblin_headers.proofs.Common.{Ok, refl, sym, ap, ◌∙◌, arith, Endian, Error, Layout, Writes, room_of_fits}
+use Rattle.goblin_headers.proofs.Common.{fits-room_of, order_named, order_of, WritesInOrder, room_of}
 use Rattle.std.proofs.lemmas.List.{append_assoc, get_or_append_left, get_or-take, length-append, take-append-drop}
-use Rattle.goblin_base.specs.declared.container.Endian.{Endian}
-use Rattle.goblin_base.specs.declared.error.Error.{Error}
 use Rattle.goblin_base.specs.declared.error.Fault.{Fault}
-use Rattle.goblin_base.specs.Common.{Layout, Writes, room_of, ◌>>=◌, or_refuse, refuse_if, refuse_as}
-use Rattle.goblin_base.specs.RecordLaws.{room_of_fits, fits-room_of}
-use Rattle.goblin_headers.specs.Header.{order_named, order_of}
 use Rattle.goblin_headers.specs.HeaderTrips.{IsReadBack, IsWrittenAndReadBack, IsWrittenBack}
 use Rattle.goblin_headers.specs.ReadHeader.{needs, read_in_order}
-use Rattle.goblin_headers.specs.WriteHeader.{WritesInOrder}
 use Rattle.goblin_headers.proofs.HeaderLemmas.{IsHeader}
-use Rattle.goblin_base.specs.declared.scroll.Error.{Error as Misplaced}
-
--- ---- what each of several steps returned, if all of them succeeded
--- the value of the first step, and the success of the steps after it
-pub record Step {X Y : Type 0} (first : Result X Error) (next : X → Result Y Error) (y : Y) : Type 0 where
-  pub value : X
-  pub is : first ≡ Ok value
-  pub rest : next value ≡ Ok y
-
-pub step : {X Y : Type 0} (first : Result X Error) (next : X → Result Y Error) (y : Y)
-    → (first >>= next) ≡ Ok y → Step first next y
-step (Ok x) next y is = record { value = x; is = refl; rest = is }
-step (Err e) next y is = absurd (cc)
-
--- a test that did not refuse
-pub passed : (test : Bool) (e : Error) (u : Unit {0}) → refuse_if (not test) e ≡ Ok u → test ≡ true
-passed true e u is = refl
-passed false e u is = absurd (cc)
-
--- a value that was there
-pub found : {X : Type 0} (option : Option X) (e : Error) (x : X) → or_refuse option e ≡ Ok x → option ≡ Some x
-found (Some y) e x is = cc
-found None e x is = absurd (cc)
-
--- bytes that were enough
-room_was : (room : Result (Unit {0}) Misplaced) (within : Misplaced → Error) (u : Unit {0})
-    → refuse_as within room ≡ Ok u → room ≡ Ok tt
-room_was (Ok _) within u is = refl
-room_was (Err e) within u is = absurd (cc)
-
-pub had_room : (bytes : List ℕ) (size : ℕ) (u : Unit {0}) → needs size bytes ≡ Ok u → size ≤ length bytes
-had_room bytes size u is =
-    let fits = fits-room_of (length bytes) 0 size tt (room_was (room_of (length bytes) 0 size) _ u is) in omega arith
+use Rattle.goblin_base.proofs.StepLemmas.{step, found, found_within}
 
 -- ---- reading and writing in the byte order that is named
 -- the result of writing into a buffer that is large enough, and what it leaves there
@@ -101,10 +64,11 @@ was_read_in_order layout fault bytes h is =
     let order = step (order_of fault bytes) _ h ident.rest in
     let size = (layout order.value).size in
     let room = step (needs size bytes) _ h order.rest in
+    let was = found_within _ (room_of (length bytes) 0 size) room.value room.is in
     record {
       order = order.value;
       ordered = found (order_named (slice_index bytes 5)) _ order.value order.is;
-      enough = had_room bytes size room.value room.is;
+      enough = omega (arith, fits-room_of (length bytes) 0 size room.value was);
       header = cc room.rest;
     }
 
@@ -120,12 +84,6 @@ front_byte image front after rest i is h =
 pub ident_byte : (ident bytes : List ℕ) (i : ℕ)
     → ident ≡ take 16 bytes → i < 16 → slice_index ident i ≡ slice_index bytes i
 ident_byte ident bytes i is h = ap (λ (all : List ℕ). slice_index all i) is ∙ rw (get_or-take 16 bytes i 0) refl
-
--- bytes that are written over themselves don't change
-over_itself : (size : ℕ) (image bytes new : List ℕ)
-    → new ≡ image ++ drop size bytes → image ≡ take size bytes → new ≡ bytes
-over_itself size image bytes new is same =
-    is ∙ ap (λ (front : List ℕ). front ++ drop size bytes) same ∙ take-append-drop size bytes
 
 module _ {R : Type 0} {ident : R → List ℕ} {layout : Endian → Layout R}
     (all : (order : Endian) → IsHeader ident (layout order)) where
@@ -157,5 +115,5 @@ module _ {R : Type 0} {ident : R → List ℕ} {layout : Endian → Layout R}
       let wrote = writes_in_order (ident h) layout h bytes new answer from.order ordered from.enough so in
       let same = ap (l.image) from.header ∙ laws.writes_back bytes are from.enough in (
         wrote.answers ∙ ap (λ (n : ℕ). Ok n) (sized from.order),
-        over_itself (l.size) (l.image h) bytes new wrote.leaves same,
+        wrote.leaves ∙ ap (λ (front : List ℕ). front ++ drop l.size bytes) same ∙ take-append-drop l.size bytes,
       )

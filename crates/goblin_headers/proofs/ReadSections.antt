@@ -4,26 +4,18 @@
 -- If the bytes don't hold it, the list and its tests are refused with that error (`first_tested`). Otherwise the list
 -- is that of so many records, and the test that is left is whether the bytes could hold so many (`from_is`,
 -- `all_tested`).
-use Rattle.std.proofs.Common.{◌≡◌, ◌<◌, ◌≤◌, ◌/◌, ◌+◌, ℕ, List, length, take, drop, codes, max, nat_lt, true, false}
-use Rattle.std.proofs.Common.{Result, Ok, Err, IfErr, inl, inr, refl, sym, ap, ◌∙◌, arith}
-use Rattle.std.proofs.lemmas.Bool.{cases_lt}
-use Rattle.std.proofs.lemmas.Bool.Decides.{nat_tests}
+use Rattle.goblin_headers.proofs.Common.{◌≡◌, ◌<◌, ◌≤◌, ◌/◌, ℕ, List, length, take, drop, codes, max, nat_lt, true}
+use Rattle.goblin_headers.proofs.Common.{false, Result, Ok, Err, IfErr, inl, inr, refl, sym, ap, ◌∙◌, arith, cases_lt}
+use Rattle.goblin_headers.proofs.Common.{nat_tests, Ctx, Error, unless_fault, unless_fault-is, unless_fault-err}
+use Rattle.goblin_headers.proofs.Common.{fits-room_of, room_of, not_too_many, too_many, SectionHeader}
 use Rattle.std.proofs.lemmas.List.{take-append-drop, length-take-le, length-drop}
-use Rattle.goblin_base.specs.declared.container.Container.{Container}
-use Rattle.goblin_base.specs.declared.container.Container.TheVariants.{Little, Big}
-use Rattle.goblin_base.specs.declared.container.Ctx.{Ctx}
-use Rattle.goblin_base.specs.declared.error.Error.{Error}
 use Rattle.goblin_base.specs.Eager.{records_from}
-use Rattle.goblin_base.specs.Record.{unless_fault}
-use Rattle.goblin_base.specs.RecordLaws.{unless_fault-is, unless_fault-err, fits-room_of}
 use Rattle.goblin_base.specs.Refusal.{refusal_of, buffer_too_short, Refuses}
-use Rattle.goblin_base.specs.Room.{room_of}
-use Rattle.goblin_base.proofs.Eager.{not_too_many, too_many}
-use Rattle.goblin_headers.specs.declared.section_header.SectionHeader.{SectionHeader}
 use Rattle.goblin_headers.specs.SectionHeader.{section_header_size, section_header_of}
 use Rattle.goblin_headers.specs.SectionHeaderLaws.{section_header_laws}
 use Rattle.goblin_headers.specs.SectionHeaders.{header_count, count_asked, count_from, section_headers_from_tested}
 use Rattle.goblin_headers.specs.SectionHeaders.{section_headers_from}
+use Rattle.std.proofs.Math.Nat.{le-div_iff_mul-le}
 
 -- the result of reading the first header
 abbrev pub read_first : List ℕ → ℕ → Ctx → Result SectionHeader Error
@@ -78,12 +70,6 @@ pub first_refused : (bytes : List ℕ) (offset count : ℕ) (ctx : Ctx) (e : Err
 unfolding section_headers_from
 first_refused bytes offset count ctx e is = rw (first_tested bytes offset count ctx e is) refl
 
--- if the bytes hold a record, one record is not too many
-one_fits : (class : Container) (n offset : ℕ)
-    → offset + section_header_size class ≤ n → 1 ≤ n / section_header_size class
-one_fits Little n offset fits = omega arith
-one_fits Big n offset fits = omega arith
-
 -- there is a count if the bytes hold the first header
 module _ (bytes : List ℕ) (offset count : ℕ) (ctx : Ctx) (most : ℕ)
     (is : Ok most ≡ count_from bytes offset count ctx) where
@@ -97,7 +83,10 @@ module _ (bytes : List ℕ) (offset count : ℕ) (ctx : Ctx) (most : ℕ)
   found = unless_fault-is (room_of (length bytes) offset size) most (max 1 asked) is
 
   one : 1 ≤ length bytes / size
-  one = one_fits ctx.container (length bytes) offset (fits-room_of (length bytes) offset size tt found.0)
+  one =
+      let some = (section_header_laws ctx.container ctx.le).size_positive in
+      let fits = fits-room_of (length bytes) offset size tt found.0 in
+      (le-div_iff_mul-le {k = size} {x = 1} {y = length bytes} some).1 (omega (arith, fits))
 
   -- then only the test of the count is left
   few : most ≤ length bytes / size → section_headers_from_tested bytes offset count ctx ≡ Ok tt

@@ -3,26 +3,17 @@
 -- A list is not refused exactly if all its records lie whole in the bytes (`whole_is_listed`, `listed_is_whole`). So a
 -- list that isn't refused is its own whole part, and the whole part of one that is refused has as many records as lie
 -- whole in the bytes, or fewer.
-use Rattle.std.proofs.Common.{◌≡◌, ◌<◌, ◌≤◌, ◌+◌, ◌-◌, ◌*◌, ◌/◌, ◌==◌, ℕ, zero, suc, List, [], length, drop, codes}
-use Rattle.std.proofs.Common.{Bool, true, false, nat_lt, min, max, Result, Ok, Err, IsOk, refl, sym, ap, ◌∙◌, arith}
-use Rattle.std.proofs.Common.{if◌then◌else◌, lit<}
+use Rattle.goblin_headers.proofs.Common.{◌≡◌, ◌<◌, ◌≤◌, ◌+◌, ◌-◌, ◌*◌, ◌/◌, ◌==◌, ℕ, zero, suc, List, [], length, drop}
+use Rattle.goblin_headers.proofs.Common.{codes, Bool, true, false, nat_lt, min, max, Result, Ok, Err, IsOk, refl, sym}
+use Rattle.goblin_headers.proofs.Common.{ap, ◌∙◌, arith, if◌then◌else◌, nat_tests, Ctx, Error, unless_fault}
+use Rattle.goblin_headers.proofs.Common.{fits-room_of, unless_fault-is, room_of, all_fit, SectionHeader, refuse_as}
+use Rattle.goblin_headers.proofs.Common.{refuse_if}
 use Rattle.std.proofs.Math.Nat.{le-div_iff_mul-le}
-use Rattle.std.proofs.lemmas.Bool.Decides.{nat_tests}
-use Rattle.goblin_base.specs.declared.container.Container.{Container}
-use Rattle.goblin_base.specs.declared.container.Container.TheVariants as class
-use Rattle.goblin_base.specs.declared.container.Ctx.{Ctx}
-use Rattle.goblin_base.specs.declared.error.Error.{Error}
 use Rattle.goblin_base.specs.declared.scroll.Error.{Error as Misplaced}
 use Rattle.goblin_base.specs.Eager.{records_from, room_of_each}
-use Rattle.goblin_base.specs.Record.{unless_fault}
-use Rattle.goblin_base.specs.RecordLaws.{fits-room_of, unless_fault-is}
 use Rattle.goblin_base.specs.Refusal.{buffer_too_short, misplaced, refusal_of}
-use Rattle.goblin_base.specs.Room.{room_of}
-use Rattle.goblin_base.specs.Steps.{◌>>=◌, refuse_as, refuse_if}
 use Rattle.goblin_base.specs.Table.{records}
-use Rattle.goblin_base.proofs.Eager.{all_fit}
 use Rattle.goblin_headers.specs.declared.program_header.ProgramHeader.{ProgramHeader}
-use Rattle.goblin_headers.specs.declared.section_header.SectionHeader.{SectionHeader}
 use Rattle.goblin_headers.specs.declared.whole_part.WholePart.{WholePart}
 use Rattle.goblin_headers.specs.ProgramHeader.{program_header_of, program_header_size}
 use Rattle.goblin_headers.specs.SectionHeader.{section_header_of, section_header_size}
@@ -31,33 +22,19 @@ use Rattle.goblin_headers.specs.WholePart.{IsListOfWhole, SectionsOfWhole, Segme
 use Rattle.goblin_headers.specs.WholePart.{cut_segments, program_headers_of, sections_part, segment_count}
 use Rattle.goblin_headers.specs.WholePart.{whole_sections, whole_segments}
 use Rattle.goblin_headers.proofs.ReadSections.{first_refused, from_is}
-
--- the tests before a value were passed if the value came
-last_passed : {E A : Type 0} (first second : Result (Unit {0}) E) (x y : A)
-    → (first >>= λ _. second >>= λ _. Ok x) ≡ Ok y → second ≡ Ok tt
-last_passed (Ok a) (Ok b) x y e = refl
-last_passed (Ok a) (Err b) x y e = absurd (cc)
-last_passed (Err a) second x y e = absurd (cc)
-
-both_passed : {E : Type 0} (first second : Result (Unit {0}) E)
-    → (first >>= λ _. second) ≡ Ok tt → (first ≡ Ok tt) × (second ≡ Ok tt)
-both_passed (Ok a) second e = (refl, e)
-both_passed (Err a) second e = absurd (cc)
-
-passed_within : {E F : Type 0} (within : E → F) (test : Result (Unit {0}) E)
-    → refuse_as within test ≡ Ok tt → test ≡ Ok tt
-passed_within within (Ok x) is = refl
-passed_within within (Err e) is = absurd (cc)
+use Rattle.goblin_headers.specs.ProgramHeaderLaws.{program_header_laws}
+use Rattle.goblin_headers.specs.SectionHeaderLaws.{section_header_laws}
+use Rattle.goblin_base.proofs.StepLemmas.{step, found_within}
 
 -- records that pass the test of room one by one lie in the bytes
 each_fits : (len start size count : ℕ)
     → room_of_each len start size (suc count) ≡ Ok tt → start + suc count * size ≤ len
 each_fits len start size zero is =
-    let first = both_passed (room_of len start size) (Ok tt) is in
-    omega (arith, fits-room_of len start size tt first.0)
+    let first = step (room_of len start size) _ tt is in
+    omega (arith, fits-room_of len start size tt first.is)
 each_fits len start size (suc count) is =
-    let first = both_passed (room_of len start size) (room_of_each len (start + size) size (suc count)) is in
-    let rest = each_fits len (start + size) size count first.1 in
+    let first = step (room_of len start size) (λ _. room_of_each len (start + size) size (suc count)) tt is in
+    let rest = each_fits len (start + size) size count first.rest in
     let sizes : suc (suc count) * size ≡ size + suc count * size = omega arith in
     omega (arith, rest, sizes)
 
@@ -68,11 +45,10 @@ pub listed_is_whole : {R : Type 0} (size : ℕ) (read : List ℕ → R) (bytes :
 unfolding records_from
 listed_is_whole size read bytes start zero name all some is = omega arith
 listed_is_whole size read bytes start (suc count) name all some is =
-    let tests = last_passed (refuse_if (nat_lt (length bytes / size) (suc count)) (buffer_too_short (suc count) name))
-    (refuse_as misplaced (room_of_each (length bytes) start size (suc count)))
-    (records size read (suc count) (drop start bytes)) all is in
-    let each = passed_within misplaced (room_of_each (length bytes) start size (suc count)) tests in
-    let fits = each_fits (length bytes) start size count each in
+    let rooms = room_of_each (length bytes) start size (suc count) in
+    let few = step (refuse_if (nat_lt (length bytes / size) (suc count)) (buffer_too_short (suc count) name)) _ all is in
+    let each = step (refuse_as misplaced rooms) (λ _. Ok (records size read (suc count) (drop start bytes))) all few.rest in
+    let fits = each_fits (length bytes) start size count (found_within misplaced rooms tt each.is) in
     (le-div_iff_mul-le {k = size} {x = suc count} {y = length bytes - start} some).1 (omega (arith, fits))
 
 -- a list of records that all lie whole in the bytes is not refused
@@ -102,14 +78,6 @@ is_ok answer x is = rw is refl
 not_ok : {A E : Type 0} (answer : Result A E) (e : E) → answer ≡ Err e → IsOk answer → ⊥
 not_ok answer e is fine = let none = rw is at fine in cc
 
-section_some : (of : Container) → 0 < section_header_size of
-section_some class.Little = lit< tt
-section_some class.Big = lit< tt
-
-segment_some : (of : Container) → 0 < program_header_size of
-segment_some class.Little = lit< tt
-segment_some class.Big = lit< tt
-
 module _ (bytes : List ℕ) (offset count : ℕ) (ctx : Ctx) where
   abbrev size : ℕ
   size = section_header_size ctx.container
@@ -117,21 +85,24 @@ module _ (bytes : List ℕ) (offset count : ℕ) (ctx : Ctx) where
   abbrev read : List ℕ → SectionHeader
   read = section_header_of ctx.container ctx.le
 
+  some : 0 < size
+  some = (section_header_laws ctx.container ctx.le).size_positive
+
   -- if all headers that are counted lie in the file, their list isn't refused
   all_sections : (c most : ℕ)
       → Ok most ≡ count_from bytes offset c ctx → most ≤ (length bytes - offset) / size
       → section_headers_from bytes offset c ctx ≡ Ok (records size read most (drop offset bytes))
   all_sections c most is whole =
       from_is bytes offset c ctx most is
-      ∙ whole_is_listed size read bytes offset most (codes "section headers") (section_some ctx.container) whole
+      ∙ whole_is_listed size read bytes offset most (codes "section headers") some whole
 
   -- a count above 0 is the number of headers if the first lies in the file
   counted : (c most : ℕ) → 0 < c → Ok most ≡ count_from bytes offset count ctx → Ok c ≡ count_from bytes offset c ctx
-  counted c most some is =
+  counted c most above is =
       let room = (unless_fault-is (room_of (length bytes) offset size) most (max 1 (count_asked bytes offset count ctx))
       is).0 in
       let test : (c == 0) ≡ false = grind (arith, nat_tests) in
-      let all : c ≡ max 1 c = omega (arith, some) in
+      let all : c ≡ max 1 c = omega (arith, above) in
       rw (room, test) (ap Ok all)
 
   -- the list of the part, from the test whether all lie in the file
@@ -143,7 +114,6 @@ module _ (bytes : List ℕ) (offset count : ℕ) (ctx : Ctx) where
       let whole : most ≤ (length bytes - offset) / size = grind (arith, nat_tests) in
       (is_ok _ _ (all_sections count most is whole), λ fine. refl)
   sections_by most false is all =
-      let some = section_some ctx.container in
       let room = (unless_fault-is (room_of (length bytes) offset size) most (max 1 (count_asked bytes offset count ctx))
       is).0 in
       let first = fits-room_of (length bytes) offset size tt room in
@@ -191,6 +161,9 @@ module _ (bytes : List ℕ) (offset : ℕ) (ctx : Ctx) where
   abbrev phread : List ℕ → ProgramHeader
   phread = program_header_of ctx.container ctx.le
 
+  phsome : 0 < phsize
+  phsome = (program_header_laws ctx.container ctx.le).size_positive
+
   -- a number other than the escape is the number of segments
   stays : (number sections : ℕ) → number < 0xffff → segment_count bytes number sections ctx ≡ Ok number
   stays number sections small =
@@ -202,15 +175,14 @@ module _ (bytes : List ℕ) (offset : ℕ) (ctx : Ctx) where
       → segment_count bytes number sections ctx ≡ Ok count → count ≤ (length bytes - offset) / phsize
       → program_headers_of bytes number offset sections ctx ≡ Ok (records phsize phread count (drop offset bytes))
   all_segments number sections count is whole =
-      rw is (whole_is_listed phsize phread bytes offset count (codes "program headers")
-      (segment_some ctx.container) whole)
+      rw is (whole_is_listed phsize phread bytes offset count (codes "program headers") phsome whole)
 
   listed_segments : (number sections n : ℕ) (all : List ProgramHeader)
       → segment_count bytes number sections ctx ≡ Ok n → program_headers_of bytes number offset sections ctx ≡ Ok all
       → n ≤ (length bytes - offset) / phsize
   listed_segments number sections n all is listed =
       let those = rw is at listed in
-      listed_is_whole phsize phread bytes offset n (codes "program headers") all (segment_some ctx.container) those
+      listed_is_whole phsize phread bytes offset n (codes "program headers") all phsome those
 
   module _ (number sections count : ℕ) where
     abbrev start : ℕ

@@ -4,32 +4,26 @@
 -- They go as those of one class, with two tests more: the image begins with the identification, so the magic number and
 -- the class byte are read as they were written (`reads_back`). A header that was read names the class and the byte
 -- order of its bytes (`was_read`), so it is written as it was read (`writes_back`).
-use Rattle.std.proofs.Common.{◌≡◌, ◌≤◌, ℕ, true, nat_eq, List, [], ◌++◌, length, take, drop, slice_index, Some, Result}
-use Rattle.std.proofs.Common.{Ok, refl, sym, ap, ◌∙◌, arith, rules, false, nat_lt, not, Err}
+use Rattle.goblin_headers.proofs.Common.{◌≡◌, ◌≤◌, ℕ, true, nat_eq, List, [], ◌++◌, length, take, drop, slice_index}
+use Rattle.goblin_headers.proofs.Common.{Some, Result, Ok, refl, sym, ap, ◌∙◌, arith, rules, false, nat_lt, not, Err}
+use Rattle.goblin_headers.proofs.Common.{Container, Endian, Error, with_size, Layout, number_at, refuse_if, Header}
+use Rattle.goblin_headers.proofs.Common.{header_layout, order_named, class_of, WritesHeader, WritesInOrder, nat_tests}
 use Rattle.std.specs.List.{starts_with}
 use Rattle.std.proofs.lemmas.List.{append_assoc, append-nil, length-append, length-take-le, take-append-drop}
 use Rattle.std.proofs.lemmas.List.{take-append-le}
 use Rattle.std.proofs.lemmas.Slice.Eq.{bytes_eq-Decides}
-use Rattle.goblin_base.specs.declared.container.Container.{Container}
-use Rattle.goblin_base.specs.declared.container.Endian.{Endian}
-use Rattle.goblin_base.specs.declared.error.Error.{Error}
 use Rattle.goblin_base.specs.declared.error.Fault.TheVariants.{DataType, TooSmall, ElfClass}
-use Rattle.goblin_base.specs.Common.{with_size, Layout, number_at, refuse_if}
 use Rattle.goblin_base.specs.declared.container.Container.TheVariants as class
 use Rattle.goblin_base.specs.declared.container.Endian.TheVariants as endian
-use Rattle.goblin_headers.specs.declared.header.Header.{Header}
-use Rattle.goblin_headers.specs.Header.{header_size, header_layout, Identifies, new_header, magic, class_byte}
-use Rattle.goblin_headers.specs.Header.{data_byte, class_named, order_named, class_of}
+use Rattle.goblin_headers.specs.Header.{header_size, Identifies, new_header, magic, class_byte, data_byte, class_named}
 use Rattle.goblin_headers.specs.HeaderTrips.{OneImage, ReadsBack, WrittenAndReadBack, ImageOfRead, WritesBack}
 use Rattle.goblin_headers.specs.HeaderTrips.{NewIsOfContext, NewIsReadBack}
 use Rattle.goblin_headers.specs.ReadHeader.{read_header, read_in_order}
-use Rattle.goblin_headers.specs.WriteHeader.{WritesHeader, WritesInOrder}
 use Rattle.goblin_headers.proofs.HeaderLemmas.{header_laws, one_header_image}
 use Rattle.goblin_headers.proofs.RawTrips.{WasReadInOrder, front_byte, ident_byte, raw_reads_back, raw_writes_back}
-use Rattle.goblin_headers.proofs.RawTrips.{was_read_in_order}
-use Rattle.goblin_headers.proofs.RawTrips.{writes_in_order, reads_in_order, step, passed, found}
-use Rattle.std.proofs.lemmas.Bool.Decides.{nat_tests}
+use Rattle.goblin_headers.proofs.RawTrips.{was_read_in_order, writes_in_order, reads_in_order}
 use Rattle.goblin_base.specs.declared.error.Error.TheVariants.{Malformed, BadMagic}
+use Rattle.goblin_base.proofs.StepLemmas.{step, passed, found}
 
 -- ---- reading a header of either class is reading a raw one, after the tests of its magic number and its class byte
 -- the bytes begin as a file of a class does

@@ -3,24 +3,20 @@
 -- After the identification the fields are written one after another, which leaves the image and the rest of the buffer
 -- (`with_header`). A header of either class is written as the raw one of its class: for the 32-bit class that has the
 -- low bits alone, but these have the same image (`image-low32`).
-use Rattle.std.proofs.Common.{◌≡◌, ◌≤◌, ◌+◌, ℕ, List, ◌++◌, length, take, drop, Result, Ok, Err, refl, sym, ap, ◌∙◌}
-use Rattle.std.proofs.Common.{arith, slice_index, subst, Some, None}
+use Rattle.goblin_headers.proofs.Common.{◌≡◌, ◌≤◌, ◌+◌, ℕ, List, ◌++◌, length, take, drop, Result, Ok, Err, refl, sym}
+use Rattle.goblin_headers.proofs.Common.{ap, ◌∙◌, arith, slice_index, subst, Some, None, Endian, Error, Field}
+use Rattle.goblin_headers.proofs.Common.{size_of_fields, image_of_fields, Layout, Writes, Header, as32, as64, class_of}
+use Rattle.goblin_headers.proofs.Common.{headed, header32, header64, order_named, order_of, WritesBy, WritesInOrder}
+use Rattle.goblin_headers.proofs.Common.{WritesHeader, Writes-ok, Writes-err, room_of}
 use Rattle.std.proofs.lemmas.List.{append_assoc, take_at, drop_at, drop-drop, length-append, length-drop}
 use Rattle.goblin_base.specs.declared.container.Container.TheVariants as class
-use Rattle.goblin_base.specs.declared.container.Endian.{Endian}
-use Rattle.goblin_base.specs.declared.error.Error.{Error}
 use Rattle.goblin_base.specs.declared.error.Fault.TheVariants.{InvalidClass, Data}
-use Rattle.goblin_base.specs.Common.{Field, size_of_fields, image_of_fields, Layout, Writes, room_of}
 use Rattle.goblin_base.specs.FieldLaws.{with_fields, with_fields-image, image-low_fields}
-use Rattle.goblin_headers.specs.declared.header.Header.{Header}
 use Rattle.goblin_headers.specs.declared.header32.Header.{Header as Raw32}
 use Rattle.goblin_headers.specs.declared.header64.Header.{Header as Raw64}
-use Rattle.goblin_headers.specs.Header.{as32, as64, class_of, headed, header32, header64, low_header, order_named}
-use Rattle.goblin_headers.specs.Header.{order_of}
-use Rattle.goblin_headers.specs.WriteHeader.{WritesBy, WritesInOrder, WritesHeader}
+use Rattle.goblin_headers.specs.Header.{low_header}
 use Rattle.goblin_base.specs.declared.error.Error.TheVariants.{Malformed, Scroll}
 use Rattle.goblin_base.specs.declared.scroll.Error.{Error as Misplaced}
-use Rattle.goblin_base.specs.RecordLaws.{Writes-ok, Writes-err}
 
 -- ---- the result of writing a header in its byte order, case by case
 module _ {R : Type 0} (ident : List ℕ) (layout : Endian → Layout R) (h : R) (old : List ℕ) where

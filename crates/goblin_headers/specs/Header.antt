@@ -1,24 +1,17 @@
 -- The header of a file of either class (System V gABI, "ELF Header" and "ELF Identification").
-use Rattle.std.specs.Prelude.{◌≡◌, ◌+◌, ℕ, ◌==◌, if◌then◌else◌, List, [], ◌∷◌, ◌++◌, length, replicate, slice_index}
-use Rattle.std.specs.Prelude.{take, Option, Some, None, Result, Ok}
-use Rattle.goblin_base.specs.declared.container.Container.{Container}
-use Rattle.goblin_base.specs.declared.container.Ctx.{Ctx}
-use Rattle.goblin_base.specs.declared.container.Endian.{Endian}
-use Rattle.goblin_base.specs.declared.error.Error.{Error}
-use Rattle.goblin_base.specs.declared.error.Error.TheVariants.{Malformed}
-use Rattle.goblin_base.specs.declared.error.Fault.{Fault}
+use Rattle.goblin_headers.specs.Common.{◌≡◌, ◌+◌, ℕ, ◌==◌, if◌then◌else◌, List, [], ◌∷◌, ◌++◌, length, replicate}
+use Rattle.goblin_headers.specs.Common.{slice_index, take, Option, Some, None, Result, Ok, Container, Ctx, Endian}
+use Rattle.goblin_headers.specs.Common.{Error, Malformed, Fault, values_of, Field, field, FieldsFit, image_of_fields}
+use Rattle.goblin_headers.specs.Common.{values_at, total, widths_of, lows_of, Layout, widened, ◌>>=◌, or_refuse, Header}
+use Rattle.goblin_headers.specs.Common.{SectionHeader}
 use Rattle.goblin_base.specs.declared.error.Fault.TheVariants.{InvalidClass, InvalidEndianness}
-use Rattle.goblin_base.specs.Common.{values_of, Field, field, FieldsFit, image_of_fields, values_at, total, widths_of}
-use Rattle.goblin_base.specs.Common.{lows_of, Layout, widened, ◌>>=◌, or_refuse}
 use Rattle.goblin_base.specs.declared.container.Container.TheVariants as class
 use Rattle.goblin_base.specs.declared.container.Endian.TheVariants as endian
-use Rattle.goblin_headers.specs.declared.header.Header.{Header}
 use Rattle.goblin_headers.specs.declared.header32.Header.{Header as Raw32}
 use Rattle.goblin_headers.specs.declared.header64.Header.{Header as Raw64}
 use Rattle.goblin_headers.specs.ProgramHeader.{program_header_size}
 use Rattle.goblin_headers.specs.SectionHeader.{section_header_size}
 use Rattle.goblin_headers.specs.SectionHeaders.{names_index}
-use Rattle.goblin_headers.specs.declared.section_header.SectionHeader.{SectionHeader}
 
 -- ---- one class
 -- the shape of a header: its identification, the fields that follow it in file order, and the header with this
@@ -215,19 +208,10 @@ new_ident ctx = magic ++ class_byte ctx.container ∷ data_byte ctx.le ∷ 1 ∷
 
 -- the header of a shared object file in a context, version 1, with the sizes of its class and all other fields 0
 abbrev pub new_header : Ctx → Header
-new_header ctx = record {
-  e_ident = new_ident ctx;
+new_header ctx = record (header_of_values (new_ident ctx) []) {
   e_type = 3;
-  e_machine = 0;
   e_version = 1;
-  e_entry = 0;
-  e_phoff = 0;
-  e_shoff = 0;
-  e_flags = 0;
   e_ehsize = header_size ctx.container;
   e_phentsize = program_header_size ctx.container;
-  e_phnum = 0;
   e_shentsize = section_header_size ctx.container;
-  e_shnum = 0;
-  e_shstrndx = 0;
 }

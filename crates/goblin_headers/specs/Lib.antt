@@ -1,3 +1,4 @@
+pub mod Common
 pub mod Constants
 pub mod Header
 pub mod HeaderNames

@@ -1,26 +1,13 @@
 -- New program headers, and lists of them (System V gABI, "Program Header").
-use Rattle.std.specs.Prelude.{◌+◌, ◌-◌, ◌/◌, ◌^◌, ◌&&◌, ◌==◌, ℕ, nat_le, nat_lt, min, Bool, List, codes, find, length}
-use Rattle.std.specs.Prelude.{Option, Result}
+use Rattle.goblin_headers.specs.Common.{◌+◌, ◌-◌, ◌/◌, ◌^◌, ◌&&◌, ◌==◌, ℕ, nat_le, nat_lt, min, Bool, List, codes, find}
+use Rattle.goblin_headers.specs.Common.{length, Option, Result, Ctx, records_from, Refusal, buffer_too_short, refuse_if}
+use Rattle.goblin_headers.specs.Common.{ProgramHeader, []}
 use Rattle.std.specs.Option.{option_map}
-use Rattle.goblin_base.specs.declared.container.Ctx.{Ctx}
-use Rattle.goblin_base.specs.Eager.{records_from}
-use Rattle.goblin_base.specs.Refusal.{Refusal, buffer_too_short}
-use Rattle.goblin_base.specs.Steps.{refuse_if}
-use Rattle.goblin_headers.specs.declared.program_header.ProgramHeader.{ProgramHeader}
-use Rattle.goblin_headers.specs.ProgramHeader.{program_header_size, program_header_of}
+use Rattle.goblin_headers.specs.ProgramHeader.{program_header_size, program_header_of, program_header_of_values}
 
 -- a header of a loadable segment (type 1), aligned to 2 MiB, with all other fields 0
 abbrev pub new_program_header : ProgramHeader
-new_program_header = record {
-  p_type = 1;
-  p_flags = 0;
-  p_offset = 0;
-  p_vaddr = 0;
-  p_paddr = 0;
-  p_filesz = 0;
-  p_memsz = 0;
-  p_align = 2097152;
-}
+new_program_header = record (program_header_of_values []) { p_type = 1; p_align = 2097152 }
 
 -- the test before the allocation: that many program headers must fit into the bytes at some offset
 abbrev pub program_headers_tested : List ℕ → ℕ → Ctx → Result (Unit {0}) Refusal

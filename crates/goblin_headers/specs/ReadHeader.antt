@@ -1,14 +1,10 @@
 -- Reading a header: the first refusal that applies, or else the header.
-use Rattle.std.specs.Prelude.{ℕ, nat_lt, nat_eq, not, List, length, Result, Ok}
+use Rattle.goblin_headers.specs.Common.{ℕ, nat_lt, nat_eq, not, List, length, Result, Ok, Endian, Error, Malformed}
+use Rattle.goblin_headers.specs.Common.{BadMagic, Scroll, Fault, Layout, number_at, ◌>>=◌, with_size, Header, room_of}
+use Rattle.goblin_headers.specs.Common.{refuse_if, refuse_as}
 use Rattle.std.specs.List.{starts_with}
-use Rattle.goblin_base.specs.declared.container.Endian.{Endian}
-use Rattle.goblin_base.specs.declared.error.Error.{Error}
-use Rattle.goblin_base.specs.declared.error.Error.TheVariants.{Malformed, BadMagic, Scroll}
-use Rattle.goblin_base.specs.declared.error.Fault.{Fault}
 use Rattle.goblin_base.specs.declared.error.Fault.TheVariants.{TooSmall, ElfClass, DataType}
-use Rattle.goblin_base.specs.Common.{Layout, number_at, room_of, ◌>>=◌, refuse_if, refuse_as, with_size}
 use Rattle.goblin_base.specs.declared.container.Endian.TheVariants as endian
-use Rattle.goblin_headers.specs.declared.header.Header.{Header}
 use Rattle.goblin_headers.specs.Header.{header_size, header_layout, magic, class_of, order_of}
 
 -- the bytes are at least this many

@@ -1,10 +1,6 @@
 -- Section headers of either class (System V gABI, "Section Header").
-use Rattle.std.specs.Prelude.{ℕ, List, [], ◌∷◌, slice_index}
-use Rattle.goblin_base.specs.declared.container.Container.{Container}
-use Rattle.goblin_base.specs.declared.container.Endian.{Endian}
-use Rattle.goblin_base.specs.Common.{field, values_of, Layout, Shape, shaped, widened}
-use Rattle.goblin_base.specs.declared.container.Container.TheVariants.{Little, Big}
-use Rattle.goblin_headers.specs.declared.section_header.SectionHeader.{SectionHeader}
+use Rattle.goblin_headers.specs.Common.{ℕ, List, [], ◌∷◌, slice_index, Container, Endian, field, values_of, Layout}
+use Rattle.goblin_headers.specs.Common.{Shape, shaped, widened, Little, Big, SectionHeader}
 use Rattle.goblin_headers.specs.declared.section_header32.SectionHeader.{SectionHeader as Raw32}
 use Rattle.goblin_headers.specs.declared.section_header64.SectionHeader.{SectionHeader as Raw64}
 
@@ -103,7 +99,3 @@ section_header_layout class order = record (raw_layout class order) { size = sec
 -- the section header read from bytes in a class
 abbrev pub section_header_of : Container → Endian → List ℕ → SectionHeader
 section_header_of class order = (section_header_layout class order).read
-
--- the bytes that a section header is written as in a class
-abbrev pub section_header_image : Container → Endian → SectionHeader → List ℕ
-section_header_image class order = (section_header_layout class order).image

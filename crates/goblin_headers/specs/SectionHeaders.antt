@@ -1,33 +1,15 @@
 -- New section headers, lists of them, and whether a section lies in its file (System V gABI, "Section Header").
-use Rattle.std.specs.Prelude.{◌+◌, ◌/◌, ◌^◌, ◌||◌, ◌==◌, ℕ, nat_lt, nat_le, if◌then◌else◌, not, List, [], codes, drop}
-use Rattle.std.specs.Prelude.{length, max, Bool, true, Option, Some, None, Result, Ok}
-use Rattle.goblin_base.specs.declared.container.Ctx.{Ctx}
-use Rattle.goblin_base.specs.declared.error.Error.{Error}
-use Rattle.goblin_base.specs.declared.error.Error.TheVariants.{Malformed}
+use Rattle.goblin_headers.specs.Common.{◌+◌, ◌/◌, ◌^◌, ◌||◌, ◌==◌, ℕ, nat_lt, nat_le, if◌then◌else◌, not, List, []}
+use Rattle.goblin_headers.specs.Common.{codes, drop, length, max, Bool, true, Option, Some, None, Result, Ok, Ctx}
+use Rattle.goblin_headers.specs.Common.{Error, Malformed, records_in, unless_fault, Refusal, buffer_too_short}
+use Rattle.goblin_headers.specs.Common.{misplaced, room_of, refuse_if, refuse_as, SectionHeader, ◌>>=◌}
 use Rattle.goblin_base.specs.declared.error.Fault.TheVariants.{SectionOffset, SectionAddr}
-use Rattle.goblin_base.specs.Eager.{records_in}
-use Rattle.goblin_base.specs.Record.{unless_fault}
-use Rattle.goblin_base.specs.Refusal.{Refusal, buffer_too_short, misplaced}
-use Rattle.goblin_base.specs.Room.{room_of}
-use Rattle.goblin_base.specs.Steps.{◌>>=◌, refuse_if, refuse_as}
 use Rattle.goblin_headers.specs.declared.constants_section_header.TheConstants.{SHT_NOBITS}
-use Rattle.goblin_headers.specs.declared.section_header.SectionHeader.{SectionHeader}
-use Rattle.goblin_headers.specs.SectionHeader.{section_header_size, section_header_of}
+use Rattle.goblin_headers.specs.SectionHeader.{section_header_size, section_header_of, section_header_of_values}
 
 -- a header of type 1 (data of the program) with flag 2 (allocated), aligned to 512 bytes, with all other fields 0
 abbrev pub new_section_header : SectionHeader
-new_section_header = record {
-  sh_name = 0;
-  sh_type = 1;
-  sh_flags = 2;
-  sh_addr = 0;
-  sh_offset = 0;
-  sh_size = 0;
-  sh_link = 0;
-  sh_info = 0;
-  sh_addralign = 512;
-  sh_entsize = 0;
-}
+new_section_header = record (section_header_of_values []) { sh_type = 1; sh_flags = 2; sh_addralign = 512 }
 
 -- the number of headers that are asked for: the count, or the first header's `sh_size` if the count is 0
 abbrev pub header_count : SectionHeader → ℕ → ℕ

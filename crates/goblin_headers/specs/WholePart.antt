@@ -1,16 +1,8 @@
 -- The number of segments, and the headers that count only what lies whole in the file (System V gABI, "ELF Header":
 -- `e_phnum`, `e_shnum` and extended numbering).
-use Rattle.std.specs.Prelude.{◌≡◌, ◌==◌, ◌||◌, ℕ, if◌then◌else◌, not, min, IsOk, List, length, drop, Result, Ok, Err}
-use Rattle.goblin_base.specs.declared.container.Ctx.{Ctx}
-use Rattle.goblin_base.specs.declared.error.Error.{Error}
-use Rattle.goblin_base.specs.Eager.{whole_of}
-use Rattle.goblin_base.specs.Record.{unless_fault}
-use Rattle.goblin_base.specs.Refusal.{Refusal, refusal_of}
-use Rattle.goblin_base.specs.Room.{room_of}
-use Rattle.goblin_base.specs.Steps.{◌>>=◌, refuse_as}
-use Rattle.goblin_headers.specs.declared.header.Header.{Header}
-use Rattle.goblin_headers.specs.declared.program_header.ProgramHeader.{ProgramHeader}
-use Rattle.goblin_headers.specs.declared.section_header.SectionHeader.{SectionHeader}
+use Rattle.goblin_headers.specs.Common.{◌≡◌, ◌==◌, ◌||◌, ℕ, if◌then◌else◌, not, min, IsOk, List, length, drop, Result}
+use Rattle.goblin_headers.specs.Common.{Ok, Err, Ctx, Error, whole_of, unless_fault, Refusal, refusal_of, room_of}
+use Rattle.goblin_headers.specs.Common.{refuse_as, Header, ProgramHeader, SectionHeader, ◌>>=◌}
 use Rattle.goblin_headers.specs.declared.whole_part.WholePart.{WholePart}
 use Rattle.goblin_headers.specs.Header.{ctx_of}
 use Rattle.goblin_headers.specs.ProgramHeader.{program_header_size}

@@ -1,5 +1,6 @@
 //! Tests whether each field of a header is in the range of its width, so that the header is read back as it was written.
 ghost use Rattle.std.specs.Prelude.{◌↔◌, ◌<◌, ◌^◌, IsTrue};
+ghost use Rattle.goblin_base.specs.Container.{word_size};
 ghost use Rattle.goblin_headers.specs.Header.{HeaderFits};
 ghost use Rattle.goblin_headers.specs.ProgramHeader.{program_header_layout};
 ghost use Rattle.goblin_headers.specs.SectionHeader.{section_header_layout};
@@ -23,11 +24,14 @@ fn is_u32(_number: u32) -> bool
     true
 }
 
-// Reports that a number fits into eight bytes, as each number of this type does.
-fn is_u64(_number: u64) -> bool
-    ensures { IsTrue result ↔ (_number < 256 ^ 8) }
+// Reports whether a number fits into a word of a class.
+fn is_in(class: Container, number: u64) -> bool
+    ensures { IsTrue result ↔ (number < 256 ^ word_size class) }
 {
-    true
+    match class {
+        Container::Little => is_word(number),
+        Container::Big => true,
+    }
 }
 
 impl SectionHeader {
@@ -41,37 +45,23 @@ impl SectionHeader {
             && is_u32(self.sh_link)
             && is_u32(self.sh_info);
         match ctx.container {
-            Container::Little => has_words && self.fits_class32(),
-            Container::Big => has_words && self.fits_class64(),
+            Container::Little => has_words && self.fits_class(Container::Little),
+            Container::Big => has_words && self.fits_class(Container::Big),
         }
     }
 
-    // Reports whether the numbers whose width depends on the class fit the 32-bit class.
-    fn fits_class32(&self) -> bool
-        ensures { IsTrue result ↔ (self.now.sh_flags < 256 ^ 4) × (self.now.sh_addr < 256 ^ 4)
-            × (self.now.sh_offset < 256 ^ 4) × (self.now.sh_size < 256 ^ 4)
-            × (self.now.sh_addralign < 256 ^ 4) × (self.now.sh_entsize < 256 ^ 4) }
+    // Reports whether the numbers whose width depends on the class fit.
+    fn fits_class(&self, class: Container) -> bool
+        ensures { let end = 256 ^ word_size class in IsTrue result ↔
+            (self.now.sh_flags < end) × (self.now.sh_addr < end) × (self.now.sh_offset < end)
+            × (self.now.sh_size < end) × (self.now.sh_addralign < end) × (self.now.sh_entsize < end) }
     {
-        is_word(self.sh_flags)
-            && is_word(self.sh_addr)
-            && is_word(self.sh_offset)
-            && is_word(self.sh_size)
-            && is_word(self.sh_addralign)
-            && is_word(self.sh_entsize)
-    }
-
-    // Reports that they fit the 64-bit class.
-    fn fits_class64(&self) -> bool
-        ensures { IsTrue result ↔ (self.now.sh_flags < 256 ^ 8) × (self.now.sh_addr < 256 ^ 8)
-            × (self.now.sh_offset < 256 ^ 8) × (self.now.sh_size < 256 ^ 8)
-            × (self.now.sh_addralign < 256 ^ 8) × (self.now.sh_entsize < 256 ^ 8) }
-    {
-        is_u64(self.sh_flags)
-            && is_u64(self.sh_addr)
-            && is_u64(self.sh_offset)
-            && is_u64(self.sh_size)
-            && is_u64(self.sh_addralign)
-            && is_u64(self.sh_entsize)
+        is_in(class, self.sh_flags)
+            && is_in(class, self.sh_addr)
+            && is_in(class, self.sh_offset)
+            && is_in(class, self.sh_size)
+            && is_in(class, self.sh_addralign)
+            && is_in(class, self.sh_entsize)
     }
 }
 
@@ -83,37 +73,23 @@ impl ProgramHeader {
     {
         let has_words = is_u32(self.p_type) && is_u32(self.p_flags);
         match ctx.container {
-            Container::Little => has_words && self.fits_class32(),
-            Container::Big => has_words && self.fits_class64(),
+            Container::Little => has_words && self.fits_class(Container::Little),
+            Container::Big => has_words && self.fits_class(Container::Big),
         }
     }
 
-    // Reports whether the numbers whose width depends on the class fit the 32-bit class.
-    fn fits_class32(&self) -> bool
-        ensures { IsTrue result ↔ (self.now.p_offset < 256 ^ 4) × (self.now.p_vaddr < 256 ^ 4)
-            × (self.now.p_paddr < 256 ^ 4) × (self.now.p_filesz < 256 ^ 4)
-            × (self.now.p_memsz < 256 ^ 4) × (self.now.p_align < 256 ^ 4) }
+    // Reports whether the numbers whose width depends on the class fit.
+    fn fits_class(&self, class: Container) -> bool
+        ensures { let end = 256 ^ word_size class in IsTrue result ↔
+            (self.now.p_offset < end) × (self.now.p_vaddr < end) × (self.now.p_paddr < end)
+            × (self.now.p_filesz < end) × (self.now.p_memsz < end) × (self.now.p_align < end) }
     {
-        is_word(self.p_offset)
-            && is_word(self.p_vaddr)
-            && is_word(self.p_paddr)
-            && is_word(self.p_filesz)
-            && is_word(self.p_memsz)
-            && is_word(self.p_align)
-    }
-
-    // Reports that they fit the 64-bit class.
-    fn fits_class64(&self) -> bool
-        ensures { IsTrue result ↔ (self.now.p_offset < 256 ^ 8) × (self.now.p_vaddr < 256 ^ 8)
-            × (self.now.p_paddr < 256 ^ 8) × (self.now.p_filesz < 256 ^ 8)
-            × (self.now.p_memsz < 256 ^ 8) × (self.now.p_align < 256 ^ 8) }
-    {
-        is_u64(self.p_offset)
-            && is_u64(self.p_vaddr)
-            && is_u64(self.p_paddr)
-            && is_u64(self.p_filesz)
-            && is_u64(self.p_memsz)
-            && is_u64(self.p_align)
+        is_in(class, self.p_offset)
+            && is_in(class, self.p_vaddr)
+            && is_in(class, self.p_paddr)
+            && is_in(class, self.p_filesz)
+            && is_in(class, self.p_memsz)
+            && is_in(class, self.p_align)
     }
 }
 

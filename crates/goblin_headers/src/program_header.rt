@@ -12,12 +12,11 @@ ghost use Rattle.goblin_headers.specs.Ranges.{span};
 
 pub use crate::{program_header32, program_header64};
 use goblin_base::container::{Container, Ctx, Endian};
-use goblin_base::error::Result;
+use goblin_base::error::{Cloned, Result};
 use goblin_base::laid_out::LaidOut;
 use goblin_base::table::{Table, read_all};
-use std::alloc::{AllocError, Global};
+use std::alloc::Global;
 use std::ops::Range;
-use std::result;
 
 /// A program header of either class.
 #[derive(Clone, Debug, Default, Drop, PartialEq)]
@@ -54,13 +53,8 @@ impl ProgramHeader {
     {
         ProgramHeader {
             p_type: PT_LOAD,
-            p_flags: 0,
-            p_offset: 0,
-            p_vaddr: 0,
-            p_paddr: 0,
-            p_filesz: 0,
-            p_memsz: 0,
             p_align: 2 << 20,
+            ..ProgramHeader::default()
         }
     }
 
@@ -269,10 +263,7 @@ pub fn constants()
 
 /// Laws: `==` is true exactly if all fields of two program headers are equal. `clone` returns the
 /// program header, and never fails. A call returns both.
-pub fn derived(
-    header: &ProgramHeader,
-    other: &ProgramHeader,
-) -> (bool, result::Result<ProgramHeader, AllocError>)
+pub fn derived(header: &ProgramHeader, other: &ProgramHeader) -> (bool, Cloned<ProgramHeader>)
     ensures equal { IsTrue result.0 ↔ (header.now ≡ other.now) }
     ensures clone { result.1 ≡ Ok header.now }
 {

@@ -1,25 +1,23 @@
 //! Section headers, which describe what a file holds: System V gABI, "Section Header".
 ghost use Rattle.std.specs.Int.{IsBitSet};
-ghost use Rattle.std.specs.Prelude.{◌≡◌, ◌≤◌, ◌↔◌, ◌++◌, IsTrue, IfErr, IsNone, IsOk, IfSome, length, drop, map, replicate, [], ◌∷◌};
+ghost use Rattle.std.specs.Prelude.{◌≡◌, ◌↔◌, IsTrue, IfErr, IsNone, IsOk, IfSome, map, replicate, [], ◌∷◌};
 ghost use Rattle.goblin_base.specs.Fields.{values_of};
 ghost use Rattle.goblin_base.specs.Layout.{IsSameInEachClass};
 ghost use Rattle.goblin_base.specs.Refusal.{Returns, Gives, Refuses};
 ghost use Rattle.goblin_headers.specs.Constants.{section_flag_numbers, section_index_numbers, section_type_numbers};
 ghost use Rattle.goblin_headers.specs.Ranges.{span};
-ghost use Rattle.goblin_headers.specs.SectionHeader.{as64, section_header64, section_header_image, section_header_layout, section_header_size};
+ghost use Rattle.goblin_headers.specs.SectionHeader.{as64, section_header64, section_header_layout, section_header_size};
 ghost use Rattle.goblin_headers.specs.SectionHeaders.{new_section_header, count_from, section_headers_from, section_headers_from_tested, section_headers_of, section_headers_of_tested, size_checked, size_checked_in};
 ghost use Rattle.goblin_headers.specs.SectionNames.{section_flag_names};
 
 pub use crate::{section_header32, section_header64};
 use goblin_base::container::{Container, Ctx, Endian};
-use goblin_base::error::{Error, Fault, Result};
+use goblin_base::error::{Cloned, Error, Fault, Result};
 use goblin_base::laid_out::LaidOut;
 use goblin_base::room::room;
-use goblin_base::scroll::IntoCtx;
 use goblin_base::table::{Table, read_all, read_at};
-use std::alloc::{AllocError, Global};
+use std::alloc::Global;
 use std::ops::Range;
-use std::result;
 
 /// A section header of either class.
 #[derive(Clone, Debug, Default, Drop, PartialEq)]
@@ -60,16 +58,10 @@ impl SectionHeader {
         ensures { result ≡ new_section_header }
     {
         SectionHeader {
-            sh_name: 0,
             sh_type: SHT_PROGBITS,
             sh_flags: u64::from(SHF_ALLOC),
-            sh_addr: 0,
-            sh_offset: 0,
-            sh_size: 0,
-            sh_link: 0,
-            sh_info: 0,
             sh_addralign: 2 << 8,
-            sh_entsize: 0,
+            ..SectionHeader::default()
         }
     }
 
@@ -278,19 +270,6 @@ impl SectionHeader {
     }
 }
 
-/// The buffer must hold a section header.
-impl IntoCtx<Ctx> for SectionHeader {
-    ghost can_into = { λ _ ctx old. section_header_size ctx.container ≤ length old };
-
-    ghost into_gives = { λ header ctx old new.
-        let image = section_header_image ctx.container ctx.le header in
-        new ≡ image ++ drop (section_header_size ctx.container) old };
-
-    fn into_ctx(self, bytes: &mut [u8], ctx: Ctx) {
-        self.put(bytes, ctx);
-    }
-}
-
 // The raw forms.
 type Raw32 = section_header32::SectionHeader;
 
@@ -390,10 +369,7 @@ pub fn constants()
 
 /// Laws: `==` is true exactly if all fields of two section headers are equal. `clone` returns the
 /// section header, and never fails. A call returns both.
-pub fn derived(
-    header: &SectionHeader,
-    other: &SectionHeader,
-) -> (bool, result::Result<SectionHeader, AllocError>)
+pub fn derived(header: &SectionHeader, other: &SectionHeader) -> (bool, Cloned<SectionHeader>)
     ensures equal { IsTrue result.0 ↔ (header.now ≡ other.now) }
     ensures clone { result.1 ≡ Ok header.now }
 {

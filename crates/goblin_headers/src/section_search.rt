@@ -85,10 +85,7 @@ impl SectionHeader {
         ensures { result ≡ position (λ section.
             has_name strings.now delim section.sh_name name.now) sections.now }
     {
-        let wanted = WantedName::new(name, delim);
-        sections
-            .iter()
-            .position(|section| wanted.is_at(strings, section.sh_name))
+        SectionHeader::position_from(sections, 0, strings, delim, name)
     }
 
     // Returns the position of the first section with this name among those from an index on.

@@ -1,3 +1,4 @@
+pub mod Common
 pub mod Constants
 pub mod Nhdr
 pub mod NhdrLaws

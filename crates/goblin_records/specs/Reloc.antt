@@ -1,15 +1,12 @@
 -- Relocations of either class, with an addend or without, and lists of them (System V gABI, "Relocation").
-use Rattle.std.specs.Prelude.{◌≡◌, ◌<◌, ◌%◌, ◌^◌, ℕ, ℤ, pos, List, Bool, false, true, Option, Some, None, unwrap_or}
-use Rattle.std.specs.Prelude.{IsSomeAnd, [], ◌∷◌, slice_index}
-use Rattle.goblin_base.specs.declared.container.Container.{Container}
-use Rattle.goblin_base.specs.declared.container.Endian.{Endian}
-use Rattle.goblin_base.specs.Common.{field, Layout, Shape, shaped, converted, widened, low_bits, IsSameInEachClass}
-use Rattle.goblin_base.specs.declared.container.Container.TheVariants.{Little, Big}
+use Rattle.std.specs.Prelude.{◌%◌, ℤ, pos, Bool, false, true, Option, Some, None, unwrap_or, IsSomeAnd, [], ◌∷◌}
+use Rattle.std.specs.Prelude.{slice_index}
+use Rattle.goblin_records.specs.Common.{Container, Endian, field, Layout, Shape, shaped, converted, widened, low_bits}
+use Rattle.goblin_records.specs.Common.{IsSameInEachClass, Little, Big, FitsSigned, Reloc, RelocCtx, ◌≡◌, ◌<◌, ◌^◌, ℕ}
+use Rattle.goblin_records.specs.Common.{List}
 use Rattle.goblin_base.specs.declared.container.Endian.TheVariants as order
 use Rattle.goblin_base.specs.Container.{word_size}
-use Rattle.goblin_base.specs.Signed.{FitsSigned, signed_of, complement, signed_low}
-use Rattle.goblin_records.specs.declared.reloc.Reloc.{Reloc}
-use Rattle.goblin_records.specs.declared.reloc.RelocCtx.{RelocCtx}
+use Rattle.goblin_base.specs.Signed.{signed_of, complement, signed_low}
 use Rattle.goblin_records.specs.declared.reloc32.Rel.{Rel as Rel32}
 use Rattle.goblin_records.specs.declared.reloc32.Rela.{Rela as Rela32}
 use Rattle.goblin_records.specs.declared.reloc64.Rel.{Rel as Rel64}

@@ -1,13 +1,13 @@
 -- Laws of the parts of an `r_info`: they can be joined again, and the decoding of MIPS64 can be undone.
-use Rattle.std.proofs.Common.{◌≡◌, ◌<◌, ◌+◌, ◌*◌, ◌/◌, ◌%◌, ◌^◌, ℕ, List, reverse, refl, sym, ap, ◌∙◌, arith}
+use Rattle.goblin_records.specs.Common.{◌≡◌, ◌<◌, ◌*◌, ◌^◌, ℕ, List, refl, ◌∙◌, arith, Container, number, spelled}
+use Rattle.goblin_records.specs.Common.{Little, Big}
+use Rattle.std.proofs.Common.{◌+◌, ◌/◌, ◌%◌, reverse, sym, ap}
 use Rattle.std.proofs.lemmas.List.{reverse-reverse}
-use Rattle.goblin_base.specs.declared.container.Container.{Container}
-use Rattle.goblin_base.specs.Common.{number, spelled}
-use Rattle.goblin_base.specs.declared.container.Container.TheVariants.{Little, Big}
 use Rattle.goblin_base.specs.declared.container.Endian.TheVariants as order
 use Rattle.goblin_base.specs.NumberLaws.{IsBytes-spelled, number-lt, number-spelled, length-spelled, spelled-number}
 use Rattle.goblin_records.specs.RelocInfo.{symbols, types, symbol_in, type_in, info_of, JoinsItsParts, reversed}
 use Rattle.goblin_records.specs.RelocInfo.{mips64el_info_inverse, Mips64elInverse, Mips64elOneToOne, Mips64elFourTimes}
+use Rattle.goblin_records.specs.RelocInfo.{words_of, joined, mips64el_info, mips64el_pair, mips64el_pair_inverse}
 
 -- an `r_info` of the low bits of a symbol and a type is in range, and these are its parts
 pub info_of-parts : (class : Container) (symbol typ : ℕ) → let info = info_of class symbol typ in
@@ -54,19 +54,26 @@ high_of high low h = omega arith
 low_of : (high low : ℕ) → low < 2 ^ 32 → (high * 2 ^ 32 + low) % 2 ^ 32 ≡ low
 low_of high low h = omega arith
 
+-- the words of a standard `r_info` are the decoded ones
+words-info : (info : ℕ) → words_of (mips64el_info info) ≡ mips64el_pair (words_of info)
+words-info info =
+    let word = reversed (info / 2 ^ 32) in
+    let below = reversed-lt (info / 2 ^ 32) in
+    rw (high_of (info % 2 ^ 32) word below, low_of (info % 2 ^ 32) word below) refl
+
 pub mips64el_inverse : Mips64elInverse
 mips64el_inverse info h =
     let high : info / 2 ^ 32 < 2 ^ 32 = omega arith in
     let low : info % 2 ^ 32 < 2 ^ 32 = omega arith in
-    let a = reversed (info / 2 ^ 32) in
-    let b = reversed (info % 2 ^ 32) in
+    let word = reversed (info % 2 ^ 32) in
     let whole : (info / 2 ^ 32) * 2 ^ 32 + info % 2 ^ 32 ≡ info = omega arith in (
+      ap (λ words. joined (mips64el_pair_inverse words)) (words-info info)
+          ∙ rw (reversed-reversed (info / 2 ^ 32) high) whole,
       rw (
-        high_of (info % 2 ^ 32) a (reversed-lt (info / 2 ^ 32)),
-        low_of (info % 2 ^ 32) a (reversed-lt (info / 2 ^ 32)),
-        reversed-reversed (info / 2 ^ 32) high,
+        high_of word (info / 2 ^ 32) high,
+        low_of word (info / 2 ^ 32) high,
+        reversed-reversed (info % 2 ^ 32) low,
       ) whole,
-      rw (high_of b (info / 2 ^ 32) high, low_of b (info / 2 ^ 32) high, reversed-reversed (info % 2 ^ 32) low) whole,
     )
 
 pub mips64el_one_to_one : Mips64elOneToOne
@@ -77,21 +84,11 @@ pub mips64el_four_times : Mips64elFourTimes
 mips64el_four_times info h =
     let high : info / 2 ^ 32 < 2 ^ 32 = omega arith in
     let low : info % 2 ^ 32 < 2 ^ 32 = omega arith in
-    let a = reversed (info / 2 ^ 32) in
-    let b = reversed (info % 2 ^ 32) in
-    let alt = reversed-lt (info / 2 ^ 32) in
-    let blt = reversed-lt (info % 2 ^ 32) in
     let whole : (info / 2 ^ 32) * 2 ^ 32 + info % 2 ^ 32 ≡ info = omega arith in
-    rw (
-      high_of (info % 2 ^ 32) a alt,
-      low_of (info % 2 ^ 32) a alt,
-      high_of a b blt,
-      low_of a b blt,
-      high_of b (reversed a) (reversed-lt a),
-      low_of b (reversed a) (reversed-lt a),
-      reversed-reversed (info / 2 ^ 32) high,
-      reversed-reversed (info % 2 ^ 32) low,
-    ) whole
+    let twice = words-info (mips64el_info info) ∙ ap mips64el_pair (words-info info) in
+    let thrice = words-info (mips64el_info (mips64el_info info)) ∙ ap mips64el_pair twice in
+    ap (λ words. joined (mips64el_pair words)) thrice
+    ∙ rw (reversed-reversed (info / 2 ^ 32) high, reversed-reversed (info % 2 ^ 32) low) whole
 
 -- for the laws of each class
 pub ruleset info_laws = (joins_its_parts, mips64el_one_to_one, mips64el_four_times)

@@ -1,25 +1,18 @@
 -- Laws of relocations of each class, with an addend or without, of MIPS64 or not: written relocations are read back,
 -- and relocations that were read are written back.
-use Rattle.std.proofs.Common.{refl, lit<, ◌≡◌, ◌<◌, ◌≤◌, ◌*◌, ◌^◌, ℕ, List, Bool, true, false, Option, Some, None}
-use Rattle.std.proofs.Common.{length, ◌∙◌, arith}
+use Rattle.goblin_records.specs.Common.{refl, lit<, ◌≡◌, ◌<◌, ◌*◌, ◌^◌, ℕ, List, ◌∙◌, arith, Container, Endian}
+use Rattle.goblin_records.specs.Common.{IsRecord, shaped, IsBytes, number_at, Little, Big, FitsSigned, Reloc, RelocCtx}
+use Rattle.std.proofs.Common.{◌≤◌, Bool, true, false, Option, Some, None, length, subst, ◌+◌}
 use Rattle.std.specs.Prelude.{ℤ, pos, unwrap_or, IsSomeAnd}
 use Rattle.std.proofs.Math.Nat.{mod-eq_of_lt}
-use Rattle.goblin_base.specs.declared.container.Container.{Container}
-use Rattle.goblin_base.specs.declared.container.Endian.{Endian}
-use Rattle.goblin_base.specs.Common.{IsRecord, shaped, IsBytes, number_at}
-use Rattle.goblin_base.specs.declared.container.Container.TheVariants.{Little, Big}
 use Rattle.goblin_base.specs.LayoutLaws.{shape_laws, plain_laws, converted_laws, same_in_each_class}
-use Rattle.goblin_base.specs.Signed.{FitsSigned}
 use Rattle.goblin_base.specs.SignedLaws.{signed_of-complement, complement-lt, complement-mod}
 use Rattle.goblin_base.specs.SignedLaws.{complement-signed_number_at}
 use Rattle.goblin_base.specs.FieldLaws.{number_at-lt}
-use Rattle.goblin_records.specs.declared.reloc.Reloc.{Reloc}
-use Rattle.goblin_records.specs.declared.reloc.RelocCtx.{RelocCtx}
 use Rattle.goblin_records.specs.Reloc.{rel32, rel64, rela32, rela64, rela32_layout, rela64_layout, reloc_size, reloc_of}
-use Rattle.goblin_records.specs.Reloc.{reloc_layout, reloc_layout_in}
-use Rattle.goblin_records.specs.Reloc.{RelocFits, rel_widened32, rela_widened32, rel_widened64}
-use Rattle.goblin_records.specs.Reloc.{rela_widened64, rel_as32, rela_as32, rel_as64, rela_as64, as_meant, as_stored}
-use Rattle.goblin_records.specs.Reloc.{StoredFits, context, SameInEachClass}
+use Rattle.goblin_records.specs.Reloc.{reloc_layout, reloc_layout_in, RelocFits, rel_widened32, rela_widened32}
+use Rattle.goblin_records.specs.Reloc.{rel_widened64, rela_widened64, rel_as32, rela_as32, rel_as64, rela_as64}
+use Rattle.goblin_records.specs.Reloc.{as_meant, as_stored, StoredFits, context, SameInEachClass}
 use Rattle.goblin_records.specs.RelocInfo.{symbols, types, symbol_in, type_in, info_of}
 use Rattle.goblin_records.specs.RelocInfoLaws.{info_of-parts, joins_its_parts, reversed-reversed}
 
@@ -66,16 +59,12 @@ some_fits width None h = absurd h
 some_fits width (Some z) h = (h, refl)
 
 -- an `r_info` that was read is the one of its parts
-joins_32 : (order : Endian) (bytes : List ℕ) → IsBytes bytes → 8 ≤ length bytes → let info =
-    number_at order bytes 4 4 in
-    info_of Little (symbol_in Little info) (type_in Little info) ≡ info
-joins_32 order bytes are room =
-    joins_its_parts Little (number_at order bytes 4 4) (number_at-lt order bytes 4 4 are room)
-
-joins_64 : (order : Endian) (bytes : List ℕ) → IsBytes bytes → 16 ≤ length bytes → let info =
-    number_at order bytes 8 8 in
-    info_of Big (symbol_in Big info) (type_in Big info) ≡ info
-joins_64 order bytes are room = joins_its_parts Big (number_at order bytes 8 8) (number_at-lt order bytes 8 8 are room)
+joins : (class : Container) (order : Endian) (bytes : List ℕ) (place width : ℕ)
+    → 256 ^ width ≡ symbols class * types class → IsBytes bytes → place + width ≤ length bytes
+    → let info = number_at order bytes place width in info_of class (symbol_in class info) (type_in class info) ≡ info
+joins class order bytes place width whole are room =
+    let info = number_at order bytes place width in
+    joins_its_parts class info (subst (λ n. info < n) whole (number_at-lt order bytes place width are room))
 
 -- a relocation of either class, with an addend or without, is a converted raw one
 pub reloc_laws : (is_rela : Bool) (class : Container) (order : Endian)
@@ -84,24 +73,24 @@ reloc_laws false Little order =
     converted_laws rel_widened32 rel_as32 (RelocFits false Little) (rel32_laws order)
     (λ r fits. let parts = parts_of Little r.r_sym r.r_type fits.symbol fits.typ in
     ((fits.offset, (parts.0, tt)), rw (parts.1, parts.2, ← fits.addend) refl))
-    (λ bytes are room. rw (joins_32 order bytes are room) refl)
+    (λ bytes are room. rw (joins Little order bytes 4 4 refl are room) refl)
 reloc_laws true Little order =
     converted_laws rela_widened32 rela_as32 (RelocFits true Little) (rela32_laws order)
     (λ r fits. let parts = parts_of Little r.r_sym r.r_type fits.symbol fits.typ in
     let some = some_fits 4 r.r_addend fits.addend in
     ((fits.offset, parts.0, some.0), rw (parts.1, parts.2, some.1) refl))
-    (λ bytes are room. rw (joins_32 order bytes are (omega arith)) refl)
+    (λ bytes are room. rw (joins Little order bytes 4 4 refl are (omega arith)) refl)
 reloc_laws false Big order =
     converted_laws rel_widened64 rel_as64 (RelocFits false Big) (rel64_laws order)
     (λ r fits. let parts = parts_of Big r.r_sym r.r_type fits.symbol fits.typ in
     ((fits.offset, (parts.0, tt)), rw (parts.1, parts.2, ← fits.addend) refl))
-    (λ bytes are room. rw (joins_64 order bytes are room) refl)
+    (λ bytes are room. rw (joins Big order bytes 8 8 refl are room) refl)
 reloc_laws true Big order =
     converted_laws rela_widened64 rela_as64 (RelocFits true Big) (rela64_laws order)
     (λ r fits. let parts = parts_of Big r.r_sym r.r_type fits.symbol fits.typ in
     let some = some_fits 8 r.r_addend fits.addend in
     ((fits.offset, parts.0, some.0), rw (parts.1, parts.2, some.1) refl))
-    (λ bytes are room. rw (joins_64 order bytes are (omega arith)) refl)
+    (λ bytes are room. rw (joins Big order bytes 8 8 refl are (omega arith)) refl)
 
 -- the symbol and the type that were read are words of 32 bits
 words : (is_rela : Bool) (class : Container) (order : Endian) (bytes : List ℕ)

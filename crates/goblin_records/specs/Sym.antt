@@ -1,10 +1,8 @@
 -- Symbols of either class, and lists of them (System V gABI, "Symbol Table").
-use Rattle.std.specs.Prelude.{ℕ, List, codes, Result, [], ◌∷◌, slice_index, Bool, ◌==◌, ◌&&◌, ◌||◌, nat_lt}
-use Rattle.goblin_base.specs.declared.container.Container.{Container}
+use Rattle.std.specs.Prelude.{codes, Result, [], ◌∷◌, slice_index, Bool, ◌==◌, ◌&&◌, ◌||◌, nat_lt}
+use Rattle.goblin_records.specs.Common.{Container, Endian, records_from, Refusal, field, values_of, Layout, Shape}
+use Rattle.goblin_records.specs.Common.{shaped, widened, Little, Big, ℕ, List}
 use Rattle.goblin_base.specs.declared.container.Ctx.{Ctx}
-use Rattle.goblin_base.specs.declared.container.Endian.{Endian}
-use Rattle.goblin_base.specs.Common.{records_from, Refusal, field, values_of, Layout, Shape, shaped, widened}
-use Rattle.goblin_base.specs.declared.container.Container.TheVariants.{Little, Big}
 use Rattle.goblin_records.specs.declared.sym.Sym.{Sym}
 use Rattle.goblin_records.specs.declared.sym32.Sym.{Sym as Sym32}
 use Rattle.goblin_records.specs.declared.sym64.Sym.{Sym as Sym64}
@@ -84,10 +82,6 @@ sym_layout class order = record (raw_layout class order) { size = sym_size class
 -- the symbol read from bytes in a class
 abbrev pub sym_of : Container → Endian → List ℕ → Sym
 sym_of class order = (sym_layout class order).read
-
--- the bytes that a symbol is written as in a class
-abbrev pub sym_image : Container → Endian → Sym → List ℕ
-sym_image class order = (sym_layout class order).image
 
 -- a symbol's section index is one of the file's: from 1 on, below 0xff00, or the escape 0xffff
 abbrev pub is_in_section : Sym → Bool

@@ -1,5 +1,5 @@
 //! Relocations of either class, with an addend or without: System V gABI, "Relocation".
-ghost use Rattle.std.specs.Prelude.{◌≡◌, ◌≤◌, ◌↔◌, ◌++◌, IsTrue, length, drop};
+ghost use Rattle.std.specs.Prelude.{◌≡◌, ◌≤◌, ◌↔◌, IsTrue, length};
 ghost use Rattle.goblin_base.specs.Common.{Writes};
 ghost use Rattle.goblin_records.specs.Reloc.{as_meant, as_stored, reloc_ctx_default, reloc_image, reloc_layout, reloc_layout_in, reloc_of, reloc_size, reloc_zero, SameInEachClass};
 ghost use Rattle.goblin_records.specs.RelocLaws.{reloc_laws, reloc_laws_in};
@@ -8,7 +8,7 @@ pub use crate::{reloc32, reloc64};
 use goblin_base::container::{Container, Ctx, Endian};
 use goblin_base::error::{Cloned, Result};
 use goblin_base::laid_out::LaidOut;
-use goblin_base::scroll::{IntoCtx, TryIntoCtx};
+use goblin_base::scroll::TryIntoCtx;
 
 /// A relocation of either class, with an addend or without.
 #[derive(Clone, Copy, Debug, Default, PartialEq)]
@@ -114,19 +114,6 @@ impl Reloc {
             r_type: reloc64::r_type(info),
             ..self
         }
-    }
-}
-
-/// The buffer must hold a relocation.
-impl IntoCtx<(bool, Ctx)> for Reloc {
-    ghost can_into = { λ _ c old. reloc_size c.0 c.1.container ≤ length old };
-
-    ghost into_gives = { λ reloc c old new.
-        let rest = drop (reloc_size c.0 c.1.container) old in
-        new ≡ reloc_image c.0 c.1.container c.1.le reloc ++ rest };
-
-    fn into_ctx(self, bytes: &mut [u8], ctx: (bool, Ctx)) {
-        self.put(bytes, ctx);
     }
 }
 

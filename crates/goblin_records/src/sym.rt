@@ -1,8 +1,8 @@
 //! Symbols of either class: System V gABI, "Symbol Table".
-ghost use Rattle.std.specs.Prelude.{◌≡◌, ◌≤◌, ◌<◌, ◌/◌, ◌↔◌, ◌++◌, IsTrue, length, drop, codes, IsOk, [], ◌∷◌};
+ghost use Rattle.std.specs.Prelude.{◌≡◌, ◌<◌, ◌/◌, ◌↔◌, IsTrue, length, codes, IsOk, [], ◌∷◌};
 ghost use Rattle.goblin_base.specs.Common.{IsSameInEachClass, buffer_too_short, Gives, Refuses};
 ghost use Rattle.goblin_records.specs.Constants.{bind_numbers, type_numbers, visibility_numbers};
-ghost use Rattle.goblin_records.specs.Sym.{is_in_section, sym_image, sym_layout, sym_size, sym_zero, symbols_from};
+ghost use Rattle.goblin_records.specs.Sym.{is_in_section, sym_layout, sym_size, sym_zero, symbols_from};
 ghost use Rattle.goblin_records.specs.SymParts.{bind_of, type_of, visibility_of, IsGlobalImport, IsImport, type_name};
 ghost use Rattle.goblin_records.specs.declared.sym.Sym.{Sym};
 
@@ -10,7 +10,6 @@ pub use crate::{sym32, sym64};
 use goblin_base::container::{Container, Ctx, Endian};
 use goblin_base::error::{Cloned, Result};
 use goblin_base::laid_out::LaidOut;
-use goblin_base::scroll::IntoCtx;
 use goblin_base::table::read_all;
 use std::alloc::Global;
 
@@ -111,18 +110,6 @@ impl Sym {
         ensures none { (count ≡ 0) → IsOk result }
     {
         read_all(alloc, bytes, offset, count, ctx, "symbols")
-    }
-}
-
-/// The buffer must hold a symbol.
-impl IntoCtx<Ctx> for Sym {
-    ghost can_into = { λ _ ctx old. sym_size ctx.container ≤ length old };
-
-    ghost into_gives = { λ sym ctx old new.
-        new ≡ sym_image ctx.container ctx.le sym ++ drop (sym_size ctx.container) old };
-
-    fn into_ctx(self, bytes: &mut [u8], ctx: Ctx) {
-        self.put(bytes, ctx);
     }
 }
 

@@ -9,20 +9,17 @@
 --
 -- In bytes that are not UTF-8 more than three may go on. Then the edge is p + 3, and no UTF-8 contains the four bytes
 -- from p on.
-use Rattle.std.proofs.Common.{◌≡◌, ◌∙◌, ℕ, ◌+◌, ◌-◌, ◌<◌, ◌≤◌, ◌&&◌, Bool, true, false, cond, ltb, leb, List, [], ◌∷◌}
-use Rattle.std.proofs.Common.{◌++◌, length, get_or, take, drop, refl, sym, ap, subst, ⊎_elim, arith, length-append}
-use Rattle.std.proofs.Common.{slice_range}
-use Rattle.std.proofs.Math.Seq.{take-append_seam, drop-append_seam}
-use Rattle.std.proofs.lemmas.Bool.{cases_lt}
-use Rattle.std.proofs.lemmas.Bool.Decides.{nat_tests}
-use Rattle.std.proofs.lemmas.List.{take-take}
-use Rattle.std.proofs.lemmas.Str.{IsCharBoundary-at_seam, IsCharBoundary-from_rest, IsCharBoundary-start, IsUtf8-drop}
-use Rattle.std.proofs.lemmas.Str.{IsUtf8-take, len_utf8_bounds, length-encode}
-use Rattle.std.specs.Str.{IsUtf8, IsCharBoundary}
+use Rattle.goblin_text.proofs.Common.{◌≡◌, ◌∙◌, ℕ, ◌+◌, ◌-◌, ◌<◌, ◌≤◌, ◌&&◌, Bool, true, false, cond, ltb, leb, List}
+use Rattle.goblin_text.proofs.Common.{[], ◌∷◌, ◌++◌, length, get_or, take, drop, refl, sym, ap, subst, ⊎_elim, arith}
+use Rattle.goblin_text.proofs.Common.{length-append, slice_range, take-append_seam, drop-append_seam, cases_lt}
+use Rattle.goblin_text.proofs.Common.{nat_tests, take-take, IsCharBoundary-start, IsUtf8-drop, IsUtf8-take, IsUtf8}
+use Rattle.goblin_text.proofs.Common.{IsCharBoundary, LacksText, char_start, after_continuation, up_to_zero}
+use Rattle.std.proofs.lemmas.Str.{IsCharBoundary-at_seam, IsCharBoundary-from_rest, len_utf8_bounds, length-encode}
 use lib.Utf8.{encode, encodes, scalar, scalars}
-use Rattle.goblin_text.proofs.ByteRanges.{get_range, length-range, rest_of_range, split}
+use Rattle.goblin_text.proofs.ByteRanges.{rest_of_range}
 use Rattle.goblin_text.proofs.Strings.{get_up, goes_on, no_zero_whole, stops, whole, whole_no_zero}
-use Rattle.goblin_text.specs.BlockRuns.{LacksText, char_start, after_continuation, up_to_zero}
+use Rattle.goblin_base.proofs.FirstLemmas.{length_of_range, get_in_range}
+use Rattle.goblin.specs.TextLaws.{ranges-join}
 
 -- ---- the place after a byte that goes on with a character
 -- a byte that goes on with a character
@@ -194,10 +191,10 @@ text_cut bytes i p k l m h u =
     let bounds = char_start_bounds bytes p in
     let n = char_start bytes p - i in
     let text = slice_range bytes i k in
-    let size : length text ≡ k - i = length-range bytes i k (omega arith) h in
+    let size : length text ≡ k - i = length_of_range bytes i k h in
     let there : i + n ≡ char_start bytes p = omega arith in
     let boundary =
-    char_start-boundary bytes text i p l (omega arith) u (λ q short. get_range bytes i k q (omega arith)) in (
+    char_start-boundary bytes text i p l (omega arith) u (λ q short. get_in_range bytes i k q (omega arith)) in (
       subst IsUtf8 (take-take n (k - i) (drop i bytes) (omega arith)) (IsUtf8-take text n u boundary),
       subst IsUtf8 (rest_of_range bytes i k n (omega arith) ∙ ap (λ c. slice_range bytes c k) there)
           (IsUtf8-drop text n u boundary),
@@ -210,9 +207,9 @@ lacks-on bytes i p e l m h lacks = λ u.
     let bounds = char_start_bounds bytes p in
     let a = slice_range bytes i (char_start bytes p) in
     let r = slice_range bytes (char_start bytes p) e in
-    let is : slice_range bytes i e ≡ a ++ r = split bytes i (char_start bytes p) e (omega arith) m in
+    let is : slice_range bytes i e ≡ a ++ r = ranges-join bytes i (char_start bytes p) e (omega arith) m in
     let size : length a ≡ char_start bytes p - i =
-    length-range bytes i (char_start bytes p) (omega arith) (omega arith) in
+    length_of_range bytes i (char_start bytes p) (omega arith) in
     ⊎_elim
     (λ (short : length (up_to_zero a) < length a). lacks (subst IsUtf8 (ap up_to_zero is ∙ stops a r short) u))
     (λ (all : length a ≤ length (up_to_zero a)).
@@ -232,16 +229,16 @@ pub whole_to_start : (bytes : List ℕ) (i p k : ℕ) → i ≤ p → p ≤ k �
     → up_to_zero (slice_range bytes i (char_start bytes p)) ≡ slice_range bytes i (char_start bytes p)
 whole_to_start bytes i p k l m h short is =
     let bounds = char_start_bounds bytes p in
-    let size : length (slice_range bytes i k) ≡ k - i = length-range bytes i k (omega arith) h in
+    let size : length (slice_range bytes i k) ≡ k - i = length_of_range bytes i k h in
     let front = slice_range bytes i (char_start bytes p) in
     let length-front : length front ≡ char_start bytes p - i =
-    length-range bytes i (char_start bytes p) (omega arith) short in
+    length_of_range bytes i (char_start bytes p) short in
     no_zero_whole front (λ q n z.
     let byte : get_or bytes (i + q) 0 ≡ 0 =
-    sym (get_range bytes i (char_start bytes p) q (omega (arith, n, length-front))) ∙ z in
+    sym (get_in_range bytes i (char_start bytes p) q (omega (arith, n, length-front))) ∙ z in
     ⊎_elim
     (λ (s : i + q < k).
-    whole_no_zero (slice_range bytes i k) q is (omega (arith, size)) (get_range bytes i k q (omega arith) ∙ byte))
+    whole_no_zero (slice_range bytes i k) q is (omega (arith, size)) (get_in_range bytes i k q (omega arith) ∙ byte))
     (λ (s : k ≤ i + q).
     let on = passed_to_start bytes p (i + q) (omega arith) (omega (arith, n, length-front)) in
     absurd (omega (arith, on.from, byte)))

@@ -1,25 +1,19 @@
 -- The first piece of a string table that is not UTF-8 contains the first fault.
-use Rattle.std.proofs.Common.{◌≡◌, ◌≢◌, ◌∙◌, ℕ, zero, suc, ◌+◌, ◌-◌, ◌<◌, ◌≤◌, true, false, List, [], ◌∷◌, length}
-use Rattle.std.proofs.Common.{get_or, take, drop, refl, sym, ap, subst, ⊎_elim, arith, slice_range, Ok, Err, Result}
-use Rattle.std.proofs.Common.{if◌then◌else◌, ltb}
-use Rattle.std.proofs.lemmas.Bool.{and_left, cases_eq, cases_lt, eq-eqb, eqb-true, false_from_ne_true, le-ltb, lt-ltb}
-use Rattle.std.proofs.lemmas.Bool.{ne_eqb}
-use Rattle.std.proofs.lemmas.List.{drop-take, drop_more, get_or-take, length-take-le, take-take, take_all}
-use Rattle.std.proofs.lemmas.Str.{IsCharBoundary-after_ascii, IsCharBoundary-start, IsUtf8-drop, IsUtf8-from_is_utf8}
-use Rattle.std.proofs.lemmas.Str.{IsUtf8-take, is_utf8-from_IsUtf8}
-use Rattle.std.specs.Str.{IsCharBoundary, IsUtf8, IsValidUpTo}
+use Rattle.goblin_text.proofs.Common.{◌≡◌, ◌≢◌, ◌∙◌, ℕ, zero, suc, ◌+◌, ◌-◌, ◌<◌, ◌≤◌, true, false, List, [], ◌∷◌}
+use Rattle.goblin_text.proofs.Common.{length, get_or, take, drop, refl, sym, ap, subst, ⊎_elim, arith, slice_range, Ok}
+use Rattle.goblin_text.proofs.Common.{Err, Result, if◌then◌else◌, ltb, cases_eq, cases_lt, eq-eqb, false_from_ne_true}
+use Rattle.goblin_text.proofs.Common.{drop-take, drop_more, get_or-take, length-take-le, take-take}
+use Rattle.goblin_text.proofs.Common.{IsCharBoundary-start, IsUtf8-drop, IsUtf8-from_is_utf8, IsUtf8-take}
+use Rattle.goblin_text.proofs.Common.{is_utf8-from_IsUtf8, IsCharBoundary, IsUtf8, IsValidUpTo, Refusal, ◌>>=◌}
+use Rattle.goblin_text.proofs.Common.{StringTable, table_of, walked, texts-join, invalid_utf8, Strict, text_table, lit<}
+use Rattle.std.proofs.lemmas.Bool.{and_left, eqb-true, lt-ltb, ne_eqb}
+use Rattle.std.proofs.lemmas.Str.{IsCharBoundary-after_ascii}
 use lib.Utf8.{encode}
 use Rattle.goblin.specs.Pieces.{entries, first_bad, is_bad_start, is_readable, piece, piece_end, piece_start}
-use Rattle.goblin.specs.Refusal.{Refusal}
-use Rattle.goblin.specs.Steps.{◌>>=◌}
-use Rattle.goblin.specs.Strtab.{StringTable, table_of, walked}
-use Rattle.goblin.specs.TextLaws.{texts-join}
-use Rattle.goblin.specs.Utf8.{invalid_utf8}
-use Rattle.goblin.specs.declared.options.ParseMode.TheVariants.{Strict}
-use Rattle.goblin_base.proofs.PiecesLemmas.{at_end, delim_before, end_before, end_from, end_within, piece_is_range}
-use Rattle.goblin_base.proofs.PiecesLemmas.{start_after, start_of_front, start_of_start, start_to}
+use Rattle.goblin_base.proofs.PiecesLemmas.{at_end, delim_before, end_before, end_from, piece_is_range, start_after}
+use Rattle.goblin_base.proofs.PiecesLemmas.{start_of_front, start_of_start, start_to}
 use Rattle.goblin_base.proofs.WalkLemmas.{bad_start_from, first_bad_is, no_bad_start_readable}
-use Rattle.goblin_text.specs.StringRanges.{text_table}
+use Rattle.goblin.specs.TextLaws.{table_of-text}
 
 module _ (bytes : List ℕ) where
   zero_at_end : (o : ℕ)
@@ -142,14 +136,6 @@ module _ (bytes : List ℕ) where
       (omega (arith, to, end_before bytes 0 k s l (start_of_start bytes 0 p))))
       (λ _. bad_start_from bytes 0 s (start_of_start bytes 0 p) (fault_unreadable p v))
 
-  first_bad_of_text : IsUtf8 bytes → first_bad bytes 0 ≡ length bytes
-  first_bad_of_text u =
-      let n = length bytes in
-      let all : IsUtf8 (take n bytes) = subst IsUtf8 (sym (take_all n bytes (omega arith))) u in
-      first_bad_is bytes 0 n (omega arith)
-      (λ k l. no_bad_start n k (omega arith) all (end_within bytes 0 k (omega arith)))
-      (λ l. absurd (omega arith))
-
   -- it begins where the last string of the front does
   pub first_bad_of_front : (p : ℕ)
       → IsValidUpTo bytes p → first_bad bytes 0 ≡ piece_start (take p bytes) 0 (length (take p bytes))
@@ -176,8 +162,7 @@ module _ (bytes : List ℕ) where
       ap walk_to at ∙ rw (lt-ltb s (length bytes) (omega (arith, at, first_bad_at p v, to, v.short))) refl
 
   pub table_taken : IsUtf8 bytes → table_of Strict bytes 0 ≡ Ok (text_table bytes)
-  unfolding walked
-  table_taken u = rw (le-ltb (first_bad bytes 0) (length bytes) (omega (arith, first_bad_of_text u))) refl
+  table_taken u = table_of-text bytes 0 (lit< tt) Strict u
 
 -- the first bytes of a range
 pub front_of_range : (bytes : List ℕ) (i j p : ℕ)

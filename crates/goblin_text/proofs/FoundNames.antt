@@ -1,21 +1,16 @@
 -- The names that look-ups find.
-use Rattle.std.proofs.Common.{◌≡◌, ◌∙◌, ℕ, ◌+◌, ◌-◌, ◌<◌, ◌≤◌, if◌then◌else◌, Bool, true, false, List, [], length, drop}
-use Rattle.std.proofs.Common.{refl, sym, ap, arith, slice_range, get_or, lit<, Ok, Err}
-use Rattle.std.proofs.lemmas.Bool.{false_from_ne_true}
-use Rattle.std.proofs.lemmas.Str.{IsUtf8-from_is_utf8, is_utf8-from_IsUtf8}
-use Rattle.std.specs.Str.{IsUtf8}
+use Rattle.goblin_text.proofs.Common.{◌≡◌, ◌∙◌, ℕ, ◌+◌, ◌-◌, ◌<◌, ◌≤◌, if◌then◌else◌, Bool, true, false, List, []}
+use Rattle.goblin_text.proofs.Common.{length, drop, refl, sym, ap, arith, slice_range, get_or, lit<, Ok, Err}
+use Rattle.goblin_text.proofs.Common.{false_from_ne_true, IsUtf8-from_is_utf8, is_utf8-from_IsUtf8, IsUtf8, is_utf8}
+use Rattle.goblin_text.proofs.Common.{invalid_utf8, text_table, LacksText, after_continuation, up_to_zero, name_at}
 use Rattle.std.specs.Option.{unwrap_or}
 use Rattle.std.specs.Result.{result_ok}
-use Rattle.std.specs.Str.{is_utf8}
 use Rattle.goblin.specs.Pieces.{piece}
 use Rattle.goblin.specs.TextLaws.{name-later, name-past, names_are_plain}
-use Rattle.goblin.specs.Utf8.{invalid_utf8}
 use Rattle.goblin_text.proofs.CharStarts.{after_continuation_is}
 use Rattle.goblin_text.proofs.CharStarts.Passed.{over, stays}
-use Rattle.goblin_text.proofs.ByteRanges.{get_range, length-range, rest_of_range}
-use Rattle.goblin_text.specs.StringRanges.{text_table}
-use Rattle.goblin_text.specs.BlockRuns.{LacksText, after_continuation, up_to_zero}
-use Rattle.goblin_text.specs.Shown.{name_at}
+use Rattle.goblin_text.proofs.ByteRanges.{rest_of_range}
+use Rattle.goblin_base.proofs.FirstLemmas.{length_of_range, get_in_range}
 
 pub name_past_end : (bytes : List ℕ) (o : ℕ) → length bytes ≤ o → [] ≡ name_at (text_table bytes) o
 name_past_end bytes o l = sym (name-past bytes 0 o l)
@@ -41,7 +36,7 @@ pub name_in_range : (bytes : List ℕ) (i j o : ℕ)
     → i ≤ j → j ≤ length bytes → o < j - i
     → text_or_nothing (up_to_zero (slice_range bytes (i + o) j)) ≡ name_at (text_table (slice_range bytes i j)) o
 name_in_range bytes i j o l m h =
-    let size : length (slice_range bytes i j) ≡ j - i = length-range bytes i j l m in
+    let size : length (slice_range bytes i j) ≡ j - i = length_of_range bytes i j m in
     ap (λ r. text_or_nothing (up_to_zero r)) (sym (rest_of_range bytes i j o (omega arith)))
     ∙ name_here (slice_range bytes i j) o (omega arith)
 
@@ -50,8 +45,8 @@ pub name_later : (bytes : List ℕ) (i j o : ℕ)
     → i ≤ j → j ≤ length bytes → o < j - i → i + o < after_continuation bytes (i + o)
     → [] ≡ name_at (text_table (slice_range bytes i j)) o
 name_later bytes i j o l m h on =
-    let size : length (slice_range bytes i j) ≡ j - i = length-range bytes i j l m in
-    let byte : get_or (slice_range bytes i j) o 0 ≡ get_or bytes (i + o) 0 = get_range bytes i j o h in
+    let size : length (slice_range bytes i j) ≡ j - i = length_of_range bytes i j m in
+    let byte : get_or (slice_range bytes i j) o 0 ≡ get_or bytes (i + o) 0 = get_in_range bytes i j o h in
     elim (after_continuation_is bytes (i + o)) [
       | over e g ↦ sym
           (name-later (slice_range bytes i j) 0 o (lit< tt) (omega arith) (omega (arith, byte, g.from))

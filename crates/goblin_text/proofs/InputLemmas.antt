@@ -1,8 +1,6 @@
 -- Reads into a list after what is filled of it.
-use Rattle.std.proofs.Common.{◌≡◌, ◌∙◌, ◌+◌, ◌++◌, ℕ, List, Option, ap, subst, sym, take, drop}
-use Rattle.std.proofs.KnownBytes.{Consumes-trans}
-use Rattle.std.proofs.Math.Seq.{take-add}
-use Rattle.std.specs.Io.KnownBytes.{Consumes}
+use Rattle.goblin_text.proofs.Common.{◌≡◌, ◌∙◌, ◌+◌, ◌++◌, ℕ, List, Option, ap, subst, sym, take, drop, Consumes-trans}
+use Rattle.goblin_text.proofs.Common.{take-add, Consumes}
 
 -- what was filled before and what was read after it is what was taken in all
 pub Consumes-after : (a b c : Option (List ℕ)) (old new : List ℕ) (filled count : ℕ) → take filled new ≡ take filled old

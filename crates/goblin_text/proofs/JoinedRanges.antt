@@ -1,17 +1,12 @@
 -- Ranges one after another: if each is of a kind, so are they joined, and so is a run of blocks.
-use Rattle.std.proofs.Common.{◌≡◌, ◌∙◌, ℕ, zero, suc, ◌+◌, ◌-◌, ◌*◌, ◌≤◌, List, ◌++◌, length, take, sym, ap, subst}
-use Rattle.std.proofs.Common.{arith, length-append, slice_range}
-use Rattle.std.proofs.Math.Seq.{take-append_seam, drop-append_seam}
-use Rattle.std.proofs.lemmas.Str.{IsCharBoundary-from_take, IsUtf8-append, IsUtf8-drop}
-use Rattle.std.specs.Str.{IsUtf8}
-use Rattle.goblin.specs.TextLaws.{texts-join}
+use Rattle.goblin_text.proofs.Common.{◌≡◌, ◌∙◌, ℕ, zero, suc, ◌+◌, ◌-◌, ◌*◌, ◌≤◌, List, ◌++◌, length, take, sym, ap}
+use Rattle.goblin_text.proofs.Common.{subst, arith, length-append, slice_range, take-append_seam, drop-append_seam}
+use Rattle.goblin_text.proofs.Common.{IsUtf8-drop, IsUtf8, texts-join, Kind, Text, ZeroFree, BLOCK, IsBlock, IsOfKind}
+use Rattle.goblin_text.proofs.Common.{IsZeroFree, IsRun, LacksText, block_start, up_to_zero}
+use Rattle.std.proofs.lemmas.Str.{IsCharBoundary-from_take, IsUtf8-append}
 use Rattle.goblin_text.proofs.CharStarts.{char_start_bounds}
-use Rattle.goblin_text.proofs.ByteRanges.{split}
 use Rattle.goblin_text.proofs.Strings.{goes_on}
-use Rattle.goblin_text.specs.declared.block_runs.Kind.{Kind}
-use Rattle.goblin_text.specs.declared.block_runs.Kind.TheVariants.{Text, ZeroFree}
-use Rattle.goblin_text.specs.declared.block_runs.TheConstants.{BLOCK}
-use Rattle.goblin_text.specs.BlockRuns.{IsBlock, IsOfKind, IsZeroFree, IsRun, LacksText, block_start, up_to_zero}
+use Rattle.goblin.specs.TextLaws.{ranges-join}
 
 -- what follows a text in a text is text
 rest_is_text : (a b : List ℕ) → IsUtf8 a → IsUtf8 (a ++ b) → IsUtf8 b
@@ -27,7 +22,7 @@ lacks-after bytes i j k l m zero_free lacks =
     let a = slice_range bytes i j in
     let b = slice_range bytes j k in
     let joined : up_to_zero (slice_range bytes i k) ≡ a ++ up_to_zero b =
-    ap up_to_zero (split bytes i j k l m) ∙ goes_on a b (omega (arith, ap length zero_free.whole)) in
+    ap up_to_zero (ranges-join bytes i j k l m) ∙ goes_on a b (omega (arith, ap length zero_free.whole)) in
     λ u. lacks (rest_is_text a (up_to_zero b) zero_free.text (subst IsUtf8 joined u))
 
 zero_free-join : (a b : List ℕ) → IsZeroFree a → IsZeroFree b → IsZeroFree (a ++ b)
@@ -40,7 +35,7 @@ kinds-join : (kind : Kind) (bytes : List ℕ) (i j k : ℕ) → i ≤ j → j �
     → IsOfKind kind (slice_range bytes i j)
     → IsOfKind kind (slice_range bytes j k) → IsOfKind kind (slice_range bytes i k)
 kinds-join Text bytes i j k l m p q = texts-join bytes i j k l m p q
-kinds-join ZeroFree bytes i j k l m p q = subst IsZeroFree (sym (split bytes i j k l m)) (zero_free-join _ _ p q)
+kinds-join ZeroFree bytes i j k l m p q = subst IsZeroFree (sym (ranges-join bytes i j k l m)) (zero_free-join _ _ p q)
 
 -- bytes up to a run of blocks, and the run
 pub of_up_to : (kind : Kind) (bytes : List ℕ) (i a b : ℕ) → i ≤ a * BLOCK → a ≤ b

@@ -1,5 +1,6 @@
 mod ByteRanges
 mod CharStarts
+mod Common
 mod Faults
 mod FoundNames
 mod InputLemmas

@@ -1,20 +1,12 @@
 -- The looks that names in a text take: those of its lines, and what is left of them.
-use Rattle.std.proofs.Common.{◌≡◌, ◌∙◌, ℕ, ◌+◌, ◌*◌, ◌≤◌, eqb, cond, true, false, List, [], ◌∷◌, ◌++◌, ap, arith}
-use Rattle.std.proofs.Common.{length, length-append, subst, sym}
-use Rattle.std.proofs.lemmas.List.{length-map}
+use Rattle.goblin_text.proofs.Common.{◌≡◌, ◌∙◌, ℕ, ◌+◌, ◌*◌, ◌≤◌, eqb, cond, true, false, List, [], ◌∷◌, ◌++◌, ap}
+use Rattle.goblin_text.proofs.Common.{arith, length, length-append, subst, sym, length-map, CountsAtLeast, StringTable}
+use Rattle.goblin_text.proofs.Common.{vec_items, Header, SectionHeader, parts_text, relocs_text, symbols_text}
+use Rattle.goblin_text.proofs.Common.{strings_in, name_at, section_lines, printable, printed}
 use Rattle.goblin.specs.Texts.{◌&◌}
-use Rattle.goblin_base.specs.Entries.{CountsAtLeast}
-use Rattle.goblin.specs.Strtab.{StringTable}
-use Rattle.std.specs.Prelude.{vec_items}
-use Rattle.goblin.specs.declared.elf.header.Header.{Header}
-use Rattle.goblin.specs.declared.elf.section_header.SectionHeader.{SectionHeader}
-use Rattle.goblin_text.specs.Accepted.{parts_text, relocs_text, symbols_text}
-use Rattle.goblin_text.specs.StringRanges.{strings_in}
-use Rattle.goblin_text.specs.Shown.{name_at, section_lines}
 use Rattle.goblin_text.specs.declared.accept.Parts.{Parts}
 use Rattle.goblin_text.specs.declared.accept.SymbolPart.{SymbolPart}
-use Rattle.goblin_text.specs.ShownLines.{header_line, named_line, newline, printable, printed, section_head}
-use Rattle.goblin_text.specs.ShownLines.{section_line}
+use Rattle.goblin_text.specs.ShownLines.{header_line, named_line, newline, section_head, section_line}
 use Rattle.goblin_text.specs.Looks.{IsShort, LooksAtMost, NamesView, ReadsNames, line_looks, lines_in, name_looks}
 use Rattle.goblin_text.specs.Looks.{names_looks, table_looks}
 

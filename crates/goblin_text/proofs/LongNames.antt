@@ -1,16 +1,11 @@
 -- Names that go on through blocks.
-use Rattle.std.proofs.Common.{◌≡◌, ℕ, ◌+◌, ◌*◌, ◌<◌, ◌≤◌, List, length, sym, subst, ⊎_elim, arith, slice_range}
-use Rattle.std.proofs.Common.{Option, None, Some}
-use Rattle.std.proofs.lemmas.Bool.{cases_lt}
-use Rattle.std.specs.Str.{IsUtf8}
-use Rattle.goblin.specs.TextLaws.{texts-join}
+use Rattle.goblin_text.proofs.Common.{◌≡◌, ℕ, ◌+◌, ◌*◌, ◌<◌, ◌≤◌, List, length, sym, subst, ⊎_elim, arith, slice_range}
+use Rattle.goblin_text.proofs.Common.{Option, None, Some, cases_lt, IsUtf8, texts-join, ZeroFree, BLOCK, EndsAt}
+use Rattle.goblin_text.proofs.Common.{IsBlock, IsLong, IsZeroFree, IsRun, IsTextUpTo, LacksText, block_start}
+use Rattle.goblin_text.proofs.Common.{next_block, up_to_zero}
 use Rattle.goblin_text.proofs.CharStarts.{char_start_bounds, lacks-on, whole_to_start}
 use Rattle.goblin_text.proofs.JoinedRanges.{lacks-after, of_up_to}
 use Rattle.goblin_text.proofs.Strings.{string-after, string-within}
-use Rattle.goblin_text.specs.declared.block_runs.Kind.TheVariants.{ZeroFree}
-use Rattle.goblin_text.specs.declared.block_runs.TheConstants.{BLOCK}
-use Rattle.goblin_text.specs.BlockRuns.{EndsAt, IsBlock, IsLong, IsZeroFree, IsRun, IsTextUpTo, LacksText, block_start}
-use Rattle.goblin_text.specs.BlockRuns.{next_block, up_to_zero}
 
 -- text with no zero byte goes on from a place up to a block
 pub record RunsTo (bytes : List ℕ) (place run : ℕ) : Type 0 where

@@ -1,8 +1,6 @@
 -- Names as they print.
-use Rattle.std.proofs.Common.{◌≡◌, ℕ, arith}
-use Rattle.std.proofs.lemmas.Bool.Decides.{nat_tests}
+use Rattle.goblin_text.proofs.Common.{◌≡◌, ℕ, arith, nat_tests, printable, printed}
 use lib.Utf8.{encode}
-use Rattle.goblin_text.specs.ShownLines.{printable, printed}
 
 -- the bytes of a character as it prints
 pub encode-printable : (c : ℕ) → encode (printable c) ≡ printed (encode c)

@@ -1,12 +1,8 @@
 -- The ends of runs that are stored of a file's blocks.
-use Rattle.std.proofs.Common.{◌≡◌, ◌∙◌, ℕ, zero, suc, eqb, [], ◌∷◌, refl, ◌+◌, ◌<◌, ◌≤◌, ◌≢◌, set, replicate}
-use Rattle.std.proofs.Common.{length-set, get_or-set_other, get_or-set_same, true, false, cond, List, length, get_or}
-use Rattle.std.proofs.Common.{sym, ap, subst, ⊎_elim, arith}
-use Rattle.std.proofs.lemmas.Bool.{cases_eq, cases_lt}
-use Rattle.std.proofs.lemmas.Bool.Decides.{nat_tests}
-use Rattle.std.proofs.lemmas.List.{get_or-replicate, length-replicate}
-use Rattle.goblin_text.specs.declared.block_runs.Kind.{Kind}
-use Rattle.goblin_text.specs.BlockRuns.{AreRunEnds, IsRunEnd, IsRun, unknown}
+use Rattle.goblin_text.proofs.Common.{◌≡◌, ◌∙◌, ℕ, zero, suc, eqb, [], ◌∷◌, refl, ◌+◌, ◌<◌, ◌≤◌, ◌≢◌, set, replicate}
+use Rattle.goblin_text.proofs.Common.{length-set, get_or-set_other, get_or-set_same, true, false, cond, List, length}
+use Rattle.goblin_text.proofs.Common.{get_or, sym, ap, subst, ⊎_elim, arith, cases_eq, cases_lt, nat_tests}
+use Rattle.goblin_text.proofs.Common.{get_or-replicate, length-replicate, Kind, AreRunEnds, IsRunEnd, IsRun, unknown}
 
 -- no end is stored at first
 pub none_known : (kind : Kind) (bytes : List ℕ) (n : ℕ) → AreRunEnds kind bytes (replicate n 0)

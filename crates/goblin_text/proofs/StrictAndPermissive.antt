@@ -1,22 +1,19 @@
 -- The text in the two modes.
-use Rattle.std.proofs.Common.{◌≡◌, ◌+◌, ◌/◌, ℕ, Bool, true, false, not, if◌then◌else◌, List, [], ◌∷◌, length}
-use Rattle.std.proofs.Common.{slice_get, Option, None, Some, Result, Ok, Err, refl}
+use Rattle.goblin_text.proofs.Common.{◌≡◌, ◌+◌, ◌/◌, ℕ, Bool, true, false, not, if◌then◌else◌, List, [], ◌∷◌, length}
+use Rattle.goblin_text.proofs.Common.{slice_get, Option, None, Some, Result, Ok, Err, refl, Header, SectionHeader}
+use Rattle.goblin_text.proofs.Common.{Strict, Permissive, Refusal, refusal_of, ◌>>=◌, refuse_as, each_shown}
+use Rattle.goblin_text.proofs.Common.{sizes_checked, symbols_shown}
 use Rattle.goblin.specs.declared.container.Ctx.{Ctx}
-use Rattle.goblin.specs.declared.elf.header.Header.{Header}
-use Rattle.goblin.specs.declared.elf.section_header.SectionHeader.{SectionHeader}
-use Rattle.goblin.specs.declared.options.ParseMode.TheVariants.{Strict, Permissive}
-use Rattle.goblin.specs.Header.{names_index_of}
+use Rattle.goblin.specs.Header.{names_index_of, ctx_of}
 use Rattle.goblin.specs.ReadHeader.{read_header}
-use Rattle.goblin.specs.Refusal.{Refusal, refusal_of}
 use Rattle.goblin.specs.SectionHeaders.{linked, section_headers_of}
-use Rattle.goblin.specs.Steps.{◌>>=◌, refuse_as}
 use Rattle.goblin.specs.StrtabLaws.{StrictIsPermissive}
 use Rattle.goblin.specs.Sym.{sym_size}
 use Rattle.goblin.specs.Symtab.{symtab_by}
 use Rattle.goblin.specs.SymtabLaws.{permissive_keeps_strict}
 use Rattle.std.specs.Prelude.{slice_get}
-use Rattle.goblin_text.specs.Shown.{ctx_of, each_shown, file_shown, has_symbols, sections_of, shown, sizes_checked}
-use Rattle.goblin_text.specs.Shown.{section_strings, strings_at, symbols_shown, PermissiveShowsStrict}
+use Rattle.goblin_text.specs.Shown.{file_shown, has_symbols, sections_of, shown, section_strings, strings_at}
+use Rattle.goblin_text.specs.Shown.{PermissiveShowsStrict}
 
 -- the second result is the first one, if that is a value
 abbrev pub Keeps : {A E : Type 0} → Result A E → Result A E → Type 0

@@ -1,11 +1,7 @@
 -- The string tables of a file, of which no entries are made.
-use Rattle.std.proofs.Common.{◌≡◌, ℕ, List}
-use Rattle.std.proofs.Common.{ap, refl, slice_range}
+use Rattle.goblin_text.proofs.Common.{◌≡◌, ℕ, List, ap, refl, slice_range, Strict, Permissive, malformed, ◌>>=◌}
+use Rattle.goblin_text.proofs.Common.{refuse_as, IsRange, strtab_of, table_of}
 use Rattle.goblin.specs.declared.options.ParseMode.{ParseMode}
-use Rattle.goblin.specs.declared.options.ParseMode.TheVariants.{Strict, Permissive}
-use Rattle.goblin.specs.Refusal.{malformed}
-use Rattle.goblin.specs.Steps.{◌>>=◌, refuse_as}
-use Rattle.goblin.specs.Strtab.{IsRange, strtab_of, table_of}
 
 -- a table is that of its range's bytes
 pub table_is : (mode : ParseMode) (file : List ℕ) (o n start end : ℕ)

@@ -1,15 +1,12 @@
 -- Strings: the bytes before the first zero byte.
-use Rattle.std.proofs.Common.{◌≡◌, ◌≢◌, ◌∙◌, ℕ, ◌+◌, ◌-◌, ◌<◌, ◌≤◌, ◌==◌, Bool, false, cond, not, eqb, List, ◌++◌}
-use Rattle.std.proofs.Common.{length, get_or, take, drop, sym, ap, ⊎_elim, arith, slice_range}
-use Rattle.std.proofs.Math.Seq.{take-append-add}
-use Rattle.std.proofs.lemmas.Bool.{both_ways, cases_lt, eq-eqb}
-use Rattle.std.proofs.lemmas.Bool.Decides.{nat_tests}
-use Rattle.std.proofs.lemmas.List.{get_or-take, length-take, length-take-le, take-append-le, take-take, take_all}
+use Rattle.goblin_text.proofs.Common.{◌≡◌, ◌≢◌, ◌∙◌, ℕ, ◌+◌, ◌-◌, ◌<◌, ◌≤◌, ◌==◌, Bool, false, cond, not, eqb, List}
+use Rattle.goblin_text.proofs.Common.{◌++◌, length, get_or, take, drop, sym, ap, ⊎_elim, arith, slice_range}
+use Rattle.goblin_text.proofs.Common.{take-append-add, both_ways, cases_lt, eq-eqb, nat_tests, get_or-take, length-take}
+use Rattle.goblin_text.proofs.Common.{length-take-le, take-append-le, take-take, take_all, position_or_len, up_to_zero}
 use Rattle.std.proofs.lemmas.List.Folds.{prefix_len-append}
 use Rattle.std.proofs.lemmas.List.Sums.{fails_before_first, passes_at_first, prefix_len-le-length}
-use Rattle.std.specs.List.{position_or_len}
-use Rattle.goblin_text.proofs.ByteRanges.{get_range, length-range, split}
-use Rattle.goblin_text.specs.BlockRuns.{up_to_zero}
+use Rattle.goblin_base.proofs.FirstLemmas.{length_of_range, get_in_range}
+use Rattle.goblin.specs.TextLaws.{ranges-join}
 
 abbrev no_zero : ℕ → Bool
 no_zero b = not (b == 0)
@@ -76,7 +73,7 @@ get_up bytes i e m l =
     let s = slice_range bytes i e in
     let n : m < first_zero s = omega (arith, length-up s) in
     let short : m < e - i = omega (arith, within s, length-take (e - i) (drop i bytes)) in
-    get_or-take (first_zero s) s m 0 n ∙ get_range bytes i e m short
+    get_or-take (first_zero s) s m 0 n ∙ get_in_range bytes i e m short
 
 -- a string ends where a zero byte stands first, or where the range does
 pub string_found : (bytes : List ℕ) (i j s : ℕ) → i ≤ j → j ≤ length bytes
@@ -86,7 +83,7 @@ unfolding up_to_zero
 string_found bytes i j s l m e =
     let range = slice_range bytes i j in
     let n = first_zero range in
-    let size : length range ≡ j - i = length-range bytes i j l m in
+    let size : length range ≡ j - i = length_of_range bytes i j m in
     let short : n ≤ j - i = omega (arith, within range, size) in
     let len : s - i ≡ n = omega (arith, e) in
     ap (λ x. take x (drop i bytes)) len ∙ sym (take-take n (j - i) (drop i bytes) short)
@@ -98,8 +95,8 @@ pub string-after : (bytes : List ℕ) (i j s k : ℕ) → i ≤ j → j ≤ s �
     → slice_range bytes i s ≡ up_to_zero (slice_range bytes i k)
 string-after bytes i j s k l m n front rest =
     let a = slice_range bytes i j in
-    split bytes i j s l m ∙ ap (λ r. a ++ r) rest
-    ∙ sym (ap up_to_zero (split bytes i j k l (omega arith))
+    ranges-join bytes i j s l m ∙ ap (λ r. a ++ r) rest
+    ∙ sym (ap up_to_zero (ranges-join bytes i j k l (omega arith))
     ∙ goes_on a (slice_range bytes j k) (omega (arith, ap length front)))
 
 -- a string that ends in a range ends there in a longer one
@@ -108,7 +105,7 @@ pub string-within : (bytes : List ℕ) (i s j k : ℕ) → i ≤ s → s < j →
     → slice_range bytes i s ≡ up_to_zero (slice_range bytes i k)
 string-within bytes i s j k l m n h is =
     let a = slice_range bytes i j in
-    let size : length a ≡ j - i = length-range bytes i j (omega arith) h in
-    let short : length (slice_range bytes i s) ≡ s - i = length-range bytes i s l (omega arith) in
-    is ∙ sym (ap up_to_zero (split bytes i j k (omega arith) n)
+    let size : length a ≡ j - i = length_of_range bytes i j h in
+    let short : length (slice_range bytes i s) ≡ s - i = length_of_range bytes i s (omega arith) in
+    is ∙ sym (ap up_to_zero (ranges-join bytes i j k (omega arith) n)
     ∙ stops a (slice_range bytes j k) (omega (arith, ap length is)))

@@ -1,11 +1,8 @@
 -- What of a text was put into a target, and what is left of it.
-use Rattle.std.proofs.Common.{◌≡◌, ◌∙◌, ◌++◌, ◌∷◌, ◌≤◌, ℕ, List, [], Option, None, Some, ap, append_assoc, get_or, set}
-use Rattle.std.proofs.Common.{append-nil, arith, length, min, refl, subst, sym, take, ⊎_elim, ◌<◌}
-use Rattle.std.proofs.KnownBytes.{Appends-trans, append_known-grown, append_known-moved}
-use Rattle.std.proofs.lemmas.Bool.{cases_lt}
-use Rattle.std.proofs.lemmas.List.{take_all}
-use Rattle.std.specs.Io.KnownBytes.{Appends, Keeps, append_known}
-use Rattle.goblin_text.specs.TargetState.{State, held}
+use Rattle.goblin_text.proofs.Common.{◌≡◌, ◌∙◌, ◌++◌, ◌∷◌, ◌≤◌, ℕ, List, [], Option, None, Some, ap, append_assoc}
+use Rattle.goblin_text.proofs.Common.{get_or, set, append-nil, arith, length, min, refl, subst, sym, take, ⊎_elim, ◌<◌}
+use Rattle.goblin_text.proofs.Common.{Appends-trans, append_known-grown, append_known-moved, cases_lt, take_all}
+use Rattle.goblin_text.proofs.Common.{Appends, Keeps, append_known, State, held}
 
 -- of a text the lines so far were put, and the rest is left
 pub record PutSoFar (old new : State) (all rest : List ℕ) : Type 0 where

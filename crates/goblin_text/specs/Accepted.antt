@@ -1,9 +1,5 @@
 -- The text of a file whose parts are accepted.
-use Rattle.std.specs.Prelude.{ℕ, List, vec_items}
-use Rattle.std.specs.List.{flat_map}
-use Rattle.goblin.specs.declared.elf.header.Header.{Header}
-use Rattle.goblin.specs.declared.elf.section_header.SectionHeader.{SectionHeader}
-use Rattle.goblin.specs.Texts.{◌&◌}
+use Rattle.goblin_text.specs.Common.{ℕ, List, vec_items, flat_map, Header, SectionHeader, ◌&◌}
 use Rattle.goblin_text.specs.declared.accept.Accepted.{Accepted}
 use Rattle.goblin_text.specs.declared.accept.Parts.{Parts}
 use Rattle.goblin_text.specs.declared.accept.RelocPart.{RelocPart}

@@ -1,36 +1,19 @@
 -- What is shown of the bytes of a file.
-use Rattle.std.specs.Prelude.{◌≡◌, ℕ, ◌+◌, ◌/◌, ◌==◌, ◌&&◌, ◌||◌, nat_lt, not, Bool, if◌then◌else◌}
-use Rattle.std.specs.Prelude.{List, [], ◌∷◌, length, slice_get, Option, None, Some, Result, Ok, unwrap_or}
+use Rattle.goblin_text.specs.Common.{◌≡◌, ℕ, ◌+◌, ◌/◌, ◌==◌, ◌&&◌, ◌||◌, nat_lt, not, Bool, if◌then◌else◌, List, []}
+use Rattle.goblin_text.specs.Common.{◌∷◌, length, slice_get, Option, None, Some, Result, Ok, unwrap_or, Header}
+use Rattle.goblin_text.specs.Common.{SectionHeader, Reloc, Sym, ParseMode, Strict, Permissive, read_header, Refusal}
+use Rattle.goblin_text.specs.Common.{refusal_of, ◌>>=◌, refuse_as, StringTable, look_up, strtab_of, ◌&◌}
 use Rattle.goblin.specs.declared.container.Ctx.{Ctx}
-use Rattle.goblin.specs.declared.elf.header.Header.{Header}
-use Rattle.goblin.specs.declared.elf.section_header.SectionHeader.{SectionHeader}
-use Rattle.goblin.specs.declared.elf.reloc.Reloc.{Reloc}
-use Rattle.goblin.specs.declared.elf.sym.Sym.{Sym}
 use Rattle.goblin.specs.declared.error.Error.{Error}
-use Rattle.goblin.specs.declared.error.Fault.TheVariants.{InvalidClass, InvalidEndianness}
-use Rattle.goblin.specs.declared.options.ParseMode.{ParseMode}
-use Rattle.goblin.specs.declared.options.ParseMode.TheVariants.{Strict, Permissive}
-use Rattle.goblin.specs.Header.{class_of, names_index_of, order_of}
-use Rattle.goblin.specs.ReadHeader.{read_header}
-use Rattle.goblin.specs.Refusal.{Refusal, refusal_of}
+use Rattle.goblin.specs.Header.{names_index_of, ctx_of}
 use Rattle.goblin.specs.SectionHeaders.{linked, section_headers_of, section_headers_of_tested, size_checked_in}
 use Rattle.goblin.specs.RelocSection.{is_of_mips64el, relocs_of}
-use Rattle.goblin.specs.Steps.{◌>>=◌, refuse_as}
-use Rattle.goblin.specs.Strtab.{StringTable, look_up, strtab_of}
 use Rattle.goblin.specs.Sym.{sym_size}
 use Rattle.goblin.specs.Symtab.{symtab_by}
-use Rattle.goblin.specs.Texts.{◌&◌}
 pub use Rattle.goblin_base.specs.Lines.{Adds}
 use Rattle.goblin_text.specs.ShownLines.{header_line, reloc_line, section_line, symbol_line}
 use Rattle.goblin_text.specs.Options.{is_permissive}
 use Rattle.goblin_text.specs.StringRanges.{text_table}
-
--- the class and the byte order of a header
-abbrev pub ctx_of : Header → Result Ctx Error
-ctx_of h = do
-  class ← class_of InvalidClass h.e_ident
-  order ← order_of InvalidEndianness h.e_ident
-  Ok (record { container = class; le = order })
 
 -- each section lies in a file of so many bytes, or else in strict mode the fault of the first that doesn't
 abbrev pub sizes_checked : ParseMode → ℕ → List SectionHeader → Result (Unit {0}) Error

@@ -1,16 +1,11 @@
 -- The lines of the shown text.
-use Rattle.std.specs.Prelude.{ℕ, ◌==◌, ◌||◌, nat_lt, Bool, if◌then◌else◌, List, slice_index, codes, decimal}
-use Rattle.std.specs.Prelude.{map, ℤ, Option, None, Some}
+use Rattle.goblin_text.specs.Common.{ℕ, ◌==◌, ◌||◌, nat_lt, Bool, if◌then◌else◌, List, slice_index, codes, decimal, map}
+use Rattle.goblin_text.specs.Common.{ℤ, Option, None, Some, Header, SectionHeader, Reloc, Sym, ◌&◌, hexadecimal}
 use Rattle.std.specs.Fmt.{signed_decimal}
-use Rattle.goblin.specs.declared.elf.header.Header.{Header}
-use Rattle.goblin.specs.declared.elf.section_header.SectionHeader.{SectionHeader}
-use Rattle.goblin.specs.declared.elf.reloc.Reloc.{Reloc}
-use Rattle.goblin.specs.declared.elf.sym.Sym.{Sym}
 use Rattle.goblin.specs.Machines.{machine_name}
 use Rattle.goblin.specs.HeaderNames.{class_name, type_name as file_type_name}
 use Rattle.goblin.specs.SectionNames.{section_name}
 use Rattle.goblin.specs.SymParts.{bind_of, type_of, visibility_of, bind_name, type_name, visibility_name}
-use Rattle.goblin.specs.Texts.{◌&◌, hexadecimal}
 pub use Rattle.goblin_base.specs.Lines.{newline}
 
 -- a control character of ASCII

@@ -1,6 +1,5 @@
 -- The state of a target, and what is put into it.
-use Rattle.std.specs.Prelude.{◌≡◌, ℕ, List, take, Option, Bool, IsTrue, Result, Ok, Err}
-use Rattle.std.specs.Io.KnownBytes.{Appends, append_known}
+use Rattle.goblin_text.specs.Common.{◌≡◌, ℕ, List, take, Option, Bool, IsTrue, Result, Ok, Err, Appends, append_known}
 
 -- the bytes that it holds, if they are known, and whether it reported an error
 pub record State : Type 0 where

@@ -5,7 +5,7 @@ ghost use Rattle.goblin.specs.SectionHeaders.{section_headers_of_tested};
 ghost use Rattle.goblin_text.specs.Accepted.{accepted_text, parts_text, relocs_text, symbols_text};
 ghost use Rattle.goblin_text.specs.StringRanges.{strings_in};
 ghost use Rattle.goblin_text.specs.Looks.{ReadsNames, looks_by, section_count, table_looks};
-ghost use Rattle.goblin_text.specs.Shown.{Adds, ctx_of, each_shown, file_shown, has_relocs, has_symbols, relocs_shown, sections_of, shown, sizes_checked, strings_at, symbols_shown, tested};
+ghost use Rattle.goblin_text.specs.Shown.{Adds, each_shown, file_shown, has_relocs, has_symbols, relocs_shown, sections_of, shown, sizes_checked, strings_at, symbols_shown, tested};
 
 use crate::file_bytes::FileBytes;
 use crate::names::{Names, Strings};
@@ -47,13 +47,6 @@ pub struct Accepted<'a> {
     pub header: Header,
     pub sections: Vec<SectionHeader>,
     pub parts: Parts<'a>,
-}
-
-// Returns the class and the byte order of a header.
-fn ctx_of(header: &Header) -> Result<Ctx>
-    ensures { result ≡ ctx_of header.now }
-{
-    Ok(Ctx::new(header.container()?, header.endianness()?))
 }
 
 // Refuses a section that doesn't lie in a file of `len` bytes. Permissive options accept it.
@@ -273,7 +266,7 @@ pub fn accept<'a>(
         ReadsNames file.old file.new 0 most }
 {
     let (header, _) = file.header()?;
-    let ctx = ctx_of(&header)?;
+    let ctx = header.ctx()?;
     let sections = sections_of(alloc, file, &header, ctx, opts)?;
     let context = Context {
         header: &header,

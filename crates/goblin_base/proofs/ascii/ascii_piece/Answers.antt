@@ -1,5 +1,4 @@
-use Rattle.std.proofs.Common.{◌≡◌, ◌∙◌, ◌<◌, eqb, true, get_or, length, ap, sym, arith, Ok}
-use Rattle.std.proofs.lemmas.Bool.Decides.{nat_tests}
+use Rattle.goblin_base.proofs.Common.{◌≡◌, ◌∙◌, ◌<◌, eqb, true, get_or, length, ap, sym, arith, Ok, nat_tests}
 use Rattle.goblin_base.proofs.AsciiLemmas.{run_is_text, run_is_plain}
 use Rattle.goblin_base.proofs.ascii.ascii_piece.Goals.{else-len-bytes-via-then-len-bytes+else-bytes-len}
 use Rattle.goblin_base.proofs.ascii.ascii_piece.Goals.{else-len-bytes-via-else-len-bytes}

@@ -1,5 +1,4 @@
-use Rattle.std.proofs.Common.{◌≡◌, ◌≤◌, ◌+◌, ◌==◌, ◌∙◌, ℕ, Bool, length, take, drop, ap, arith}
-use Rattle.std.specs.List.{position_or_len}
+use Rattle.goblin_base.proofs.Common.{◌≡◌, ◌≤◌, ◌+◌, ◌==◌, ◌∙◌, ℕ, Bool, length, take, drop, ap, arith, position_or_len}
 use Rattle.goblin_base.proofs.AsciiLemmas.{passes_on}
 use Rattle.goblin_base.proofs.ascii.len_before.Goals as goal
 

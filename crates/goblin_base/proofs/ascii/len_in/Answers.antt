@@ -1,5 +1,4 @@
-use Rattle.std.proofs.Common.{eqb, arith, w8}
-use Rattle.std.proofs.lemmas.Simd.{bitmask_splat, length-chunk}
+use Rattle.goblin_base.proofs.Common.{eqb, arith, w8, bitmask_splat, length-chunk}
 use lib.Lanes.{chunk}
 use Rattle.goblin_base.proofs.AsciiLemmas.{delim_is}
 use Rattle.goblin_base.proofs.ascii.len_in.Goals as goal

@@ -1,6 +1,4 @@
-use Rattle.std.proofs.Common.{◌≡◌, ◌≤◌, ◌+◌, length, drop, ◌-◌}
-use Rattle.std.specs.List.{position_or_len}
-use Rattle.goblin_base.specs.Ascii.{ends_run}
+use Rattle.goblin_base.proofs.Common.{◌≡◌, ◌≤◌, ◌+◌, length, drop, ◌-◌, position_or_len, ends_run}
 use Rattle.goblin_base.proofs.ascii.run_len.Given as goal
 
 abbrev pub invariant-loop-at : goal.invariant-loop-at

@@ -1,9 +1,9 @@
 -- Places rise, so what is known of the place that was read holds for all on that side of it: the places before `low`
 -- and those from `low + size` on are known. Each turn takes one binary digit off `size`, which bounds the reads from
 -- both sides.
-use Rattle.std.proofs.Common.{◌≡◌, ℕ, ◌+◌, ◌-◌, ◌/◌, ◌<◌, ◌≤◌, ⊎_elim, List, length, slice_index, ap, ◌∙◌, arith}
-use Rattle.std.proofs.lemmas.Bool.{cases_lt, cond-true, cond-false, le-leb, lt-leb}
-use Rattle.goblin_base.specs.Search.{IsRising, digits}
+use Rattle.goblin_base.proofs.Common.{◌≡◌, ℕ, ◌+◌, ◌-◌, ◌/◌, ◌<◌, ◌≤◌, ⊎_elim, List, length, slice_index, ap, ◌∙◌}
+use Rattle.goblin_base.proofs.Common.{arith, cases_lt, cond-true, cond-false, le-leb, lt-leb, IsRising}
+use Rattle.goblin_base.specs.Search.{digits}
 use Rattle.goblin_base.proofs.DigitsLemmas.{digits_step, digits_step_back}
 use Rattle.goblin_base.proofs.find.find.Goals as goal
 

@@ -1,4 +1,4 @@
-use Rattle.std.proofs.Common.{◌≡◌, ℕ, ◌+◌, ◌<◌, ◌≤◌, ◌-◌, ◌^◌, min, length, slice_index}
+use Rattle.goblin_base.proofs.Common.{◌≡◌, ℕ, ◌+◌, ◌<◌, ◌≤◌, ◌-◌, ◌^◌, min, length, slice_index}
 use Rattle.goblin_base.specs.Search.{digits}
 use Rattle.goblin_base.proofs.find.find.Given as goal
 

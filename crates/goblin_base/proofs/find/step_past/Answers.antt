@@ -1,6 +1,5 @@
-use Rattle.std.proofs.Common.{◌≡◌, ◌+◌, ◌-◌, ◌/◌, ◌%◌, ◌^◌, ◌<◌, ◌≤◌, ⊎_elim, bit_and, ap, sym, ◌∙◌, arith}
-use Rattle.std.proofs.lemmas.Bool.{cases_lt, cond-true, cond-false, le-leb, lt-leb}
-use Rattle.std.proofs.lemmas.Nat.{and_mask}
+use Rattle.goblin_base.proofs.Common.{◌≡◌, ◌+◌, ◌-◌, ◌/◌, ◌%◌, ◌^◌, ◌<◌, ◌≤◌, ⊎_elim, bit_and, ap, sym, ◌∙◌, arith}
+use Rattle.goblin_base.proofs.Common.{cases_lt, cond-true, cond-false, le-leb, lt-leb, and_mask}
 use Rattle.goblin_base.proofs.find.step_past.Goals as goal
 
 pub returns : goal.returns

@@ -1,5 +1,4 @@
-use Rattle.std.proofs.Common.{◌≡◌, get_or, slice_index, length, sym, ap, ◌∙◌, arith}
-use Rattle.std.proofs.lemmas.Bool.{eq-eqb}
+use Rattle.goblin_base.proofs.Common.{◌≡◌, get_or, slice_index, length, sym, ap, ◌∙◌, arith, eq-eqb}
 use Rattle.goblin_base.proofs.PiecesLemmas.{end_is}
 use Rattle.goblin_base.proofs.marks.end_by_bytes.Goals as goal
 

@@ -1,6 +1,5 @@
-use Rattle.std.proofs.Common.{◌≡◌, ℕ, ◌+◌, ◌-◌, ◌<◌, ◌≤◌, ◌↔◌, false, true, eqb, length, get_or}
-use Rattle.goblin_base.specs.Entries.{CountsAtLeast}
-use Rattle.goblin_base.specs.Marks.{AreAscii}
+use Rattle.goblin_base.proofs.Common.{◌≡◌, ℕ, ◌+◌, ◌-◌, ◌<◌, ◌≤◌, ◌↔◌, false, true, eqb, length, get_or, CountsAtLeast}
+use Rattle.goblin_base.proofs.Common.{AreAscii}
 use Rattle.goblin_base.proofs.marks.end_by_bytes.Given as goal
 
 abbrev pub invariant-loop-end : goal.invariant-loop-end

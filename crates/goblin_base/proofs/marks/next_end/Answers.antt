@@ -1,11 +1,8 @@
 -- The lowest bit that is left of the delimiters' mask is at the first delimiter (`next_delim`): the piece ends there,
 -- or, if no bit is left, none of the marked bytes is the delimiter and the search goes on after them. The bytes up to
 -- there are ASCII exactly if the other mask's lowest bit comes no earlier (`ascii_more`).
-use Rattle.std.proofs.Common.{◌≡◌, ℕ, ◌+◌, ◌-◌, ◌/◌, ◌^◌, ◌↔◌, subst, refl, sym, ap, ◌∙◌, List}
-use Rattle.std.proofs.Common.{true, arith}
-use Rattle.goblin_base.specs.Ascii.{lowest_set}
-use Rattle.goblin_base.specs.Marks.{AreAscii, AreMarks}
-use Rattle.goblin_base.specs.Pieces.{piece_end}
+use Rattle.goblin_base.proofs.Common.{◌≡◌, ℕ, ◌+◌, ◌-◌, ◌/◌, ◌^◌, ◌↔◌, subst, refl, sym, ap, ◌∙◌, List, true, arith}
+use Rattle.goblin_base.proofs.Common.{lowest_set, AreAscii, AreMarks, piece_end}
 use Rattle.goblin_base.proofs.PiecesLemmas.{end_is}
 use Rattle.goblin_base.proofs.MarksLemmas.{next_delim, no_delim, ascii_more, end_later}
 use Rattle.goblin_base.proofs.marks.next_end.Goals.{then-at-marks+else-len-left, else-at-marks}

@@ -1,8 +1,7 @@
 -- No byte from the start of the piece up to `at` is the delimiter (`none`), and the marks reach no further than `at`.
 -- Only the bytes from `max marks.until from` of the call on were looked at since: those before were already marked.
-use Rattle.std.proofs.Common.{◌≡◌, ℕ, ◌+◌, ◌-◌, ◌<◌, ◌≤◌, ◌↔◌, false, true, eqb, length, get_or, max}
-use Rattle.goblin_base.specs.Entries.{CountsAtLeast}
-use Rattle.goblin_base.specs.Marks.{AreAscii, HaveMarks}
+use Rattle.goblin_base.proofs.Common.{◌≡◌, ℕ, ◌+◌, ◌-◌, ◌<◌, ◌≤◌, ◌↔◌, false, true, eqb, length, get_or, max}
+use Rattle.goblin_base.proofs.Common.{CountsAtLeast, AreAscii, HaveMarks}
 use Rattle.goblin_base.proofs.marks.next_end.Given as goal
 
 abbrev pub invariant-loop-at : goal.invariant-loop-at

@@ -1,5 +1,4 @@
-use Rattle.std.proofs.Common.{◌≡◌, ◌≤◌, length}
-use Rattle.goblin_base.specs.Pieces.{piece_start}
+use Rattle.goblin_base.proofs.Common.{◌≡◌, ◌≤◌, length, piece_start}
 use Rattle.goblin_base.proofs.searches.last_start.Given as goal
 
 -- no delimiter stands from here on

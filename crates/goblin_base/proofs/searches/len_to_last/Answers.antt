@@ -1,8 +1,6 @@
 -- The highest bit of the mask is that of the last delimiter: the last piece begins after it.
-use Rattle.std.proofs.Common.{◌≡◌, ◌+◌, ◌<◌, ◌≤◌, eqb, length, w8, arith, ap, ◌∙◌, sym, ⊎_elim}
-use Rattle.std.proofs.lemmas.Bool.{cases_lt}
-use Rattle.std.proofs.lemmas.List.{take_all}
-use Rattle.std.proofs.lemmas.Simd.{bitmask_splat}
+use Rattle.goblin_base.proofs.Common.{◌≡◌, ◌+◌, ◌<◌, ◌≤◌, eqb, length, w8, arith, ap, ◌∙◌, sym, ⊎_elim, cases_lt}
+use Rattle.goblin_base.proofs.Common.{take_all, bitmask_splat}
 use lib.Lanes.{chunk}
 use Rattle.goblin_base.proofs.LastLemmas.{IsLast, last_is, start_in, start_across, start_at_none}
 use Rattle.goblin_base.proofs.searches.len_to_last.Goals.{After-digits_of}

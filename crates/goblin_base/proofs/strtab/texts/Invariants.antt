@@ -1,5 +1,4 @@
-use Rattle.std.proofs.Common.{◌≡◌, map, take}
-use Rattle.goblin_base.specs.Entries.{text_of}
+use Rattle.goblin_base.proofs.Common.{◌≡◌, map, take, text_of}
 use Rattle.goblin_base.proofs.strtab.texts.Given as goal
 
 abbrev pub invariant-loop-i : goal.invariant-loop-i

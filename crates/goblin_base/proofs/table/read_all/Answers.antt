@@ -1,7 +1,7 @@
 -- After i turns the vector has the first i records, and the room of those that are left decides for all (`ReadSoFar`).
 -- So the loop ends with all records (`all_read`), and a record that doesn't lie in the bytes is the first that doesn't,
 -- whose error the definition gives (`no_room`).
-use Rattle.std.proofs.Common.{rules, arith}
+use Rattle.goblin_base.proofs.Common.{rules, arith}
 use Rattle.goblin_base.proofs.Eager.{none_read, next_read, all_read, no_room}
 use Rattle.goblin_base.proofs.table.read_all.Goals as goal
 

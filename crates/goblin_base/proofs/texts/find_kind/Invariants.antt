@@ -1,6 +1,4 @@
-use Rattle.std.proofs.Common.{◌≡◌, drop}
-use Rattle.std.specs.List.{find}
-use Rattle.goblin_base.specs.Texts.{is_kind}
+use Rattle.goblin_base.proofs.Common.{◌≡◌, drop, find, is_kind}
 use Rattle.goblin_base.proofs.texts.find_kind.Given as goal
 
 -- the kind is the first one of those not yet seen

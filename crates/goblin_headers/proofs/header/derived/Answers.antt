@@ -1,6 +1,4 @@
-use Rattle.std.proofs.Common.{rules, ◌∙◌}
-use Rattle.std.proofs.lemmas.Bool.{and_from}
-use Rattle.std.specs.Cmp.Rules.{comparing}
+use Rattle.goblin_headers.proofs.Common.{rules, ◌∙◌, and_from, comparing}
 use Rattle.goblin_headers.proofs.header.derived.Goals as goal
 
 -- each of the fourteen fields is equal to itself

@@ -1,4 +1,4 @@
-use Rattle.std.proofs.Common.{refl}
+use Rattle.goblin_headers.proofs.Common.{refl}
 use Rattle.goblin_headers.proofs.HeaderLemmas.{header32_laws, one_header_image}
 use Rattle.goblin_headers.proofs.RawTrips.{raw_reads_back, raw_written_and_read_back, raw_writes_back}
 use Rattle.goblin_headers.proofs.header32.laws.Goals as goal

@@ -1,5 +1,4 @@
-use Rattle.std.proofs.Common.{◌≡◌, drop}
-use Rattle.goblin_text.specs.Shown.{sizes_checked}
+use Rattle.goblin_text.proofs.Common.{◌≡◌, drop, sizes_checked}
 use Rattle.goblin_text.proofs.accept.check_sizes.Given as goal
 
 -- what was passed lies in the file

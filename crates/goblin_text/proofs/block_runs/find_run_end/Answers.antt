@@ -1,8 +1,6 @@
 -- A block whose end is known ends the search: the blocks before it are of the kind, so the run goes on to that end.
-use Rattle.std.proofs.Common.{◌≡◌, ◌<◌, arith, get_or, length, subst, sym}
-use Rattle.std.proofs.lemmas.Grind.{common_steps}
+use Rattle.goblin_text.proofs.Common.{◌≡◌, ◌<◌, arith, get_or, length, subst, sym, common_steps, IsRunEnd}
 use Rattle.goblin_text.proofs.RunEnds.{end_after, end_known}
-use Rattle.goblin_text.specs.BlockRuns.{IsRunEnd}
 use Rattle.goblin_text.proofs.block_runs.find_run_end.Goals as goal
 
 pub returns-then-known-gt0-clause-end : goal.returns-then-known-gt0-clause-end

@@ -1,7 +1,5 @@
-use Rattle.std.specs.Prelude.{◌≡◌, ℕ, ◌-◌, ◌*◌, ◌<◌, ◌≤◌, slice_index}
-use Rattle.goblin_base.specs.Entries.{Reads}
+use Rattle.goblin_text.proofs.Common.{slice_index, Reads, IsRun, blocks, ◌≡◌, ℕ, ◌-◌, ◌*◌, ◌<◌, ◌≤◌}
 use Rattle.goblin_text.specs.Looks.{block_looks}
-use Rattle.goblin_text.specs.BlockRuns.{IsRun, blocks}
 use Rattle.goblin_text.proofs.block_runs.find_run_end.Given as goal
 
 -- the blocks so far are of the kind, and of none it is known where its run ends

@@ -1,6 +1,5 @@
-use Rattle.std.proofs.Common.{◌≡◌, ◌+◌, arith, slice_range, subst, sym}
-use Rattle.std.proofs.lemmas.Grind.{common_steps}
-use Rattle.goblin_text.specs.BlockRuns.{IsBlock, IsOfKind, block_start}
+use Rattle.goblin_text.proofs.Common.{◌≡◌, ◌+◌, arith, slice_range, subst, sym, common_steps, IsBlock, IsOfKind}
+use Rattle.goblin_text.proofs.Common.{block_start}
 use Rattle.goblin_text.proofs.block_runs.is_block_of.Goals as goal
 
 pub returns-clause-value : goal.returns-clause-value

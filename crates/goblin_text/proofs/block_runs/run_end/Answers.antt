@@ -1,9 +1,7 @@
 -- Each end that the loop stores is that of the run from its block on: the run from the first block ends there, and no
 -- block that was read lies past that end. None had an end before, so each makes one block fewer unknown.
-use Rattle.std.proofs.Common.{◌∙◌, ◌<◌, ◌≢◌, arith, get_or-set_other, length, refl}
-use Rattle.std.proofs.lemmas.Grind.{common_steps}
+use Rattle.goblin_text.proofs.Common.{◌∙◌, ◌<◌, ◌≢◌, arith, get_or-set_other, length, refl, common_steps, blocks}
 use Rattle.goblin_text.proofs.RunEnds.{end_later, end_more, unknown_less}
-use Rattle.goblin_text.specs.BlockRuns.{blocks}
 use Rattle.goblin_text.proofs.block_runs.run_end.Goals as goal
 
 pub loop-block-preserved : goal.loop-block-preserved

@@ -1,5 +1,4 @@
-use Rattle.std.specs.Prelude.{◌≡◌, ℕ, ◌+◌, ◌-◌, ◌<◌, ◌≤◌, slice_index}
-use Rattle.goblin_text.specs.BlockRuns.{AreRunEnds, blocks, unknown}
+use Rattle.goblin_text.proofs.Common.{slice_index, AreRunEnds, blocks, unknown, ◌≡◌, ℕ, ◌+◌, ◌-◌, ◌<◌, ◌≤◌}
 use Rattle.goblin_text.proofs.block_runs.run_end.Given as goal
 
 -- the end is stored of the blocks so far, and isn't known of the others

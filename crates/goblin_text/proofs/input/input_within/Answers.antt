@@ -1,8 +1,6 @@
 -- The filled bytes are those that the reader returned, because each read fills the bytes right after them. If they are
 -- more than the limit, the input is too long.
-use Rattle.std.proofs.Common.{arith}
-use Rattle.std.proofs.lemmas.Grind.{common_steps}
-use Rattle.std.proofs.KnownBytes.{Consumes-kept}
+use Rattle.goblin_text.proofs.Common.{arith, common_steps, Consumes-kept}
 use Rattle.goblin_text.proofs.InputLemmas.{Consumes-after}
 use Rattle.goblin_text.proofs.input.input_within.Goals as goal
 

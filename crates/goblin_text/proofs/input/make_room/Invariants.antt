@@ -1,4 +1,4 @@
-use Rattle.std.proofs.Common.{◌≡◌, ◌-◌, ◌≤◌, take, vec_len}
+use Rattle.goblin_text.proofs.Common.{◌≡◌, ◌-◌, ◌≤◌, take, vec_len}
 use Rattle.goblin_text.proofs.input.make_room.Given as goal
 
 -- What was filled stays, and there is no more than the end.

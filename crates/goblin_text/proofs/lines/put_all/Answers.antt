@@ -1,5 +1,4 @@
-use Rattle.std.proofs.Common.{arith}
-use Rattle.std.proofs.lemmas.Grind.{common_steps}
+use Rattle.goblin_text.proofs.Common.{arith, common_steps}
 use Rattle.goblin_text.proofs.TargetLemmas.{more_put}
 use Rattle.goblin_text.proofs.lines.put_all.Goals as goal
 

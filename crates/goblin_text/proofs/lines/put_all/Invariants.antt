@@ -1,5 +1,4 @@
-use Rattle.std.proofs.Common.{◌≡◌, drop, map}
-use Rattle.std.specs.List.{concat}
+use Rattle.goblin_text.proofs.Common.{◌≡◌, drop, map, concat}
 use Rattle.goblin_text.proofs.TargetLemmas.{PutSoFar}
 use Rattle.goblin_text.proofs.lines.put_all.Given as goal
 

@@ -1,11 +1,7 @@
-use Rattle.std.proofs.Common.{◌≡◌, ◌++◌, ◌∷◌, [], arith, subst}
-use Rattle.std.proofs.KnownBytes.{Appends-trans}
-use Rattle.std.proofs.lemmas.Grind.{common_steps}
+use Rattle.goblin_text.proofs.Common.{◌≡◌, ◌++◌, ◌∷◌, [], arith, subst, Appends-trans, common_steps, Appends}
+use Rattle.goblin_text.proofs.Common.{encode_utf8_all, printed}
 use Rattle.std.proofs.lemmas.Str.{encodes-append}
-use Rattle.std.specs.Io.KnownBytes.{Appends}
-use Rattle.std.specs.Prelude.{encode_utf8_all}
 use Rattle.goblin_text.proofs.Printed.{encode-printable}
-use Rattle.goblin_text.specs.ShownLines.{printed}
 use Rattle.goblin_text.proofs.lines.put_replaced.Goals as goal
 
 pub loop-c-preserved : goal.loop-c-preserved

@@ -1,7 +1,4 @@
-use Rattle.std.proofs.Common.{◌≡◌}
-use Rattle.std.specs.Io.KnownBytes.{Appends}
-use Rattle.std.specs.Prelude.{encode_utf8_all}
-use Rattle.goblin_text.specs.ShownLines.{printed}
+use Rattle.goblin_text.proofs.Common.{◌≡◌, Appends, encode_utf8_all, printed}
 use Rattle.goblin_text.proofs.lines.put_replaced.Given as goal
 
 -- what was passed is put as it prints

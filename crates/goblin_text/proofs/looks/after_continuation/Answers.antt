@@ -1,8 +1,6 @@
 -- If a test of the code fails, the byte at the place is no continuation byte: the failed test contradicts one of the
 -- two bounds of such a byte, and past the end the byte reads as 0.
-use Rattle.std.proofs.Common.{◌≡◌, ◌≤◌, arith, get_or, length, sym}
-use Rattle.std.proofs.lemmas.Grind.{common_steps}
-use Rattle.std.proofs.lemmas.List.{get_or_past}
+use Rattle.goblin_text.proofs.Common.{◌≡◌, ◌≤◌, arith, get_or, length, sym, common_steps, get_or_past}
 use Rattle.goblin_text.proofs.CharStarts.{after_continuation_is}
 use Rattle.goblin_text.proofs.CharStarts.Passed.{over, stays}
 use Rattle.goblin_text.proofs.ByteRanges.{reads}

@@ -1,17 +1,14 @@
 -- The refused piece is the first one that is not UTF-8: the bytes up to the first fault are UTF-8, so it is the last
 -- string before the fault, which is searched for backwards from there.
-use Rattle.std.proofs.Common.{◌≡◌, ◌∙◌, ◌+◌, ◌-◌, ap, arith, length, slice_range, take, Err}
-use Rattle.std.proofs.lemmas.Grind.{common_steps}
-use Rattle.std.proofs.lemmas.List.{length-take-le}
+use Rattle.goblin_text.proofs.Common.{◌≡◌, ◌∙◌, ◌+◌, ◌-◌, ap, arith, length, slice_range, take, Err, common_steps}
+use Rattle.goblin_text.proofs.Common.{length-take-le, IsUtf8, IsValidUpTo, invalid_utf8}
 use Rattle.std.proofs.lemmas.Str.{utf8_valid_len-IsValidUpTo}
-use Rattle.std.specs.Str.{IsUtf8, IsValidUpTo}
 use Rattle.std.specs.Str.Lossy.{utf8_valid_len}
 use Rattle.goblin.specs.Pieces.{first_bad, piece_start}
-use Rattle.goblin.specs.Utf8.{invalid_utf8}
 use Rattle.goblin_text.proofs.Faults.{first_bad_of_front, front_of_range, table_refused, table_taken}
-use Rattle.goblin_text.proofs.ByteRanges.{length-range}
 use Rattle.goblin_text.proofs.looks.refuse_unless_text.Goals.{After-start_of_last_string-start}
 use Rattle.goblin_text.proofs.looks.refuse_unless_text.Goals as goal
+use Rattle.goblin_base.proofs.FirstLemmas.{length_of_range}
 
 pub returns-in-Ok-clause-given : goal.returns-in-Ok-clause-given
 returns-in-Ok-clause-given c =
@@ -34,7 +31,7 @@ fault c =
     let p = c.valid_up_to.result in
     let is : IsValidUpTo table p = grind (arith, common_steps) in
     let size : length table ≡ c.args.to - c.args.from =
-    length-range bytes c.args.from c.args.to c.requires.ordered c.requires.within in
+    length_of_range bytes c.args.from c.args.to c.requires.within in
     let front : slice_range bytes c.args.from (c.args.from + p) ≡ take p table =
     front_of_range bytes c.args.from c.args.to p (omega (arith, is.short, size)) in
     let len : c.args.from + p - c.args.from ≡ length (take p table) =

@@ -1,7 +1,5 @@
-use Rattle.std.proofs.Common.{◌≡◌, ◌∙◌, [], ap, false, if◌then◌else◌, slice_range, sym, true}
-use Rattle.std.proofs.lemmas.Bool.{false_from_ne_true}
-use Rattle.std.proofs.lemmas.Str.{IsUtf8-from_is_utf8, is_utf8-from_IsUtf8}
-use Rattle.std.specs.Str.{is_utf8}
+use Rattle.goblin_text.proofs.Common.{◌≡◌, ◌∙◌, [], ap, false, if◌then◌else◌, slice_range, sym, true}
+use Rattle.goblin_text.proofs.Common.{false_from_ne_true, IsUtf8-from_is_utf8, is_utf8-from_IsUtf8, is_utf8}
 use Rattle.goblin_text.proofs.looks.text.Goals as goal
 
 pub returns-in-Ok-clause-value : goal.returns-in-Ok-clause-value

@@ -1,4 +1,4 @@
-use Rattle.std.proofs.Common.{inr, refl}
+use Rattle.goblin_text.proofs.Common.{inr, refl}
 use Rattle.goblin_text.proofs.run.refuse_for.Goals as goal
 
 pub returns-in-Memory-clause-refused : goal.returns-in-Memory-clause-refused

@@ -1,7 +1,6 @@
 -- A run whose input is too long, or for which memory ran out, writes one line with that reason or fails, as `refuse`
 -- says. Of the reader it says what `input_of` says.
-use Rattle.std.proofs.Common.{arith, inl, inr, refl}
-use Rattle.std.proofs.lemmas.Grind.{common_steps}
+use Rattle.goblin_text.proofs.Common.{arith, inl, inr, refl, common_steps}
 use Rattle.std.specs.Fmt.{digits}
 use Rattle.goblin_text.proofs.run.run.Goals as goal
 

@@ -1,9 +1,7 @@
 -- The looks for a text that is shown are those of its string tables and its names: the header and each section have a
 -- line, and the looks of a line are enough for one table and one name.
-use Rattle.std.proofs.Common.{◌≡◌, ◌+◌, ◌*◌, arith, length, refl}
-use Rattle.std.proofs.lemmas.Grind.{common_steps}
+use Rattle.goblin_text.proofs.Common.{◌≡◌, ◌+◌, ◌*◌, arith, length, refl, common_steps, parts_text}
 use Rattle.goblin_text.proofs.LineLooks.{looks_shown}
-use Rattle.goblin_text.specs.Accepted.{parts_text}
 use Rattle.goblin_text.specs.Looks.{LooksAtMost, names_looks, table_looks}
 use Rattle.goblin_text.proofs.run.show_file.Goals as goal
 

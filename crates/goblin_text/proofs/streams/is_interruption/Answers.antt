@@ -1,4 +1,4 @@
-use Rattle.std.proofs.Common.{◌≡◌, ◌≢◌, ap, false, refl}
+use Rattle.goblin_text.proofs.Common.{◌≡◌, ◌≢◌, ap, false, refl}
 use Rattle.std.specs.declared.io.ErrorKind.{ErrorKind}
 use Rattle.std.specs.declared.io.ErrorKind.TheVariants.{Interrupted}
 use Rattle.goblin_text.specs.StreamMarks.{is_interruption}

@@ -1,6 +1,5 @@
-use Rattle.std.proofs.Common.{◌≡◌, drop}
+use Rattle.goblin_text.proofs.Common.{◌≡◌, drop, relocs_text}
 use Rattle.goblin_text.proofs.TargetLemmas.{PutSoFar}
-use Rattle.goblin_text.specs.Accepted.{relocs_text}
 use Rattle.goblin_text.proofs.text.put_all_relocs.Given as goal
 
 -- the lines so far were put

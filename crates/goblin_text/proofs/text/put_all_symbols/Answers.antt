@@ -1,10 +1,8 @@
 -- The lines of all parts are put: each turn puts those of the first part that is left. So the looks of the parts so far
 -- and of those that are left are the looks of all, also where a part fails.
-use Rattle.std.proofs.Common.{◌+◌, arith, drop}
-use Rattle.std.proofs.lemmas.Grind.{common_steps}
+use Rattle.goblin_text.proofs.Common.{◌+◌, arith, drop, common_steps, symbols_text}
 use Rattle.goblin_text.proofs.TargetLemmas.{more_put}
 use Rattle.goblin_text.proofs.LineLooks.{more_read, read_at_failure}
-use Rattle.goblin_text.specs.Accepted.{symbols_text}
 use Rattle.goblin_text.proofs.text.put_all_symbols.Goals as goal
 
 pub loop-part-preserved : goal.loop-part-preserved

@@ -1,7 +1,6 @@
-use Rattle.std.proofs.Common.{◌≡◌, drop}
+use Rattle.goblin_text.proofs.Common.{◌≡◌, drop, symbols_text}
 use Rattle.goblin_text.proofs.TargetLemmas.{PutSoFar}
 use Rattle.goblin_text.proofs.LineLooks.{ReadSoFar}
-use Rattle.goblin_text.specs.Accepted.{symbols_text}
 use Rattle.goblin_text.proofs.text.put_all_symbols.Given as goal
 
 -- the lines so far were put, and took no more looks than they may

@@ -1,7 +1,6 @@
-use Rattle.std.proofs.Common.{◌≡◌, ◌+◌, ◌<◌, length}
+use Rattle.goblin_text.proofs.Common.{◌≡◌, ◌+◌, ◌<◌, length, reloc_lines}
 use Prim.Native.Nat.{◌^◌}
 use Rattle.goblin_text.proofs.TargetLemmas.{PutSoFar}
-use Rattle.goblin_text.specs.Shown.{reloc_lines}
 use Rattle.goblin_text.proofs.text.put_relocs.Given as goal
 
 -- the lines so far were put

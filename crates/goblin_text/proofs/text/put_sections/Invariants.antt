@@ -1,8 +1,6 @@
-use Rattle.std.proofs.Common.{◌≡◌, drop}
+use Rattle.goblin_text.proofs.Common.{◌≡◌, drop, strings_in, section_lines}
 use Rattle.goblin_text.proofs.TargetLemmas.{PutSoFar}
-use Rattle.goblin_text.specs.StringRanges.{strings_in}
 use Rattle.goblin_text.proofs.LineLooks.{ReadSoFar}
-use Rattle.goblin_text.specs.Shown.{section_lines}
 use Rattle.goblin_text.proofs.text.put_sections.Given as goal
 
 -- the lines so far were put, and took no more looks than they may

@@ -1,11 +1,8 @@
 -- The lines of all symbols of a part are put: each turn puts the first line of those that are left. So the looks of the
 -- lines so far and of those that are left are the looks of all, also where a line fails.
-use Rattle.std.proofs.Common.{◌+◌, arith}
-use Rattle.std.proofs.lemmas.Grind.{common_steps}
+use Rattle.goblin_text.proofs.Common.{◌+◌, arith, common_steps, strings_in, symbol_lines}
 use Rattle.goblin_text.proofs.TargetLemmas.{more_put}
 use Rattle.goblin_text.proofs.LineLooks.{more_read, read_at_failure}
-use Rattle.goblin_text.specs.StringRanges.{strings_in}
-use Rattle.goblin_text.specs.Shown.{symbol_lines}
 use Rattle.goblin_text.proofs.text.put_symbols.Goals as goal
 
 pub loop-number-preserved : goal.loop-number-preserved

@@ -1,12 +1,10 @@
-use Rattle.std.proofs.Common.{◌≡◌, ◌+◌, ◌<◌, length}
+-- The lines so far were put, and took no more looks than they may: each turn puts the line of one symbol.
+use Rattle.goblin_text.proofs.Common.{◌≡◌, ◌+◌, ◌<◌, length, strings_in, symbol_lines}
 use Prim.Native.Nat.{◌^◌}
 use Rattle.goblin_text.proofs.TargetLemmas.{PutSoFar}
 use Rattle.goblin_text.proofs.LineLooks.{ReadSoFar}
-use Rattle.goblin_text.specs.StringRanges.{strings_in}
-use Rattle.goblin_text.specs.Shown.{symbol_lines}
 use Rattle.goblin_text.proofs.text.put_symbols.Given as goal
 
--- the lines so far were put, and took no more looks than they may
 abbrev pub invariant-loop-number : goal.invariant-loop-number
 invariant-loop-number g l =
     let target = g.T.Target in

@@ -1,6 +1,5 @@
 -- A text takes no more looks than its names may: only sections and symbols have names, and their lines are parts of it.
-use Rattle.std.proofs.Common.{arith}
-use Rattle.std.proofs.lemmas.Grind.{common_steps}
+use Rattle.goblin_text.proofs.Common.{arith, common_steps}
 use Rattle.goblin_text.proofs.LineLooks.{names_in_parts, sections_in_parts}
 use Rattle.goblin_text.proofs.text.put_text.Goals as goal
 

@@ -1,7 +1,5 @@
 -- The offset at which the loop ends is that of the first byte that is equal: none before it is.
-use Rattle.std.proofs.Common.{◌≡◌, get_or, sym, ap, ◌∙◌, arith}
-use Rattle.std.proofs.Common.{slice_index}
-use Rattle.std.proofs.lemmas.Bool.{eq-eqb}
+use Rattle.goblin_base.proofs.Common.{◌≡◌, get_or, sym, ap, ◌∙◌, arith, slice_index, eq-eqb}
 use Rattle.goblin_base.proofs.FirstLemmas.{found}
 use Rattle.goblin_base.proofs.counted_bytes.CountedBytes.find.Goals as goal
 

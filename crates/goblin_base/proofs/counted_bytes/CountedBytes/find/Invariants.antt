@@ -1,4 +1,4 @@
-use Rattle.std.proofs.Common.{◌≡◌, ℕ, ◌+◌, ◌-◌, ◌<◌, ◌≤◌, ◌^◌, false, eqb, get_or, min}
+use Rattle.goblin_base.proofs.Common.{◌≡◌, ℕ, ◌+◌, ◌-◌, ◌<◌, ◌≤◌, ◌^◌, false, eqb, get_or, min}
 use Rattle.goblin_base.proofs.counted_bytes.CountedBytes.find.Given as goal
 
 -- the byte is none of those that were read

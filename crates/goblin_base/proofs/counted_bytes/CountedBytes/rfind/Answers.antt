@@ -1,10 +1,10 @@
 -- From the end on, block by block: the last piece of the range begins in the first block that holds the byte, or before
 -- all blocks.
-use Rattle.std.proofs.Common.{◌≡◌, ℕ, ◌+◌, ◌-◌, ◌<◌, ◌≤◌, slice_range, length, arith, ap, ◌∙◌, sym, ⊎_elim}
-use Rattle.std.proofs.lemmas.Bool.{cases_lt}
+use Rattle.goblin_base.proofs.Common.{◌≡◌, ℕ, ◌+◌, ◌-◌, ◌<◌, ◌≤◌, length, arith, ap, ◌∙◌, sym, ⊎_elim, cases_lt}
+use Rattle.goblin_base.proofs.Common.{piece_start}
+use Rattle.std.proofs.Common.{slice_range}
 use Rattle.goblin_base.proofs.FirstLemmas.{length_of_range}
 use Rattle.goblin_base.proofs.LastLemmas.{range_start, start_at_none}
-use Rattle.goblin_base.specs.Pieces.{piece_start}
 use Rattle.goblin_base.proofs.counted_bytes.CountedBytes.rfind.Goals.{After-len_to_last-len}
 use Rattle.goblin_base.proofs.counted_bytes.CountedBytes.rfind.Goals as goal
 

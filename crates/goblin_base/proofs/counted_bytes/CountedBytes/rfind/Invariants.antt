@@ -1,5 +1,5 @@
-use Rattle.std.proofs.Common.{◌≡◌, ◌+◌, ◌-◌, ◌%◌, ◌≤◌, ◌^◌, slice_range, min}
-use Rattle.goblin_base.specs.Pieces.{piece_start}
+use Rattle.goblin_base.proofs.Common.{◌≡◌, ◌+◌, ◌-◌, ◌%◌, ◌≤◌, ◌^◌, min, piece_start}
+use Rattle.std.proofs.Common.{slice_range}
 use Rattle.goblin_base.proofs.counted_bytes.CountedBytes.rfind.Given as goal
 
 -- the byte is none of those that were read, which are whole blocks of sixteen

@@ -1,7 +1,4 @@
-use Rattle.std.proofs.Common.{◌-◌, arith, drop, subst, sym}
-use Rattle.std.proofs.lemmas.List.{length-drop, take_all}
-use Rattle.std.proofs.lemmas.Str.{IsUtf8-from_ascii}
-use Rattle.std.specs.Str.{IsUtf8}
+use Rattle.goblin_base.proofs.Common.{◌-◌, arith, drop, subst, sym, length-drop, take_all, IsUtf8-from_ascii, IsUtf8}
 use Rattle.goblin_base.proofs.digits.Digits.as_str.Goals as goal
 
 pub from_utf8_unchecked-requires : goal.from_utf8_unchecked-requires

@@ -2,12 +2,9 @@
 -- invariant): a turn moves one digit from the first to the second (`digits-more`). Twenty bytes are enough, because
 -- `left` has at most `start + 1` digits (`short`, which a division keeps by `shorter`): where `start` is 0 it is a
 -- single digit.
-use Rattle.std.proofs.Common.{◌≡◌, ◌∙◌, ◌+◌, ◌-◌, ◌*◌, ◌/◌, ◌%◌, ◌<◌, ◌^◌, ◌∷◌, ℕ, drop, false, length, lit<, refl, set}
-use Rattle.std.proofs.Common.{suc, subst, sym, ap, arith, length-set}
-use Rattle.std.proofs.Math.Nat.{one-mul, pow-suc, pow-zero}
-use Rattle.std.proofs.lemmas.List.{drop-set}
-use Rattle.std.specs.Fmt.{digit_glyph, digits, digits_onto}
-use Rattle.std.specs.Str.{IsAscii}
+use Rattle.goblin_base.proofs.Common.{◌≡◌, ◌∙◌, ◌+◌, ◌-◌, ◌*◌, ◌/◌, ◌%◌, ◌<◌, ◌^◌, ◌∷◌, ℕ, drop, false, length, lit<}
+use Rattle.goblin_base.proofs.Common.{refl, set, suc, subst, sym, ap, arith, length-set, one-mul, pow-suc, pow-zero}
+use Rattle.goblin_base.proofs.Common.{drop-set, digit_glyph, digits, digits_onto, IsAscii}
 use Rattle.goblin_base.proofs.GlyphLemmas.{digits-ascii, digits-last, digits-more, shorter}
 use Rattle.goblin_base.proofs.digits.Digits.by_base.Goals.{then-loop-left-test+else-start-gt0, else-loop-left-test}
 use Rattle.goblin_base.proofs.digits.Digits.by_base.Goals as goal

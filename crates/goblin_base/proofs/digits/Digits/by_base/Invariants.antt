@@ -1,5 +1,4 @@
-use Rattle.std.proofs.Common.{◌≡◌, ◌+◌, ◌^◌, ◌<◌, false, drop, length, suc}
-use Rattle.std.specs.Fmt.{digits, digits_onto}
+use Rattle.goblin_base.proofs.Common.{◌≡◌, ◌+◌, ◌^◌, ◌<◌, false, drop, length, suc, digits, digits_onto}
 use Rattle.goblin_base.proofs.digits.Digits.by_base.Given as goal
 
 -- the digits of the rest come before those that are written

@@ -1,8 +1,6 @@
 -- The masks that the vectors compute are those of the bytes: comparing with a repeated byte tests each lane.
-use Rattle.std.proofs.Common.{◌≡◌, ◌%◌, ◌^◌, eqb, leb, length, map, replicate, ap, ◌∙◌, arith, w8}
-use Rattle.std.proofs.lemmas.List.{length-map, take_all}
-use Rattle.std.proofs.lemmas.Simd.{bitmask_splat, tops_compared, zip2_splat_left, mask_l-mod}
-use Rattle.std.specs.Simd.Lanes.{mask_l}
+use Rattle.goblin_base.proofs.Common.{◌≡◌, ◌%◌, ◌^◌, eqb, leb, length, map, replicate, ap, ◌∙◌, arith, w8, length-map}
+use Rattle.goblin_base.proofs.Common.{take_all, bitmask_splat, tops_compared, zip2_splat_left, mask_l-mod, mask_l}
 use lib.Lanes.{chunk}
 use Rattle.goblin_base.proofs.marks.Marks.of.Goals as goal
 

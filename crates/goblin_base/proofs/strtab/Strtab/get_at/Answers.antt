@@ -1,8 +1,7 @@
 -- The definition's look-up is the rest of the last entry at or before the offset (`look_up_among`). There is such an
 -- entry, because the first one begins at 0 (`look_up_some`): so the search never fails at an offset of the table. That
 -- the stored entries are those of the bytes is the table's invariant.
-use Rattle.std.proofs.Common.{◌≡◌, sym, subst, IfSome, arith}
-use Rattle.goblin_base.specs.Pieces.{entries}
+use Rattle.goblin_base.proofs.Common.{◌≡◌, sym, subst, IfSome, arith, entries}
 use Rattle.goblin_base.proofs.StrtabLemmas.{look_up_some, look_up_among}
 use Rattle.goblin_base.proofs.strtab.Strtab.get_at.Goals as goal
 

@@ -1,5 +1,4 @@
-use Rattle.std.proofs.Common.{ap, ◌∙◌, sym}
-use Rattle.goblin_base.specs.Strtab.{walked}
+use Rattle.goblin_base.proofs.Common.{ap, ◌∙◌, sym, walked}
 use Rattle.goblin_base.proofs.StrtabLemmas.{walked_entries}
 use Rattle.goblin_base.proofs.strtab.Strtab.of_bytes.Goals as goal
 

@@ -1,7 +1,5 @@
-use Rattle.std.proofs.Common.{rules, sym}
+use Rattle.goblin_base.proofs.Common.{rules, sym, IsOk, facts_of}
 use Rattle.std.proofs.Output.{has_written_append, has_written_of_eq}
-use Rattle.std.specs.Result.{IsOk}
-use Rattle.goblin_base.specs.Texts.{facts_of}
 use Rattle.goblin_base.proofs.PartsLemmas.{joined_more}
 use Rattle.goblin_base.proofs.texts.Report.write_parts.Goals as goal
 

@@ -1,6 +1,4 @@
-use Rattle.std.proofs.Common.{take}
-use Rattle.std.specs.Fmt.{HasWritten, IsPlainFormatter}
-use Rattle.goblin_base.specs.Texts.{facts_of, joined}
+use Rattle.goblin_base.proofs.Common.{take, HasWritten, IsPlainFormatter, facts_of, joined}
 use Rattle.goblin_base.proofs.texts.Report.write_parts.Given as goal
 
 abbrev pub invariant-loop-part : goal.invariant-loop-part

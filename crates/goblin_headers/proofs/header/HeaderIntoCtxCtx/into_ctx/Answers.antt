@@ -1,5 +1,4 @@
-use Rattle.std.proofs.Common.{rules}
-use Rattle.goblin_headers.specs.Header.{as32}
+use Rattle.goblin_headers.proofs.Common.{rules, as32}
 use Rattle.goblin_headers.proofs.WriteHeaderLemmas.{low_in_used_order}
 use Rattle.goblin_headers.proofs.header.HeaderIntoCtxCtx.into_ctx.Goals as goal
 

@@ -1,9 +1,8 @@
 -- In each branch the raw header that was read, widened, is the header of either class (`read_header-raw`): the tests
 -- before it have shown that the bytes are long enough, start with the magic number and name the class of the branch.
 -- Only the class differs between the two.
-use Rattle.std.proofs.Common.{refl, sym, ◌∙◌}
+use Rattle.goblin_headers.proofs.Common.{refl, sym, ◌∙◌, headed, header32, header64, widened32, widened64}
 use Rattle.goblin_base.specs.declared.container.Container.TheVariants as class
-use Rattle.goblin_headers.specs.Header.{headed, header32, header64, widened32, widened64}
 use Rattle.goblin_headers.proofs.WholeTrips.{read_header-raw}
 use Rattle.goblin_headers.proofs.header.HeaderTryFromCtxEndian.try_from_ctx.Goals as goal
 

@@ -1,4 +1,4 @@
-use Rattle.std.proofs.Common.{rules}
+use Rattle.goblin_headers.proofs.Common.{rules}
 use Rattle.goblin_headers.proofs.WriteHeaderLemmas.{written_32, written_64, no_class}
 use Rattle.goblin_headers.proofs.header.HeaderTryIntoCtxEndian.try_into_ctx.Goals as goal
 

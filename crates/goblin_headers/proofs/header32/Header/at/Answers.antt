@@ -1,6 +1,4 @@
-use Rattle.std.proofs.Common.{ap, sym, ◌∙◌}
-use Rattle.goblin_base.specs.declared.container.Endian.{Endian}
-use Rattle.goblin_headers.specs.Header.{headed, header32}
+use Rattle.goblin_headers.proofs.Common.{ap, sym, ◌∙◌, Endian, headed, header32}
 use Rattle.goblin_headers.proofs.header32.Header.at.Goals as goal
 
 pub returns-in-Little : goal.returns-in-Little

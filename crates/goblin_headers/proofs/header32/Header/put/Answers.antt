@@ -1,4 +1,4 @@
-use Rattle.goblin_headers.specs.Header.{header32}
+use Rattle.goblin_headers.proofs.Common.{header32}
 use Rattle.goblin_headers.proofs.WriteHeaderLemmas.{with_header}
 use Rattle.goblin_headers.proofs.header32.Header.put.Goals as goal
 

@@ -1,6 +1,4 @@
-use Rattle.std.proofs.Common.{ap, sym, ◌∙◌}
-use Rattle.goblin_base.specs.declared.container.Endian.{Endian}
-use Rattle.goblin_headers.specs.Header.{headed, header64}
+use Rattle.goblin_headers.proofs.Common.{ap, sym, ◌∙◌, Endian, headed, header64}
 use Rattle.goblin_headers.proofs.header64.Header.at.Goals as goal
 
 pub returns-in-Little : goal.returns-in-Little

@@ -1,4 +1,4 @@
-use Rattle.goblin_headers.specs.Header.{header64}
+use Rattle.goblin_headers.proofs.Common.{header64}
 use Rattle.goblin_headers.proofs.WriteHeaderLemmas.{with_header}
 use Rattle.goblin_headers.proofs.header64.Header.put.Goals as goal
 

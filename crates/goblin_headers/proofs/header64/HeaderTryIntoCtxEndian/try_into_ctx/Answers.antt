@@ -1,5 +1,4 @@
-use Rattle.std.proofs.Common.{refl, rules}
-use Rattle.goblin_headers.specs.Header.{headed, header64}
+use Rattle.goblin_headers.proofs.Common.{refl, rules, headed, header64}
 use Rattle.goblin_headers.proofs.WriteHeaderLemmas.{in_order}
 use Rattle.goblin_headers.proofs.header64.HeaderTryIntoCtxEndian.try_into_ctx.Goals as goal
 

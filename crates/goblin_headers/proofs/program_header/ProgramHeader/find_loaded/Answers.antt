@@ -1,7 +1,5 @@
-use Rattle.std.proofs.Common.{rules, ◌∙◌, sym}
+use Rattle.goblin_headers.proofs.Common.{rules, ◌∙◌, sym, YieldsList-from_first, find_from_yields_List}
 use Rattle.std.proofs.lemmas.Iterator.Adapters.{option_map_id}
-use Rattle.std.proofs.lemmas.Iterator.Consumers.{YieldsList-from_first}
-use Rattle.std.proofs.lemmas.Iterator.Search.{find_from_yields_List}
 use Rattle.goblin_headers.specs.ProgramHeaders.{loads}
 use Rattle.goblin_headers.proofs.program_header.ProgramHeader.find_loaded.Goals as goal
 

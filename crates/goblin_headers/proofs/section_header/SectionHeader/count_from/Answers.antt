@@ -1,5 +1,4 @@
-use Rattle.std.proofs.Common.{◌≡◌, ◌==◌, true, arith}
-use Rattle.std.proofs.lemmas.Bool.Decides.{nat_tests}
+use Rattle.goblin_headers.proofs.Common.{◌≡◌, ◌==◌, true, arith, nat_tests}
 use Rattle.goblin_headers.proofs.ReadSections.{first_counts}
 use Rattle.goblin_headers.proofs.section_header.SectionHeader.count_from.Goals as goal
 

@@ -1,8 +1,7 @@
 -- If the bytes don't hold the first header, the list and its tests are refused with that error (`first_refused`,
 -- `first_tested`). Otherwise the list is that of the records that were asked for (`from_is`), as `read_all` reads it,
 -- and the only test that is left is whether the bytes could hold so many (`all_tested`).
-use Rattle.std.proofs.Common.{rules, sym, subst}
-use Rattle.goblin_base.specs.Common.{Gives}
+use Rattle.goblin_headers.proofs.Common.{rules, sym, subst, Gives}
 use Rattle.goblin_headers.proofs.ReadSections.{first_refused, first_tested, from_is, all_tested}
 use Rattle.goblin_headers.proofs.section_header.SectionHeader.parse_from.Goals as goal
 

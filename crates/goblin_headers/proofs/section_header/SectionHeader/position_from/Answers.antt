@@ -1,8 +1,5 @@
-use Rattle.std.proofs.Common.{rules, ◌∙◌}
+use Rattle.goblin_headers.proofs.Common.{rules, ◌∙◌, YieldsList-from_first, position_from_yields_List, has_name}
 use Rattle.std.proofs.lemmas.Iterator.Adapters.{YieldsList-from_skip}
-use Rattle.std.proofs.lemmas.Iterator.Consumers.{YieldsList-from_first}
-use Rattle.std.proofs.lemmas.Iterator.Search.{position_from_yields_List}
-use Rattle.goblin_base.specs.Strtab.{has_name}
 use Rattle.goblin_headers.proofs.section_header.SectionHeader.position_from.Goals as goal
 
 pub returns-clause-value : goal.returns-clause-value

@@ -1,5 +1,4 @@
-use Rattle.std.proofs.Common.{rules, sym, subst}
-use Rattle.goblin_base.specs.Common.{Returns}
+use Rattle.goblin_headers.proofs.Common.{rules, sym, subst, Returns}
 use Rattle.goblin_headers.proofs.ReadSections.{first_refused, from_is}
 use Rattle.goblin_headers.proofs.section_header.SectionHeader.table_from.Goals as goal
 

@@ -1,7 +1,4 @@
-use Rattle.std.proofs.Common.{◌≡◌, ◌++◌, ℕ, List, drop}
-use Rattle.goblin_base.proofs.LineLemmas.{after}
-use Rattle.goblin_text.specs.Accepted.{relocs_text}
-use Rattle.goblin_text.specs.Shown.{each_shown, relocs_shown}
+use Rattle.goblin_text.proofs.Common.{◌≡◌, ◌++◌, ℕ, List, drop, after, relocs_text, each_shown, relocs_shown}
 use Rattle.goblin_text.proofs.accept.Context.accept_all_relocs.Given as goal
 
 -- the lines so far stand before what is shown of the sections that are left

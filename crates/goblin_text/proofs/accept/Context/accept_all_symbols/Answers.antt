@@ -1,5 +1,4 @@
-use Rattle.std.proofs.Common.{arith}
-use Rattle.std.proofs.lemmas.Grind.{common_steps}
+use Rattle.goblin_text.proofs.Common.{arith, common_steps}
 use Rattle.goblin_text.proofs.LineLooks.{more_names}
 use Rattle.goblin_text.proofs.accept.Context.accept_all_symbols.Goals as goal
 

@@ -1,8 +1,5 @@
-use Rattle.std.proofs.Common.{◌≡◌, ◌++◌, ◌*◌, ℕ, List, drop}
-use Rattle.goblin_base.proofs.LineLemmas.{after}
-use Rattle.goblin_text.specs.Accepted.{symbols_text}
+use Rattle.goblin_text.proofs.Common.{◌≡◌, ◌++◌, ◌*◌, ℕ, List, drop, after, symbols_text, each_shown, symbols_shown}
 use Rattle.goblin_text.specs.Looks.{ReadsNames, table_looks}
-use Rattle.goblin_text.specs.Shown.{each_shown, symbols_shown}
 use Rattle.goblin_text.proofs.accept.Context.accept_all_symbols.Given as goal
 
 -- the lines so far stand before what is shown of the sections that are left, each of which asked for one table at most

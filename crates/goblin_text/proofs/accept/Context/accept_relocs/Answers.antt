@@ -1,7 +1,4 @@
-use Rattle.std.proofs.Common.{arith}
-use Rattle.std.proofs.lemmas.Grind.{common_steps}
-use Rattle.std.proofs.lemmas.List.{flat_map_more}
-use Rattle.goblin_text.specs.Shown.{reloc_lines, relocs_shown}
+use Rattle.goblin_text.proofs.Common.{arith, common_steps, flat_map_more, reloc_lines, relocs_shown}
 use Rattle.goblin_text.proofs.accept.Context.accept_relocs.Goals as goal
 
 pub returns : goal.returns

@@ -1,8 +1,4 @@
-use Rattle.std.proofs.Common.{arith}
-use Rattle.std.proofs.lemmas.Grind.{common_steps}
-use Rattle.std.proofs.lemmas.List.{flat_map_more}
-use Rattle.goblin_text.specs.StringRanges.{strings_in}
-use Rattle.goblin_text.specs.Shown.{symbol_lines, symbols_shown}
+use Rattle.goblin_text.proofs.Common.{arith, common_steps, flat_map_more, strings_in, symbol_lines, symbols_shown}
 use Rattle.goblin_text.proofs.accept.Context.accept_symbols.Goals as goal
 
 pub returns-clause-added : goal.returns-clause-added

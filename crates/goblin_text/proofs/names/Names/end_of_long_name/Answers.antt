@@ -1,15 +1,10 @@
 -- A long name ends in the first block that isn't text with no zero byte, or after the last block: up to there it is
 -- text with no zero byte, so its end is the one that is found from there on.
-use Rattle.std.proofs.Common.{◌≡◌, ◌+◌, ◌*◌, ◌<◌, ◌≤◌, arith, slice_range, subst}
-use Rattle.std.proofs.lemmas.Bool.{both_ways}
-use Rattle.std.proofs.lemmas.Grind.{common_steps}
+use Rattle.goblin_text.proofs.Common.{◌≡◌, ◌+◌, ◌*◌, ◌<◌, ◌≤◌, arith, slice_range, subst, both_ways, common_steps}
+use Rattle.goblin_text.proofs.Common.{IsUtf8, ZeroFree, BLOCK, EndsAt, IsBlock, IsRunEnd, IsZeroFree, IsTextUpTo}
+use Rattle.goblin_text.proofs.Common.{block_start, last_block, next_block}
 use Rattle.goblin_text.proofs.CharStarts.{char_start_bounds}
 use Rattle.goblin_text.proofs.LongNames.{RunsTo, ends_after, ends_in_block, lacks_at_head, zero_free_to_run, text_after}
-use Rattle.std.specs.Str.{IsUtf8}
-use Rattle.goblin_text.specs.declared.block_runs.Kind.TheVariants.{ZeroFree}
-use Rattle.goblin_text.specs.declared.block_runs.TheConstants.{BLOCK}
-use Rattle.goblin_text.specs.BlockRuns.{EndsAt, IsBlock, IsRunEnd, IsZeroFree, IsTextUpTo, block_start, last_block}
-use Rattle.goblin_text.specs.BlockRuns.{next_block}
 use Rattle.goblin_text.proofs.names.Names.end_of_long_name.Goals.{After-end_of_text, then-run-last, else-run-last}
 use Rattle.goblin_text.proofs.names.Names.end_of_long_name.Goals as goal
 

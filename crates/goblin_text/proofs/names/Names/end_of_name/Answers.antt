@@ -1,9 +1,7 @@
 -- The string ends where the searches find its first zero byte: in the bytes of one block, or else, as these have none,
 -- where the rest of it ends.
-use Rattle.std.proofs.Common.{◌≡◌, ◌≤◌, arith, length, slice_range}
-use Rattle.std.proofs.lemmas.Grind.{common_steps}
+use Rattle.goblin_text.proofs.Common.{◌≡◌, ◌≤◌, arith, length, slice_range, common_steps, up_to_zero}
 use Rattle.goblin_text.proofs.Strings.{string-after, string-within}
-use Rattle.goblin_text.specs.BlockRuns.{up_to_zero}
 use Rattle.goblin_text.proofs.names.Names.end_of_name.Goals as goal
 
 pub returns-then-stop-near-clause-stop : goal.returns-then-stop-near-clause-stop

@@ -1,15 +1,14 @@
 -- The name is the string from its place on, if that is text: a place past the end or at a continuation byte has none. A
 -- long name is text and is returned whole, so its length bounds the looks for it.
-use Rattle.std.proofs.Common.{◌≡◌, ◌∙◌, ◌+◌, ◌-◌, ap, arith, inl, inr, length, slice_range}
-use Rattle.std.proofs.lemmas.Grind.{common_steps}
+use Rattle.goblin_text.proofs.Common.{◌≡◌, ◌∙◌, ◌+◌, ◌-◌, ap, arith, inl, inr, length, slice_range, common_steps}
 use Rattle.goblin_text.proofs.FoundNames.{name_in_range, name_later, nothing, name_past_end, text_length}
 use Rattle.goblin_text.proofs.FoundNames.{text_or_nothing}
-use Rattle.goblin_text.proofs.ByteRanges.{length-range}
 use Rattle.goblin_text.proofs.names.Names.name_within.Goals as goal
+use Rattle.goblin_base.proofs.FirstLemmas.{length_of_range}
 
 pub returns-then-offset-end-clause-name : goal.returns-then-offset-end-clause-name
 returns-then-offset-end-clause-name c =
-    let size = length-range c.args.self.now.bytes c.args.start c.args.end c.requires.ordered c.requires.within in
+    let size = length_of_range c.args.self.now.bytes c.args.start c.args.end c.requires.within in
     name_past_end (slice_range c.args.self.now.bytes c.args.start c.args.end) c.args.offset (omega arith)
 
 pub returns-then-after_continuation-place-clause-name : goal.returns-then-after_continuation-place-clause-name
@@ -35,7 +34,7 @@ returns-in-Some-clause-reading c =
     let place = c.args.start + c.args.offset in
     let stop = c.in-Some.stop in
     let size : length (slice_range c.end_of_name.new.self.bytes place stop) ≡ stop - place =
-    length-range c.end_of_name.new.self.bytes place stop c.in-Some.ensures.stop.order (grind (arith, common_steps)) in
+    length_of_range c.end_of_name.new.self.bytes place stop (grind (arith, common_steps)) in
     record {
       unchanged = grind (arith, common_steps);
       looks = λ short. elim (c.in-Some.ensures.looks_near (grind (arith, common_steps))) [

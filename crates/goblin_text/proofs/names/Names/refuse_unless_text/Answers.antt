@@ -1,6 +1,4 @@
-use Rattle.std.proofs.Common.{arith, slice_range}
-use Rattle.std.proofs.lemmas.Grind.{common_steps}
-use Rattle.std.specs.Str.{IsUtf8}
+use Rattle.goblin_text.proofs.Common.{arith, slice_range, common_steps, IsUtf8}
 use Rattle.goblin_text.proofs.Faults.{table_taken}
 use Rattle.goblin_text.proofs.names.Names.refuse_unless_text.Goals as goal
 

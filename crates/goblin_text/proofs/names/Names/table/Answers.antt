@@ -1,12 +1,8 @@
 -- The table is the one that the library finds, because it is that of the range's bytes. A mode that isn't permissive is
 -- strict, and in strict mode these bytes are tested.
-use Rattle.std.proofs.Common.{◌≡◌, ◌∙◌, ap, arith, length, slice_range, subst, sym}
-use Rattle.std.proofs.lemmas.Bool.{both_ways}
-use Rattle.std.proofs.lemmas.Grind.{common_steps}
-use Rattle.goblin.specs.Refusal.{Returns}
-use Rattle.goblin.specs.Strtab.{IsRange, strtab_of, table_of, walked}
+use Rattle.goblin_text.proofs.Common.{◌≡◌, ◌∙◌, ap, arith, length, slice_range, subst, sym, both_ways, common_steps}
+use Rattle.goblin_text.proofs.Common.{Returns, IsRange, strtab_of, table_of, walked, strings_in}
 use Rattle.goblin_text.proofs.StringTables.{is_strict, table_is}
-use Rattle.goblin_text.specs.StringRanges.{strings_in}
 use Rattle.goblin_text.proofs.names.Names.table.Goals.{then-not-is_permissive+in_ok-refuse_unless_text}
 use Rattle.goblin_text.proofs.names.Names.table.Goals.{else-not-is_permissive}
 use Rattle.goblin_text.proofs.names.Names.table.Goals as goal

@@ -1,5 +1,4 @@
-use Rattle.std.proofs.Common.{arith, subst, take}
-use Rattle.std.specs.Io.KnownBytes.{Appends}
+use Rattle.goblin_text.proofs.Common.{arith, subst, take, Appends}
 use Rattle.goblin_text.proofs.TargetLemmas.{passed_on}
 use Rattle.goblin_text.specs.declared.targets.TheConstants.{ROOM}
 use Rattle.goblin_text.proofs.targets.Buffered.pass_on.Goals as goal

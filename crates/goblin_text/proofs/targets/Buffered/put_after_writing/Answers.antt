@@ -1,9 +1,7 @@
 -- The bytes come after those that the buffer had: these are written first, which empties the buffer, and then the bytes
 -- are written, or fill it.
-use Rattle.std.proofs.Common.{sym, subst}
-use Rattle.std.specs.Io.KnownBytes.{Appends, Keeps}
+use Rattle.goblin_text.proofs.Common.{sym, subst, Appends, Keeps, held}
 use Rattle.goblin_text.proofs.TargetLemmas.{added, appends_kept, emptied}
-use Rattle.goblin_text.specs.TargetState.{held}
 use Rattle.goblin_text.proofs.targets.Buffered.put_after_writing.Goals as goal
 
 pub returns-then-bytes-gt-ROOM-clause-bytes : goal.returns-then-bytes-gt-ROOM-clause-bytes

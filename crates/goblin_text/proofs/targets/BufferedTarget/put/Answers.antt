@@ -1,10 +1,6 @@
 -- A piece that fits is put: the writer and the bytes in the buffer are as before, and the piece comes after them.
-use Rattle.std.proofs.Common.{arith, subst, sym}
-use Rattle.std.proofs.KnownBytes.{Keeps-refl}
-use Rattle.std.proofs.lemmas.Grind.{common_steps}
-use Rattle.std.specs.Io.KnownBytes.{Appends, Keeps}
+use Rattle.goblin_text.proofs.Common.{arith, subst, sym, Keeps-refl, common_steps, Appends, Keeps, held}
 use Rattle.goblin_text.proofs.TargetLemmas.{added}
-use Rattle.goblin_text.specs.TargetState.{held}
 use Rattle.goblin_text.proofs.targets.BufferedTarget.put.Goals as goal
 
 pub returns-then-has_room-clause-put : goal.returns-then-has_room-clause-put

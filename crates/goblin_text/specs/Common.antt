@@ -1,0 +1,22 @@
+-- What the definitions of this crate cite most, passed on from one place. Declares nothing.
+unfoldable pub use Rattle.goblin.specs.ReadHeader.{read_header}
+pub use Rattle.goblin.specs.Refusal.{Refusal, out_of_memory, refusal_of}
+pub use Rattle.goblin.specs.Steps.{refuse_as, ◌>>=◌}
+pub use Rattle.goblin.specs.Strtab.{StringTable, look_up}
+unfoldable pub use Rattle.goblin.specs.Strtab.{strtab_of}
+pub use Rattle.goblin.specs.Texts.{hexadecimal, refusal_text, ◌&◌}
+pub use Rattle.goblin.specs.declared.elf.header.Header.{Header}
+pub use Rattle.goblin.specs.declared.elf.reloc.Reloc.{Reloc}
+pub use Rattle.goblin.specs.declared.elf.section_header.SectionHeader.{SectionHeader}
+pub use Rattle.goblin.specs.declared.elf.sym.Sym.{Sym}
+pub use Rattle.goblin.specs.declared.options.ParseMode.{ParseMode}
+pub use Rattle.goblin.specs.declared.options.ParseMode.TheVariants.{Permissive, Strict}
+pub use Rattle.goblin_text.specs.declared.block_runs.TheConstants.{BLOCK, BLOCKS}
+pub use Rattle.std.specs.Io.KnownBytes.{Appends, Consumes, IsAtEnd, append_known}
+pub use Rattle.std.specs.List.{before_first, flat_map}
+pub use Rattle.std.specs.Prelude.{Bool, Err, IsTrue, List, None, Ok, Option, Result, Some, String, [], codes, decimal}
+pub use Rattle.std.specs.Prelude.{false, if◌then◌else◌, is_err, length, map, min, nat_le, nat_lt, not, slice_get}
+pub use Rattle.std.specs.Prelude.{slice_index, slice_range, string_bytes, suc, take, true, unwrap_or, vec_items, zero}
+pub use Rattle.std.specs.Prelude.{ℕ, ℤ, ◌&&◌, ◌*◌, ◌+◌, ◌-◌, ◌/◌, ◌<◌, ◌==◌, ◌^◌, ◌||◌, ◌∷◌, ◌≡◌, ◌≢◌, ◌≤◌, ◌⊎◌}
+pub use Rattle.std.specs.Str.{IsUtf8, bytes_eq}
+pub use Rattle.std.specs.declared.io.Error.{Error}
