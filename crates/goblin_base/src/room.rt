@@ -15,12 +15,14 @@ pub fn room(len: usize, offset: usize, size: usize) -> Result<(), scroll::Error>
     ensures value { result ≡ room_of len offset size }
     ensures fits { IsOk result ↔ (offset + size ≤ len) }
 {
-    if offset > len || (offset == len && size > 0) {
+    if offset <= len && size <= len - offset {
+        return Ok(());
+    }
+    if offset >= len {
         return Err(scroll::Error::BadOffset(offset));
     }
-    let rest = len - offset;
-    if size > rest {
-        return Err(scroll::Error::TooBig { size, len: rest });
-    }
-    Ok(())
+    Err(scroll::Error::TooBig {
+        size,
+        len: len - offset,
+    })
 }

@@ -1,9 +1,9 @@
 //! The loaded segments of a file, as in a core: where each lies in memory and in the file.
-ghost use Rattle.std.specs.Prelude.{◌≡◌, ◌++◌, ◌-◌, ◌==◌, IfOk, OnOk, codes, decimal, filter, length, map, min, string_bytes};
+ghost use Rattle.std.specs.Prelude.{◌≡◌, ◌++◌, ◌-◌, ◌==◌, IfErr, IfOk, OnOk, alloc_error, codes, decimal, filter, length, map, min, string_bytes};
 ghost use Rattle.goblin.specs.Texts.{◌&◌, hexadecimal};
 
 use goblin::elf::program_header::{PT_LOAD, ProgramHeader};
-use goblin::error::Result;
+use goblin::error::{Error, Result};
 use std::alloc::{AllocError, Global};
 
 /// What is shown of a segment.
@@ -29,12 +29,13 @@ pub fn held(bytes: &[u8], segment: &ProgramHeader) -> u64
 
 /// Returns the rows of the loaded segments, in order. The only error is out of memory.
 pub fn rows(alloc: Global, bytes: &[u8], segments: &[ProgramHeader]) -> Result<Vec<Row>>
-    ensures { IfOk result (λ rows. rows.items ≡ map (λ s. record {
+    ensures ok { IfOk result (λ rows. rows.items ≡ map (λ s. record {
       address = s.p_vaddr;
       size = s.p_memsz;
       held = min s.p_filesz (length bytes.now - s.p_offset);
       offset = s.p_offset;
     }) (filter (λ s. s.p_type == 1) segments.now)) }
+    ensures err { IfErr result (λ e. e ≡ Error.Memory alloc_error) }
 {
     let loaded = segments.iter().filter(|segment| segment.p_type == PT_LOAD);
     let rows = loaded.map(|segment| Row {
@@ -52,7 +53,9 @@ pub fn push_segments(
     text: &mut String,
     bytes: &[u8],
     segments: &[ProgramHeader],
-) -> Result<()> {
+) -> Result<()>
+    ensures { IfErr result (λ e. e ≡ Error.Memory alloc_error) }
+{
     for row in &rows(alloc, bytes, segments)? {
         push_line(text, row)?;
     }
