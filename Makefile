@@ -57,17 +57,17 @@ margin:
 # Times the program, once it is built, beside readelf over files that ask for much work, over a FILE, and over files of this machine: make
 # bench FILE=/bin/true.
 bench:
-	@python3 checks/bench.py $(if $(value FILE),"$$SHOWN")
+	@python3 bench/program.py $(if $(value FILE),"$$SHOWN")
 
 # Times the library for C beside libelf, where its header is installed: make bench-faces [FILE=/usr/lib/libx.so] [CPU=x86-64-v2]
 bench-faces:
 	$(has_rt)
-	@sh checks/bench_faces.sh
+	@sh bench/c.sh
 
 # Times the Python package beside pyelftools and readelf, where these are installed: make bench-python [FILE=/usr/lib/libx.so]
 bench-python:
 	$(has_rt)
-	@sh checks/bench_python.sh
+	@sh bench/python.sh
 
 # Installs the library with its header, pkg-config file, examples and Rust crate, and the program if it is proved and built: make install
 # PREFIX=/usr/local [DESTDIR=/tmp/root] [LIBDIR=lib/x86_64-linux-gnu] [CPU=x86-64-v2] [SHARED=1] [TARGET=aarch64-unknown-linux-gnu];
