@@ -12,16 +12,16 @@ export MODE
 unexport FILE
 
 # Says what to install where a command is missing.
-has_rt = @sh checks/has_rt.sh 'make $@' git
+has_rt = @sh commands/has.sh 'make $@' git awk python3 rt
 
 # Shows a file, by the program built without a proof: make try FILE=/bin/true
 try:
-	@sh checks/show.sh try
+	@sh commands/show.sh try
 
 # Proves each crate of the program where needed, builds it, and shows a file: make show FILE=/bin/true [MODE=permissive]
 # (A refused file is no error of make. What can't be read is, and so is a program that isn't proved or can't write.)
 show:
-	@sh checks/show.sh show
+	@sh commands/show.sh show
 
 # First what takes seconds: whether quotations agree with the code, lints, and whether the edits fit. Then side by side, as
 # many parts as there are processors: the proof of each crate but the tests' own; the tests, run without a proof; the program's words, real
@@ -52,11 +52,12 @@ edits:
 # make margin CRATES=goblin_base
 margin:
 	$(has_rt)
-	@python3 checks/margin.py $(CRATES)
+	@python3 bench/margin.py $(CRATES)
 
 # Times the program, once it is built, beside readelf over files that ask for much work, over a FILE, and over files of this machine: make
 # bench FILE=/bin/true.
 bench:
+	$(has_rt)
 	@python3 bench/program.py $(if $(value FILE),"$$SHOWN")
 
 # Times the library for C beside libelf, where its header is installed: make bench-faces [FILE=/usr/lib/libx.so] [CPU=x86-64-v2]

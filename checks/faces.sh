@@ -19,7 +19,7 @@ try() {
     sh "checks/faces/$subject.sh" "$folder" "$@"
 }
 
-sh checks/libraries.sh faces goblin_c
+sh commands/libraries.sh faces goblin_c
 echo "faces: making the library, which takes some minutes if its calls are not proved yet"
 try library
 if ! command -v cc > /dev/null; then

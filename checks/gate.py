@@ -250,7 +250,7 @@ def main():
             sys.exit('gate: no edit was found')
         status = Run(parts).all(len(os.sched_getaffinity(0)))
         if not status and options.goal != 'edits':
-            subprocess.run(['sh', 'checks/show.sh', 'built'], cwd=f'{room}/proved', check=True)
+            subprocess.run(['sh', 'commands/show.sh', 'built'], cwd=f'{room}/proved', check=True)
             leave(f'{room}/proved')
     print('FAILED: the messages are above the table' if status else 'PASSED', flush=True)
     return status

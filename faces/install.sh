@@ -19,9 +19,7 @@ fail() {
     echo "$1" >&2
     exit 1
 }
-for name in awk python3; do
-    command -v $name > /dev/null || fail "goblin_c: the command $name was not found. Install it first"
-done
+sh commands/has.sh goblin_c awk python3
 version=$(awk -F '"' '/^version = / { print $2; exit }' faces/rust/Cargo.toml)
 target=${TARGET:-x86_64-unknown-linux-gnu}
 interface=$(awk '$2 == "GOBLIN_VERSION" { print $3 }' faces/c/goblin.h)
@@ -259,7 +257,7 @@ verdict() { grep -e '^axioms ' -e '^logic=' "$1" || :; }
 make_library() {
     made=crates/goblin_c/out/libgoblin_c.a
     if [ -e "$made" ]; then cp -p "$made" "$folder/before"; fi
-    sh checks/libraries.sh goblin_c goblin_c
+    sh commands/libraries.sh goblin_c goblin_c
     echo "goblin_c: proving the calls for C, and compiling them for $target" >&2
     (cd crates/goblin_c && rt lib --target "$target" --cpu "$cpu") > "$folder/said" 2>&1 || { cat "$folder/said"; exit 1; }
     verdict "$folder/said"
@@ -275,7 +273,7 @@ make_library() {
 
 library=${LIBRARY:-}
 if [ -z "$library" ]; then
-    sh checks/has_rt.sh 'making the library'
+    sh commands/has.sh 'making the library' rt
     cpu=${CPU:-$every}
     cache=out/library/$target-$cpu
     library=$cache/library
@@ -288,7 +286,7 @@ fi
 program=
 if [ "$target" = x86_64-unknown-linux-gnu ]; then
     program=${PROGRAM:-}
-    if [ -z "$program" ] && sh checks/show.sh is_built; then program=crates/goblin_show/out/goblin_show; fi
+    if [ -z "$program" ] && sh commands/show.sh is_built; then program=crates/goblin_show/out/goblin_show; fi
 fi
 if [ "$target" = x86_64-unknown-linux-gnu ] && [ -z "$program" ]; then
     echo "goblin_show is left out: it is not proved and built of these sources, which \`make show FILE=/bin/true\` does"

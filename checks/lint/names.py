@@ -16,7 +16,7 @@ from files import text_of, tracked
 HEADS = ('goblin', 'libelf', 'object', 'pyelftools', 'lief')
 # Names of others that stand in no such column: of libelf and of CMake.
 OTHERS = {'elf_getshdrnum', 'PkgConfig', 'GOBLIN'}
-READ = ('crates/*/src/*', 'crates/*/specs/*', 'faces', 'checks', 'bench', 'Makefile', 'crates.txt', ':!*.md')
+READ = ('crates/*/src/*', 'crates/*/specs/*', 'faces', 'checks', 'bench', 'commands', 'Makefile', 'crates.txt', ':!*.md')
 COMMENT = {'rt': '//', 'main': '//', 'antt': '--'}
 FILE = re.compile(r'[\w./-]*(?:/[\w./-]*|\.(?:rt|antt|rs|js|mjs|py|sh|edit|awk))')
 DEFINED = re.compile(r'\b(?:struct|enum|trait|type)\s+(\w+)|^impl\b(.*)', re.MULTILINE)
