@@ -49,10 +49,18 @@ folder=$(mktemp -d)
 trap 'rm -rf "$folder"' EXIT
 trap 'exit 1' HUP INT TERM
 
-# Makes a folder below the folder, with those above it, and notes those that were not there in the list of installed files.
+# Makes a folder below the folder, with those above it, and notes those that were not there in the list of installed files: those above
+# the whole installation as ../, ../../ and so on.
 make_folder() {
     if [ -d "$to/$1" ]; then return 0; fi
     case $1 in */*) make_folder "${1%/*}" ;; ?*) make_folder '' ;; esac
+    if [ -z "$1" ]; then
+        above=$(dirname "$to") up=../
+        while [ ! -d "$above" ]; do
+            echo "$up" >> "$folder/files"
+            above=$(dirname "$above") up=../$up
+        done
+    fi
     install -d -m 755 "$to/$1"
     echo "$1/" >> "$folder/files"
 }
@@ -224,10 +232,16 @@ remove_from() {
     rm -rf "$below/share/goblin_c/python/goblin_elf/__pycache__"
     # (lists of earlier versions name no folders)
     if [ -d "$below/share/goblin_c" ]; then find "$below/share/goblin_c" -depth -type d -empty -delete; fi
-    LC_ALL=C sort -r "$folder/made" | while read -r made; do
-        if [ -d "$below/$made" ] && [ -z "$(ls -A "$below/$made")" ]; then rmdir "$below/$made"; fi
+    sed '/^\.\.\//d' "$folder/made" | LC_ALL=C sort -r | while read -r made; do remove_empty "$below/$made"; done
+    above=$below
+    sed -n '/^\.\.\//p' "$folder/made" | sort -u | while read -r made; do
+        above=$(dirname "$above")
+        remove_empty "$above"
     done
 }
+
+# Removes a folder if nothing is in it.
+remove_empty() { if [ -d "$1" ] && [ -z "$(ls -A "$1")" ]; then rmdir "$1"; fi; }
 
 if [ "$1" = --uninstall ]; then
     [ -e "$2/share/goblin_c/library.files" ] || [ -e "$2/share/goblin_c/web.files" ] || fail "goblin_c is not installed below $2: nothing is removed"
