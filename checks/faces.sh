@@ -43,6 +43,6 @@ try c rust webassembly
 # (the toolchain makes one library at a time)
 try c aarch64
 echo "faces: comparison, after $(($(date +%s) - start)) seconds"
-for made in "$folder/rust/target" "$folder/webassembly/goblin_web.tar.gz"; do if [ -e "$made" ]; then mv "$made" "$folder/c/"; fi; done
+for made in rust/target webassembly/web webassembly/node; do if [ -e "$folder/$made" ]; then mv "$folder/$made" "$folder/c/"; fi; done
 python3 checks/faces/comparison.py "$folder/c" "$@"
 echo "faces: the calls from C, Rust, JavaScript and Python are as expected"

@@ -205,14 +205,12 @@ def by_js(name, paths, command):
 
 
 def javascript():
-    """The command that runs an example in JavaScript, up to its folder, if this machine can run them."""
-    flag = run('sh', 'checks/node_flag.sh')
-    if not os.path.exists(f'{FOLDER}/goblin_web.tar.gz') or flag.returncode:
+    """The command that runs an example in JavaScript, up to its folder, if webassembly.sh found one."""
+    if not os.path.exists(f'{FOLDER}/node'):
         print('node is missing or has no 64-bit memories, so the examples in JavaScript are not compared: install Node.js 24')
         return None
-    os.makedirs(f'{FOLDER}/web')
-    run('tar', '-C', f'{FOLDER}/web', '-xzf', f'{FOLDER}/goblin_web.tar.gz')
-    return ['node', *flag.stdout.split(), glob.glob(f'{FOLDER}/web/goblin_c-*/share/goblin_c/web/examples')[0]]
+    with open(f'{FOLDER}/node', encoding='utf-8') as command:
+        return [*command.read().split(), f'{FOLDER}/web/examples']
 
 
 def compare_lists(name, paths, by_readelf, node, convert=lambda lines: lines):
