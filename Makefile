@@ -1,79 +1,84 @@
-# The commands of this repository, which `make help` lists. They need the Rattle toolchain (`rt`), with the Python 3.8 or later that it
-# runs on, and git, make, a shell and awk; what checks/faces compiles by cc and cargo it leaves out where the machine has none.
+# The commands of this repository, which `make help` lists. They need git, awk, Python 3.8 or later, and the Rattle toolchain (`rt`). The
+# tests skip what needs a compiler that the machine lacks, and say so.
 
 # Prints README's table of commands.
 help:
 	@command -v awk > /dev/null || { echo 'make help: the command awk was not found. The table is in README.md' >&2; exit 2; }
 	@awk -F '|' '/^\|`make / { gsub(/`/, ""); printf "%-38s %-22s %s\n", $$2, $$4, $$3 }' README.md
 
-# The name of a file is passed on as it stands, whatever signs it has.
+# FILE is passed to the shell as an environment variable, so that its name may have any characters.
 export SHOWN := $(value FILE)
 export MODE
 unexport FILE
 
-# Says what to install where a command is missing.
-has_rt = @sh checks/has_rt.sh 'make $@' git
+# Ends with a sentence that says what to install, if a command is missing.
+has_rt = @sh commands/has.sh 'make $@' git awk python3 rt
 
-# Shows a file, by the program built without a proof: make try FILE=/bin/true
+# Shows a file by the program without a proof, or by the proved one if it is built: make try FILE=/bin/true [MODE=permissive]
 try:
-	@sh checks/show.sh try
+	@sh commands/show.sh try
 
-# Proves each crate of the program where needed, builds it, and shows a file: make show FILE=/bin/true [MODE=permissive]
-# (A refused file is no error of make. What can't be read is, and so is a program that isn't proved or can't write.)
+# Proves the crates of the program that are not proved yet, builds it, and shows a file: make show FILE=/bin/true [MODE=permissive]
+# Both end with 0 if the file is shown or refused. They end with 2 if it can't be read, or the output can't be written, or a proof fails.
 show:
-	@sh checks/show.sh show
+	@sh commands/show.sh show
 
-# First what takes seconds: whether quotations agree with the code, lints, and whether the edits fit. Then side by side, as
-# many parts as there are processors: the proof of each crate but the tests' own; the tests, run without a proof; the program's words, real
-# files and hostile ones; the library called from C, Rust and JavaScript; the edits of must-fail/ and controls/ of each crate that is
-# proved; and allocations that fail. At the end stands what each part took.
+# Tests all, but doesn't prove the tests themselves. First come checks that take seconds: of the pages, the scripts, and whether the edits
+# fit the code. Then run side by side, as many as there are processors: the proof of each crate; the tests; the program over real and
+# hostile files; calls of the library from C, Rust, JavaScript and Python; the edits of must-fail/ and controls/; and allocations that are
+# refused. The last lines are a table of what each part took.
 test:
 	$(has_rt)
 	@python3 checks/gate.py test
 
-# The same, but the tests are proved and run by the toolchain's own gate, `rt ci`, which proves all from nothing once more and judges more:
-# README says what. And every edit is tried, and the script that tries them is tested.
+# Tests all, and proves the tests too: they and must-fail/ are left to the toolchain's own gate, `rt ci`, which proves all from nothing once
+# more. All other edits are tried, and so is the script that tries them.
 gate:
 	$(has_rt)
 	@python3 checks/gate.py gate
 
-# The library for C called from C, Rust and JavaScript, by itself.
+# Calls the library from C, Rust, JavaScript and Python.
 faces:
 	$(has_rt)
 	@sh checks/faces.sh
 
-# The edits alone, of all crates or of some, over the proofs that earlier checks in the crates' folders cached; those of another folder,
-# which has a folder for each crate; or one, by its name: make edits CRATES=goblin_base; make edits FROM=/tmp/bugs; make edits EDIT=one_early
+# Tries the edits alone, over proofs that earlier checks in the crates' folders cached: make edits [CRATES=goblin_base] [EDIT=one_early]
+# CRATES names crates, and EDIT an edit by its file's name. FROM=/tmp/bugs tries those of another folder, which has a folder for each crate.
 edits:
 	$(has_rt)
 	@python3 checks/gate.py edits $(CRATES) $(if $(FROM),--from '$(FROM)') $(if $(EDIT),--edit '$(EDIT)')
 
-# Checks each crate with half of the search's limits, and lists the functions that stay open and the ten slowest: make margin;
-# make margin CRATES=goblin_base
+# Checks each crate with half of the search's limits, and lists the functions that stay open and the ten slowest: make margin
+# [CRATES=goblin_base]
 margin:
 	$(has_rt)
-	@python3 checks/margin.py $(CRATES)
+	@python3 bench/margin.py $(CRATES)
 
-# Times the program, once it is built, beside readelf over files that ask for much work, over a FILE, and over files of this machine: make
-# bench FILE=/bin/true.
+# Times the program, once it is built, beside readelf: over files that ask for much work, over a FILE, and over files of this machine. Then
+# times calls of the library: make bench [FILE=/bin/true]
 bench:
-	@python3 checks/bench.py $(if $(value FILE),"$$SHOWN")
+	$(has_rt)
+	@python3 bench/program.py $(if $(value FILE),"$$SHOWN")
 
-# Times the library for C beside libelf, where its header is installed: make bench-faces [FILE=/usr/lib/libx.so] [CPU=x86-64-v2]
+# Times the library for C beside libelf, if libelf's header is installed: make bench-faces [FILE=/usr/lib/libx.so] [CPU=x86-64-v2]
 bench-faces:
 	$(has_rt)
-	@sh checks/bench_faces.sh
+	@sh bench/c.sh
 
-# Times the Python package beside pyelftools and readelf, where these are installed: make bench-python [FILE=/usr/lib/libx.so]
+# Times the Python package beside pyelftools and readelf, if these are installed: make bench-python [FILE=/usr/lib/libx.so]
 bench-python:
 	$(has_rt)
-	@sh checks/bench_python.sh
+	@sh bench/python.sh
 
-# Installs the library with its header, pkg-config file, examples and Rust crate, and the program if it is proved and built: make install
-# PREFIX=/usr/local [DESTDIR=/tmp/root] [LIBDIR=lib/x86_64-linux-gnu] [CPU=x86-64-v2] [SHARED=1] [TARGET=aarch64-unknown-linux-gnu];
-# or puts the same into an archive, whose name has the version and the target: make dist [TARGET=aarch64-unknown-linux-gnu].
-# TARGET=wasm64-unknown-unknown makes the module, its JavaScript and the page. faces/install.sh says what each variable does. What an
-# earlier version installed below PREFIX is removed first; `uninstall` only removes it.
+# `make install` installs the library with its header, pkg-config and CMake files, examples, Rust crate and Python package, and the program
+# if it is proved and built. `make dist` puts the same into an archive. What an earlier version installed below PREFIX is removed first;
+# `make uninstall` removes it, and the folders that were made for it. Variables:
+#   PREFIX=/usr/local   the folder of the installation
+#   LIBDIR=lib          the folder of the library, below PREFIX
+#   DESTDIR=/tmp/root   a folder that stands for the root, as for a package
+#   TARGET=aarch64-unknown-linux-gnu   or wasm64-unknown-unknown, which makes the module, its JavaScript and the page
+#   CPU=x86-64-v2       the processors that the library may be used on, by default all of the target's
+#   SHARED=1            also a shared library; `make dist` makes a wheel for Python in any case, if there is a C compiler
 PREFIX ?= /usr/local
 LIBDIR ?= lib
 export CPU TARGET SHARED

@@ -1,6 +1,6 @@
 #!/bin/sh
 # Tests the library's calls from C, Rust, JavaScript and Python: sh checks/faces.sh [FILE ..]
-# It runs the scripts of checks/faces, one for each subject, in a folder of this run. If the machine lacks a compiler, an emulator or
+# It runs the scripts of checks/faces, one for each subject, in folders of this run. If the machine lacks a compiler, an emulator or
 # binutils, a line says what is skipped, and the test passes. The FILEs are compared with binutils, by default files of this machine.
 # Run it from the repository's root.
 set -eu
@@ -8,24 +8,41 @@ folder=$(mktemp -d)
 trap 'rm -rf "$folder"' EXIT
 trap 'exit 1' HUP INT TERM
 start=$(date +%s)
+left='c python archive rust webassembly aarch64 comparison'
 python3 faces/constants.py --check
 python3 faces/constants.py --made
 echo "the constants in C are the library's, and those in Rust, JavaScript and Python are made of it"
-# Runs the script of a subject: try SUBJECT [FILE ..]
+
+# Runs the scripts of some subjects side by side, each in a folder of its own, which begins as a copy of another one: try FROM SUBJECT ..
 try() {
-    subject=$1
+    from=$folder/$1
     shift
-    echo "faces: $subject, after $(($(date +%s) - start)) seconds"
-    sh "checks/faces/$subject.sh" "$folder" "$@"
+    left=${left#*"$*"}
+    echo "faces: $*, after $(($(date +%s) - start)) seconds; left:${left:- nothing}"
+    for subject; do
+        cp -R "$from" "$folder/$subject"
+        { sh "checks/faces/$subject.sh" "$folder/$subject" > "$folder/$subject.said" 2>&1 || touch "$folder/$subject.failed"; } &
+    done
+    wait
+    for subject; do
+        cat "$folder/$subject.said"
+        if [ -e "$folder/$subject.failed" ]; then echo "faces: $subject FAILED"; exit 1; fi
+    done
 }
 
-sh checks/libraries.sh faces goblin_c
+sh commands/libraries.sh faces goblin_c
 echo "faces: making the library, which takes some minutes if its calls are not proved yet"
-try library
+mkdir "$folder/library"
+sh checks/faces/library.sh "$folder/library"
 if ! command -v cc > /dev/null; then
     echo "cc is not installed, so the calls from C, Rust, JavaScript and Python are not tested: install a C compiler"
     exit 0
 fi
-for subject in c rust python archive aarch64 webassembly; do try $subject; done
-try comparison "$@"
+try library c python archive
+try c rust webassembly
+# (the toolchain makes one library at a time)
+try c aarch64
+echo "faces: comparison, after $(($(date +%s) - start)) seconds"
+for made in rust/target webassembly/web webassembly/node; do if [ -e "$folder/$made" ]; then mv "$folder/$made" "$folder/c/"; fi; done
+python3 checks/faces/comparison.py "$folder/c" "$@"
 echo "faces: the calls from C, Rust, JavaScript and Python are as expected"

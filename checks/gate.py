@@ -2,14 +2,14 @@
 """Runs the parts of a test side by side, and says what comes of each and what it takes. Run from the repository's root.
 
     python3 checks/gate.py test            every proof but those of the tests' own bodies, every test and program, must-fail/ and controls/
-    python3 checks/gate.py gate            `rt ci`, which proves the tests too, and every edit
+    python3 checks/gate.py gate            `rt ci`, which proves the tests too and tries must-fail/, and edits/ and controls/
     python3 checks/gate.py edits [CRATE ..] [--edit NAME] [--from FOLDER]     the edits alone, of these crates or of all
     python3 checks/gate.py prove CRATE     in a copy of the repository in which the crates below are proved: a part of each of these
 
 The crates are proved in a copy of the repository, which holds nothing that an earlier run left there; `edits` takes over what checks in
-the crates' folders have cached. As many parts run side by side as there are processors. A proof begins as soon as it can and goes
-before the other parts, which wait for it. A part that fails is printed whole, and what waits for it is left out. What each part prints
-stands in out/log.
+the crates' folders have cached. As many parts run side by side as there are processors. Proofs and the calls from other languages begin as
+soon as they can, and what the longest chain waits for gets a processor first. A part that fails is printed whole, and what waits for it is
+left out. What each part prints stands in out/log.
 """
 import argparse
 import os
@@ -29,12 +29,13 @@ PYTHON = sys.executable or 'python3'
 
 @dataclass
 class Part:
-    """A command, the parts that must pass before it, and whether it goes before others."""
+    """A command, the parts that must pass before it, whether it goes before others, and about how many minutes it takes."""
     name: str
     command: list
     after: tuple = ()
     where: str = '.'
     is_first: bool = False
+    weight: int = 1
     begun: float = 0
     ended: float = 0
     seconds: float = 0
@@ -96,7 +97,7 @@ def has_tests(crate):
 
 
 # What takes seconds. All else waits for it.
-QUICK = {'quotations': 'sh checks/quotes.sh', 'lint': 'sh checks/lint.sh', 'whether edits fit': f'{PYTHON} checks/edits --fits', 'views': 'sh checks/views.sh'}
+QUICK = {'lint': f'{PYTHON} checks/lint', 'whether edits fit': f'{PYTHON} checks/edits --fits', 'views': 'sh checks/views.sh'}
 
 
 def proofs(crates, copy, after=()):
@@ -108,8 +109,9 @@ def proofs(crates, copy, after=()):
 
 
 def edits(crates, copy, *words, what='edits'):
-    """The edits of these crates, each once the crate is proved."""
-    return [Part(f'{what} of {crate}', [PYTHON, 'checks/edits', '--over', copy, *words, crate], (f'proof of {crate}',), copy) for crate in crates]
+    """The edits of these crates, each once the crate is proved. (Those of the highest crates, which are proved last, take longest.)"""
+    return [Part(f'{what} of {crate}', [PYTHON, 'checks/edits', '--over', copy, *words, crate], (f'proof of {crate}',), copy, weight=3)
+            for crate in reversed(crates)]
 
 
 def crates_with(kinds, name=None, folder=''):
@@ -123,7 +125,8 @@ def test(room, whole):
     """The parts of `make test`, or where it is to be whole, of `make gate`."""
     copy = copied(f'{room}/proved')
     waits = tuple(QUICK)
-    kinds = ['must-fail', 'controls', *['edits'] * whole]
+    # (`rt ci` tries must-fail/)
+    kinds = ['controls', 'edits'] if whole else ['must-fail', 'controls']
     here = lambda name, command, *after: Part(name, command.split(), after or waits, copy)
     parts = [Part(name, command.split(), is_first=True) for name, command in QUICK.items()]
     parts += [Part('rt ci', ['rt', 'ci'], waits, copied(f'{room}/whole'), True)] if whole else []
@@ -131,7 +134,7 @@ def test(room, whole):
     parts += proofs([crate for crate in crates_listed() if not crate.endswith('_tests')], copy, waits)
     if not whole:
         parts += [here(f'tests of {crate}', f'sh checks/tests.sh {crate}') for crate in crates_listed() if has_tests(crate)]
-    parts += [here('calls from other languages', 'sh checks/faces.sh', 'proof of goblin_c')]
+    parts += [Part('calls from other languages', ['sh', 'checks/faces.sh'], ('proof of goblin_c',), copy, True, weight=3)]
     # (all kinds together take fewer checks, and each by itself ends sooner)
     for some in [','.join(kinds)] if whole else kinds:
         parts += edits(crates_with(some.split(',')), copy, '--kinds', some, what='edits' if whole else some)
@@ -163,6 +166,11 @@ class Run:
     def __init__(self, parts):
         self.parts, self.running, self.start, self.said = parts, {}, time.time(), time.time()
         self.status = {part.name: part for part in parts}
+        # How long the longest chain of parts is that wait for each one. (They stand after it.)
+        self.chain = dict.fromkeys(self.status, 0)
+        for part in reversed(parts):
+            for name in part.after:
+                self.chain[name] = max(self.chain[name], self.chain[part.name] + part.weight)
 
     def say(self, line):
         self.said = time.time()
@@ -175,7 +183,8 @@ class Run:
     def begin(self, part):
         part.begun = time.time()
         log = open(f'{LOGS}/{part.name.replace(" ", "-")}', 'w', encoding='utf-8')
-        command = part.command if part.is_first else ['nice', '-n', '5', *part.command]
+        level = 5 if not part.is_first else 0 if self.chain[part.name] + part.weight > 3 else 2
+        command = ['nice', '-n', str(level), *part.command]
         with log:
             ran = subprocess.Popen(command, cwd=part.where, stdin=subprocess.DEVNULL, stdout=log, stderr=subprocess.STDOUT)
         self.running[ran.pid] = (part, ran)
@@ -203,7 +212,7 @@ class Run:
             now = [part for part, _ in self.running.values()]
             waiting = [part for part in self.left() if part not in now]
             ready = [part for part in waiting if all(self.status[name].status == 0 for name in part.after)]
-            for part in sorted(ready, key=lambda part: not part.is_first):
+            for part in sorted(ready, key=lambda part: (not part.is_first, -self.chain[part.name])):
                 if len(self.running) < places or part.is_first and sum(other.is_first for other in now) < places:
                     self.begin(part)
                     now.append(part)
@@ -250,7 +259,7 @@ def main():
             sys.exit('gate: no edit was found')
         status = Run(parts).all(len(os.sched_getaffinity(0)))
         if not status and options.goal != 'edits':
-            subprocess.run(['sh', 'checks/show.sh', 'built'], cwd=f'{room}/proved', check=True)
+            subprocess.run(['sh', 'commands/show.sh', 'built'], cwd=f'{room}/proved', check=True)
             leave(f'{room}/proved')
     print('FAILED: the messages are above the table' if status else 'PASSED', flush=True)
     return status

@@ -149,44 +149,46 @@ def text_sections():
     return text_file([section(SHT_STRTAB, TEXT_BODY, TEXT_SIZE)] + headers, SHORT_STRINGS, names=1)
 
 
+# Each file: how it is made, and the most processor seconds that a strict and a permissive run may take, at most some 20 times what they
+# took when this was set.
 MAKERS = {
     # 65,000 symbol sections of a byte, linked to one string table of 12 MB; 64,999 to two in turn; and to one that ends in a bad byte
-    'one': lambda: in_turn(1, 65_000, b'a' * 12_000_000),
-    'turns': lambda: in_turn(2, 64_999, b'a' * 12_000_000),
-    'damaged': lambda: in_turn(1, 65_000, b'a' * 11_999_999 + BAD),
+    'one': (lambda: in_turn(1, 65_000, b'a' * 12_000_000), 1, 1),
+    'turns': (lambda: in_turn(2, 64_999, b'a' * 12_000_000), 1, 1),
+    'damaged': (lambda: in_turn(1, 65_000, b'a' * 11_999_999 + BAD), 1, 1),
     # 32,000 overlapping string tables, of characters of one byte and of four
-    'narrow': lambda: overlapping(1, b'a' * 12_000_000),
-    'wide': lambda: overlapping(len(WIDE), WIDE * 3_000_000),
+    'narrow': (lambda: overlapping(1, b'a' * 12_000_000), 1, 1),
+    'wide': (lambda: overlapping(len(WIDE), WIDE * 3_000_000), 3, 1),
     # 60,000 symbol sections linked in turn to two tables of 6 MB, of 3,000,000 strings and a byte that is not UTF-8
-    'strings': lambda: in_turn(2, 60_000, b'a\0' * 2_999_999 + b'a' + BAD),
+    'strings': (lambda: in_turn(2, 60_000, b'a\0' * 2_999_999 + b'a' + BAD), 1, 1),
     # 200,000 names that begin inside a character of four bytes, in a string table of 11 MB
-    'inside': lambda: named([5] * 200_000, WIDE * 2_750_000),
+    'inside': (lambda: named([5] * 200_000, WIDE * 2_750_000), 2, 2),
     # 300,000 symbols with names
-    'symbols': lambda: symbols_file(NAMED, NAMES),
+    'symbols': (lambda: symbols_file(NAMED, NAMES), 2, 2),
     # 300,000 names in one string of 9 MB that ends in a byte that is not UTF-8, of characters of one byte and of four
-    'failing': lambda: named(range(1, 29 * 300_000, 29), b'a' * 8_999_999 + BAD),
-    'failing_wide': lambda: named(range(4, 28 * 300_000, 28), WIDE * 2_249_999 + b'abc' + BAD),
+    'failing': (lambda: named(range(1, 29 * 300_000, 29), b'a' * 8_999_999 + BAD), 1, 6),
+    'failing_wide': (lambda: named(range(4, 28 * 300_000, 28), WIDE * 2_249_999 + b'abc' + BAD), 2, 11),
     # 60,000 symbol sections over the same 300,000 symbols with names
-    'endless': endless,
+    'endless': (endless, 7, 7),
     # 65,000 relocation sections of one entry each, at the end of a file of 16 MB; and one section of 690,000
-    'relocs': relocs,
-    'relocations': relocations,
+    'relocs': (relocs, 1, 1),
+    'relocations': (relocations, 2, 2),
     # 16,256 symbol sections of a byte, each linked to one of as many overlapping string tables
-    'text_tables': text_tables,
+    'text_tables': (text_tables, 1, 1),
     # 32,637 sections with names, which lie 6 MB and more after the start of a string table of 8 MB
-    'text_sections': text_sections,
+    'text_sections': (text_sections, 1, 1),
     # symbols with names of at most 15 bytes, and of at most 4,095
-    'text_symbols': lambda: text_symbols(253_952, SHORT_STRINGS),
-    'text_long_names': lambda: text_symbols(24_576, LONG_STRINGS),
+    'text_symbols': (lambda: text_symbols(253_952, SHORT_STRINGS), 2, 2),
+    'text_long_names': (lambda: text_symbols(24_576, LONG_STRINGS), 2, 2),
     # 32,638 overlapping relocation sections of one entry each, of a byte less than an entry, and of 8 MB
-    'text_relocs': lambda: text_relocs(TEXT_SIZE - 0x10000, RELA_SIZE),
-    'text_relocs_cut': lambda: text_relocs(TEXT_SIZE - 0x10000, REL_SIZE - 1),
-    'text_relocs_endless': lambda: text_relocs(TEXT_BODY, TEXT_SIZE),
+    'text_relocs': (lambda: text_relocs(TEXT_SIZE - 0x10000, RELA_SIZE), 1, 1),
+    'text_relocs_cut': (lambda: text_relocs(TEXT_SIZE - 0x10000, REL_SIZE - 1), 1, 1),
+    'text_relocs_endless': (lambda: text_relocs(TEXT_BODY, TEXT_SIZE), 5, 5),
 }
 
 
-def main(folder):
-    for name, maker in MAKERS.items():
+def make(folder):
+    for name, (maker, *_) in MAKERS.items():
         made = maker()
         if name.startswith('text_') and not made.isascii():
             sys.exit(f'hostile: a byte of {name} is above 127')
@@ -195,4 +197,4 @@ def main(folder):
 
 
 if __name__ == '__main__':
-    main(sys.argv[1])
+    make(sys.argv[1])

@@ -1,17 +1,20 @@
 #!/usr/bin/env python3
 """Whether files made to ask for much work stay cheap: python3 checks/limits.py, from the repository's root, once the programs are built.
 
-Of each file of checks/hostile.py: the processor seconds that a strict and a permissive run may take, at most some 20 times what
-they took when the limits were set, and for all the address space and the main stack. So memory that is asked for and never touched
-counts too, and no run may end for want of it. Of a text without end the first 100 MB are read, and then no more. What is there for
-speed alone, and no contract says, is noticed here when it is undone. And of each call of the library that allocates, as goblin_refused
-makes it: the address space for a list of the records or strings in 4 MB of bytes and 500 lists of one item, held at once.
+Of each file of checks/hostile.py: the processor seconds that stand there, and for all the address space and the main stack. So memory
+that is asked for and never touched counts too, and no run may end for want of it. Of a text without end the first 100 MB are read, and
+then no more. What is there for speed alone, and no contract says, is noticed here when it is undone. And of each call of the library
+that allocates, as goblin_refused makes it: the address space for a list of the records or strings in 4 MB of bytes and 500 lists of one
+item, held at once.
 """
 import os
 import resource
 import subprocess
 import sys
 import tempfile
+
+sys.dont_write_bytecode = True
+from hostile import MAKERS, make
 
 PROGRAM = 'crates/goblin_show/out/goblin_show'
 CALLS = 'crates/goblin_refused/out/goblin_refused'
@@ -20,13 +23,6 @@ ADDRESS_SPACE = 40 * 1024 * 1024
 STACK = 256 * 1024
 READ = 100_000_000
 OUT_OF_MEMORY = b'refused: Out of memory'
-# file: strict, permissive
-LIMITS = {
-    'damaged': (1, 1), 'endless': (7, 7), 'failing': (1, 6), 'failing_wide': (2, 11), 'inside': (2, 2), 'narrow': (1, 1), 'one': (1, 1),
-    'relocations': (2, 2), 'relocs': (1, 1), 'strings': (1, 1), 'symbols': (2, 2), 'text_long_names': (2, 2), 'text_relocs': (1, 1),
-    'text_relocs_cut': (1, 1), 'text_relocs_endless': (5, 5), 'text_sections': (1, 1), 'text_symbols': (2, 2), 'text_tables': (1, 1),
-    'turns': (1, 1), 'wide': (3, 1),
-}
 # What goblin_refused holds: the most MB of address space, which are 2 to 3 MB more than its 4 MB of bytes, its lists and the program
 # itself took when this was set.
 HELD = {
@@ -47,8 +43,7 @@ def read(output):
 
 
 def took(path, arguments, limit):
-    """Whether a run over a file, which is ended where it passes a limit, ends as it should; its processor seconds, and the memory
-    that it held."""
+    """Whether a run over a file, which is ended where it passes a limit, ends as it should, and its processor seconds."""
     def limited():
         resource.setrlimit(resource.RLIMIT_CPU, (limit, limit))
         resource.setrlimit(resource.RLIMIT_STACK, (STACK, STACK))
@@ -59,7 +54,7 @@ def took(path, arguments, limit):
         _, status, used = os.wait4(started.pid, 0)
         started.returncode = status
     ended = was_read if path.endswith('endless') else os.WIFEXITED(status) and os.WEXITSTATUS(status) < 2
-    return ended and head != OUT_OF_MEMORY, used.ru_utime + used.ru_stime, used.ru_maxrss * 1024
+    return ended and head != OUT_OF_MEMORY, used.ru_utime + used.ru_stime
 
 
 def holds(form, limit):
@@ -73,16 +68,13 @@ def holds(form, limit):
 def main():
     wrong = 0
     with tempfile.TemporaryDirectory(prefix='limits-') as folder:
-        subprocess.run([sys.executable, 'checks/hostile.py', folder], check=True)
-        if sorted(os.listdir(folder)) != sorted(LIMITS):
-            print(f'limits: LIMITS must name the files that checks/hostile.py makes: {sorted(os.listdir(folder))}')
-            return 1
-        for name, limits in LIMITS.items():
+        make(folder)
+        for name, (_, *limits) in MAKERS.items():
             for mode, limit in zip(('strict', 'permissive'), limits):
-                well, seconds, memory = took(f'{folder}/{name}', ['permissive'] * (mode == 'permissive'), limit)
+                well, seconds = took(f'{folder}/{name}', ['permissive'] * (mode == 'permissive'), limit)
                 wrong += not well
-                print(f'{name}, {mode}: {seconds:.2f} of {limit} seconds, {memory >> 20} MB{"" if well else ": OVER THE LIMIT, or it failed"}')
-    print(f'limits: {2 * len(LIMITS)} runs, {wrong} over a limit or failed')
+                print(f'{name}, {mode}: {seconds:.2f} of {limit} seconds{"" if well else ": OVER THE LIMIT, or it failed"}')
+    print(f'limits: {2 * len(MAKERS)} runs, {wrong} over a limit or failed')
     over = [form for form, limit in HELD.items() if not holds(form, limit)]
     print(f'limits: {len(HELD)} lists of the library, over the limit of their memory: {", ".join(over) or "none"}')
     wrong += len(over)

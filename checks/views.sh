@@ -3,7 +3,7 @@
 # `clone` and `len` on each view. The compiler must refuse each `clone`, because the view isn't `Clone`, and nothing else. Nothing is
 # proved. Run from the repository's root.
 set -eu
-sh checks/has_rt.sh 'compiling callers of views'
+sh commands/has.sh 'compiling callers of views' rt
 views='entries::Looked entries::Entries entries::Probes counted_bytes::CountedBytes'
 folder=$(mktemp -d)
 trap 'rm -rf "$folder"' EXIT

@@ -19,9 +19,7 @@ fail() {
     echo "$1" >&2
     exit 1
 }
-for name in awk python3; do
-    command -v $name > /dev/null || fail "goblin_c: the command $name was not found. Install it first"
-done
+sh commands/has.sh goblin_c awk python3
 version=$(awk -F '"' '/^version = / { print $2; exit }' faces/rust/Cargo.toml)
 target=${TARGET:-x86_64-unknown-linux-gnu}
 interface=$(awk '$2 == "GOBLIN_VERSION" { print $3 }' faces/c/goblin.h)
@@ -51,10 +49,18 @@ folder=$(mktemp -d)
 trap 'rm -rf "$folder"' EXIT
 trap 'exit 1' HUP INT TERM
 
-# Makes a folder below the folder, with those above it, and notes those that were not there in the list of installed files.
+# Makes a folder below the folder, with those above it, and notes those that were not there in the list of installed files: those above
+# the whole installation as ../, ../../ and so on.
 make_folder() {
     if [ -d "$to/$1" ]; then return 0; fi
     case $1 in */*) make_folder "${1%/*}" ;; ?*) make_folder '' ;; esac
+    if [ -z "$1" ]; then
+        above=$(dirname "$to") up=../
+        while [ ! -d "$above" ]; do
+            echo "$up" >> "$folder/files"
+            above=$(dirname "$above") up=../$up
+        done
+    fi
     install -d -m 755 "$to/$1"
     echo "$1/" >> "$folder/files"
 }
@@ -226,10 +232,16 @@ remove_from() {
     rm -rf "$below/share/goblin_c/python/goblin_elf/__pycache__"
     # (lists of earlier versions name no folders)
     if [ -d "$below/share/goblin_c" ]; then find "$below/share/goblin_c" -depth -type d -empty -delete; fi
-    LC_ALL=C sort -r "$folder/made" | while read -r made; do
-        if [ -d "$below/$made" ] && [ -z "$(ls -A "$below/$made")" ]; then rmdir "$below/$made"; fi
+    sed '/^\.\.\//d' "$folder/made" | LC_ALL=C sort -r | while read -r made; do remove_empty "$below/$made"; done
+    above=$below
+    sed -n '/^\.\.\//p' "$folder/made" | sort -u | while read -r made; do
+        above=$(dirname "$above")
+        remove_empty "$above"
     done
 }
+
+# Removes a folder if nothing is in it.
+remove_empty() { if [ -d "$1" ] && [ -z "$(ls -A "$1")" ]; then rmdir "$1"; fi; }
 
 if [ "$1" = --uninstall ]; then
     [ -e "$2/share/goblin_c/library.files" ] || [ -e "$2/share/goblin_c/web.files" ] || fail "goblin_c is not installed below $2: nothing is removed"
@@ -259,7 +271,7 @@ verdict() { grep -e '^axioms ' -e '^logic=' "$1" || :; }
 make_library() {
     made=crates/goblin_c/out/libgoblin_c.a
     if [ -e "$made" ]; then cp -p "$made" "$folder/before"; fi
-    sh checks/libraries.sh goblin_c goblin_c
+    sh commands/libraries.sh goblin_c goblin_c
     echo "goblin_c: proving the calls for C, and compiling them for $target" >&2
     (cd crates/goblin_c && rt lib --target "$target" --cpu "$cpu") > "$folder/said" 2>&1 || { cat "$folder/said"; exit 1; }
     verdict "$folder/said"
@@ -275,7 +287,7 @@ make_library() {
 
 library=${LIBRARY:-}
 if [ -z "$library" ]; then
-    sh checks/has_rt.sh 'making the library'
+    sh commands/has.sh 'making the library' rt
     cpu=${CPU:-$every}
     cache=out/library/$target-$cpu
     library=$cache/library
@@ -288,7 +300,7 @@ fi
 program=
 if [ "$target" = x86_64-unknown-linux-gnu ]; then
     program=${PROGRAM:-}
-    if [ -z "$program" ] && sh checks/show.sh is_built; then program=crates/goblin_show/out/goblin_show; fi
+    if [ -z "$program" ] && sh commands/show.sh is_built; then program=crates/goblin_show/out/goblin_show; fi
 fi
 if [ "$target" = x86_64-unknown-linux-gnu ] && [ -z "$program" ]; then
     echo "goblin_show is left out: it is not proved and built of these sources, which \`make show FILE=/bin/true\` does"

@@ -3,7 +3,7 @@
 # The archive has the same bytes whatever the umask, and all users can read what is installed. Another LIBDIR and a shared library can be
 # used too. A new installation leaves no old file, and an uninstallation neither a file nor a folder that was made.
 . checks/faces/shared.sh
-root=$folder/root
+root=$folder/above/other/root
 export LIBRARY="$folder/libgoblin_c.a" TARGET='' CPU=''
 
 # Installs with an umask, a LIBDIR and more variables: install_as UMASK LIBDIR [VARIABLE=VALUE ..]
@@ -49,7 +49,7 @@ touch "$root/share/goblin_c/rust/src/earlier.rs"
 install_as 022 lib
 none_of "$root" -path '*/x86_64-linux-gnu/*' ! -type d -o -name earlier.rs
 quietly sh faces/install.sh --uninstall "$root"
-[ ! -e "$root" ] || none_of "$root"
+[ ! -e "$folder/above" ] || none_of "$folder/above"
 mkdir -p "$root/share/man"
 install_as 022 lib
 quietly sh faces/install.sh --uninstall "$root"

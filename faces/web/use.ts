@@ -1,5 +1,5 @@
-// A program in TypeScript over goblin.d.ts. checks/web.sh compiles it if there is tsc, and does not run it. A line that must be an error
-// has a comment before it, at which the compiler fails if there is none.
+// A program in TypeScript over goblin.d.ts. checks/faces/webassembly.sh compiles it if there is tsc, and does not run it. A line that must
+// be an error has a comment before it, at which the compiler fails if there is none.
 import init, { AddressMap, Elf, GoblinError, Kind, List, Range, SectionHeader, SHF_ALLOC, SHT_SYMTAB, Symtab, Writer, json, machine_to_str } from 'goblin_c';
 
 export async function main(bytes: ArrayBuffer, view: Uint16Array): Promise<string[]> {

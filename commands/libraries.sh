@@ -1,5 +1,5 @@
 #!/bin/sh
-# Proves the libraries below a crate, each of which takes some minutes the first time: sh checks/libraries.sh COMMAND CRATE. Prints a line for
+# Proves the libraries below a crate, each of which takes some minutes the first time: sh commands/libraries.sh COMMAND CRATE. Prints a line for
 # each, that begins with COMMAND, to standard error. Run from the repository's root.
 set -eu
 said=$(mktemp)

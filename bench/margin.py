@@ -1,5 +1,5 @@
 #!/usr/bin/env python3
-"""Which functions the search proves with little to spare, and which take longest: python3 checks/margin.py [CRATE ..], from the
+"""Which functions the search proves with little to spare, and which take longest: python3 bench/margin.py [CRATE ..], from the
 repository's root.
 
 Each crate of crates.txt, or each one named, is checked without its tests: at the full limits, unless earlier checks in its folder
@@ -17,7 +17,7 @@ import tempfile
 import time
 
 sys.dont_write_bytecode = True
-sys.path.insert(0, f'{os.path.dirname(os.path.abspath(__file__))}/edits')
+sys.path[:0] = ['checks/edits', 'checks']
 from crates import crates_listed
 from gate import copied
 from verdict import CHECKED, Said

@@ -1,11 +1,11 @@
 #!/usr/bin/env python3
-"""Times the built program beside readelf: python3 checks/bench.py [FILE], from the repository's root.
+"""Times the built program beside readelf: python3 bench/program.py [FILE], from the repository's root.
 
 First over the files of checks/hostile.py and over FILE: for each the least of RUNS runs, strict and permissive, in milliseconds, and
 readelf's time divided by the strict one. The programs run in turn. readelf is stopped after 10 seconds, and of a text without end the first
 100 MB are read. Then over 64 programs and libraries of this machine, spread evenly over their names: readelf's time divided by the
 program's, the least, the middle and the most. Both print the header, the sections, the symbols and the relocations. Then calls of the
-library, by the program of checks/bench.main, which is proved first.
+library, by the program of bench/calls.main, which is proved first.
 """
 import glob
 import os
@@ -62,10 +62,10 @@ def calls():
         with open('crates.txt', encoding='utf-8') as listed, open(f'{room}/crates.txt', 'w', encoding='utf-8') as own:
             own.write(listed.read() + 'goblin_bench: goblin goblin_base\n')
         os.makedirs(f'{room}/crates/goblin_bench/src')
-        shutil.copy('checks/bench.main', f'{room}/crates/goblin_bench/src/main.rt')
+        shutil.copy('bench/calls.main', f'{room}/crates/goblin_bench/src/main.rt')
         ran = subprocess.run(['rt', 'run'], cwd=f'{room}/crates/goblin_bench', stdout=subprocess.PIPE, stderr=subprocess.PIPE, text=True)
         if ran.returncode:
-            sys.exit(f'{ran.stderr[-3000:]}\nmake bench: the program of checks/bench.main is not proved or does not run')
+            sys.exit(f'{ran.stderr[-3000:]}\nmake bench: the program of bench/calls.main is not proved or does not run')
         print(ran.stdout, end='')
 
 

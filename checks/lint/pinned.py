@@ -1,5 +1,4 @@
-#!/usr/bin/env python3
-"""Checks that laws pin the numbers that promises cite by a name: python3 checks/pinned.py, from the repository's root.
+"""Whether laws pin the numbers that promises cite by a name.
 
 A promise that cites a constant of the code says whatever number the code gives it. So each constant of an integer type that a
 definition imports from the code, or that a clause of a public function or of a trait's impl names, must be equal to a number in a
@@ -7,12 +6,11 @@ clause of a function `constants` or `laws`: alone or in a list, under no conditi
 no definition of a module that imports one. It reads the crates that the program and the library for C stand on.
 """
 import functools
-import glob
 import os
 import re
-import sys
 
 from crates import crates_listed
+from files import text_of, tracked
 
 CONSTANT = re.compile(r'^ *(?:pub(?:\(crate\))? )?(?:const|static) ([A-Z][A-Z0-9_]*): ([^=]*)', re.MULTILINE)
 NUMBER = re.compile(r'[ui](\d+|size) ')
@@ -29,8 +27,7 @@ PART = re.compile(r'^ *(?P<public>pub(?:\(crate\))? )?(?:const |unsafe )*fn (?P<
 @functools.lru_cache(None)
 def read(path):
     """The text of a file without its comments and strings."""
-    with open(path, encoding='utf-8') as file:
-        return re.sub(r'"(?:\\.|[^"\\])*"|(?://|--)[^\n]*', '', file.read())
+    return re.sub(r'"(?:\\.|[^"\\])*"|(?://|--)[^\n]*', '', text_of(path))
 
 
 def file_of(crate, module):
@@ -77,34 +74,31 @@ def pinned_by(clause, unfit):
             yield from NAME.findall(left)
 
 
-def main():
-    listed = crates_listed()
-    crates = sorted({name for top in ('goblin_show', 'goblin_c') for name in {top, *listed[top]}})
-    cited, pinned, unfit = {}, set(), set()
-    for path in [path for crate in crates for path in glob.glob(f'crates/{crate}/specs/*.antt')]:
+def promised(crates):
+    """The constants that definitions and public clauses of these crates cite, each by the file and type that declare it and by its name, with
+    a file that cites it; those that laws pin; and what could not be read."""
+    cited, pinned, unfit, wrong = {}, set(), set(), []
+    for path in tracked(*(f'crates/{crate}/specs/*.antt' for crate in crates)):
         for owner, module, names in IMPORT.findall(read(path)):
-            if not names:
-                sys.exit(f'pinned: {path} imports constants of {owner} without a list of their names')
+            wrong += [] if names else [f'{path} imports constants of {owner} without a list of their names']
             unfit.update(DEFINED.findall(read(path)))
             for name in re.findall(r'\w+', names):
                 cited.setdefault((declared(name, file_of(owner, module.split('.'))), name), path)
-    for path in [path for crate in crates for path in glob.glob(f'crates/{crate}/src/**/*.rt', recursive=True)]:
+    for path in tracked(*(f'crates/{crate}/src/*.rt' for crate in crates)):
         for clause, function, public in clauses(path):
             if function in ('constants', 'laws'):
                 pinned.update((declared(name, path), name) for name in pinned_by(clause, unfit))
             elif public:
                 for name in NAME.findall(clause):
                     cited.setdefault((declared(name, path), name), path)
-    lost = sorted((name, path) for (source, name), path in cited.items() if source is None and len(name) > 1)
+    return cited, pinned, wrong
+
+
+def faults():
+    listed = crates_listed()
+    cited, pinned, wrong = promised({name for top in ('goblin_show', 'goblin_c') for name in (top, *listed[top])})
+    wrong += [f'{path} cites {name}, and the file that declares it was not found'
+              for (source, name), path in cited.items() if source is None and len(name) > 1]
     numbers = {key: path for key, path in cited.items() if key[0] and NUMBER.match(key[0][1])}
-    unpinned = sorted((name, source[0], path) for (source, name), path in numbers.items() if (source, name) not in pinned)
-    for name, path in lost:
-        print(f'pinned: {path} cites {name}, and the file that declares it was not found')
-    for name, source, path in unpinned:
-        print(f'pinned: {path} cites {name} of {source}, and no law `constants` says its number')
-    print(f'pinned: promises cite {len(numbers)} constants, of which {len(unpinned)} are in no law')
-    return 1 if lost or unpinned or not numbers else 0
-
-
-if __name__ == '__main__':
-    sys.exit(main())
+    wrong += [f'{path} cites {key[1]} of {key[0][0]}, and no law `constants` says its number' for key, path in numbers.items() if key not in pinned]
+    return f'laws that pin {len(numbers)} constants of promises', wrong if numbers else ['no promise cites a constant']

@@ -1,6 +1,6 @@
 #!/bin/sh
 # Times the library for C beside libelf, as faces/c/bench.c says, over a FILE, by default this machine's libLLVM or libstdc++, and
-# over 300,000 made symbols: SHOWN=FILE CPU=x86-64-v2 sh checks/bench_faces.sh. LIBRARY names a library to take; else one is made,
+# over 300,000 made symbols: SHOWN=FILE CPU=x86-64-v2 sh bench/c.sh. LIBRARY names a library to take; else one is made,
 # for the processors that CPU names, by default every x86-64. Run from the repository's root.
 set -eu
 if ! echo '#include <gelf.h>' | cc -E - > /dev/null 2>&1; then

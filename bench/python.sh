@@ -1,5 +1,5 @@
 #!/bin/sh
-# Times the Python package beside pyelftools and readelf, over a FILE with many symbols: sh checks/bench_python.sh
+# Times the Python package beside pyelftools and readelf, over a FILE with many symbols: sh bench/python.sh
 # It installs the package with a shared library in a folder of this run. Run it from the repository's root.
 set -eu
 folder=$(mktemp -d)

@@ -1,9 +1,9 @@
 #!/bin/sh
-# Shows a file with the program of this repository: sh checks/show.sh show|try. SHOWN is the name of the file, and MODE may be
+# Shows a file with the program of this repository: sh commands/show.sh show|try. SHOWN is the name of the file, and MODE may be
 # permissive. Both run the proved program if it was built from the present sources. Otherwise `show` first proves each crate, with
 # a line for each, and builds the program. `try` runs it without a proof and prints the first 1 MiB of the text, because such a run
 # prints no more. The exit status is 0 also for a refused file, and 2 if something can't be read, proved or written. `sh
-# checks/show.sh built` only notes that the program was proved and built from the present sources, and `sh checks/show.sh is_built`
+# commands/show.sh built` only notes that the program was proved and built from the present sources, and `sh commands/show.sh is_built`
 # only reports by its exit status whether it was. Run from the repository's root.
 set -eu
 goal=$1
@@ -42,13 +42,13 @@ run_program() {
 
 # Runs the program without a proof, with a `main` that stops at what such a run can print.
 try_program() {
-    sh checks/has_rt.sh 'make try'
+    sh commands/has.sh 'make try' rt
     echo 'make try: compiling the program without a proof, which takes up to a minute' >&2
     # (the copy can be written to and removed, whatever can be done with the original)
     cp -R --no-preserve=mode --parents crates.txt HANDLES crates/*/src crates/*/specs crates/*/proofs "$folder"
     echo 'goblin_try: goblin_text' >> "$folder/crates.txt"
     mkdir -p "$folder/crates/goblin_try/src"
-    cp --no-preserve=mode checks/try.main "$folder/crates/goblin_try/src/main.rt"
+    cp --no-preserve=mode commands/try.main "$folder/crates/goblin_try/src/main.rt"
     status=0
     (cd "$folder/crates/goblin_try" && rt try --steps 1000 --seconds 300 -- "$@") < "$file" > "$folder/text" 2> "$said" || status=$?
     if [ "$status" -ge 2 ] || ! grep -q '^run=ended' "$said"; then fail_as_said 'the program failed'; fi
@@ -65,9 +65,9 @@ try_program() {
 
 # Proves each crate that the program depends on, and builds the program.
 prove_program() {
-    sh checks/has_rt.sh 'make show'
+    sh commands/has.sh 'make show' rt
     [ -w crates ] || fail 'this folder is read-only, and proofs are cached in it. Use a copy, or make try'
-    sh checks/libraries.sh 'make show' goblin_show
+    sh commands/libraries.sh 'make show' goblin_show
     echo 'make show: proving goblin_show' >&2
     # (the program runs once over its stored input, which shows that it was built)
     (cd crates/goblin_show && rt run < stdin) > "$said" 2>&1 || fail_as_said 'the proof of goblin_show failed'
@@ -82,6 +82,7 @@ if [ "$goal" = is_built ]; then
     is_built
     exit
 fi
+sh commands/has.sh "make $goal" awk python3
 test -n "${SHOWN:-}" || fail "no file is given. For example: make $goal FILE=/bin/true"
 ! test -d "$SHOWN" || fail "$SHOWN is a folder. FILE must be a file"
 test -e "$SHOWN" || fail "$SHOWN does not exist"

@@ -1,7 +1,5 @@
-#!/usr/bin/env python3
-"""Checks that what the pages name exists: python3 checks/page_names.py, from the repository's root.
+"""Whether what the pages name exists: each file that a link names, and of the code between backquotes, outside quoted blocks:
 
-Of the code between backquotes on each page, outside quoted blocks:
 - each word stands in the code without its comments, or in a file's name; `get_..` and `.._to_str` begin or end such a word;
 - of `a::b`, b stands in a file of the module a, or in one that defines a or has an impl of it;
 - a file or a folder is there;
@@ -11,24 +9,19 @@ Columns of a table with the head goblin, libelf, object, pyelftools or lief hold
 """
 import os
 import re
-import subprocess
-import sys
+
+from files import text_of, tracked
 
 # The heads of such columns.
 HEADS = ('goblin', 'libelf', 'object', 'pyelftools', 'lief')
 # Names of others that stand in no such column: of libelf and of CMake.
 OTHERS = {'elf_getshdrnum', 'PkgConfig', 'GOBLIN'}
-READ = ('crates/*/src/*', 'crates/*/specs/*', 'faces', 'checks', 'Makefile', 'crates.txt', ':!*.md')
+READ = ('crates/*/src/*', 'crates/*/specs/*', 'faces', 'checks', 'bench', 'commands', 'Makefile', 'crates.txt', ':!*.md')
 COMMENT = {'rt': '//', 'main': '//', 'antt': '--'}
 FILE = re.compile(r'[\w./-]*(?:/[\w./-]*|\.(?:rt|antt|rs|js|mjs|py|sh|edit|awk))')
 DEFINED = re.compile(r'\b(?:struct|enum|trait|type)\s+(\w+)|^impl\b(.*)', re.MULTILINE)
 CLAUSE = re.compile(r'\b(?:requires|ensures|ghost) (\w+)|\bpub (?:record |data )?(\w+)')
 SEVERAL = '((?:`[^`]+`(?:, | and )?)+)'
-
-
-def listed(*patterns):
-    said = subprocess.run(['git', 'ls-files', *patterns], stdout=subprocess.PIPE, text=True, check=True).stdout
-    return [path for path in said.split('\n') if os.path.isfile(path)]
 
 
 def words_in(text):
@@ -38,9 +31,7 @@ def words_in(text):
 class File:
     """The words of a file without its comments, those that it is named by or defines, its functions, and its clauses or definitions."""
     def __init__(self, path):
-        with open(path, encoding='utf-8', errors='replace') as file:
-            text = file.read()
-        comment = COMMENT.get(path.rsplit('.', 1)[-1])
+        comment, text = COMMENT.get(path.rsplit('.', 1)[-1]), text_of(path)
         text = re.sub(rf'(?<!\S){comment}[^\n]*', '', text) if comment else text
         self.is_spec = '/specs/' in path
         self.words = words_in(text)
@@ -51,8 +42,8 @@ class File:
 
 class Code:
     def __init__(self):
-        self.paths = listed()
-        self.files = [File(path) for path in listed(*READ)]
+        self.paths = tracked()
+        self.files = [File(path) for path in tracked(*READ)]
         self.words = words_in('\n'.join(self.paths)).union(*(file.words for file in self.files))
         self.modules = {}
         for path in self.paths:
@@ -111,28 +102,29 @@ def others_in(lines):
     return words
 
 
-def main():
-    code, pages = Code(), {}
-    for page in listed('*.md'):
-        with open(page, encoding='utf-8') as file:
-            text = re.sub(r'^```.*?^```', lambda block: re.sub('.*', '', block[0]), file.read(), flags=re.DOTALL | re.MULTILINE)
-            # (an older version may have what is gone)
-            pages[page] = (text if page != 'CHANGELOG.md' else '## '.join(text.split('## ')[:2])).split('\n')
+def page_of(path):
+    """The lines of a page without its quoted blocks, and of the changes only those of the last version: an older one may have what is gone."""
+    text = re.sub(r'^```.*?^```', lambda block: re.sub('.*', '', block[0]), text_of(path), flags=re.DOTALL | re.MULTILINE)
+    return (text if path != 'CHANGELOG.md' else '## '.join(text.split('## ')[:2])).split('\n')
+
+
+def dead_links(page, line):
+    """The files that links on a line of a page name and that aren't there."""
+    links = re.findall(r'\]\(([^)#:\s]+)[^):\s]*\)', line) if page != 'faces/installed.md' else []
+    return [link for link in links if not os.path.exists(os.path.join(os.path.dirname(page), link))]
+
+
+def faults():
+    code, pages = Code(), {page: page_of(page) for page in tracked('*.md')}
     others = OTHERS.union(*map(others_in, pages.values()))
-    count = wrong = 0
+    wrong, count = [], 0
     for page, lines in pages.items():
         for number, line in enumerate(lines, 1):
             spans = re.findall('`([^`]+)`', line)
             missing = [name for span in spans for name in code.missing_in(span)]
             missing += code.missing_modules(line) if page.endswith('CALLING.md') else []
             missing += code.missing_clauses(line) if page == 'docs/PROVED.md' else []
-            missing = [name for name in missing if not words_in(name) <= others]
-            for name in missing:
-                print(f'{page}:{number}: there is no {name}')
-            count, wrong = count + len(spans), wrong + len(missing)
-    print(f'page names: {wrong} of the names in {count} pieces of code on {len(pages)} pages do not exist')
-    return 1 if wrong or not count else 0
-
-
-if __name__ == '__main__':
-    sys.exit(main())
+            missing = [name for name in missing if not words_in(name) <= others] + dead_links(page, line)
+            wrong += [f'{page}:{number}: there is no {name}' for name in missing]
+            count += len(spans)
+    return f'{count} names on {len(pages)} pages', wrong if count else ['no page names anything']

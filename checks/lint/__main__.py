@@ -1,0 +1,47 @@
+#!/usr/bin/env python3
+"""Says what is wrong with the repository's text: python3 checks/lint, from its root.
+
+Each of the modules beside this one checks what its first lines say. No line of a definition or a proof is over 120 columns. If
+shellcheck is installed, it must report nothing for the shell scripts.
+"""
+import os
+import shutil
+import subprocess
+import sys
+
+sys.dont_write_bytecode = True
+sys.path.append(os.path.dirname(os.path.dirname(os.path.abspath(__file__))))
+import names
+import pinned
+import quotes
+import words
+from files import text_of, tracked
+
+
+def wide():
+    paths = tracked('*.antt')
+    lines = [(path, number, line) for path in paths for number, line in enumerate(text_of(path).split('\n'), 1)]
+    return f'columns of {len(paths)} definitions and proofs', [f'{path}:{number}: it is over 120 columns' for path, number, line in lines if len(line) > 120]
+
+
+def shell():
+    paths = tracked('*.sh', '.ci/run')
+    if not shutil.which('shellcheck'):
+        return 'no shell script, because shellcheck is not installed', []
+    ran = subprocess.run(['shellcheck', '-x', *paths], stdout=subprocess.PIPE, text=True)
+    return f'{len(paths)} shell scripts', ran.stdout.splitlines() or ['shellcheck failed'] * (ran.returncode != 0)
+
+
+def main():
+    read, failed = [], 0
+    for check in (quotes.faults, words.faults, names.faults, pinned.faults, wide, shell):
+        what, wrong = check()
+        read.append(what)
+        failed += len(wrong)
+        print(''.join(f'{line}\n' for line in wrong), end='')
+    print(f'lint: {failed} faults; it has read {", ".join(read)}')
+    return 1 if failed else 0
+
+
+if __name__ == '__main__':
+    sys.exit(main())

@@ -1,0 +1,19 @@
+#!/bin/sh
+# Checks that some commands are there, and that python3, if it is one of them, is 3.8 or later: sh commands/has.sh GOAL COMMAND ..
+# If not, says in a sentence what to do, and that GOAL needs it.
+goal=$1
+shift
+fail() {
+    echo "$goal: $1" >&2
+    exit 2
+}
+for name; do
+    case $name-$(command -v "$name") in
+    rt-) fail "the command rt was not found. Add the Rattle toolchain to your PATH: export PATH=TOOLCHAIN/bin:\$PATH" ;;
+    *-) fail "the command $name was not found. Install it first" ;;
+    python3-*)
+        python3 -c 'import sys; sys.exit(sys.version_info < (3, 8))' \
+            || fail "python3 is older than 3.8, which rt needs, too. Install a later one, or put it first on your PATH"
+        ;;
+    esac
+done
