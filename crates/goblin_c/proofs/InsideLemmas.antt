@@ -3,7 +3,7 @@
 -- Such a list passes each test that its call makes, so it is the list of its records (`symbols_inside` and its like).
 -- The item with an index is then read from its own bytes (`listed_item`).
 use Rattle.std.proofs.Common.{◌≡◌, ◌≤◌, ◌<◌, ◌+◌, ◌-◌, ◌*◌, ◌/◌, ◌^◌, ◌==◌, ℕ, Bool, true, false, nat_le, nat_lt, List}
-use Rattle.std.proofs.Common.{[], length, take, drop, max, codes, slice_get, Option, Some, Result, Ok, Err, if◌then◌else◌, refl, sym, ap, subst}
+use Rattle.std.proofs.Common.{[], length, take, drop, max, codes, Option, Some, Result, Ok, Err, if◌then◌else◌, refl, sym, ap, subst}
 use Rattle.std.proofs.Common.{◌∙◌, arith}
 use Rattle.std.proofs.Math.Nat.{div-mul-le_self, le-div_iff_mul-le, mul-div_left, mul-le-mul_right}
 use Rattle.std.proofs.lemmas.Bool.Decides.{nat_tests}
@@ -33,7 +33,7 @@ use Rattle.goblin.specs.ProgramHeaders.{program_headers_from}
 use Rattle.goblin.specs.Reloc.{reloc_in, reloc_size}
 use Rattle.goblin.specs.RelocSection.{relocs_of}
 use Rattle.goblin.specs.SectionHeader.{section_header_of, section_header_size}
-use Rattle.goblin.specs.SectionHeaders.{count_asked, header_count, section_headers_from, section_headers_from_tested}
+use Rattle.goblin.specs.SectionHeaders.{count_asked, section_headers_from, section_headers_from_tested}
 use Rattle.goblin.specs.SectionHeaders.{section_headers_of}
 use Rattle.goblin.specs.Sym.{sym_of, sym_size}
 use Rattle.goblin.specs.Symtab.{symbols_at, symtab_of}
