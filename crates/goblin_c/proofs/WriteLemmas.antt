@@ -1,14 +1,14 @@
 -- Puts: a record that is found is put at its place, in range, and the library's test decides whether it fits.
 use Rattle.std.proofs.Common.{◌≡◌, ◌≤◌, ◌<◌, ◌+◌, ◌*◌, ◌^◌, ◌⊎◌, ℕ, Bool, true, false, true≢false, List, [], ◌∷◌, ◌++◌}
-use Rattle.std.proofs.Common.{length, take, drop}
-use Rattle.std.proofs.Common.{IsTrue, map, Option, Some, None, Result, Ok, Err, if◌then◌else◌, inl, inr, refl, sym, ap}
+use Rattle.std.proofs.Common.{length, drop}
+use Rattle.std.proofs.Common.{IsTrue, map, Option, Some, Result, Ok, Err, inl, inr, refl, sym, ap}
 use Rattle.std.proofs.Common.{subst, ◌∙◌}
 use Rattle.std.proofs.Common.{arith}
 use Rattle.std.proofs.Math.Logic.{◌↔◌}
 use Rattle.goblin_base.specs.RecordLaws.{fits-room_of}
 use Rattle.goblin_base.specs.Steps.{◌>>=◌, refuse_as}
 use Rattle.goblin_c.specs.Bytes.{number_expected}
-use Rattle.goblin_c.specs.Expected.{ctx_of, each_converted, item_of}
+use Rattle.goblin_c.specs.Expected.{ctx_of, item_of}
 use Rattle.goblin_c.specs.Refused.{Returns, RefusalAt, refusal_at, refused_at}
 use Rattle.goblin_c.specs.Status.{Stores, converted_list}
 use Rattle.goblin_c.specs.Types.{refusal_converted}

@@ -42,13 +42,12 @@ fn record_in<R: LaidOut<C>, C: Copy>(
         found ≡ (R.layout ctx).read (take own (drop (offset + index * own) bytes.now))) }
 {
     let own = R::size_in(ctx);
-    match offset.checked_add(size) {
-        Some(end) if end <= bytes.len() as u64 && index < size / own as u64 => {
-            let place = offset as usize + index as usize * own;
-            Some(R::get(&bytes[place..place + own], ctx))
-        }
-        _ => None,
+    let len = bytes.len() as u64;
+    if index >= size / own as u64 || offset > len || size > len - offset {
+        return None;
     }
+    let place = offset as usize + index as usize * own;
+    Some(R::get(&bytes[place..place + own], ctx))
 }
 
 // Does the same. The class is asked here, and not for the size and again for the fields.
