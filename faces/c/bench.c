@@ -31,7 +31,7 @@ static Elf *elf;
 static Elf_Data *data, *rela_data, *note_data;
 
 /* What is timed: an action on all symbols, relocations or section headers, or many calls for one item. */
-enum { ONE, ARRAY_64, ARRAY_4096, GELF, NAME, BYTES, STRLEN, STRPTR, SEARCH, STRCMP, HEADERS, ELF_HEADERS };
+enum { ONE, ARRAY_64, ARRAY_4096, GELF, NAME, NAMES_64, BYTES, STRLEN, STRPTR, SEARCH, STRCMP, HEADERS, ELF_HEADERS };
 enum { RELOC = ELF_HEADERS + 1, GELF_RELA, NOTE, NOTE_BYTES, GELF_NOTE, HEADER, GELF_EHDR, SECTION, GELF_SHDR };
 enum { NUMBER = GELF_SHDR + 1, MEMCPY, OFFSET, GELF_PHDR, NAMED, ELF_RAWDATA };
 enum { CUT = ELF_RAWDATA + 1, CUT_PLAIN, WHOLE, WHOLE_PLAIN, PUT_SYMBOL, GELF_UPDATE_SYM, PUT_RELOC, GELF_UPDATE_RELA };
@@ -41,6 +41,7 @@ static const struct { const char *what, *than; int ours, theirs; } rows[] = {
     {"a symbol, 4,096 at once", "gelf_getsym", ARRAY_4096, GELF},
     {"a name", "strlen", NAME, STRLEN},
     {"a name", "elf_strptr and strlen", NAME, STRPTR},
+    {"a name, 64 at once", "strlen", NAMES_64, STRLEN},
     {"a name that may not be UTF-8", "strlen", BYTES, STRLEN},
     {"a symbol passed in a search", "strcmp", SEARCH, STRCMP},
     {"header and sections of a file", "elf_memory and gelf_getshdr", HEADERS, ELF_HEADERS},
@@ -216,7 +217,7 @@ static uint64_t run_put(int what) {
 static uint64_t run(int what) {
     const char *text = (char *)bytes + strings.file.offset;
     uint64_t sum = 0, n = 0, at_once = what == ARRAY_64 ? 64 : MOST;
-    goblin_range_t name = {0, 0};
+    goblin_range_t name = {0, 0}, names[64];
     Elf *file = what == ELF_HEADERS ? elf_memory((char *)bytes, len) : NULL;
     GElf_Sym sym;
     GElf_Shdr section;
@@ -231,6 +232,9 @@ static uint64_t run(int what) {
     if (what == NAME)
         for (uint64_t i = 0; i < count; i++)
             sum += goblin_string(bytes, len, &strings.file, offsets[i], &name, &why) ? 0 : name.size;
+    if (what == NAMES_64)
+        for (uint64_t i = 0; i < count && !goblin_strings(bytes, len, &strings.file, offsets + i, count - i, names, 64, &n, &why); i += n)
+            for (uint64_t k = 0; k < n; k++) sum += names[k].size;
     if (what == BYTES)
         for (uint64_t i = 0; i < count; i++)
             sum += goblin_string_bytes(bytes, len, &strings.file, offsets[i], &name, &why) ? 0 : name.size;

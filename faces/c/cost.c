@@ -200,6 +200,15 @@ static uint64_t each_string(void) {
     return i;
 }
 
+static uint64_t all_strings(void) {
+    static uint64_t offsets[ITEMS];
+    goblin_range_t strings = range_of(ITEMS, 1);
+    uint64_t filled = 0;
+    for (uint64_t i = 0; i < ITEMS; i++) offsets[i] = i;
+    goblin_strings(bytes, len, &strings, offsets, ITEMS, (goblin_range_t *)array, ITEMS, &filled, &why);
+    return filled;
+}
+
 static uint64_t bytes_of_each_string(void) {
     goblin_range_t strings = range_of(ITEMS, 1), string;
     uint64_t i = 0;
@@ -289,6 +298,7 @@ static int lists_take_little(void) {
     right &= takes_little("each note as bytes", each_note_as_bytes, ITEMS);
     right &= takes_little("each number in a range", each_number, ITEMS);
     right &= takes_little("each string", each_string, ITEMS);
+    right &= takes_little("all strings", all_strings, ITEMS);
     right &= takes_little("the bytes of each string", bytes_of_each_string, ITEMS);
     return right;
 }

@@ -177,6 +177,30 @@ static void notes(const goblin_header_t *h, goblin_range_t range) {
         if (status == GOBLIN_OK && filled < capacity && READS(one, single, __VA_ARGS__, first + filled)) wrong(#all, status); \
     } while (0)
 
+/* Finds several strings at once. They must be those of goblin_string, which must stop as the call did. */
+static void several_strings(goblin_range_t names) {
+    uint64_t offsets[BATCH], filled = UINT64_MAX, end = names.size < len ? names.size : len;
+    goblin_range_t ranges[BATCH], single;
+    size_t asked = (size_t)any(BATCH + 1), capacity = (size_t)any(BATCH + 1), most = asked < capacity ? asked : capacity;
+    for (size_t i = 0; i < BATCH; i++) offsets[i] = any(8) ? any(end + 1) : odd();
+    blank(ranges, sizeof ranges);
+    uint32_t status = goblin_strings(bytes, len, &names, offsets, asked, ranges, capacity, &filled, &why);
+    goblin_refusal_t refusal = why;
+    if (filled > most) wrong("goblin_strings", status), filled = 0;
+    begins(names.offset, names.offset + offsets[filled < BATCH ? filled : 0]);
+    check("goblin_strings", status, ranges, 0);
+    if (!is_blank(ranges + filled, sizeof *ranges * (BATCH - filled))) wrong("goblin_strings: after the ranges", status);
+    for (uint64_t i = 0; i < filled; i++) {
+        begins(names.offset, names.offset + offsets[i]);
+        if (!READS(goblin_string, single, &names, offsets[i]) || memcmp(&single, ranges + i, sizeof single)) wrong("goblin_strings: a range", status);
+    }
+    if (filled == most && status != GOBLIN_OK) wrong("goblin_strings: the end", status);
+    if (filled == most) return;
+    blank(&single, sizeof single);
+    if (status == GOBLIN_OK || goblin_string(bytes, len, &names, offsets[filled], &single, &why) != status || memcmp(&why, &refusal, sizeof why))
+        wrong("goblin_strings: where it stops", status);
+}
+
 /* Finds the symbol of an address as goblin.h says it. Returns whether there is one. */
 static bool plain_by_address(const goblin_header_t *h, const goblin_range_t *range, uint64_t address, uint64_t *index) {
     goblin_symbol_t s;
@@ -512,6 +536,7 @@ static void table(const goblin_header_t *h, goblin_range_t range, goblin_range_t
             || !READS(goblin_symbol, found, h, &range, index))
             wrong("goblin_symbol_by_name", GOBLIN_END);
     }
+    several_strings(names);
     bool is_rela = any(2);
     uint64_t number;
     begins(range.offset, range.offset);

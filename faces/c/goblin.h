@@ -15,8 +15,8 @@
        2 or more       The file is refused. The number is one of the GOBLIN_ numbers below. The call has written the same number to
                        `*why`, with the numbers that belong to it and the offset of what is refused.
      The result is the argument before `why`, of a search for sections the two before it, and the array of a call that fills one. A call
-     that begins with goblin_put_ has none: it writes into `bytes`. A call writes its result, or the bytes, only at GOBLIN_OK, `*why`
-     only at a refusal, and nothing else. So a result that is zero before the call is still zero at GOBLIN_END, and one goblin_refusal_t
+     that begins with goblin_put_ has none: it writes into `bytes`. A call writes its result, or the bytes, only at GOBLIN_OK
+     (goblin_strings is the exception), `*why` only at a refusal, and nothing else. So a result that is zero before the call is still zero at GOBLIN_END, and one goblin_refusal_t
      serves all calls of a program.
      Refusals come before GOBLIN_END, if a call does not say otherwise: a table that is refused is refused past its end, too.
 
@@ -52,7 +52,8 @@
      Each call has an example. All are compiled with these variables:
        const uint8_t *bytes; uint8_t *own; size_t len; goblin_header_t header, whole; goblin_refusal_t why; goblin_range_t range, string;
        goblin_section_t section, table, names, sections[64]; goblin_segment_t segment; goblin_symbol_t symbol, symbols[64];
-       goblin_reloc_t reloc, relocs[64]; goblin_note_t note; uint64_t count, index, filled, value; char text[160]; */
+       goblin_reloc_t reloc, relocs[64]; goblin_note_t note; goblin_range_t ranges[64]; uint64_t offsets[64];
+       uint64_t count, index, filled, value; char text[160]; */
 #ifndef GOBLIN_H
 #define GOBLIN_H
 
@@ -477,6 +478,14 @@ uint32_t goblin_note_bytes(const uint8_t *bytes, size_t len, const goblin_header
    Example: goblin_string(bytes, len, &names.file, symbol.st_name, &string, &why); */
 uint32_t goblin_string(const uint8_t *bytes, size_t len, const goblin_range_t *strings, uint64_t offset, goblin_range_t *string,
                        goblin_refusal_t *why);
+
+/* Finds the ranges of the strings at many offsets of a string table, in the order of `offsets`: at each as goblin_string does, up to the
+   first offset at which that does not return GOBLIN_OK. `*filled` is the number of items of `ranges` that are written; those after them
+   are unchanged. GOBLIN_OK if all offsets have a string, or as many as there are items of `ranges`. Else the call returns what
+   goblin_string returns at offsets[*filled], and writes the same refusal. This call writes `ranges` and `*filled` then, too.
+   Example: goblin_strings(bytes, len, &names.file, offsets, 64, ranges, 64, &filled, &why); */
+uint32_t goblin_strings(const uint8_t *bytes, size_t len, const goblin_range_t *strings, const uint64_t *offsets, size_t offsets_len,
+                        goblin_range_t *ranges, size_t capacity, uint64_t *filled, goblin_refusal_t *why);
 
 /* As goblin_string, for a string that need not be UTF-8: never returns GOBLIN_BAD_INPUT. If goblin_string finds a string, this
    call finds the same range.

@@ -430,6 +430,8 @@ static void call_with_nulls(goblin_refusal_t *why) {
     same("null: number", goblin_number(NULL, 0, &h, 0, 8, &number, why), GOBLIN_BAD_OFFSET);
     same("null: string", goblin_string(NULL, 0, &none, 0, &text, why), GOBLIN_END);
     same("null: string", goblin_string(NULL, 0, &some, 0, &text, why), GOBLIN_STRTAB_RANGE);
+    same("null: strings", goblin_strings(NULL, 0, &some, NULL, 0, NULL, 0, &number, why), GOBLIN_OK);
+    same("null: strings, filled", number, 0);
     same("null: class", goblin_class_to_str(1, NULL, 0), strlen("ELF32"));
     same("null: file type", goblin_et_to_str(3, NULL, 0), strlen("DYN"));
     same("null: machine", goblin_machine_to_str(62, NULL, 0), strlen("X86_64"));
@@ -511,6 +513,33 @@ static void compare_strings(void) {
 #undef STARTS
 }
 
+/* Tests what goblin_strings returns and writes, over the strings "", "ab", "abc", one that is not UTF-8, and "x". */
+static void find_strings(void) {
+    static const uint8_t named[] = "\0ab\0abc\0\xff\0x";
+    static const goblin_range_t table = {0, 11}, past = {0, 13}, unread = {77, 77};
+    static const struct { uint64_t offsets[3]; size_t asked, capacity; uint32_t status; uint64_t filled, sizes[3]; } rows[] = {
+        {{1, 4, 10}, 3, 3, GOBLIN_OK, 3, {2, 3, 1}}, {{5, 11, 4}, 3, 3, GOBLIN_END, 1, {2}}, {{0, 4, 8}, 3, 3, GOBLIN_BAD_INPUT, 2, {0, 3}},
+        {{1, 4, 11}, 3, 2, GOBLIN_OK, 2, {2, 3}}, {{1, 4, 11}, 2, 3, GOBLIN_OK, 2, {2, 3}}, {{8}, 0, 3, GOBLIN_OK, 0, {0}}};
+    goblin_range_t ranges[3];
+    uint64_t filled;
+    goblin_refusal_t why;
+    for (size_t i = 0; i < sizeof rows / sizeof *rows; i++) {
+        for (size_t k = 0; k < 3; k++) ranges[k] = unread;
+        memset(&why, 0, sizeof why);
+        same("goblin_strings", goblin_strings(named, 12, &table, rows[i].offsets, rows[i].asked, ranges, rows[i].capacity, &filled, &why), rows[i].status);
+        same("goblin_strings, filled", filled, rows[i].filled);
+        same("goblin_strings, why", why.kind, rows[i].status > GOBLIN_END ? rows[i].status : 0);
+        same("goblin_strings, where", why.offset, rows[i].status > GOBLIN_END ? 8 : 0);
+        for (size_t k = 0; k < 3; k++) {
+            same("goblin_strings, a start", ranges[k].offset, k < rows[i].filled ? rows[i].offsets[k] : unread.offset);
+            same("goblin_strings, a size", ranges[k].size, k < rows[i].filled ? rows[i].sizes[k] : unread.size);
+        }
+    }
+    same("goblin_strings", goblin_strings(named, 12, &past, rows[0].offsets, 3, ranges, 3, &filled, &why), GOBLIN_STRTAB_RANGE);
+    same("goblin_strings, filled", filled, 0);
+    same("goblin_strings", goblin_strings(named, 12, &past, rows[0].offsets, 3, ranges, 0, &filled, &why), GOBLIN_OK);
+}
+
 /* Tests each byte of a field that goblin_layout has filled. */
 static void filled(const char *what, const void *field, size_t size, uint8_t number) {
     for (size_t i = 0; i < size; i++) same(what, ((const uint8_t *)field)[i], number);
@@ -554,6 +583,7 @@ int main(int argc, char **argv) {
 #undef STRUCT
     close_texts();
     compare_strings();
+    find_strings();
     for (int kind = 0; kind < 4; kind++) {
         wide = kind < 2 ? 8 : 4, is_big = kind % 2;
         read_all();

@@ -324,6 +324,16 @@ uint32_t goblin_string(const uint8_t *bytes, size_t len, const goblin_range_t *s
     return GOBLIN_OK;
 }
 
+uint32_t goblin_strings(const uint8_t *bytes, size_t len, const goblin_range_t *strings, const uint64_t *offsets, size_t offsets_len,
+                        goblin_range_t *ranges, size_t capacity, uint64_t *filled, goblin_refusal_t *why) {
+    uint32_t status = GOBLIN_OK;
+    for (*filled = 0; *filled < offsets_len && *filled < capacity; ++*filled) {
+        status = goblin_string(bytes, len, strings, offsets[*filled], &ranges[*filled], why);
+        if (status) break;
+    }
+    return status;
+}
+
 /* Tests whether a name is the string at an offset, and UTF-8. */
 static bool is_named(const uint8_t *bytes, size_t len, const goblin_range_t *names, uint64_t offset, const uint8_t *name, size_t name_len) {
     goblin_range_t found;

@@ -4,6 +4,7 @@ pub mod NumberLemmas
 pub mod OffsetLemmas
 pub mod CountLemmas
 pub mod DigitLemmas
+pub mod EachLemmas
 pub mod FitLemmas
 pub mod HeaderPutLemmas
 pub mod IndexLemmas

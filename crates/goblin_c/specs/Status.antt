@@ -1,5 +1,6 @@
 -- What a call for C returns, a number, and what it stores where its caller points.
-use Rattle.std.specs.Prelude.{◌≡◌, ℕ, List, length, min, Option, Some, None, Result, Ok, Err}
+use Rattle.std.specs.Prelude.{◌≡◌, ◌≤◌, ℕ, List, length, take, drop, map, min, slice_get}
+use Rattle.std.specs.Prelude.{Option, Some, None, Result, Ok, Err}
 use Rattle.goblin_c.specs.Refused.{RefusalAt, refusal_at}
 use Rattle.goblin_c.specs.declared.refused.Refused.{Refused}
 use Rattle.goblin_c.specs.declared.kinds.TheConstants.{OK, END}
@@ -36,3 +37,22 @@ Fills (Ok (Some xs)) old count was status new filled why =
 Fills (Ok None) old count was status new filled why = (status ≡ END) × (new ≡ old) × (filled ≡ count) × (why ≡ was)
 Fills (Err refusal) old count was status new filled why =
     (status ≡ (refusal_converted refusal).kind) × (new ≡ old) × (filled ≡ count) × (why ≡ refusal_converted refusal)
+
+-- What a call returns and stores that goes through expected results, at the first that has no item, if there is one: 1,
+-- or the number of the kind and the refusal. It returns 0 if all have items.
+abbrev pub StopsAt : {X : Type 0} → Option (Result (Option X) RefusalAt) → GoblinRefusal → ℕ → GoblinRefusal → Type 0
+StopsAt None was status why = (status ≡ OK) × (why ≡ was)
+StopsAt (Some (Ok (Some x))) was status why = ⊥
+StopsAt (Some (Ok None)) was status why = (status ≡ END) × (why ≡ was)
+StopsAt (Some (Err refusal)) was status why =
+    (status ≡ (refusal_converted refusal).kind) × (why ≡ refusal_converted refusal)
+
+-- What a call returns and stores that fills a buffer with the items of expected results: the items of the first results
+-- up to one that has none, in their order, and how many those are. The rest of the buffer is unchanged.
+abbrev pub FillsEach : {X : Type 0}
+    → List (Result (Option X) RefusalAt) → List X → GoblinRefusal → ℕ → List X → ℕ → GoblinRefusal → Type 0
+FillsEach results old was status new filled why =
+    (filled ≤ length results)
+    × (map (λ x. Ok (Some x)) (take filled new) ≡ take filled results)
+    × (drop filled new ≡ drop filled old)
+    × StopsAt (slice_get results filled) was status why

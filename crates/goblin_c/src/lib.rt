@@ -2,14 +2,14 @@
 //! an earlier one. `faces/c/goblin.h` declares each call, and says what it returns and stores.
 #![tactic(auto)]
 
-ghost use Rattle.std.specs.Prelude.{◌≡◌, length};
+ghost use Rattle.std.specs.Prelude.{◌≡◌, length, map, take};
 ghost use Rattle.goblin_c.specs.Expected.{header_expected, reloc_count_expected, reloc_expected, section_by_type_expected, section_count_expected, section_expected, segment_count_expected, segment_expected, string_expected, symbol_count_expected, symbol_expected, relocs_from_expected, sections_from_expected, symbols_from_expected, section_by_name_expected, section_names_expected, symbol_by_address_expected, symbol_by_name_expected, symbols_expected, table_expected, whole_header};
 ghost use Rattle.goblin_c.specs.Bytes.{number_expected, section_bytes_expected, segment_bytes_expected, string_bytes_expected};
 ghost use Rattle.goblin_c.specs.FilledBuffer.{closed, laid};
 ghost use Rattle.goblin_c.specs.Layout.{layout};
 ghost use Rattle.goblin_c.specs.Notes.{StoresNote, note_bytes_expected, note_expected};
 ghost use Rattle.goblin_c.specs.Places.{address_to_offset_expected, cut_range, number_in_expected};
-ghost use Rattle.goblin_c.specs.Status.{Fills, Stores, StoresBoth};
+ghost use Rattle.goblin_c.specs.Status.{Fills, FillsEach, Stores, StoresBoth};
 ghost use Rattle.goblin_c.specs.Texts.{converted_text};
 ghost use Rattle.goblin_c.specs.Write.{FitsClass, NumberFits, Puts, RelocFits, SectionFits, SegmentFits, SymbolFits, header_put_expected, number_put_expected, reloc_put_expected, section_put_expected, segment_put_expected, symbol_put_expected};
 ghost use Rattle.goblin.specs.HeaderNames.{class_name, type_name as file_type_name};
@@ -60,7 +60,7 @@ use lists::{count_of, item_of, store_from};
 use notes::{note_from, note_type, store_note};
 use places::{address_to_offset, cut_range, number_in};
 use status::{store, store_both};
-use strings::string_at;
+use strings::{store_strings, string_at};
 use tables::{
     relocs_of, section_by_name, symbol_by_address, symbol_by_name, symbol_in, symbols_of,
 };
@@ -203,6 +203,24 @@ pub extern "C" fn goblin_string(
         string.old why.old result string.new why.new }
 {
     store(string_at(bytes, strings, offset), string, why)
+}
+
+/// Stores the ranges that `goblin_string` stores at some offsets, in their order, up to the first offset at which it
+/// stores none.
+#[unsafe(no_mangle)]
+pub extern "C" fn goblin_strings(
+    bytes: &[u8],
+    strings: &GoblinRange,
+    offsets: &[u64],
+    ranges: &mut [GoblinRange],
+    filled: &mut u64,
+    why: &mut GoblinRefusal,
+) -> u32
+    ensures { FillsEach
+        (map (string_expected bytes.now strings.now) (take (length ranges.old) offsets.now))
+        ranges.old why.old result ranges.new filled.new why.new }
+{
+    store_strings(bytes, strings, offsets, ranges, filled, why)
 }
 
 /// Stores the note at an offset of the file, among those of a range. The first one is at the range's

@@ -1,10 +1,13 @@
 //! Strings, and where they lie in the file.
-ghost use Rattle.std.specs.Prelude.{◌≡◌, ◌+◌, ◌≤◌, IfOk, length};
+ghost use Rattle.std.specs.Prelude.{◌≡◌, ◌+◌, ◌≤◌, IfOk, length, map, take};
 ghost use Rattle.goblin_c.specs.Refused.{Returns};
 ghost use Rattle.goblin_c.specs.Expected.{string_expected, strings_expected};
+ghost use Rattle.goblin_c.specs.Status.{FillsEach};
 
+use crate::kinds::{END, OK};
 use crate::refused::{Result, refused_at};
-use crate::types::GoblinRange;
+use crate::status::refuse;
+use crate::types::{GoblinRange, GoblinRefusal};
 use goblin::options::ParseMode;
 use goblin::strtab;
 use goblin::strtab::bytes_in_range;
@@ -40,4 +43,31 @@ pub fn string_at(bytes: &[u8], range: &GoblinRange, offset: u64) -> Result<Optio
         }
         None => Ok(None),
     }
+}
+
+/// Stores the ranges of the strings at offsets of a string table, in their order, up to the first offset at which there
+/// is none, and their number. Returns 0 if each has a range that the buffer has a place for, 1 if an offset is past the
+/// table, or the number of the kind of the refusal, which it stores.
+pub fn store_strings(
+    bytes: &[u8],
+    strings: &GoblinRange,
+    offsets: &[u64],
+    ranges: &mut [GoblinRange],
+    filled: &mut u64,
+    why: &mut GoblinRefusal,
+) -> u32
+    ensures { FillsEach
+        (map (string_expected bytes.now strings.now) (take (length ranges.old) offsets.now))
+        ranges.old why.old result ranges.new filled.new why.new }
+{
+    *filled = 0;
+    for i in 0..offsets.len().min(ranges.len()) {
+        match string_at(bytes, strings, offsets[i]) {
+            Ok(Some(range)) => ranges[i] = range,
+            Ok(None) => return END,
+            Err(e) => return refuse(&e, why),
+        }
+        *filled += 1;
+    }
+    OK
 }

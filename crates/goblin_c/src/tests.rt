@@ -274,6 +274,29 @@ fn places_long_strings(rt: HostRuntime) {
     );
 }
 
+// What is stored for the strings at offsets of these: the answer, their number, and the sizes in a buffer of at most three.
+fn long_strings(offsets: &[u64], places: usize) -> (u32, u64, [u64; 3]) {
+    let mut found = [range(9, 9); 3];
+    let (status, filled, _) = called!(
+        goblin_strings(LONG, &range(0, 71), offsets, &mut found[..places.min(3)]),
+        9
+    );
+    (
+        status,
+        filled,
+        [found[0].size, found[1].size, found[2].size],
+    )
+}
+
+#[test]
+fn places_many_strings(rt: HostRuntime) {
+    assert!(rt; long_strings(&[0, 18, 55], 3) == (0, 3, [17, 18, 16]));
+    assert!(rt; long_strings(&[0, 71, 18], 3) == (1, 1, [17, 9, 9]));
+    assert!(rt; long_strings(&[0, 37, 18], 3) == (5, 1, [17, 9, 9]));
+    assert!(rt; long_strings(&[0, 18, 55], 2) == (0, 2, [17, 18, 9]));
+    assert!(rt; long_strings(&[], 3) == (0, 0, [9, 9, 9]));
+}
+
 static RELOC: &[u8; 12] = b"\x10\0\0\0\x01\x02\0\0\xfc\xff\xff\xff";
 
 fn is_reloc(found: &GoblinReloc) -> bool {
