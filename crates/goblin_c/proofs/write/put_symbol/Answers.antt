@@ -1,9 +1,5 @@
-use Rattle.std.proofs.Common.{ap, sym, ◌∙◌}
-use Rattle.goblin_base.specs.Steps.{refuse_as}
-use Rattle.goblin.specs.Sym.{sym_of, sym_size}
-use Rattle.goblin_c.specs.Expected.{ctx_of, symbol_expected, symbols_expected}
-use Rattle.goblin_c.specs.Refused.{refusal_at}
-use Rattle.goblin_c.specs.Types.{symbol_converted}
+use Rattle.goblin_c.proofs.Common.{ap, sym, ◌∙◌, refuse_as, sym_of, sym_size, ctx_of, symbol_expected, symbols_expected}
+use Rattle.goblin_c.proofs.Common.{refusal_at, symbol_converted}
 use Rattle.goblin_c.proofs.ReadLemmas.{expected_is, found_at, lists_symbols}
 use Rattle.goblin_c.proofs.write.put_symbol.Goals as goal
 
