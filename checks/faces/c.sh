@@ -97,6 +97,27 @@ check_cost() {
     echo "c: $(wc -l < "$folder/output") lists and repeated calls, among them the $(wc -l < "$folder/calls") that are passed a file, take less than their limit (cost.c)"
 }
 
+# Counts the instructions of calls for one item, by callgrind. Each limit is a quarter more than was counted: a function that is no longer
+# put into its caller, or a refusal that is prepared before it is needed, costs more.
+check_instructions() {
+    if [ "$(uname -m)" != x86_64 ] || ! has valgrind; then
+        echo "c: the instructions of calls for one item are not counted, because valgrind is not installed or this is another processor"
+        return
+    fi
+    build single -std=c99
+    quietly valgrind --tool=callgrind --callgrind-out-file="$folder/counts" "$folder/single" "$folder/nm"
+    "$folder/single" "$folder/nm" > "$folder/calls" || fail "single.c reads nothing of $folder/nm"
+    callgrind_annotate --inclusive=yes --threshold=100 "$folder/counts" > "$folder/listed"
+    while read -r call times; do
+        case $call in *header) limit=65 ;; *section) limit=80 ;; *symbol) limit=75 ;; *reloc) limit=80 ;; *) limit=165 ;; esac
+        all=$(awk -v call="$call" '$0 ~ ":" call " " { gsub(/,/, "", $1); print $1; exit }' "$folder/listed")
+        each=$((${all:-0} / times))
+        if [ "$each" -eq 0 ] || [ "$each" -gt "$limit" ]; then fail "$call takes $each instructions, and its limit is $limit"; fi
+        printf '%s %s of %s, ' "$call" "$each" "$limit" >> "$folder/counted"
+    done < "$folder/calls"
+    echo "c: instructions of a call: $(sed 's/, $//' "$folder/counted")"
+}
+
 check_bench() {
     if echo '#include <gelf.h>' | cc -E - > "$folder/output" 2>&1; then
         quietly strictly cc -std=c99 -Ifaces/c -o "$folder/bench" faces/c/bench.c -L"$folder" -lgoblin_c -lelf
@@ -254,6 +275,7 @@ check_as_cxx
 quietly "$folder/search"
 echo "c: $(wc -l < "$folder/output") searches among long names take less than their limit (search.c)"
 check_cost
+check_instructions
 check_bench
 check_programs
 check_damaged

@@ -1,9 +1,9 @@
 -- Files of the same length have as many symbols and relocations in a range.
-use Rattle.goblin_c.proofs.Common.{◌≡◌, ◌+◌, ◌-◌, ◌*◌, ◌/◌, ◌^◌, ◌==◌, ℕ, Bool, true, false, nat_le, nat_lt, List, []}
-use Rattle.goblin_c.proofs.Common.{length, take, drop, map, Option, Some, None, Result, Ok, Err, if◌then◌else◌, refl}
-use Rattle.goblin_c.proofs.Common.{sym, ap, ◌∙◌, length-map, Ctx, Error, unless_fault, refusal_of, room_of, ◌>>=◌}
-use Rattle.goblin_c.proofs.Common.{refuse_as, records, length_records, Reloc, reloc_in, reloc_size, sym_of, sym_size}
-use Rattle.goblin_c.proofs.Common.{GoblinHeader, GoblinRange, count_of, ctx_of, each_converted, reloc_count_expected}
+use Rattle.goblin_c.proofs.Common.{◌≡◌, ◌-◌, ◌*◌, ◌/◌, ◌^◌, ◌==◌, ℕ, Bool, true, false, nat_le, nat_lt, List, []}
+use Rattle.goblin_c.proofs.Common.{length, take, drop, map, Option, Some, Result, Ok, Err, if◌then◌else◌, refl, sym, ap}
+use Rattle.goblin_c.proofs.Common.{◌∙◌, length-map, Ctx, Error, unless_fault, refusal_of, room_of, ◌>>=◌, refuse_as}
+use Rattle.goblin_c.proofs.Common.{records, length_records, Reloc, reloc_in, reloc_size, sym_of, sym_size, GoblinHeader}
+use Rattle.goblin_c.proofs.Common.{GoblinRange, count_of, ctx_of, each_converted, reloc_count_expected}
 use Rattle.goblin_c.proofs.Common.{symbol_count_expected, RefusalAt, refused_at, reloc_converted, symbol_converted}
 use Rattle.goblin_base.specs.declared.error.Error.TheVariants.{Malformed}
 use Rattle.goblin_base.specs.declared.error.Fault.TheVariants.{SymtabOffset, SymtabPast, TooManySymbols}

@@ -9,6 +9,7 @@ pub mod EachLemmas
 pub mod FitLemmas
 pub mod HeaderPutLemmas
 pub mod IndexLemmas
+pub mod InsideLemmas
 pub mod NoteLemmas
 pub mod PlaceLemmas
 pub mod SearchLemmas

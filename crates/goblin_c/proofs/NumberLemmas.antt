@@ -1,8 +1,8 @@
 -- Numbers and headers that are put are read again.
-use Rattle.goblin_c.proofs.Common.{◌≡◌, ◌≤◌, ◌<◌, ◌+◌, ◌^◌, ◌%◌, ℕ, Bool, true, false, List, ◌++◌, length, take, drop}
-use Rattle.goblin_c.proofs.Common.{Option, Some, None, Result, Ok, Err, if◌then◌else◌, refl, sym, ap, subst, ◌∙◌, arith}
-use Rattle.goblin_c.proofs.Common.{mod-eq_of_lt, Endian, number_at-lt, number_at-with_number, number_at, spelled}
-use Rattle.goblin_c.proofs.Common.{fits-room_of, room_of_fits, is_width, number_expected, ctx_of, GoblinHeader}
+use Rattle.goblin_c.proofs.Common.{◌≡◌, ◌≤◌, ◌<◌, ◌+◌, ◌^◌, ℕ, true, List, ◌++◌, length, take, drop, Some, Ok, refl}
+use Rattle.goblin_c.proofs.Common.{sym, ap, subst, ◌∙◌, arith, mod-eq_of_lt, Endian, number_at-lt}
+use Rattle.goblin_c.proofs.Common.{number_at-with_number, number_at, spelled, fits-room_of, room_of_fits, is_width}
+use Rattle.goblin_c.proofs.Common.{number_expected, ctx_of, GoblinHeader}
 use Rattle.goblin_base.specs.NumberLaws.{length-spelled, spelled-number}
 use Rattle.goblin_base.specs.Place.{with_number}
 use Rattle.goblin_c.specs.Write.{with_bytes}

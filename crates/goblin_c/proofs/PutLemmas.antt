@@ -3,15 +3,14 @@
 -- The item that a call stores is read from the bytes at its place (`found_at`). After a put these are the record's
 -- image (`own_bytes`), which is read as the record. The call finds one there if the list has as many items as before
 -- (`still_there`).
-use Rattle.goblin_c.proofs.Common.{◌≡◌, ◌≤◌, ◌<◌, ◌+◌, ◌-◌, ◌*◌, ℕ, Bool, true, false, nat_le, List, ◌++◌, length, take}
-use Rattle.goblin_c.proofs.Common.{drop, get_or, map, slice_get, Option, Some, None, Result, Ok, Err, if◌then◌else◌}
-use Rattle.goblin_c.proofs.Common.{refl, sym, ap, subst, inl, inr, ◌∙◌, arith, append_assoc, length-append}
-use Rattle.goblin_c.proofs.Common.{take-append_seam, drop-drop, drop_at, get_or-drop, get_or-take, get_or_past}
-use Rattle.goblin_c.proofs.Common.{length-take, length-take-le, take-append-drop, take_all, cases_lt, slice_get-get_or}
-use Rattle.goblin_c.proofs.Common.{slice_get_within, IsRecord, Layout, IsBytes, count_of, each_converted, item_of}
-use Rattle.goblin_c.proofs.Common.{RefusalAt, ProgramHeader, Reloc, SectionHeader, Sym, reloc_converted}
-use Rattle.goblin_c.proofs.Common.{section_converted, segment_converted, symbol_converted, ctx_of, relocs_expected}
-use Rattle.goblin_c.proofs.Common.{sections_expected, segments_expected, symbols_expected}
+use Rattle.goblin_c.proofs.Common.{◌≡◌, ◌≤◌, ◌<◌, ◌+◌, ◌*◌, ℕ, Bool, true, false, List, ◌++◌, length, take, drop}
+use Rattle.goblin_c.proofs.Common.{get_or, slice_get, Option, Some, None, Result, Ok, Err, refl, sym, ap, subst, inl}
+use Rattle.goblin_c.proofs.Common.{inr, ◌∙◌, arith, append_assoc, length-append, take-append_seam, drop-drop, drop_at}
+use Rattle.goblin_c.proofs.Common.{get_or-drop, get_or-take, get_or_past, length-take, length-take-le, take-append-drop}
+use Rattle.goblin_c.proofs.Common.{take_all, cases_lt, slice_get-get_or, slice_get_within, IsRecord, Layout, IsBytes}
+use Rattle.goblin_c.proofs.Common.{count_of, each_converted, item_of, RefusalAt, ProgramHeader, Reloc, SectionHeader}
+use Rattle.goblin_c.proofs.Common.{Sym, reloc_converted, section_converted, segment_converted, symbol_converted, ctx_of}
+use Rattle.goblin_c.proofs.Common.{relocs_expected, sections_expected, segments_expected, symbols_expected}
 use Rattle.std.proofs.Common.{length-drop}
 use Rattle.goblin_c.specs.Write.{put_at, put_if, put_if_there, with_bytes, reloc_ctx, reloc_layout, reloc_of}
 use Rattle.goblin_c.specs.Write.{section_layout, section_of, segment_layout, segment_of, symbol_layout, symbol_of}

@@ -1,10 +1,10 @@
 -- Puts: a record that is found is put at its place, in range, and the library's test decides whether it fits.
 use Rattle.goblin_c.proofs.Common.{◌≡◌, ◌≤◌, ◌<◌, ◌+◌, ◌*◌, ◌^◌, ◌⊎◌, ℕ, Bool, true, false, true≢false, List, [], ◌∷◌}
-use Rattle.goblin_c.proofs.Common.{◌++◌, length, take, drop, IsTrue, map, Option, Some, None, Result, Ok, Err}
-use Rattle.goblin_c.proofs.Common.{if◌then◌else◌, inl, inr, refl, sym, ap, subst, ◌∙◌, arith, fits-room_of, ◌>>=◌}
-use Rattle.goblin_c.proofs.Common.{refuse_as, number_expected, ctx_of, each_converted, item_of, Returns, RefusalAt}
-use Rattle.goblin_c.proofs.Common.{refusal_at, refused_at, Stores, converted_list, refusal_converted, Container, Little}
-use Rattle.goblin_c.proofs.Common.{Big, Ctx, Error, refusal_of, Header, cases_lt, Refused, GoblinHeader, GoblinRefusal}
+use Rattle.goblin_c.proofs.Common.{◌++◌, length, drop, IsTrue, map, Option, Some, Result, Ok, Err, inl, inr, refl, sym}
+use Rattle.goblin_c.proofs.Common.{ap, subst, ◌∙◌, arith, fits-room_of, ◌>>=◌, refuse_as, number_expected, ctx_of}
+use Rattle.goblin_c.proofs.Common.{item_of, Returns, RefusalAt, refusal_at, refused_at, Stores, converted_list}
+use Rattle.goblin_c.proofs.Common.{refusal_converted, Container, Little, Big, Ctx, Error, refusal_of, Header, cases_lt}
+use Rattle.goblin_c.proofs.Common.{Refused, GoblinHeader, GoblinRefusal}
 use Rattle.std.proofs.Math.Logic.{◌↔◌}
 use Rattle.goblin_c.specs.Write.{FitsClass, Puts, header_of, header_put_expected, named_ctx, put_if}
 use Rattle.goblin_base.specs.Fields.{Field, FieldsFit}

@@ -2,12 +2,16 @@
 ghost use Rattle.std.specs.Prelude.{◌≡◌, ◌+◌, ◌<◌, ◌==◌, ◌^◌, IfSome, drop, map, position};
 ghost use Rattle.goblin_c.specs.Refused.{Returns};
 ghost use Rattle.goblin_c.specs.Expected.{ctx_of, header_expected, section_at, section_by_type_expected, section_names_expected, sections_expected, segments_expected, table_at, table_expected, whole_header};
+ghost use Rattle.goblin_c.specs.Status.{Stores};
 ghost use Rattle.goblin_c.specs.Types.{section_converted, segment_converted};
 
+use crate::kinds::OK;
 use crate::lists::Listed;
-use crate::refused::{Result, refused_at};
+use crate::refused::{Refused, Result, refused_at};
+use crate::status::refuse;
 use crate::types::{
-    GoblinHeader, GoblinSection, GoblinSegment, convert_header, convert_section, convert_segment,
+    GoblinHeader, GoblinRefusal, GoblinSection, GoblinSegment, convert_header, convert_section,
+    convert_segment,
 };
 use goblin::container::{Container, Ctx, Endian};
 use goblin::elf::header::{ELFCLASS64, ELFDATA2MSB, Header};
@@ -33,12 +37,18 @@ pub fn ctx_of(header: &GoblinHeader) -> Ctx
     Ctx::new(container, order)
 }
 
-/// Returns the header at the file's start.
-pub fn header_at(bytes: &[u8]) -> Result<Option<GoblinHeader>>
-    ensures { Returns (λ found. found) result (header_expected bytes.now) }
+/// Stores the header at the file's start, or its refusal.
+pub fn store_header(bytes: &[u8], header: &mut GoblinHeader, why: &mut GoblinRefusal) -> u32
+    ensures { Stores (header_expected bytes.now) header.old why.old result header.new why.new }
 {
-    let (header, _) = refused_at(0, Header::try_from_ctx(bytes, LE))?;
-    Ok(Some(convert_header(&header)))
+    // (it is converted where it is read, since a copy of it takes as long as reading it)
+    match Header::try_from_ctx(bytes, LE) {
+        Ok((found, _)) => {
+            *header = convert_header(&found);
+            OK
+        }
+        Err(error) => refuse(&Refused { error, offset: 0 }, why),
+    }
 }
 
 /// Returns the section headers.

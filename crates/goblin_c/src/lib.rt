@@ -23,6 +23,7 @@ mod bytes;
 #[cfg(test)]
 mod bytes_tests;
 mod headers;
+mod inside;
 mod kinds;
 mod laws;
 mod layout;
@@ -52,18 +53,17 @@ use goblin::elf::program_header::pt_to_str;
 use goblin::elf::section_header::{shf_to_str, sht_to_str};
 use goblin::elf::sym::{bind_to_str, type_to_str, visibility_to_str};
 use headers::{
-    header_at, section_by_type, section_names, sections_of, segments_of, table_section,
+    section_by_type, section_names, sections_of, segments_of, store_header, table_section,
     whole_header,
 };
+use inside::{store_reloc, store_section, store_segment, store_symbol};
 use layout::{GoblinLayout, marked_layout};
-use lists::{count_of, item_of, store_from};
+use lists::{count_of, store_from};
 use notes::{note_from, note_type, store_note};
 use places::{address_to_offset, cut_range, number_in};
 use status::{store, store_both};
 use strings::{store_strings, string_at};
-use tables::{
-    relocs_of, section_by_name, symbol_by_address, symbol_by_name, symbol_in, symbols_of,
-};
+use tables::{relocs_of, section_by_name, symbol_by_address, symbol_by_name, symbols_of};
 use texts::write_refusal;
 use types::{
     GoblinHeader, GoblinNote, GoblinRange, GoblinRefusal, GoblinReloc, GoblinSection,
@@ -100,7 +100,7 @@ pub extern "C" fn goblin_header(
 ) -> u32
     ensures { Stores (header_expected bytes.now) header.old why.old result header.new why.new }
 {
-    store(header_at(bytes), header, why)
+    store_header(bytes, header, why)
 }
 
 /// Stores a copy of a header that counts only the section headers and program headers that lie whole in the file.
@@ -137,7 +137,7 @@ pub extern "C" fn goblin_section(
     ensures { Stores (section_expected bytes.now header.now index)
         section.old why.old result section.new why.new }
 {
-    store(item_of(sections_of(bytes, header), index), section, why)
+    store_section(bytes, header, index, section, why)
 }
 
 /// Stores the program header at an index.
@@ -152,7 +152,7 @@ pub extern "C" fn goblin_segment(
     ensures { Stores (segment_expected bytes.now header.now index)
         segment.old why.old result segment.new why.new }
 {
-    store(item_of(segments_of(bytes, header), index), segment, why)
+    store_segment(bytes, header, index, segment, why)
 }
 
 /// Stores the symbol at an index of the table that lies in a range.
@@ -168,8 +168,7 @@ pub extern "C" fn goblin_symbol(
     ensures { Stores (symbol_expected bytes.now header.now table.now index)
         symbol.old why.old result symbol.new why.new }
 {
-    let found = symbol_in(bytes, header, table, index);
-    store(found, symbol, why)
+    store_symbol(bytes, header, table, index, symbol, why)
 }
 
 /// Stores the relocation at an index of those that lie in a range, with addends or without.
@@ -186,8 +185,7 @@ pub extern "C" fn goblin_reloc(
     ensures { Stores (reloc_expected bytes.now header.now relocs.now is_rela index)
         reloc.old why.old result reloc.new why.new }
 {
-    let found = item_of(relocs_of(bytes, header, relocs, is_rela), index);
-    store(found, reloc, why)
+    store_reloc(bytes, header, relocs, is_rela, index, reloc, why)
 }
 
 /// Stores the range in the file of the string at an offset of a string table.

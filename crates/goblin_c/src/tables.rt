@@ -1,18 +1,17 @@
 //! Symbols, relocations and what is found by its name, as the library reads them.
 ghost use Rattle.std.specs.Prelude.{◌≡◌, length, map, position};
 ghost use Rattle.goblin_c.specs.Refused.{Returns};
-ghost use Rattle.goblin_c.specs.Expected.{ctx_of, relocs_expected, section_by_name_expected, symbol_by_address_expected, symbol_by_name_expected, is_named, symbol_expected, symbols_expected};
+ghost use Rattle.goblin_c.specs.Expected.{relocs_expected, section_by_name_expected, symbol_by_address_expected, symbol_by_name_expected, is_named, symbols_expected};
 ghost use Rattle.goblin_c.specs.Types.{reloc_converted, symbol_converted};
 
 use crate::headers::{ctx_of, section_at, sections_of};
-use crate::lists::{Listed, item_of};
+use crate::lists::Listed;
 use crate::refused::{Result, refused_at};
 use crate::strings::string_table_bytes;
 use crate::types::{
     GoblinHeader, GoblinRange, GoblinReloc, GoblinSection, GoblinSymbol, convert_reloc,
     convert_symbol,
 };
-use goblin::container::{Container, Ctx};
 use goblin::elf::reloc::{RelocSection, is_mips64el_in};
 use goblin::elf::section_header::SectionHeader;
 use goblin::elf::sym::Symtab;
@@ -27,49 +26,9 @@ pub fn symbols_of<'a>(
     ensures { Returns (λ table. table.symbols) result
         (symbols_expected bytes.now header.now range.now) }
 {
-    symbols_in(bytes, header, range, ctx_of(header))
-}
-
-// Returns the symbols of a range, with the context of the header.
-#[inline(always)]
-fn symbols_in<'a>(
-    bytes: &'a [u8],
-    header: &GoblinHeader,
-    range: &GoblinRange,
-    ctx: Ctx,
-) -> Result<Symtab<'a>>
-    requires { ctx ≡ ctx_of header.now }
-    ensures { Returns (λ table. table.symbols) result
-        (symbols_expected bytes.now header.now range.now) }
-{
     let (offset, size) = (range.offset as usize, range.size as usize);
-    let table = Symtab::in_range(bytes, offset, size, ctx, &ParseOptions::strict());
+    let table = Symtab::in_range(bytes, offset, size, ctx_of(header), &ParseOptions::strict());
     refused_at(range.offset, table)
-}
-
-/// Returns the symbol at an index of a range.
-#[inline(always)]
-pub fn symbol_in(
-    bytes: &[u8],
-    header: &GoblinHeader,
-    range: &GoblinRange,
-    index: u64,
-) -> Result<Option<GoblinSymbol>>
-    ensures { Returns (λ found. found) result
-        (symbol_expected bytes.now header.now range.now index) }
-{
-    let ctx = ctx_of(header);
-    // (asked here, the class isn't asked again for the table's end and the symbol's place)
-    match ctx.container {
-        Container::Little => {
-            let ctx = Ctx::new(Container::Little, ctx.le);
-            item_of(symbols_in(bytes, header, range, ctx), index)
-        }
-        Container::Big => {
-            let ctx = Ctx::new(Container::Big, ctx.le);
-            item_of(symbols_in(bytes, header, range, ctx), index)
-        }
-    }
 }
 
 impl Listed for Symtab<'_> {

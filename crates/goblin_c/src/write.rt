@@ -17,7 +17,7 @@ use crate::kinds::{END, OK};
 use crate::lists::item_of;
 use crate::refused::{Refused, Result, unfit};
 use crate::status::refuse;
-use crate::tables::{relocs_of, symbol_in};
+use crate::tables::{relocs_of, symbols_of};
 use crate::types::{
     GoblinHeader, GoblinRange, GoblinRefusal, GoblinReloc, GoblinSection, GoblinSegment,
     GoblinSymbol, header_of, reloc_of, section_of, segment_of, symbol_of,
@@ -133,7 +133,7 @@ pub fn put_symbol(
         (symbol_put_expected bytes.old header.now table.now index symbol.now)
         bytes.old why.old result bytes.new why.new }
 {
-    let found = symbol_in(bytes, header, table, index);
+    let found = item_of(symbols_of(bytes, header, table), index);
     let (ctx, record) = (ctx_of(header), symbol_of(symbol));
     let fits = record.fits(ctx);
     let place = Place {

@@ -1,17 +1,15 @@
-use Rattle.goblin_c.proofs.Common.{ap, sym, ◌∙◌, refuse_as, sym_of, sym_size, ctx_of, symbol_expected, symbols_expected}
-use Rattle.goblin_c.proofs.Common.{refusal_at, symbol_converted}
-use Rattle.goblin_c.proofs.ReadLemmas.{expected_is, found_at, lists_symbols}
+use Rattle.goblin_c.proofs.ReadLemmas.{lists_symbols}
+use Rattle.goblin_c.proofs.WriteLemmas.{room_for}
 use Rattle.goblin_c.proofs.write.put_symbol.Goals as goal
+use Rattle.goblin_c.proofs.Common.{sym_of, sym_size, ctx_of, symbols_expected, symbol_converted}
 
 pub put_found-requires : goal.put_found-requires
 put_found-requires c =
     let h = c.args.header.now in
     let table = c.args.table.now in
-    let bytes = c.args.bytes.now in
     let class = (ctx_of h).container in
     rw c.ctx_of-ctx.ensures
     (λ x there.
-    (found_at symbol_converted (sym_size class) (sym_of class (ctx_of h).le) bytes table.offset c.args.index
-    (symbols_expected bytes h table) x (lists_symbols bytes h table)
-    (sym (expected_is c.symbol_in-found.result (symbol_expected bytes h table c.args.index) c.symbol_in-found.ensures)
-    ∙ ap (refuse_as refusal_at) there)).0)
+    room_for symbol_converted (λ table. table.symbols) (sym_size class) (sym_of class (ctx_of h).le) c.args.bytes.now
+    table.offset c.args.index c.symbols_of.result (symbols_expected c.args.bytes.now h table) c.item_of-found.result x
+    (lists_symbols c.args.bytes.now h table) c.symbols_of.ensures c.item_of-found.ensures there)

@@ -1,0 +1,272 @@
+-- Items of lists that lie in the file.
+--
+-- Such a list passes each test that its call makes, so it is the list of its records (`symbols_inside` and its like).
+-- The item with an index is then read from its own bytes (`listed_item`).
+use Rattle.std.proofs.Math.Nat.{le-div_iff_mul-le, mul-div_left}
+use Rattle.std.proofs.lemmas.List.{take-take}
+use Rattle.goblin_base.specs.Eager.{records_from, records_in, room_of_each}
+use Rattle.goblin_base.specs.declared.scroll.Error.{Error as Misplaced}
+use Rattle.goblin_base.proofs.Eager.{all_fit}
+use Rattle.goblin.specs.SectionHeaders.{count_asked, section_headers_from, section_headers_from_tested}
+use Rattle.goblin.specs.Symtab.{symbols_at, symtab_of}
+use Rattle.goblin_c.specs.Expected.{section_expected}
+use Rattle.goblin_c.specs.Write.{reloc_ctx}
+use Rattle.goblin_c.proofs.Common.{◌≡◌, ◌≤◌, ◌<◌, ◌+◌, ◌-◌, ◌*◌, ◌/◌, ◌^◌, ◌==◌, ℕ, Bool, true, false, nat_le, nat_lt}
+use Rattle.goblin_c.proofs.Common.{List, [], length, take, drop, max, codes, Option, Some, Result, Ok, Err}
+use Rattle.goblin_c.proofs.Common.{if◌then◌else◌, refl, sym, ap, subst, ◌∙◌, arith, div-mul-le_self, mul-le-mul_right}
+use Rattle.goblin_c.proofs.Common.{nat_tests, drop-drop, slice_get-map, option_map, Ctx, Container, Little, Big}
+use Rattle.goblin_c.proofs.Common.{unless_fault, room_of_fits, buffer_too_short, misplaced, refusal_of, room_of, ◌>>=◌}
+use Rattle.goblin_c.proofs.Common.{refuse_as, refuse_if, records, records-agree, get_records, ProgramHeader, Reloc}
+use Rattle.goblin_c.proofs.Common.{SectionHeader, Sym, program_header_of, program_header_size, program_headers_from}
+use Rattle.goblin_c.proofs.Common.{reloc_in, reloc_size, relocs_of, section_header_of, section_header_size}
+use Rattle.goblin_c.proofs.Common.{section_headers_of, sym_of, sym_size, segment_count, ctx_of, each_converted}
+use Rattle.goblin_c.proofs.Common.{is_mips64el, item_of, reloc_expected, relocs_expected, sections_expected}
+use Rattle.goblin_c.proofs.Common.{segment_expected, segments_expected, symbol_expected, symbols_expected, RefusalAt}
+use Rattle.goblin_c.proofs.Common.{refused_at, Stores, reloc_converted, section_converted, segment_converted}
+use Rattle.goblin_c.proofs.Common.{symbol_converted, GoblinHeader, GoblinRange, GoblinRefusal}
+
+-- an item that is expected is stored
+pub stored : {X : Type 0} (expected : Result (Option X) RefusalAt) (old x : X) (why : GoblinRefusal)
+    → expected ≡ Ok (Some x) → Stores expected old why 0 x why
+stored {X = X} expected old x why is =
+    subst (λ (r : Result (Option X) RefusalAt). Stores r old why 0 x why) (sym is) (refl, refl, refl)
+
+-- the item with an index of a list that is read from the bytes of its records
+listed_item : {R Y : Type 0} (convert : R → Y) (size : ℕ) (read : List ℕ → R) (bytes : List ℕ) (start count index : ℕ)
+    (all : Result (List R) RefusalAt) (x : R)
+    → all ≡ Ok (records size read count (drop start bytes)) → index < count
+    → x ≡ read (take size (drop (start + index * size) bytes))
+    → item_of (each_converted convert all) index ≡ Ok (Some (convert x))
+listed_item {R = R} {Y = Y} convert size read bytes start count index all x are inside is =
+    let items = records size read count (drop start bytes) in
+    ap (λ (list : Result (List R) RefusalAt). item_of (each_converted convert list) index) are
+    ∙ ap (λ (y : Option Y). Ok y) (slice_get-map convert items index)
+    ∙ ap (λ (y : Option R). Ok (option_map convert y)) (get_records size read count (drop start bytes) index inside)
+    ∙ ap (λ (own : List ℕ). Ok (Some (convert (read (take size own))))) (drop-drop (index * size) start bytes)
+    ∙ ap (λ (y : R). Ok (Some (convert y))) (sym is)
+
+-- the symbols of a range in the file
+accepted : {A E : Type 0} (first second third : Bool) (a b c : E) (x : A)
+    → first ≡ false → second ≡ false → third ≡ false
+    → (if first then Err a else if second then Err b else if third then Err c else Ok x) ≡ Ok x
+accepted first second third a b c x p q r = rw (p, q, r) refl
+
+symbols_inside : (bytes : List ℕ) (start count : ℕ) (ctx : Ctx)
+    → start < length bytes → start + count * sym_size ctx.container ≤ length bytes
+    → count * sym_size ctx.container < 2 ^ 64
+    → symtab_of bytes start count ctx ≡ Ok (symbols_at bytes start count ctx)
+symbols_inside bytes start count ctx there fits bound =
+    let all = count * sym_size ctx.container in
+    accepted (nat_le (length bytes) start) (nat_le (2 ^ 64) all) (nat_lt (length bytes - start) all) _ _ _ _
+    (grind (arith, nat_tests)) (grind (arith, nat_tests)) (grind (arith, nat_tests))
+
+sym_size-positive : (class : Container) → 0 < sym_size class
+sym_size-positive Little = omega arith
+sym_size-positive Big = omega arith
+
+-- some records in a range take their size
+own-le : (size own index : ℕ) → index < size / own → own ≤ size
+own-le size own index inside =
+    let one : 1 * own ≤ size / own * own = mul-le-mul_right own (omega (arith, inside)) in
+    omega (arith, one, div-mul-le_self size own)
+
+pub symbol_is : (bytes : List ℕ) (h : GoblinHeader) (range : GoblinRange) (index : ℕ) (x : Sym)
+    → range.size < 2 ^ 64 → range.offset + range.size ≤ length bytes
+    → index < range.size / sym_size (ctx_of h).container
+    → x ≡ sym_of (ctx_of h).container (ctx_of h).le
+    (take (sym_size (ctx_of h).container) (drop (range.offset + index * sym_size (ctx_of h).container) bytes))
+    → symbol_expected bytes h range index ≡ Ok (Some (symbol_converted x))
+symbol_is bytes h range index x bound file inside is =
+    let own = sym_size (ctx_of h).container in
+    let some : 0 < own = sym_size-positive (ctx_of h).container in
+    let count = range.size / own in
+    let most : count * own ≤ range.size = div-mul-le_self range.size own in
+    let not_empty : own ≤ range.size = own-le range.size own index inside in
+    let table = symbols_inside bytes range.offset count (ctx_of h) (omega (arith, some, not_empty)) (omega (arith, most))
+    (omega (arith, most)) in
+    listed_item symbol_converted own (sym_of (ctx_of h).container (ctx_of h).le) bytes range.offset count index
+    (symbols_expected bytes h range) x
+    (ap (λ r. refused_at range.offset (refuse_as refusal_of r) >>= λ table. Ok table.symbols) table) inside is
+
+-- a test that passes
+passes : {A B E : Type 0} (test : Result A E) (rest : A → Result B E) (x : A) → test ≡ Ok x → (test >>= rest) ≡ rest x
+passes {A = A} {E = E} test rest x is = ap (λ (r : Result A E). r >>= rest) is
+
+-- records that lie in the bytes are read at once
+records_inside : {R : Type 0} (size : ℕ) (read : List ℕ → R) (bytes : List ℕ) (start count : ℕ)
+    → 0 < size → start + count * size ≤ length bytes
+    → records_in size read bytes start count ≡ Ok (records size read count (drop start bytes))
+unfolding records_in
+records_inside size read bytes start count some fits =
+    let few : count ≤ (length bytes - start) / size = (le-div_iff_mul-le some).1 (omega (arith, fits)) in
+    passes (refuse_as misplaced (room_of_each (length bytes) start size count))
+    (λ _. Ok (records size read count (drop start bytes))) tt
+    (ap (refuse_as misplaced) (all_fit (length bytes) start size count some (omega (arith, fits)) few))
+
+section_size-positive : (class : Container) → 0 < section_header_size class
+section_size-positive Little = omega arith
+section_size-positive Big = omega arith
+
+-- the section headers, whose number the header states
+module _ (bytes : List ℕ) (start count : ℕ) (ctx : Ctx) where
+  asked_is : 0 < count → count_asked bytes start count ctx ≡ count
+  asked_is some =
+      let stated : (count == 0) ≡ false = grind (arith, nat_tests) in
+      let first = section_header_of ctx.container ctx.le (drop start bytes) in
+      ap (λ (none : Bool). if none then first.sh_size else count) stated
+
+  sections_tested : 0 < count → start + count * section_header_size ctx.container ≤ length bytes
+      → section_headers_from_tested bytes start count ctx ≡ Ok tt
+  unfolding section_headers_from_tested
+  sections_tested some fits =
+      let own = section_header_size ctx.container in
+      let positive : 0 < own = section_size-positive ctx.container in
+      let one : 1 * own ≤ count * own = mul-le-mul_right own (omega (arith, some)) in
+      let room : room_of (length bytes) start own ≡ Ok tt =
+      room_of_fits (length bytes) start own (omega (arith, one, fits)) in
+      let within : count ≤ length bytes / own = (le-div_iff_mul-le positive).1 (omega (arith, fits)) in
+      let few : nat_lt (length bytes / own) count ≡ false = grind (arith, nat_tests) in
+      let name = codes "section headers" in
+      let refuse = λ (n : ℕ). refuse_if (nat_lt (length bytes / own) n) (buffer_too_short n name) in
+      passes (refuse_as misplaced (room_of (length bytes) start own))
+      (λ _. refuse (count_asked bytes start count ctx)) tt (ap (refuse_as misplaced) room)
+      ∙ ap refuse (asked_is some)
+      ∙ ap (λ (b : Bool). refuse_if b (buffer_too_short count name)) few
+
+  sections_inside : (start ≡ 0 → ⊥) → 0 < count → start + count * section_header_size ctx.container ≤ length bytes
+      → section_headers_of bytes start count ctx
+      ≡ Ok (records (section_header_size ctx.container) (section_header_of ctx.container ctx.le) count
+      (drop start bytes))
+  unfolding section_headers_from
+  sections_inside there some fits =
+      let own = section_header_size ctx.container in
+      let read = section_header_of ctx.container ctx.le in
+      let asked = count_asked bytes start count ctx in
+      let at_start : (start == 0) ≡ false = grind (arith, nat_tests) in
+      let most : max 1 count ≡ count = omega (arith, some) in
+      ap (λ (b : Bool). if b then Ok [] else section_headers_from bytes start count ctx) at_start
+      ∙ passes (section_headers_from_tested bytes start count ctx) (λ _. records_in own read bytes start (max 1 asked)) tt
+      (sections_tested some fits)
+      ∙ ap (λ (n : ℕ). records_in own read bytes start (max 1 n)) (asked_is some)
+      ∙ ap (λ (n : ℕ). records_in own read bytes start n) most
+      ∙ records_inside own read bytes start count (section_size-positive ctx.container) fits
+
+pub section_is : (bytes : List ℕ) (h : GoblinHeader) (index : ℕ) (x : SectionHeader)
+    → (h.e_shoff ≡ 0 → ⊥) → h.e_shoff + h.e_shnum * section_header_size (ctx_of h).container ≤ length bytes
+    → index < h.e_shnum * section_header_size (ctx_of h).container / section_header_size (ctx_of h).container
+    → x ≡ section_header_of (ctx_of h).container (ctx_of h).le
+    (take (section_header_size (ctx_of h).container)
+    (drop (h.e_shoff + index * section_header_size (ctx_of h).container) bytes))
+    → section_expected bytes h index ≡ Ok (Some (section_converted x))
+section_is bytes h index x there file fits is =
+    let own = section_header_size (ctx_of h).container in
+    let same : h.e_shnum * own / own ≡ h.e_shnum = mul-div_left h.e_shnum (section_size-positive (ctx_of h).container) in
+    let inside : index < h.e_shnum = omega (arith, fits, same) in
+    let list = sections_inside bytes h.e_shoff h.e_shnum (ctx_of h) there (omega (arith, inside)) file in
+    listed_item section_converted own (section_header_of (ctx_of h).container (ctx_of h).le) bytes h.e_shoff h.e_shnum
+    index (sections_expected bytes h) x (ap (refused_at h.e_shoff) list) inside is
+
+segment_size-positive : (class : Container) → 0 < program_header_size class
+segment_size-positive Little = omega arith
+segment_size-positive Big = omega arith
+
+-- the program headers, whose number the header states
+segments_inside : (bytes : List ℕ) (start count : ℕ) (ctx : Ctx)
+    → start + count * program_header_size ctx.container ≤ length bytes
+    → program_headers_from bytes start count ctx
+    ≡ Ok (records (program_header_size ctx.container) (program_header_of ctx.container ctx.le) count
+    (drop start bytes))
+unfolding records_from
+segments_inside bytes start count ctx fits =
+    let own = program_header_size ctx.container in
+    let positive : 0 < own = segment_size-positive ctx.container in
+    let all = records own (program_header_of ctx.container ctx.le) count (drop start bytes) in
+    let name = codes "program headers" in
+    let each = refuse_as misplaced (room_of_each (length bytes) start own count) in
+    let within : count ≤ length bytes / own = (le-div_iff_mul-le positive).1 (omega (arith, fits)) in
+    let left : count ≤ (length bytes - start) / own = (le-div_iff_mul-le positive).1 (omega (arith, fits)) in
+    let few : nat_lt (length bytes / own) count ≡ false = grind (arith, nat_tests) in
+    passes (refuse_if (nat_lt (length bytes / own) count) (buffer_too_short count name)) (λ _. each >>= λ _. Ok all) tt
+    (ap (λ (b : Bool). refuse_if b (buffer_too_short count name)) few)
+    ∙ passes each (λ _. Ok all) tt
+    (ap (refuse_as misplaced) (all_fit (length bytes) start own count positive (omega (arith, fits)) left))
+
+pub segment_is : (bytes : List ℕ) (h : GoblinHeader) (index : ℕ) (x : ProgramHeader)
+    → (h.e_phnum ≡ 0xffff → ⊥) → h.e_phoff + h.e_phnum * program_header_size (ctx_of h).container ≤ length bytes
+    → index < h.e_phnum * program_header_size (ctx_of h).container / program_header_size (ctx_of h).container
+    → x ≡ program_header_of (ctx_of h).container (ctx_of h).le
+    (take (program_header_size (ctx_of h).container)
+    (drop (h.e_phoff + index * program_header_size (ctx_of h).container) bytes))
+    → segment_expected bytes h index ≡ Ok (Some (segment_converted x))
+segment_is bytes h index x plain file fits is =
+    let own = program_header_size (ctx_of h).container in
+    let same : h.e_phnum * own / own ≡ h.e_phnum = mul-div_left h.e_phnum (segment_size-positive (ctx_of h).container) in
+    let inside : index < h.e_phnum = omega (arith, fits, same) in
+    let list = λ (n : ℕ). refused_at h.e_phoff (program_headers_from bytes h.e_phoff n (ctx_of h)) in
+    let test : (h.e_phnum == 0xffff) ≡ false = grind (arith, nat_tests) in
+    let counted : segment_count bytes h.e_phnum h.e_shoff (ctx_of h) ≡ Ok h.e_phnum = rw test refl in
+    let count = refused_at h.e_shoff (refuse_as refusal_of (segment_count bytes h.e_phnum h.e_shoff (ctx_of h))) in
+    let all = passes count list h.e_phnum (ap (λ r. refused_at h.e_shoff (refuse_as refusal_of r)) counted)
+    ∙ ap (refused_at h.e_phoff) (segments_inside bytes h.e_phoff h.e_phnum (ctx_of h) file) in
+    listed_item segment_converted own (program_header_of (ctx_of h).container (ctx_of h).le) bytes h.e_phoff h.e_phnum
+    index (segments_expected bytes h) x all inside is
+
+reloc_size-positive : (is_rela : Bool) (class : Container) → 0 < reloc_size is_rela class
+reloc_size-positive true Little = omega arith
+reloc_size-positive true Big = omega arith
+reloc_size-positive false Little = omega arith
+reloc_size-positive false Big = omega arith
+
+-- the relocations of a range in the file
+relocs_inside : (bytes : List ℕ) (start size : ℕ) (is_rela : Bool) (ctx : Ctx) (is_mips64el : Bool)
+    → 0 < size → start + size ≤ length bytes
+    → relocs_of bytes start size is_rela ctx is_mips64el
+    ≡ Ok (records (reloc_size is_rela ctx.container)
+    (reloc_in (record { is_rela = is_rela; ctx = ctx; is_mips64el = is_mips64el }))
+    (size / reloc_size is_rela ctx.container) (drop start bytes))
+relocs_inside bytes start size is_rela ctx is_mips64el some fits =
+    let own = reloc_size is_rela ctx.container in
+    let count = size / own in
+    let read = reloc_in (record { is_rela = is_rela; ctx = ctx; is_mips64el = is_mips64el }) in
+    let part = take size (drop start bytes) in
+    let not_empty : (size == 0) ≡ false = grind (arith, nat_tests) in
+    let room : room_of (length bytes) start size ≡ Ok tt = room_of_fits (length bytes) start size fits in
+    let same : take (count * own) part ≡ take (count * own) (drop start bytes) =
+    take-take (count * own) size (drop start bytes) (div-mul-le_self size own) in
+    ap (λ (b : Bool).
+    if b then Ok [] else unless_fault (room_of (length bytes) start size) (records own read count part)) not_empty
+    ∙ ap (λ (r : Result (Unit {0}) Misplaced). unless_fault r (records own read count part)) room
+    ∙ ap (λ (items : List Reloc). Ok items) (records-agree own read count part (drop start bytes) same)
+
+reloc_is : (bytes : List ℕ) (h : GoblinHeader) (range : GoblinRange) (is_rela : Bool) (index : ℕ) (x : Reloc)
+    → range.offset + range.size ≤ length bytes
+    → index < range.size / reloc_size is_rela (ctx_of h).container
+    → x ≡ reloc_in (reloc_ctx h is_rela)
+    (take (reloc_size is_rela (ctx_of h).container)
+    (drop (range.offset + index * reloc_size is_rela (ctx_of h).container) bytes))
+    → reloc_expected bytes h range is_rela index ≡ Ok (Some (reloc_converted x))
+reloc_is bytes h range is_rela index x file inside is =
+    let own = reloc_size is_rela (ctx_of h).container in
+    let positive = reloc_size-positive is_rela (ctx_of h).container in
+    let some : 0 < range.size = omega (arith, positive, own-le range.size own index inside) in
+    let list = relocs_inside bytes range.offset range.size is_rela (ctx_of h) (is_mips64el h) some file in
+    listed_item reloc_converted own (reloc_in (reloc_ctx h is_rela)) bytes range.offset (range.size / own) index
+    (relocs_expected bytes h range is_rela) x (ap (λ r. refused_at range.offset (refuse_as refusal_of r)) list) inside is
+
+-- files of other machines than MIPS are not of MIPS64
+not_mips64el : (h : GoblinHeader) → (h.e_machine ≡ 8 → ⊥) → is_mips64el h ≡ false
+not_mips64el h other = let test : (h.e_machine == 8) ≡ false = grind (arith, nat_tests) in rw test refl
+
+pub plain_reloc_is : (bytes : List ℕ) (h : GoblinHeader) (range : GoblinRange) (is_rela : Bool) (index : ℕ) (x : Reloc)
+    → (h.e_machine ≡ 8 → ⊥) → range.offset + range.size ≤ length bytes
+    → index < range.size / reloc_size is_rela (ctx_of h).container
+    → x ≡ reloc_in (record { is_rela = is_rela; ctx = ctx_of h; is_mips64el = false })
+    (take (reloc_size is_rela (ctx_of h).container)
+    (drop (range.offset + index * reloc_size is_rela (ctx_of h).container) bytes))
+    → reloc_expected bytes h range is_rela index ≡ Ok (Some (reloc_converted x))
+plain_reloc_is bytes h range is_rela index x other file inside is =
+    let own = reloc_size is_rela (ctx_of h).container in
+    let part = take own (drop (range.offset + index * own) bytes) in
+    reloc_is bytes h range is_rela index x file inside
+    (is ∙ ap (λ (m : Bool). reloc_in (record { is_rela = is_rela; ctx = ctx_of h; is_mips64el = m }) part)
+    (sym (not_mips64el h other)))
