@@ -82,7 +82,8 @@ symbol_is bytes h range index x bound file inside is =
     let count = range.size / own in
     let most : count * own ≤ range.size = div-mul-le_self range.size own in
     let not_empty : own ≤ range.size = own-le range.size own index inside in
-    let table = symbols_inside bytes range.offset count (ctx_of h) (omega (arith, some, not_empty)) (omega (arith, most))
+    let table =
+    symbols_inside bytes range.offset count (ctx_of h) (omega (arith, some, not_empty)) (omega (arith, most))
     (omega (arith, most)) in
     listed_item symbol_converted own (sym_of (ctx_of h).container (ctx_of h).le) bytes range.offset count index
     (symbols_expected bytes h range) x
@@ -145,8 +146,8 @@ module _ (bytes : List ℕ) (start count : ℕ) (ctx : Ctx) where
       let at_start : (start == 0) ≡ false = grind (arith, nat_tests) in
       let most : max 1 count ≡ count = omega (arith, some) in
       ap (λ (b : Bool). if b then Ok [] else section_headers_from bytes start count ctx) at_start
-      ∙ passes (section_headers_from_tested bytes start count ctx) (λ _. records_in own read bytes start (max 1 asked)) tt
-      (sections_tested some fits)
+      ∙ passes (section_headers_from_tested bytes start count ctx)
+      (λ _. records_in own read bytes start (max 1 asked)) tt (sections_tested some fits)
       ∙ ap (λ (n : ℕ). records_in own read bytes start (max 1 n)) (asked_is some)
       ∙ ap (λ (n : ℕ). records_in own read bytes start n) most
       ∙ records_inside own read bytes start count (section_size-positive ctx.container) fits
@@ -160,7 +161,8 @@ pub section_is : (bytes : List ℕ) (h : GoblinHeader) (index : ℕ) (x : Sectio
     → section_expected bytes h index ≡ Ok (Some (section_converted x))
 section_is bytes h index x there file fits is =
     let own = section_header_size (ctx_of h).container in
-    let same : h.e_shnum * own / own ≡ h.e_shnum = mul-div_left h.e_shnum (section_size-positive (ctx_of h).container) in
+    let same : h.e_shnum * own / own ≡ h.e_shnum =
+    mul-div_left h.e_shnum (section_size-positive (ctx_of h).container) in
     let inside : index < h.e_shnum = omega (arith, fits, same) in
     let list = sections_inside bytes h.e_shoff h.e_shnum (ctx_of h) there (omega (arith, inside)) file in
     listed_item section_converted own (section_header_of (ctx_of h).container (ctx_of h).le) bytes h.e_shoff h.e_shnum
@@ -200,7 +202,8 @@ pub segment_is : (bytes : List ℕ) (h : GoblinHeader) (index : ℕ) (x : Progra
     → segment_expected bytes h index ≡ Ok (Some (segment_converted x))
 segment_is bytes h index x plain file fits is =
     let own = program_header_size (ctx_of h).container in
-    let same : h.e_phnum * own / own ≡ h.e_phnum = mul-div_left h.e_phnum (segment_size-positive (ctx_of h).container) in
+    let same : h.e_phnum * own / own ≡ h.e_phnum =
+    mul-div_left h.e_phnum (segment_size-positive (ctx_of h).container) in
     let inside : index < h.e_phnum = omega (arith, fits, same) in
     let list = λ (n : ℕ). refused_at h.e_phoff (program_headers_from bytes h.e_phoff n (ctx_of h)) in
     let test : (h.e_phnum == 0xffff) ≡ false = grind (arith, nat_tests) in
@@ -251,7 +254,8 @@ reloc_is bytes h range is_rela index x file inside is =
     let some : 0 < range.size = omega (arith, positive, own-le range.size own index inside) in
     let list = relocs_inside bytes range.offset range.size is_rela (ctx_of h) (is_mips64el h) some file in
     listed_item reloc_converted own (reloc_in (reloc_ctx h is_rela)) bytes range.offset (range.size / own) index
-    (relocs_expected bytes h range is_rela) x (ap (λ r. refused_at range.offset (refuse_as refusal_of r)) list) inside is
+    (relocs_expected bytes h range is_rela) x (ap (λ r. refused_at range.offset (refuse_as refusal_of r)) list) inside
+    is
 
 -- files of other machines than MIPS are not of MIPS64
 not_mips64el : (h : GoblinHeader) → (h.e_machine ≡ 8 → ⊥) → is_mips64el h ≡ false
