@@ -1,28 +1,14 @@
 -- Files of the same length have as many symbols and relocations in a range.
-use Rattle.std.proofs.Common.{◌≡◌, ◌-◌, ◌*◌, ◌/◌, ◌^◌, ◌==◌, ℕ, Bool, true, false, nat_le, nat_lt, List, []}
-use Rattle.std.proofs.Common.{length}
-use Rattle.std.proofs.Common.{take, drop, map, Option, Some, Result, Ok, Err, if◌then◌else◌, refl, sym, ap, ◌∙◌}
-use Rattle.std.proofs.lemmas.List.{length-map}
-use Rattle.goblin_base.specs.declared.container.Ctx.{Ctx}
-use Rattle.goblin_base.specs.declared.error.Error.{Error}
+use Rattle.goblin_c.proofs.Common.{◌≡◌, ◌-◌, ◌*◌, ◌/◌, ◌^◌, ◌==◌, ℕ, Bool, true, false, nat_le, nat_lt, List, []}
+use Rattle.goblin_c.proofs.Common.{length, take, drop, map, Option, Some, Result, Ok, Err, if◌then◌else◌, refl, sym, ap}
+use Rattle.goblin_c.proofs.Common.{◌∙◌, length-map, Ctx, Error, unless_fault, refusal_of, room_of, ◌>>=◌, refuse_as}
+use Rattle.goblin_c.proofs.Common.{records, length_records, Reloc, reloc_in, reloc_size, sym_of, sym_size, GoblinHeader}
+use Rattle.goblin_c.proofs.Common.{GoblinRange, count_of, ctx_of, each_converted, reloc_count_expected}
+use Rattle.goblin_c.proofs.Common.{symbol_count_expected, RefusalAt, refused_at, reloc_converted, symbol_converted}
 use Rattle.goblin_base.specs.declared.error.Error.TheVariants.{Malformed}
 use Rattle.goblin_base.specs.declared.error.Fault.TheVariants.{SymtabOffset, SymtabPast, TooManySymbols}
 use Rattle.goblin_base.specs.declared.scroll.Error.{Error as Misplaced}
-use Rattle.goblin_base.specs.Record.{unless_fault}
-use Rattle.goblin_base.specs.Refusal.{refusal_of}
-use Rattle.goblin_base.specs.Room.{room_of}
-use Rattle.goblin_base.specs.Steps.{◌>>=◌, refuse_as}
-use Rattle.goblin_base.specs.Table.{records}
-use Rattle.goblin_base.proofs.Records.{length_records}
-use Rattle.goblin.specs.declared.elf.reloc.Reloc.{Reloc}
-use Rattle.goblin.specs.Reloc.{reloc_in, reloc_size}
-use Rattle.goblin.specs.Sym.{sym_of, sym_size}
 use Rattle.goblin.specs.Symtab.{Symbols, symbols_at}
-use Rattle.goblin_c.specs.declared.types.GoblinHeader.{GoblinHeader}
-use Rattle.goblin_c.specs.declared.types.GoblinRange.{GoblinRange}
-use Rattle.goblin_c.specs.Expected.{count_of, ctx_of, each_converted, reloc_count_expected, symbol_count_expected}
-use Rattle.goblin_c.specs.Refused.{RefusalAt, refused_at}
-use Rattle.goblin_c.specs.Types.{reloc_converted, symbol_converted}
 use Rattle.goblin_c.specs.Write.{reloc_ctx}
 use Rattle.goblin_c.specs.WriteLaws.{CountsStay}
 

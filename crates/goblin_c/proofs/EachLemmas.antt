@@ -3,17 +3,12 @@
 -- If a buffer begins with the items of the first results, it does so with one item more once that is set after them
 -- (`each-step`), and its rest stays (`rest-step`). The loop goes on while results have items, so it stops at the first
 -- that has none (`fills_before`), or after the last one (`fills_all`).
-use Rattle.std.proofs.Common.{◌≡◌, ◌<◌, ◌≤◌, ◌+◌, ℕ, List, [], ◌∷◌, ◌++◌, length, take, drop, map, get_or, slice_get}
-use Rattle.std.proofs.Common.{Option, Some, None, Result, Ok, min, refl, sym, ap, subst, ◌∙◌, arith}
-use Rattle.std.proofs.Math.ListN.{set}
-use Rattle.std.proofs.lemmas.List.{drop-drop, drop-set-lt, get_or-take, length-map, length-take, map-append, take_more}
-use Rattle.std.proofs.lemmas.List.{take_more_set}
-use Rattle.std.proofs.lemmas.Option.{get_or_from_slice_get, slice_get-get_or, slice_get-map, slice_get_past}
-use Rattle.std.proofs.lemmas.Option.{slice_get_within}
-use Rattle.std.specs.Option.{option_map}
-use Rattle.goblin_c.specs.Refused.{RefusalAt}
-use Rattle.goblin_c.specs.Status.{FillsEach, StopsAt}
-use Rattle.goblin_c.specs.declared.types.GoblinRefusal.{GoblinRefusal}
+use Rattle.goblin_c.proofs.Common.{◌≡◌, ◌<◌, ◌≤◌, ◌+◌, ℕ, List, [], ◌∷◌, ◌++◌, length, take, drop, map, get_or}
+use Rattle.goblin_c.proofs.Common.{slice_get, Option, Some, None, Result, Ok, min, refl, sym, ap, subst, ◌∙◌, arith}
+use Rattle.goblin_c.proofs.Common.{set, drop-drop, drop-set-lt, get_or-take, length-map, length-take, map-append}
+use Rattle.goblin_c.proofs.Common.{take_more, take_more_set, get_or_from_slice_get, slice_get-get_or, slice_get-map}
+use Rattle.goblin_c.proofs.Common.{slice_get_past, slice_get_within, option_map, RefusalAt, FillsEach, StopsAt}
+use Rattle.goblin_c.proofs.Common.{GoblinRefusal}
 
 -- one item more
 more : {X Y : Type 0} (wrap : X → Y) (results : List Y) (now : List X) (i : ℕ) (x : X)

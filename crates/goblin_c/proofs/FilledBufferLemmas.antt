@@ -3,16 +3,14 @@
 -- A buffer that holds the first items of a list has room for the next one right after them (`laid-more`), so each step
 -- of a loop adds one (`laid-step`). Once they are as many as the list or the buffer has, they are all that the buffer
 -- can hold (`laid-enough`).
-use Rattle.std.proofs.Common.{◌≡◌, ◌<◌, ◌≤◌, ◌+◌, ◌-◌, min, ℕ, zero, suc, List, [], ◌∷◌, ◌++◌, length, take, drop}
-use Rattle.std.proofs.Common.{get_or, Some, None, slice_get, take_all, refl, sym, ap, ◌∙◌, arith}
-use Rattle.std.proofs.Math.ListN.{set}
-use Rattle.std.proofs.lemmas.List.{length-take-le, take_more, length-drop, get_or-drop}
-use Rattle.std.proofs.lemmas.Option.{slice_get_within, get_or_from_slice_get}
-use Rattle.std.proofs.lemmas.List.{take_rest}
+use Rattle.goblin_c.proofs.Common.{◌≡◌, ◌<◌, ◌≤◌, ◌+◌, ◌-◌, min, ℕ, zero, suc, List, [], ◌∷◌, ◌++◌, length, take, drop}
+use Rattle.goblin_c.proofs.Common.{get_or, Some, None, slice_get, refl, sym, ap, ◌∙◌, arith, set, length-take-le}
+use Rattle.goblin_c.proofs.Common.{take_more, length-drop, get_or-drop, slice_get_within, get_or_from_slice_get}
+use Rattle.goblin_c.proofs.Common.{take_rest, laid}
+use Rattle.std.proofs.Common.{take_all}
 use Rattle.std.proofs.lemmas.Slice.{take-put_mid}
 use borrow.Rule.Slice.PartMut.{put_mid}
 use Rattle.goblin.proofs.Positions.{some-within}
-use Rattle.goblin_c.specs.FilledBuffer.{laid}
 use Rattle.goblin_c.specs.Laws.{IsFilled, BufferIsFilled, TextIsClosed}
 
 -- one item more

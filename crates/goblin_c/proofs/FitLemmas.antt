@@ -1,15 +1,10 @@
 -- What was read fits: each field is a number of so many bytes.
-use Rattle.std.proofs.Common.{◌≤◌, ◌+◌, ℕ, List, [], ◌∷◌, length, arith}
-use Rattle.goblin_base.specs.declared.container.Container.{Container}
-use Rattle.goblin_base.specs.declared.container.Container.TheVariants.{Little, Big}
-use Rattle.goblin_base.specs.declared.container.Endian.{Endian}
-use Rattle.goblin_base.specs.FieldLaws.{number_at-lt}
+use Rattle.goblin_c.proofs.Common.{◌≤◌, ◌+◌, ℕ, List, [], ◌∷◌, length, arith, Container, Little, Big, Endian}
+use Rattle.goblin_c.proofs.Common.{number_at-lt, widths, IsBytes, program_header_size, section_header_size, sym_size}
 use Rattle.goblin_base.specs.Fields.{FieldsFit, fields_at, total}
-use Rattle.goblin_base.specs.Layout.{widths}
-use Rattle.goblin_base.specs.Number.{IsBytes}
-use Rattle.goblin.specs.ProgramHeader.{program_header32, program_header64, program_header_layout, program_header_size}
-use Rattle.goblin.specs.SectionHeader.{section_header32, section_header64, section_header_layout, section_header_size}
-use Rattle.goblin.specs.Sym.{sym32, sym64, sym_layout, sym_size}
+use Rattle.goblin.specs.ProgramHeader.{program_header32, program_header64, program_header_layout}
+use Rattle.goblin.specs.SectionHeader.{section_header32, section_header64, section_header_layout}
+use Rattle.goblin.specs.Sym.{sym32, sym64, sym_layout}
 
 -- the numbers of so many bytes fit so many bytes
 fields_at_fit : (order : Endian) (bytes : List ℕ) (place : ℕ) (widths : List ℕ)

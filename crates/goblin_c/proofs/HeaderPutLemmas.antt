@@ -1,29 +1,15 @@
 -- A header that is put is read again.
-use Rattle.std.proofs.Common.{◌≡◌, ◌≤◌, ℕ, true, List, ◌++◌, length, take, drop, Option}
-use Rattle.std.proofs.Common.{Some, None, Result, Ok, refl, ap, subst, arith}
-use Rattle.std.proofs.lemmas.Bool.Decides.{nat_tests}
-use Rattle.std.proofs.lemmas.List.{length-drop, length-take-le}
-use Rattle.goblin_base.specs.declared.container.Container.{Container}
-use Rattle.goblin_base.specs.declared.container.Container.TheVariants.{Little, Big}
-use Rattle.goblin_base.specs.declared.container.Ctx.{Ctx}
-use Rattle.goblin_base.specs.declared.container.Endian.{Endian}
-use Rattle.goblin_base.specs.declared.error.Error.{Error}
+use Rattle.goblin_c.proofs.Common.{◌≡◌, ◌≤◌, ℕ, true, List, ◌++◌, length, take, drop, Option, Some, None, Result, Ok}
+use Rattle.goblin_c.proofs.Common.{refl, ap, subst, arith, nat_tests, length-drop, length-take-le, Container, Little}
+use Rattle.goblin_c.proofs.Common.{Big, Ctx, Endian, Error, fits-room_of, refusal_of, room_of, ◌>>=◌, refuse_as, Header}
+use Rattle.goblin_c.proofs.Common.{reads_back, ctx_of, header_expected, refused_at, header_converted, GoblinHeader}
 use Rattle.goblin_base.specs.declared.error.Error.TheVariants.{Scroll}
 use Rattle.goblin_base.specs.declared.error.Fault.TheVariants.{Data, InvalidClass}
-use Rattle.goblin_base.specs.RecordLaws.{fits-room_of}
-use Rattle.goblin_base.specs.Refusal.{refusal_of}
-use Rattle.goblin_base.specs.Room.{room_of}
-use Rattle.goblin_base.specs.Steps.{◌>>=◌, or_refuse, refuse_as}
-use Rattle.goblin.specs.declared.elf.header.Header.{Header}
+use Rattle.goblin_base.specs.Steps.{or_refuse}
 use Rattle.goblin.specs.Header.{HeaderFits, class_named, class_of, header_layout, header_size, order_named, order_of}
 use Rattle.goblin.specs.Header.{Identifies}
-use Rattle.goblin_headers.proofs.WholeTrips.{reads_back}
-use Rattle.goblin_c.specs.Expected.{ctx_of, header_expected}
-use Rattle.goblin_c.specs.Refused.{refused_at}
-use Rattle.goblin_c.specs.Types.{header_converted}
 use Rattle.goblin_c.specs.Write.{FitsClass, header_of, ident_of, named_ctx, put_if}
 use Rattle.goblin_c.specs.WriteLaws.{HeadersAreRead}
-use Rattle.goblin_c.specs.declared.types.GoblinHeader.{GoblinHeader}
 use Rattle.goblin_c.proofs.ListedLemmas.{bind_ok, refuse_as_ok, refused_at_ok}
 
 named_by : {X E : Type 0} (found : Option X) (e : E) (x : X) → or_refuse found e ≡ Ok x → found ≡ Some x

@@ -2,34 +2,18 @@
 --
 -- A header names one context, so the context that C hands back is the one that is asked for (`one_context`). The item
 -- for C at an index is the one that the library's item at that index is converted to (`listed`).
-use Rattle.std.proofs.Common.{◌≡◌, ◌+◌, ◌<◌, ◌≤◌, ◌==◌, ℕ, zero, suc, Bool, true, false, nat_le, if◌then◌else◌, List}
-use Rattle.std.proofs.Common.{[], ◌∷◌, length, drop, slice_get, slice_index, Option, Some, None, Result, Ok, Err}
-use Rattle.std.proofs.Common.{refl, sym, ap, subst, ◌∙◌, arith}
-use Rattle.std.proofs.lemmas.Bool.{leb-false, leb-true}
-use Rattle.std.proofs.lemmas.Bool.Decides.{nat_tests}
-use Rattle.std.proofs.lemmas.List.{length-drop, length-map}
-use Rattle.std.proofs.lemmas.Option.{slice_get-map, slice_get_past}
-use Rattle.std.specs.Option.{option_map}
-use Rattle.goblin_base.specs.declared.container.Container.{Container}
-use Rattle.goblin_base.specs.declared.container.Ctx.{Ctx}
-use Rattle.goblin_base.specs.declared.container.Endian.{Endian}
-use Rattle.goblin_base.specs.Refusal.{refusal_of}
-use Rattle.goblin_base.specs.Steps.{◌>>=◌, refuse_as}
-use Rattle.goblin.specs.declared.elf.header.Header.{Header}
-use Rattle.goblin.specs.declared.elf.section_header.SectionHeader.{SectionHeader}
-use Rattle.goblin_c.specs.Refused.{RefusalAt, refused_at}
-use Rattle.goblin_c.specs.declared.types.GoblinSection.{GoblinSection}
+use Rattle.goblin_c.proofs.Common.{◌≡◌, ◌+◌, ◌<◌, ◌≤◌, ◌==◌, ℕ, zero, suc, Bool, true, false, nat_le, if◌then◌else◌}
+use Rattle.goblin_c.proofs.Common.{List, [], ◌∷◌, length, drop, slice_get, slice_index, Option, Some, None, Result, Ok}
+use Rattle.goblin_c.proofs.Common.{Err, refl, sym, ap, subst, ◌∙◌, arith, leb-false, leb-true, nat_tests, length-drop}
+use Rattle.goblin_c.proofs.Common.{length-map, slice_get-map, slice_get_past, option_map, Container, Ctx, Endian}
+use Rattle.goblin_c.proofs.Common.{refusal_of, ◌>>=◌, refuse_as, Header, SectionHeader, RefusalAt, refused_at}
+use Rattle.goblin_c.proofs.Common.{GoblinSection, relocs_of, was_read, count_of, ctx_of, each_converted, item_of}
+use Rattle.goblin_c.proofs.Common.{items_from, reloc_count_expected, reloc_expected, relocs_expected, relocs_converted}
+use Rattle.goblin_c.proofs.Common.{sections_expected, sections_converted, segments_expected, symbols_expected}
+use Rattle.goblin_c.proofs.Common.{header_converted, reloc_converted, section_converted, segment_converted}
+use Rattle.goblin_c.proofs.Common.{symbol_converted, symbols_converted, table_at}
 use Rattle.goblin.specs.Header.{class_named, order_named}
-use Rattle.goblin.specs.RelocSection.{relocs_of}
 use Rattle.goblin.specs.SectionHeaders.{is_table, link_of, linked, names_index}
-use Rattle.goblin_headers.proofs.WholeTrips.{was_read}
-use Rattle.goblin_c.specs.Expected.{count_of, ctx_of, each_converted, item_of, items_from}
-use Rattle.goblin_c.specs.Expected.{reloc_count_expected, reloc_expected, relocs_expected}
-use Rattle.goblin_c.specs.Expected.{relocs_converted, sections_expected, sections_converted}
-use Rattle.goblin_c.specs.Expected.{segments_expected, symbols_expected}
-use Rattle.goblin_c.specs.Types.{header_converted, reloc_converted, section_converted, segment_converted}
-use Rattle.goblin_c.specs.Types.{symbol_converted}
-use Rattle.goblin_c.specs.Expected.{symbols_converted, table_at}
 use Rattle.goblin_c.specs.Laws.{ContextIsTheHeaders, FilledByIndex, GivenFrom, HasHeader, NamesByIndex, NamesContext}
 use Rattle.goblin_c.specs.Laws.{RelocsByIndex, SectionsByIndex, SegmentsByIndex, SymbolsByIndex, TablesByIndex}
 use Rattle.goblin_c.specs.Laws.{ReturnsCount, ReturnsEach, table_converted, section_if_table}

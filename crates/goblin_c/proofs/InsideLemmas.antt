@@ -2,53 +2,28 @@
 --
 -- Such a list passes each test that its call makes, so it is the list of its records (`symbols_inside` and its like).
 -- The item with an index is then read from its own bytes (`listed_item`).
-use Rattle.std.proofs.Common.{◌≡◌, ◌≤◌, ◌<◌, ◌+◌, ◌-◌, ◌*◌, ◌/◌, ◌^◌, ◌==◌, ℕ, Bool, true, false, nat_le, nat_lt, List}
-use Rattle.std.proofs.Common.{[], length, take, drop, max, codes, Option, Some, Result, Ok, Err, if◌then◌else◌, refl}
-use Rattle.std.proofs.Common.{sym, ap, subst}
-use Rattle.std.proofs.Common.{◌∙◌, arith}
-use Rattle.std.proofs.Math.Nat.{div-mul-le_self, le-div_iff_mul-le, mul-div_left, mul-le-mul_right}
-use Rattle.std.proofs.lemmas.Bool.Decides.{nat_tests}
-use Rattle.std.proofs.lemmas.List.{drop-drop, take-take}
-use Rattle.std.proofs.lemmas.Option.{slice_get-map}
-use Rattle.std.specs.Option.{option_map}
-use Rattle.goblin_base.specs.declared.container.Ctx.{Ctx}
-use Rattle.goblin_base.specs.declared.container.Container.{Container}
-use Rattle.goblin_base.specs.declared.container.Container.TheVariants.{Little, Big}
+use Rattle.std.proofs.Math.Nat.{le-div_iff_mul-le, mul-div_left}
+use Rattle.std.proofs.lemmas.List.{take-take}
 use Rattle.goblin_base.specs.Eager.{records_from, records_in, room_of_each}
-use Rattle.goblin_base.specs.Record.{unless_fault}
-use Rattle.goblin_base.specs.RecordLaws.{room_of_fits}
 use Rattle.goblin_base.specs.declared.scroll.Error.{Error as Misplaced}
-use Rattle.goblin_base.specs.Refusal.{buffer_too_short, misplaced, refusal_of}
-use Rattle.goblin_base.specs.Room.{room_of}
-use Rattle.goblin_base.specs.Steps.{◌>>=◌, refuse_as, refuse_if}
-use Rattle.goblin_base.specs.Table.{records}
-use Rattle.goblin_base.specs.TableLaws.{records-agree}
 use Rattle.goblin_base.proofs.Eager.{all_fit}
-use Rattle.goblin_base.proofs.Records.{get_records}
-use Rattle.goblin.specs.declared.elf.program_header.ProgramHeader.{ProgramHeader}
-use Rattle.goblin.specs.declared.elf.reloc.Reloc.{Reloc}
-use Rattle.goblin.specs.declared.elf.section_header.SectionHeader.{SectionHeader}
-use Rattle.goblin.specs.declared.elf.sym.Sym.{Sym}
-use Rattle.goblin.specs.ProgramHeader.{program_header_of, program_header_size}
-use Rattle.goblin.specs.ProgramHeaders.{program_headers_from}
-use Rattle.goblin.specs.Reloc.{reloc_in, reloc_size}
-use Rattle.goblin.specs.RelocSection.{relocs_of}
-use Rattle.goblin.specs.SectionHeader.{section_header_of, section_header_size}
 use Rattle.goblin.specs.SectionHeaders.{count_asked, section_headers_from, section_headers_from_tested}
-use Rattle.goblin.specs.SectionHeaders.{section_headers_of}
-use Rattle.goblin.specs.Sym.{sym_of, sym_size}
 use Rattle.goblin.specs.Symtab.{symbols_at, symtab_of}
-use Rattle.goblin.specs.WholePart.{segment_count}
-use Rattle.goblin_c.specs.Expected.{ctx_of, each_converted, is_mips64el, item_of, reloc_expected, relocs_expected}
-use Rattle.goblin_c.specs.Expected.{section_expected, sections_expected, segment_expected, segments_expected}
-use Rattle.goblin_c.specs.Expected.{symbol_expected, symbols_expected}
-use Rattle.goblin_c.specs.Refused.{RefusalAt, refused_at}
-use Rattle.goblin_c.specs.Status.{Stores}
-use Rattle.goblin_c.specs.Types.{reloc_converted, section_converted, segment_converted, symbol_converted}
+use Rattle.goblin_c.specs.Expected.{section_expected}
 use Rattle.goblin_c.specs.Write.{reloc_ctx}
-use Rattle.goblin_c.specs.declared.types.GoblinHeader.{GoblinHeader}
-use Rattle.goblin_c.specs.declared.types.GoblinRange.{GoblinRange}
-use Rattle.goblin_c.specs.declared.types.GoblinRefusal.{GoblinRefusal}
+use Rattle.goblin_c.proofs.Common.{◌≡◌, ◌≤◌, ◌<◌, ◌+◌, ◌-◌, ◌*◌, ◌/◌, ◌^◌, ◌==◌, ℕ, Bool, true, false, nat_le, nat_lt}
+use Rattle.goblin_c.proofs.Common.{List, [], length, take, drop, max, codes, Option, Some, Result, Ok, Err}
+use Rattle.goblin_c.proofs.Common.{if◌then◌else◌, refl, sym, ap, subst, ◌∙◌, arith, div-mul-le_self, mul-le-mul_right}
+use Rattle.goblin_c.proofs.Common.{nat_tests, drop-drop, slice_get-map, option_map, Ctx, Container, Little, Big}
+use Rattle.goblin_c.proofs.Common.{unless_fault, room_of_fits, buffer_too_short, misplaced, refusal_of, room_of, ◌>>=◌}
+use Rattle.goblin_c.proofs.Common.{refuse_as, refuse_if, records, records-agree, get_records, ProgramHeader, Reloc}
+use Rattle.goblin_c.proofs.Common.{SectionHeader, Sym, program_header_of, program_header_size, program_headers_from}
+use Rattle.goblin_c.proofs.Common.{reloc_in, reloc_size, relocs_of, section_header_of, section_header_size}
+use Rattle.goblin_c.proofs.Common.{section_headers_of, sym_of, sym_size, segment_count, ctx_of, each_converted}
+use Rattle.goblin_c.proofs.Common.{is_mips64el, item_of, reloc_expected, relocs_expected, sections_expected}
+use Rattle.goblin_c.proofs.Common.{segment_expected, segments_expected, symbol_expected, symbols_expected, RefusalAt}
+use Rattle.goblin_c.proofs.Common.{refused_at, Stores, reloc_converted, section_converted, segment_converted}
+use Rattle.goblin_c.proofs.Common.{symbol_converted, GoblinHeader, GoblinRange, GoblinRefusal}
 
 -- an item that is expected is stored
 pub stored : {X : Type 0} (expected : Result (Option X) RefusalAt) (old x : X) (why : GoblinRefusal)

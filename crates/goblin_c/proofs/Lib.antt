@@ -1,3 +1,4 @@
+pub mod Common
 pub mod FilledBufferLemmas
 pub mod ListedLemmas
 pub mod NumberLemmas

@@ -2,30 +2,16 @@
 --
 -- A list that was read passed the test of room for each of its records, so all of them lie in the bytes (`each_fits`).
 -- The record with an index is then the one that its own bytes are read as (`item_at`).
-use Rattle.std.proofs.Common.{◌≡◌, ◌≤◌, ◌<◌, ◌+◌, ◌-◌, ◌*◌, ◌/◌, ◌^◌, ◌==◌, ℕ, zero, suc, Bool, true, false, nat_le}
-use Rattle.std.proofs.Common.{nat_lt}
-use Rattle.std.proofs.Common.{List, [], length, take, drop, max, slice_get, Some, None, Result, Ok, Err}
-use Rattle.std.proofs.Common.{if◌then◌else◌, codes, refl, sym, ap, ◌∙◌, arith}
-use Rattle.std.proofs.Math.Nat.{mul-le-mul_right}
-use Rattle.std.proofs.lemmas.Bool.Decides.{nat_tests}
-use Rattle.std.proofs.lemmas.List.{drop-drop}
-use Rattle.goblin_base.specs.declared.container.Ctx.{Ctx}
+use Rattle.goblin_c.proofs.Common.{◌≡◌, ◌≤◌, ◌<◌, ◌+◌, ◌-◌, ◌*◌, ◌/◌, ◌^◌, ◌==◌, ℕ, zero, suc, Bool, true, false}
+use Rattle.goblin_c.proofs.Common.{nat_le, nat_lt, List, [], length, take, drop, max, slice_get, Some, None, Result, Ok}
+use Rattle.goblin_c.proofs.Common.{Err, if◌then◌else◌, codes, refl, sym, ap, ◌∙◌, arith, mul-le-mul_right, nat_tests}
+use Rattle.goblin_c.proofs.Common.{drop-drop, Ctx, fits-room_of, Refusal, buffer_too_short, misplaced, refusal_of}
+use Rattle.goblin_c.proofs.Common.{refused_at, room_of, ◌>>=◌, refuse_as, refuse_if, records, no_records, get_records}
+use Rattle.goblin_c.proofs.Common.{past_records, section_header_of, section_header_size, section_headers_of, sym_of}
+use Rattle.goblin_c.proofs.Common.{sym_size, SectionHeader, Sym}
 use Rattle.goblin_base.specs.Eager.{records_from, records_in, room_of_each}
-use Rattle.goblin_base.specs.RecordLaws.{fits-room_of}
-use Rattle.goblin_base.specs.Refusal.{Refusal, buffer_too_short, misplaced, refusal_of}
-use Rattle.goblin_c.specs.Refused.{refused_at}
-use Rattle.goblin_base.specs.Room.{room_of}
-use Rattle.goblin_base.specs.Steps.{◌>>=◌, refuse_as, refuse_if}
-use Rattle.goblin_base.specs.Table.{records}
-use Rattle.goblin_base.specs.TableLaws.{no_records}
-use Rattle.goblin_base.proofs.Records.{get_records, past_records}
-use Rattle.goblin.specs.SectionHeader.{section_header_of, section_header_size}
 use Rattle.goblin.specs.SectionHeaders.{count_asked, section_headers_from, section_headers_from_tested}
-use Rattle.goblin.specs.SectionHeaders.{section_headers_of}
-use Rattle.goblin.specs.Sym.{sym_of, sym_size}
 use Rattle.goblin.specs.Symtab.{symtab_of}
-use Rattle.goblin.specs.declared.elf.section_header.SectionHeader.{SectionHeader}
-use Rattle.goblin.specs.declared.elf.sym.Sym.{Sym}
 
 -- the value of a step that went on
 pub bind_ok : {A B E : Type 0} (first : Result A E) (next : A → Result B E) (y : B)

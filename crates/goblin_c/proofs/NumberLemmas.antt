@@ -1,18 +1,12 @@
 -- Numbers and headers that are put are read again.
-use Rattle.std.proofs.Common.{◌≡◌, ◌≤◌, ◌<◌, ◌+◌, ◌^◌, ℕ, true, List, ◌++◌, length, take, drop}
-use Rattle.std.proofs.Common.{Some, Ok, refl, sym, ap, subst, ◌∙◌, arith}
-use Rattle.std.proofs.Math.Nat.{mod-eq_of_lt}
-use Rattle.goblin_base.specs.declared.container.Endian.{Endian}
-use Rattle.goblin_base.specs.FieldLaws.{number_at-lt, number_at-with_number}
-use Rattle.goblin_base.specs.Number.{number_at, spelled}
+use Rattle.goblin_c.proofs.Common.{◌≡◌, ◌≤◌, ◌<◌, ◌+◌, ◌^◌, ℕ, true, List, ◌++◌, length, take, drop, Some, Ok, refl}
+use Rattle.goblin_c.proofs.Common.{sym, ap, subst, ◌∙◌, arith, mod-eq_of_lt, Endian, number_at-lt}
+use Rattle.goblin_c.proofs.Common.{number_at-with_number, number_at, spelled, fits-room_of, room_of_fits, is_width}
+use Rattle.goblin_c.proofs.Common.{number_expected, ctx_of, GoblinHeader}
 use Rattle.goblin_base.specs.NumberLaws.{length-spelled, spelled-number}
 use Rattle.goblin_base.specs.Place.{with_number}
-use Rattle.goblin_base.specs.RecordLaws.{fits-room_of, room_of_fits}
-use Rattle.goblin_c.specs.Bytes.{is_width, number_expected}
-use Rattle.goblin_c.specs.Expected.{ctx_of}
 use Rattle.goblin_c.specs.Write.{with_bytes}
 use Rattle.goblin_c.specs.WriteLaws.{ChangesOnly, NumbersArePut}
-use Rattle.goblin_c.specs.declared.types.GoblinHeader.{GoblinHeader}
 use Rattle.goblin_c.proofs.PutLemmas.{IsBytes_part, others_stay, own_length, put_found, rewritten}
 
 -- a number that is read has a width, and lies in the file

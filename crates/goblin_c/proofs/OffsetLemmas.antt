@@ -4,33 +4,19 @@
 -- is read only after the tests of room for its range and for itself (`number_by`). The library's search stops at the
 -- first segment that passes its test (`first_loads`, `none_loads`), and the test is the one that is stated for C
 -- (`loads-Decides`).
-use Rattle.std.proofs.Common.{◌≡◌, ◌≤◌, ◌<◌, ◌+◌, ◌-◌, ◌^◌, ◌==◌, ◌&&◌, ℕ, zero, suc, Bool, true, false, true≢false}
-use Rattle.std.proofs.Common.{nat_le}
-use Rattle.std.proofs.Common.{nat_lt, min, List, [], ◌∷◌, length, take, drop, find, slice_get, Option, Some, None}
-use Rattle.std.proofs.Common.{Result, Ok, Err, inl, inr, if◌then◌else◌, refl, sym, ap, subst, ◌∙◌, arith}
-use Rattle.std.proofs.lemmas.Bool.{and_parts, leb-false, leb-true}
-use Rattle.std.proofs.lemmas.Bool.Decides.{nat_tests}
-use Rattle.std.proofs.lemmas.List.{drop_all, length-drop, take_min}
-use Rattle.std.proofs.lemmas.Option.{slice_get-map}
-use Rattle.std.specs.Bool.{Decides}
-use Rattle.std.specs.Option.{option_map}
+use Rattle.goblin_c.proofs.Common.{◌≡◌, ◌≤◌, ◌<◌, ◌+◌, ◌-◌, ◌^◌, ◌==◌, ◌&&◌, ℕ, zero, suc, Bool, true, false}
+use Rattle.goblin_c.proofs.Common.{true≢false, nat_le, nat_lt, min, List, [], ◌∷◌, length, take, drop, find, slice_get}
+use Rattle.goblin_c.proofs.Common.{Option, Some, None, Result, Ok, Err, inl, inr, if◌then◌else◌, refl, sym, ap, subst}
+use Rattle.goblin_c.proofs.Common.{◌∙◌, arith, and_parts, leb-false, leb-true, nat_tests, drop_all, length-drop}
+use Rattle.goblin_c.proofs.Common.{take_min, slice_get-map, Decides, option_map, misplaced, RefusalAt, refused_at}
+use Rattle.goblin_c.proofs.Common.{fits-room_of, room_of_fits, room_of, ◌>>=◌, refuse_as, loaded_from, loads, offset_in}
+use Rattle.goblin_c.proofs.Common.{ProgramHeader, GoblinHeader, GoblinRange, segment_expected, segments_expected}
+use Rattle.goblin_c.proofs.Common.{segment_converted, is_width, number_expected, range_expected}
 use Rattle.goblin_base.specs.declared.scroll.Error.{Error as Misplaced}
-use Rattle.goblin_base.specs.Refusal.{misplaced}
-use Rattle.goblin_c.specs.Refused.{RefusalAt, refused_at}
-use Rattle.goblin_base.specs.RecordLaws.{fits-room_of, room_of_fits}
-use Rattle.goblin_base.specs.Room.{room_of}
-use Rattle.goblin_base.specs.Steps.{◌>>=◌, refuse_as}
-use Rattle.goblin.specs.ProgramHeaders.{loaded_from, loads, offset_in}
-use Rattle.goblin.specs.declared.elf.program_header.ProgramHeader.{ProgramHeader}
-use Rattle.goblin_c.specs.declared.types.GoblinHeader.{GoblinHeader}
-use Rattle.goblin_c.specs.declared.types.GoblinRange.{GoblinRange}
 use Rattle.goblin_c.specs.declared.types.GoblinSegment.{GoblinSegment}
-use Rattle.goblin_c.specs.Expected.{segment_expected, segments_expected}
-use Rattle.goblin_c.specs.Types.{segment_converted}
-use Rattle.goblin_c.specs.Bytes.{is_width, number_expected, range_expected}
 use Rattle.goblin_c.specs.Laws.{LiesIn, bytes_in}
-use Rattle.goblin_c.specs.PlaceLaws.{AddressesAreLoaded, IsOffsetOf, IsSlice, LoadsByte, LoadsFirst}
-use Rattle.goblin_c.specs.PlaceLaws.{NumbersLieInRange, PartsLieInFile}
+use Rattle.goblin_c.specs.PlaceLaws.{AddressesAreLoaded, IsOffsetOf, IsSlice, LoadsByte, LoadsFirst, NumbersLieInRange}
+use Rattle.goblin_c.specs.PlaceLaws.{PartsLieInFile}
 use Rattle.goblin_c.specs.Places.{cut_range, in_file}
 use Rattle.goblin_c.proofs.ListedLemmas.{bind_ok, refuse_as_ok, refused_at_ok}
 use Rattle.goblin_c.proofs.SearchLemmas.{converted_one}

@@ -2,16 +2,8 @@
 --
 -- A range is stored only after the test of room for it (`range_lies`). The bytes of a string are the piece at its
 -- offset, which is no longer than the strings from there on (`piece_short`).
-use Rattle.std.proofs.Common.{◌≡◌, ◌≤◌, ◌-◌, ◌==◌, ℕ}
-use Rattle.std.proofs.Common.{List, length, drop, Some, Ok}
-use Rattle.std.proofs.Common.{arith}
-use Rattle.std.proofs.lemmas.Bool.Decides.{nat_tests}
-use Rattle.std.proofs.lemmas.List.{length-drop, length-take}
-use Rattle.std.specs.List.{position_or_len}
-use Rattle.goblin_base.specs.Pieces.{piece}
-use Rattle.goblin_base.specs.RecordLaws.{fits-room_of}
-use Rattle.goblin_c.specs.declared.types.GoblinRange.{GoblinRange}
-use Rattle.goblin_c.specs.Bytes.{range_expected}
+use Rattle.goblin_c.proofs.Common.{◌≡◌, ◌≤◌, ◌-◌, ◌==◌, ℕ, List, length, drop, Some, Ok, arith, nat_tests, length-drop}
+use Rattle.goblin_c.proofs.Common.{length-take, position_or_len, piece, fits-room_of, GoblinRange, range_expected}
 use Rattle.goblin_c.specs.Laws.{BytesLieInFile, LiesIn, StringsAreBytes, StringsLieInFile}
 use Rattle.goblin_c.proofs.StringLemmas.{in_range, plain_is}
 

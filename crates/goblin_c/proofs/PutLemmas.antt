@@ -3,32 +3,21 @@
 -- The item that a call stores is read from the bytes at its place (`found_at`). After a put these are the record's
 -- image (`own_bytes`), which is read as the record. The call finds one there if the list has as many items as before
 -- (`still_there`).
-use Rattle.std.proofs.Common.{◌≡◌, ◌≤◌, ◌<◌, ◌+◌, ◌*◌, ℕ, Bool, true, false, List, ◌++◌, length, take}
-use Rattle.std.proofs.Common.{drop, get_or, slice_get, Option, Some, None, Result, Ok, Err, refl}
-use Rattle.std.proofs.Common.{sym, ap, subst, inl, inr}
-use Rattle.std.proofs.Common.{◌∙◌, arith, append_assoc, length-append, length-drop}
-use Rattle.std.proofs.Math.Seq.{take-append_seam}
-use Rattle.std.proofs.lemmas.List.{drop-drop, drop_at, get_or-drop, get_or-take, get_or_past, length-take}
-use Rattle.std.proofs.lemmas.List.{length-take-le, take-append-drop, take_all}
-use Rattle.std.proofs.lemmas.Bool.{cases_lt}
-use Rattle.std.proofs.lemmas.Option.{slice_get-get_or, slice_get_within}
-use Rattle.goblin_base.specs.Layout.{IsRecord, Layout}
-use Rattle.goblin_base.specs.Number.{IsBytes}
-use Rattle.goblin_c.specs.Expected.{count_of, each_converted, item_of}
-use Rattle.goblin_c.specs.Refused.{RefusalAt}
-use Rattle.goblin_c.specs.Write.{put_at, put_if, put_if_there, with_bytes}
-use Rattle.goblin_c.specs.Write.{reloc_ctx, reloc_layout, reloc_of, section_layout, section_of, segment_layout}
-use Rattle.goblin_c.specs.Write.{segment_of, symbol_layout, symbol_of}
+use Rattle.goblin_c.proofs.Common.{◌≡◌, ◌≤◌, ◌<◌, ◌+◌, ◌*◌, ℕ, Bool, true, false, List, ◌++◌, length, take, drop}
+use Rattle.goblin_c.proofs.Common.{get_or, slice_get, Option, Some, None, Result, Ok, Err, refl, sym, ap, subst, inl}
+use Rattle.goblin_c.proofs.Common.{inr, ◌∙◌, arith, append_assoc, length-append, take-append_seam, drop-drop, drop_at}
+use Rattle.goblin_c.proofs.Common.{get_or-drop, get_or-take, get_or_past, length-take, length-take-le, take-append-drop}
+use Rattle.goblin_c.proofs.Common.{take_all, cases_lt, slice_get-get_or, slice_get_within, IsRecord, Layout, IsBytes}
+use Rattle.goblin_c.proofs.Common.{count_of, each_converted, item_of, RefusalAt, ProgramHeader, Reloc, SectionHeader}
+use Rattle.goblin_c.proofs.Common.{Sym, reloc_converted, section_converted, segment_converted, symbol_converted, ctx_of}
+use Rattle.goblin_c.proofs.Common.{relocs_expected, sections_expected, segments_expected, symbols_expected}
+use Rattle.std.proofs.Common.{length-drop}
+use Rattle.goblin_c.specs.Write.{put_at, put_if, put_if_there, with_bytes, reloc_ctx, reloc_layout, reloc_of}
+use Rattle.goblin_c.specs.Write.{section_layout, section_of, segment_layout, segment_of, symbol_layout, symbol_of}
 use Rattle.goblin_c.specs.WriteLaws.{ChangesOnly, PutsAreRead, PutsChangeOne, ReadsArePut}
 use Rattle.goblin_c.proofs.FitLemmas.{section_fits, segment_fits, symbol_fits}
-use Rattle.goblin.specs.declared.elf.program_header.ProgramHeader.{ProgramHeader}
-use Rattle.goblin.specs.declared.elf.reloc.Reloc.{Reloc}
-use Rattle.goblin.specs.declared.elf.section_header.SectionHeader.{SectionHeader}
-use Rattle.goblin.specs.declared.elf.sym.Sym.{Sym}
 use Rattle.std.specs.Prelude.{ℤ}
-use Rattle.goblin_c.specs.Types.{reloc_converted, section_converted, segment_converted, symbol_converted}
 use Rattle.goblin_c.specs.declared.types.GoblinReloc.{GoblinReloc}
-use Rattle.goblin_c.specs.Expected.{ctx_of, relocs_expected, sections_expected, segments_expected, symbols_expected}
 use Rattle.goblin_c.proofs.ReadLemmas.{Lists, found_at, lists_relocs, lists_sections, lists_segments, lists_symbols}
 use Rattle.goblin_headers.specs.ProgramHeaderLaws.{program_header_laws}
 use Rattle.goblin_headers.specs.SectionHeaderLaws.{section_header_laws}

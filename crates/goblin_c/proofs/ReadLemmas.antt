@@ -2,38 +2,18 @@
 --
 -- The records of a list that isn't refused stand one after another in the file (`IsListed`). So an item that a call
 -- stores was read from its own bytes, which lie in the file (`found_at`).
-use Rattle.std.proofs.Common.{◌≡◌, ◌≤◌, ◌+◌, ◌*◌, ◌/◌, ◌==◌, ℕ, Bool, true, false, nat_le, List, [], length}
-use Rattle.std.proofs.Common.{take, drop, map, slice_get, Some, Result, Ok, Err, if◌then◌else◌}
-use Rattle.std.proofs.Common.{refl, sym, ap, ◌∙◌, arith}
-use Rattle.std.proofs.lemmas.Bool.{leb-false, leb-true}
-use Rattle.std.proofs.lemmas.Option.{slice_get-map}
-use Rattle.std.specs.Option.{option_map}
-use Rattle.goblin_base.specs.Refusal.{refusal_of}
-use Rattle.goblin_base.specs.Steps.{refuse_as}
-use Rattle.goblin.specs.ProgramHeader.{program_header_of, program_header_size}
-use Rattle.goblin.specs.ProgramHeaders.{program_headers_from}
-use Rattle.goblin.specs.SectionHeader.{section_header_of, section_header_size}
-use Rattle.goblin.specs.SectionHeaders.{section_headers_of}
-use Rattle.goblin.specs.Sym.{sym_of, sym_size}
-use Rattle.goblin.specs.WholePart.{segment_count}
-use Rattle.goblin.specs.Reloc.{reloc_in, reloc_size}
-use Rattle.goblin.specs.RelocSection.{relocs_of}
-use Rattle.goblin_base.specs.Record.{unless_fault}
-use Rattle.goblin_base.specs.RecordLaws.{fits-room_of, unless_fault-is}
-use Rattle.goblin_base.specs.Room.{room_of}
-use Rattle.goblin_base.specs.Table.{records}
-use Rattle.goblin_base.specs.TableLaws.{no_records, records-agree}
-use Rattle.std.proofs.Math.Nat.{div-mul-le_self}
+use Rattle.goblin_c.proofs.Common.{◌≡◌, ◌≤◌, ◌+◌, ◌*◌, ◌/◌, ◌==◌, ℕ, Bool, true, false, nat_le, List, [], length, take}
+use Rattle.goblin_c.proofs.Common.{drop, map, slice_get, Some, Result, Ok, Err, if◌then◌else◌, refl, sym, ap, ◌∙◌}
+use Rattle.goblin_c.proofs.Common.{arith, leb-false, leb-true, slice_get-map, option_map, refusal_of, refuse_as}
+use Rattle.goblin_c.proofs.Common.{program_header_of, program_header_size, program_headers_from, section_header_of}
+use Rattle.goblin_c.proofs.Common.{section_header_size, section_headers_of, sym_of, sym_size, segment_count, reloc_in}
+use Rattle.goblin_c.proofs.Common.{reloc_size, relocs_of, unless_fault, fits-room_of, unless_fault-is, room_of, records}
+use Rattle.goblin_c.proofs.Common.{no_records, records-agree, div-mul-le_self, is_mips64el, relocs_expected, Refused}
+use Rattle.goblin_c.proofs.Common.{GoblinHeader, GoblinRange, ctx_of, each_converted, item_of, sections_expected}
+use Rattle.goblin_c.proofs.Common.{segments_expected, symbols_expected, Returns, RefusalAt, refusal_at, refused_at}
+use Rattle.goblin_c.proofs.Common.{converted_list}
 use Rattle.std.proofs.lemmas.List.{take-take}
-use Rattle.goblin_c.specs.Expected.{is_mips64el, relocs_expected}
 use Rattle.goblin_c.specs.Write.{reloc_ctx}
-use Rattle.goblin_c.specs.declared.refused.Refused.{Refused}
-use Rattle.goblin_c.specs.declared.types.GoblinHeader.{GoblinHeader}
-use Rattle.goblin_c.specs.declared.types.GoblinRange.{GoblinRange}
-use Rattle.goblin_c.specs.Expected.{ctx_of, each_converted, item_of, sections_expected, segments_expected}
-use Rattle.goblin_c.specs.Expected.{symbols_expected}
-use Rattle.goblin_c.specs.Refused.{Returns, RefusalAt, refusal_at, refused_at}
-use Rattle.goblin_c.specs.Status.{converted_list}
 use Rattle.goblin_c.proofs.ListedLemmas.{IsListed, bind_ok, item_at, listed_from, none_at, refuse_as_ok, refused_at_ok}
 use Rattle.goblin_c.proofs.ListedLemmas.{sections_listed, symbols_listed}
 

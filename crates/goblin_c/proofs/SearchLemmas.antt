@@ -3,22 +3,15 @@
 -- The library's test decides what is asked of the item for C. Each item for C was converted from one of the list
 -- (`converted_one`), and the library's search stops at the first of these that passes its test: so none for C before it
 -- is so, and none at all if the search finds none (`finds`).
-use Rattle.std.proofs.Common.{◌≡◌, ◌≤◌, ◌<◌, ◌+◌, ◌-◌, ◌==◌, ℕ, zero, suc, Bool, true, false, true≢false, List, [], ◌∷◌}
-use Rattle.std.proofs.Common.{length, map, drop, get_or, slice_get, Option, Some, None, Result, Ok, Err, position, refl}
-use Rattle.std.proofs.Common.{sym, ap, subst, ◌∙◌, arith}
-use Rattle.std.proofs.lemmas.Bool.Decides.{nat_tests}
+use Rattle.goblin_c.proofs.Common.{◌≡◌, ◌≤◌, ◌<◌, ◌+◌, ◌-◌, ◌==◌, ℕ, zero, suc, Bool, true, false, true≢false, List, []}
+use Rattle.goblin_c.proofs.Common.{◌∷◌, length, map, drop, get_or, slice_get, Option, Some, None, Result, Ok, Err}
+use Rattle.goblin_c.proofs.Common.{position, refl, sym, ap, subst, ◌∙◌, arith, nat_tests, get_or_from_slice_get}
+use Rattle.goblin_c.proofs.Common.{slice_get-get_or, slice_get-map, slice_get_within, Decides, option_map, ◌>>=◌}
+use Rattle.goblin_c.proofs.Common.{RefusalAt, GoblinSection, each_converted, first_section, item_of, section_at}
+use Rattle.goblin_c.proofs.Common.{sections_expected, section_converted, SectionHeader}
 use Rattle.std.proofs.lemmas.List.Quantifiers.{position-Some}
 use Rattle.std.proofs.lemmas.List.Sums.{fails_before_first}
-use Rattle.std.proofs.lemmas.Option.{get_or_from_slice_get, slice_get-get_or, slice_get-map, slice_get_within}
-use Rattle.std.specs.Bool.{Decides}
-use Rattle.std.specs.Option.{option_map}
-use Rattle.goblin_base.specs.Steps.{◌>>=◌}
-use Rattle.goblin_c.specs.Refused.{RefusalAt}
-use Rattle.goblin_c.specs.declared.types.GoblinSection.{GoblinSection}
-use Rattle.goblin_c.specs.Expected.{each_converted, first_section, item_of, section_at, sections_expected}
-use Rattle.goblin_c.specs.Types.{section_converted}
 use Rattle.goblin_c.specs.Laws.{FindsFrom, FindsItemFrom, RefusesAll, SectionsByType}
-use Rattle.goblin.specs.declared.elf.section_header.SectionHeader.{SectionHeader}
 use Rattle.goblin_c.proofs.IndexLemmas.{get_drop}
 
 -- the first item that passes a test, and that none does

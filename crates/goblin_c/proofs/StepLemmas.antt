@@ -1,8 +1,6 @@
 -- Values of steps.
-use Rattle.std.proofs.Common.{◌≡◌, ℕ, Bool, true, false, if◌then◌else◌, Some, None, Result, Ok, Err, refl}
-use Rattle.goblin_base.specs.Refusal.{Refusal}
-use Rattle.goblin_base.specs.Steps.{◌>>=◌}
-use Rattle.goblin_c.specs.Refused.{refused_at}
+use Rattle.goblin_c.proofs.Common.{◌≡◌, ℕ, Bool, true, false, if◌then◌else◌, Some, None, Result, Ok, Err, refl, Refusal}
+use Rattle.goblin_c.proofs.Common.{◌>>=◌, refused_at}
 
 -- an item for C was read, and is this item converted
 pub one_converted : {X Y : Type 0} (past : Bool) (offset : ℕ) (answer : Result X Refusal) (convert : X → Y) (found : Y)

@@ -4,29 +4,18 @@
 -- of its range (`in_range`): so the string stands in the file at both offsets together (`piece_there`). The library's
 -- look-up passes a name exactly if a call stores a string with its bytes (`named-Decides`), so the first item that it
 -- finds is the first with that name (`by_name`).
-use Rattle.std.proofs.Common.{◌≡◌, ◌+◌, ◌-◌, ◌<◌, ◌≤◌, ◌==◌, ℕ, Bool, true, nat_le, nat_lt, List, length, take, drop}
-use Rattle.std.proofs.Common.{min, map, position, slice_get, Option, Some, Result, Ok, Err, inl, inr, refl, sym, ap}
-use Rattle.std.proofs.Common.{subst, ◌∙◌, arith}
-use Rattle.std.proofs.lemmas.Bool.{and_parts}
-use Rattle.std.proofs.lemmas.Bool.Decides.{nat_tests}
-use Rattle.std.proofs.lemmas.List.{drop-take, length-take, take_min}
+use Rattle.goblin_c.proofs.Common.{◌≡◌, ◌+◌, ◌-◌, ◌<◌, ◌≤◌, ◌==◌, ℕ, Bool, true, nat_le, nat_lt, List, length, take}
+use Rattle.goblin_c.proofs.Common.{drop, min, map, position, slice_get, Option, Some, Result, Ok, Err, inl, inr, refl}
+use Rattle.goblin_c.proofs.Common.{sym, ap, subst, ◌∙◌, arith, and_parts, nat_tests, drop-take, length-take, take_min}
+use Rattle.goblin_c.proofs.Common.{take-take, Decides, before_first, position_or_len, piece, ◌>>=◌, RefusalAt}
+use Rattle.goblin_c.proofs.Common.{refused_at, GoblinRange, each_converted, first_section, is_named, item_of}
+use Rattle.goblin_c.proofs.Common.{sections_expected, string_expected, strings_expected, symbols_expected}
+use Rattle.goblin_c.proofs.Common.{section_converted, symbol_converted, GoblinSection, SectionHeader}
 use Rattle.std.proofs.lemmas.Slice.Eq.{bytes_eq-Decides}
-use Rattle.std.proofs.Math.Seq.{drop-drop, take-take}
-use Rattle.std.specs.Bool.{Decides}
-use Rattle.std.specs.List.{before_first, position_or_len}
-use Rattle.goblin_base.specs.Pieces.{piece}
-use Rattle.goblin_base.specs.Steps.{◌>>=◌}
+use Rattle.std.proofs.Math.Seq.{drop-drop}
 use Rattle.goblin_base.specs.Strtab.{has_name, is_text_of, plain, range_in}
-use Rattle.goblin_c.specs.Refused.{RefusalAt, refused_at}
-use Rattle.goblin_c.specs.declared.types.GoblinRange.{GoblinRange}
-use Rattle.goblin_c.specs.Expected.{each_converted, first_section, is_named, item_of, sections_expected}
-use Rattle.goblin_c.specs.Expected.{string_expected, strings_expected, symbols_expected}
-use Rattle.goblin_c.specs.Types.{section_converted, symbol_converted}
-use Rattle.goblin_c.specs.Laws.{FindsFirst, IsNameAt, RefusesAll, RefusesEither, SectionsByName}
-use Rattle.goblin_c.specs.Laws.{FindsItemFrom, StringsAreThere}
-use Rattle.goblin_c.specs.declared.types.GoblinSection.{GoblinSection}
-use Rattle.goblin.specs.declared.elf.section_header.SectionHeader.{SectionHeader}
-use Rattle.goblin_c.specs.Laws.{SymbolsByName, bytes_in}
+use Rattle.goblin_c.specs.Laws.{FindsFirst, IsNameAt, RefusesAll, RefusesEither, SectionsByName, FindsItemFrom}
+use Rattle.goblin_c.specs.Laws.{StringsAreThere, SymbolsByName, bytes_in}
 use Rattle.goblin_c.proofs.SearchLemmas.{finds, first_found, from_none}
 use Rattle.goblin_c.proofs.StepLemmas.{one_converted}
 

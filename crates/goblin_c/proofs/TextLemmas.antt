@@ -1,10 +1,8 @@
 -- Texts that are written part by part.
-use Rattle.std.proofs.Common.{◌≡◌, ◌+◌, ◌<◌, ◌≤◌, ℕ, zero, suc, IsTrue, nat_le, List, [], ◌∷◌, ◌++◌, length, get_or}
-use Rattle.std.proofs.Common.{take, drop, sym, ap, ◌∙◌, length-append, arith}
-use Rattle.std.proofs.lemmas.Bool.{and_parts, leb-true}
+use Rattle.goblin_c.proofs.Common.{◌≡◌, ◌+◌, ◌<◌, ◌≤◌, ℕ, zero, suc, IsTrue, nat_le, List, [], ◌∷◌, ◌++◌, length}
+use Rattle.goblin_c.proofs.Common.{get_or, take, drop, sym, ap, ◌∙◌, length-append, arith, and_parts, leb-true}
+use Rattle.goblin_c.proofs.Common.{are_short, each_short, is_short, laid}
 use Rattle.goblin_base.specs.declared.texts.Part.{Part}
-use Rattle.goblin_base.specs.Texts.{are_short, each_short, is_short}
-use Rattle.goblin_c.specs.FilledBuffer.{laid}
 use Rattle.goblin_c.specs.Laws.{KindsAreAnswers}
 use Rattle.goblin_c.proofs.FilledBufferLemmas.{laid-appended}
 

@@ -1,20 +1,13 @@
 -- With the header that counts only what lies whole in the file, no list of headers is refused, and a list that isn't
 -- refused with the plain header is the same: so are the calls that read them.
-use Rattle.std.proofs.Common.{◌≡◌, ℕ, List, Result, Ok, Err, refl, ap}
+use Rattle.goblin_c.proofs.Common.{◌≡◌, ℕ, List, Result, Ok, Err, refl, ap, Refusal, refusal_of, ◌>>=◌, refuse_as}
+use Rattle.goblin_c.proofs.Common.{ProgramHeader, program_headers_from, section_headers_of, segment_count, GoblinHeader}
+use Rattle.goblin_c.proofs.Common.{count_of, ctx_of, each_converted, item_of, sections_expected, segments_expected}
+use Rattle.goblin_c.proofs.Common.{whole_header, RefusalAt, refused_at, section_converted, segment_converted}
 use Rattle.std.specs.Result.{IsOk}
-use Rattle.goblin_base.specs.Refusal.{Refusal, refusal_of}
-use Rattle.goblin_base.specs.Steps.{◌>>=◌, refuse_as}
-use Rattle.goblin.specs.declared.elf.program_header.ProgramHeader.{ProgramHeader}
-use Rattle.goblin.specs.ProgramHeaders.{program_headers_from}
-use Rattle.goblin.specs.SectionHeaders.{section_headers_of}
-use Rattle.goblin.specs.WholePart.{IsListOfWhole, segment_count}
+use Rattle.goblin.specs.WholePart.{IsListOfWhole}
 use Rattle.goblin_headers.proofs.WholeParts.{sections_of_whole, segments_of_whole}
-use Rattle.goblin_c.specs.declared.types.GoblinHeader.{GoblinHeader}
-use Rattle.goblin_c.specs.Expected.{count_of, ctx_of, each_converted, item_of, sections_expected, segments_expected}
-use Rattle.goblin_c.specs.Expected.{whole_header}
 use Rattle.goblin_c.specs.Laws.{KeepsWhatIsRead, WholeHeaderKeeps}
-use Rattle.goblin_c.specs.Refused.{RefusalAt, refused_at}
-use Rattle.goblin_c.specs.Types.{section_converted, segment_converted}
 
 -- one list isn't refused, and is another where that isn't refused
 abbrev Keeps : {X : Type 0} → Result (List X) RefusalAt → Result (List X) RefusalAt → Type 0

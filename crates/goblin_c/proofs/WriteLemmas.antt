@@ -1,30 +1,14 @@
 -- Puts: a record that is found is put at its place, in range, and the library's test decides whether it fits.
-use Rattle.std.proofs.Common.{◌≡◌, ◌≤◌, ◌<◌, ◌+◌, ◌*◌, ◌^◌, ◌⊎◌, ℕ, Bool, true, false, true≢false, List, [], ◌∷◌, ◌++◌}
-use Rattle.std.proofs.Common.{length, drop}
-use Rattle.std.proofs.Common.{IsTrue, map, Option, Some, Result, Ok, Err, inl, inr, refl, sym, ap}
-use Rattle.std.proofs.Common.{subst, ◌∙◌}
-use Rattle.std.proofs.Common.{arith}
+use Rattle.goblin_c.proofs.Common.{◌≡◌, ◌≤◌, ◌<◌, ◌+◌, ◌*◌, ◌^◌, ◌⊎◌, ℕ, Bool, true, false, true≢false, List, [], ◌∷◌}
+use Rattle.goblin_c.proofs.Common.{◌++◌, length, drop, IsTrue, map, Option, Some, Result, Ok, Err, inl, inr, refl, sym}
+use Rattle.goblin_c.proofs.Common.{ap, subst, ◌∙◌, arith, fits-room_of, ◌>>=◌, refuse_as, number_expected, ctx_of}
+use Rattle.goblin_c.proofs.Common.{item_of, Returns, RefusalAt, refusal_at, refused_at, Stores, converted_list}
+use Rattle.goblin_c.proofs.Common.{refusal_converted, Container, Little, Big, Ctx, Error, refusal_of, Header, cases_lt}
+use Rattle.goblin_c.proofs.Common.{Refused, GoblinHeader, GoblinRefusal}
 use Rattle.std.proofs.Math.Logic.{◌↔◌}
-use Rattle.goblin_base.specs.RecordLaws.{fits-room_of}
-use Rattle.goblin_base.specs.Steps.{◌>>=◌, refuse_as}
-use Rattle.goblin_c.specs.Bytes.{number_expected}
-use Rattle.goblin_c.specs.Expected.{ctx_of, item_of}
-use Rattle.goblin_c.specs.Refused.{Returns, RefusalAt, refusal_at, refused_at}
-use Rattle.goblin_c.specs.Status.{Stores, converted_list}
-use Rattle.goblin_c.specs.Types.{refusal_converted}
 use Rattle.goblin_c.specs.Write.{FitsClass, Puts, header_of, header_put_expected, named_ctx, put_if}
-use Rattle.goblin_base.specs.declared.container.Container.{Container}
-use Rattle.goblin_base.specs.declared.container.Container.TheVariants.{Little, Big}
-use Rattle.goblin_base.specs.declared.container.Ctx.{Ctx}
-use Rattle.goblin_base.specs.declared.error.Error.{Error}
 use Rattle.goblin_base.specs.Fields.{Field, FieldsFit}
-use Rattle.goblin_base.specs.Refusal.{refusal_of}
-use Rattle.goblin.specs.declared.elf.header.Header.{Header}
 use Rattle.goblin.specs.Header.{HeaderFits, as32, as64, header32, header64, header_layout, header_size}
-use Rattle.std.proofs.lemmas.Bool.{cases_lt}
-use Rattle.goblin_c.specs.declared.refused.Refused.{Refused}
-use Rattle.goblin_c.specs.declared.types.GoblinHeader.{GoblinHeader}
-use Rattle.goblin_c.specs.declared.types.GoblinRefusal.{GoblinRefusal}
 use Rattle.goblin_c.proofs.ReadLemmas.{Lists, converted_is, expected_is, found_at}
 
 -- what is expected by the test is put, or refused, as the record fits

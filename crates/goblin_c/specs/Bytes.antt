@@ -3,16 +3,10 @@ use Rattle.std.specs.Prelude.{ℕ, ◌+◌, ◌==◌, ◌||◌, not, nat_le, if�
 use Rattle.std.specs.Prelude.{Result, Ok}
 use Rattle.goblin_base.specs.Number.{number_at}
 use Rattle.goblin_base.specs.Pieces.{piece}
-use Rattle.goblin_base.specs.Refusal.{misplaced}
-use Rattle.goblin_base.specs.Room.{room_of}
-use Rattle.goblin_base.specs.Steps.{◌>>=◌, refuse_as}
-use Rattle.goblin.specs.SectionHeaders.{is_nobits}
+use Rattle.goblin_c.specs.Common.{misplaced, room_of, ◌>>=◌, refuse_as, is_nobits, GoblinHeader, GoblinRange}
+use Rattle.goblin_c.specs.Common.{GoblinSection, GoblinSegment}
 use Rattle.goblin_c.specs.Refused.{RefusalAt, refused_at}
 use Rattle.goblin_c.specs.Expected.{ctx_of, strings_expected}
-use Rattle.goblin_c.specs.declared.types.GoblinHeader.{GoblinHeader}
-use Rattle.goblin_c.specs.declared.types.GoblinRange.{GoblinRange}
-use Rattle.goblin_c.specs.declared.types.GoblinSection.{GoblinSection}
-use Rattle.goblin_c.specs.declared.types.GoblinSegment.{GoblinSegment}
 
 -- a section has bytes in the file: it is not of type 0, which stands for no section, nor of the type without bytes in
 -- the file, and has a size (System V gABI, "Sections")

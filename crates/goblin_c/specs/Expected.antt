@@ -1,33 +1,16 @@
 -- The expected results of calls, by the library's definitions: an item, none past the last one, or a refusal.
-use Rattle.std.specs.Prelude.{ℕ, ◌+◌, ◌/◌, ◌==◌, nat_le, if◌then◌else◌, List, length, drop, map, position}
-use Rattle.std.specs.Prelude.{slice_get, Bool, Option, Some, None, Result, Ok}
-use Rattle.std.specs.Option.{option_map}
-use Rattle.goblin_base.specs.declared.container.Ctx.{Ctx}
+use Rattle.std.specs.Prelude.{ℕ, ◌+◌, ◌/◌, ◌==◌, nat_le, if◌then◌else◌, List, length, drop, map, position, slice_get}
+use Rattle.std.specs.Prelude.{Bool, Option, Some, None, Result, Ok}
+use Rattle.goblin_c.specs.Common.{option_map, Ctx, malformed, refusal_of, ◌>>=◌, refuse_as, range_in, plain, has_name}
+use Rattle.goblin_c.specs.Common.{SectionHeader, read_header, linked, section_headers_of, Sym, sym_size, ProgramHeader}
+use Rattle.goblin_c.specs.Common.{program_headers_from, Reloc, is_mips64el_in, relocs_of, symtab_of, segment_count}
+use Rattle.goblin_c.specs.Common.{GoblinHeader, GoblinRange, GoblinSection, GoblinSegment, GoblinReloc, GoblinSymbol}
 use Rattle.goblin_base.specs.declared.container.Container.TheVariants as class
 use Rattle.goblin_base.specs.declared.container.Endian.TheVariants as endian
 use Rattle.goblin_base.specs.declared.options.ParseMode.TheVariants.{Strict}
-use Rattle.goblin_base.specs.Refusal.{malformed, refusal_of}
-use Rattle.goblin_base.specs.Steps.{◌>>=◌, refuse_as}
-use Rattle.goblin_base.specs.Strtab.{range_in, plain, has_name}
 use Rattle.goblin.specs.Addresses.{symbol_at}
-use Rattle.goblin.specs.declared.elf.section_header.SectionHeader.{SectionHeader}
-use Rattle.goblin.specs.ReadHeader.{read_header}
-use Rattle.goblin.specs.SectionHeaders.{linked, section_headers_of}
-use Rattle.goblin.specs.declared.elf.sym.Sym.{Sym}
-use Rattle.goblin.specs.Sym.{sym_size}
-use Rattle.goblin.specs.declared.elf.program_header.ProgramHeader.{ProgramHeader}
-use Rattle.goblin.specs.ProgramHeaders.{program_headers_from}
-use Rattle.goblin.specs.declared.elf.reloc.Reloc.{Reloc}
-use Rattle.goblin.specs.RelocSection.{is_mips64el_in, relocs_of}
-use Rattle.goblin.specs.Symtab.{symtab_of}
-use Rattle.goblin.specs.WholePart.{sections_part, segment_count, segments_part}
+use Rattle.goblin.specs.WholePart.{sections_part, segments_part}
 use Rattle.goblin_c.specs.Refused.{RefusalAt, refused_at}
-use Rattle.goblin_c.specs.declared.types.GoblinHeader.{GoblinHeader}
-use Rattle.goblin_c.specs.declared.types.GoblinRange.{GoblinRange}
-use Rattle.goblin_c.specs.declared.types.GoblinSection.{GoblinSection}
-use Rattle.goblin_c.specs.declared.types.GoblinSegment.{GoblinSegment}
-use Rattle.goblin_c.specs.declared.types.GoblinReloc.{GoblinReloc}
-use Rattle.goblin_c.specs.declared.types.GoblinSymbol.{GoblinSymbol}
 use Rattle.goblin_c.specs.Types.{header_converted, names_index_of, reloc_converted, section_converted}
 use Rattle.goblin_c.specs.Types.{segment_converted, symbol_converted}
 

@@ -1,46 +1,27 @@
 -- Laws of the calls: the items that they store one by one are those that the library reads at once.
 use Rattle.std.specs.Prelude.{◌≡◌, ◌≢◌, ◌⊎◌, ◌+◌, ◌-◌, ◌/◌, ◌<◌, ◌≤◌, ℕ, zero, suc, min, Bool, List, [], ◌∷◌}
 use Rattle.std.specs.Prelude.{if◌then◌else◌, length, take, drop, slice_get, Option, Some, None, Result, Ok, Err, IsOk}
-use Rattle.std.specs.Option.{option_map}
-use Rattle.goblin_base.specs.declared.container.Ctx.{Ctx}
-use Rattle.goblin_base.specs.declared.error.Fault.TheVariants.{InvalidClass, InvalidEndianness}
-use Rattle.goblin_base.specs.Refusal.{Refusal, refusal_of}
-use Rattle.goblin_base.specs.Steps.{◌>>=◌, refuse_as}
-use Rattle.goblin_base.specs.Strtab.{plain}
-use Rattle.goblin.specs.declared.elf.header.Header.{Header}
+use Rattle.goblin_c.specs.Common.{option_map, Ctx, InvalidClass, InvalidEndianness, Refusal, refusal_of, ◌>>=◌}
+use Rattle.goblin_c.specs.Common.{refuse_as, plain, Header, class_of, order_of, program_headers_from, read_header}
+use Rattle.goblin_c.specs.Common.{is_of_mips64el, relocs_of, is_table, section_headers_of, Sym, sym_size, symtab_of}
+use Rattle.goblin_c.specs.Common.{segment_count, ProgramHeader, GoblinHeader, GoblinNote, GoblinRange, GoblinReloc}
+use Rattle.goblin_c.specs.Common.{GoblinSection, GoblinSegment, GoblinSymbol}
 use Rattle.goblin.specs.declared.elf.note.NoteDataIterator.{NoteDataIterator}
-use Rattle.goblin.specs.Header.{class_of, order_of}
 use Rattle.goblin.specs.Nhdr.{nhdr32_size}
 use Rattle.goblin.specs.Note.{NoteParts}
 use Rattle.goblin.specs.Notes.{items_left}
-use Rattle.goblin.specs.ProgramHeaders.{program_headers_from}
-use Rattle.goblin.specs.ReadHeader.{read_header}
-use Rattle.goblin.specs.RelocSection.{is_of_mips64el, relocs_of}
-use Rattle.goblin.specs.SectionHeaders.{is_table, section_headers_of}
-use Rattle.goblin.specs.declared.elf.sym.Sym.{Sym}
-use Rattle.goblin.specs.Sym.{sym_size}
-use Rattle.goblin.specs.Symtab.{symtab_of}
-use Rattle.goblin.specs.WholePart.{segment_count}
-use Rattle.goblin.specs.declared.elf.program_header.ProgramHeader.{ProgramHeader}
 use Rattle.goblin_c.specs.Refused.{RefusalAt, refused_at}
-use Rattle.goblin_c.specs.Expected.{ctx_of, is_mips64el, section_by_type_expected}
-use Rattle.goblin_c.specs.Expected.{section_count_expected, section_expected, segment_count_expected, segment_expected}
-use Rattle.goblin_c.specs.Expected.{symbol_expected, reloc_expected, string_expected, symbol_count_expected}
-use Rattle.goblin_c.specs.Expected.{reloc_count_expected, sections_from_expected, symbols_from_expected}
-use Rattle.goblin_c.specs.Expected.{relocs_from_expected, section_names_expected, section_by_name_expected}
-use Rattle.goblin_c.specs.Expected.{symbol_by_name_expected, strings_expected, table_expected, whole_header}
+use Rattle.goblin_c.specs.Expected.{ctx_of, is_mips64el, section_by_type_expected, section_count_expected}
+use Rattle.goblin_c.specs.Expected.{section_expected, segment_count_expected, segment_expected, symbol_expected}
+use Rattle.goblin_c.specs.Expected.{reloc_expected, string_expected, symbol_count_expected, reloc_count_expected}
+use Rattle.goblin_c.specs.Expected.{sections_from_expected, symbols_from_expected, relocs_from_expected}
+use Rattle.goblin_c.specs.Expected.{section_names_expected, section_by_name_expected, symbol_by_name_expected}
+use Rattle.goblin_c.specs.Expected.{strings_expected, table_expected, whole_header}
 use Rattle.goblin_c.specs.Bytes.{section_bytes_expected, segment_bytes_expected, string_bytes_expected}
 use Rattle.goblin_c.specs.FilledBuffer.{closed, laid}
 use Rattle.goblin_c.specs.Notes.{note_bytes_expected, note_expected}
 use Rattle.goblin_c.specs.Types.{header_converted, refusal_converted, reloc_converted, section_converted}
 use Rattle.goblin_c.specs.Types.{segment_converted, symbol_converted}
-use Rattle.goblin_c.specs.declared.types.GoblinHeader.{GoblinHeader}
-use Rattle.goblin_c.specs.declared.types.GoblinNote.{GoblinNote}
-use Rattle.goblin_c.specs.declared.types.GoblinRange.{GoblinRange}
-use Rattle.goblin_c.specs.declared.types.GoblinReloc.{GoblinReloc}
-use Rattle.goblin_c.specs.declared.types.GoblinSection.{GoblinSection}
-use Rattle.goblin_c.specs.declared.types.GoblinSegment.{GoblinSegment}
-use Rattle.goblin_c.specs.declared.types.GoblinSymbol.{GoblinSymbol}
 
 -- the bytes of a file in a range
 abbrev pub bytes_in : List ℕ → GoblinRange → List ℕ

@@ -1,4 +1,5 @@
 pub mod Bytes
+pub mod Common
 pub mod Expected
 pub mod FilledBuffer
 pub mod Laws

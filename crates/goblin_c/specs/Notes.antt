@@ -1,16 +1,12 @@
 -- The note that a call stores.
 use Rattle.std.specs.Prelude.{◌≡◌, ℕ, ◌+◌, nat_le, if◌then◌else◌, List, take, drop, Option, Some, None, Result, Ok, Err}
-use Rattle.goblin_base.specs.Steps.{◌>>=◌}
+use Rattle.goblin_c.specs.Common.{◌>>=◌, GoblinHeader, GoblinNote, GoblinRange, GoblinRefusal, OK, END}
 use Rattle.goblin.specs.declared.elf.note.NotePart.{NotePart}
 use Rattle.goblin.specs.declared.elf.note.NotePart.TheVariants.{Header, Name, Desc}
 use Rattle.goblin.specs.Note.{PartRefusal, places_at, whole_places}
 use Rattle.goblin_c.specs.Refused.{RefusalAt, refused_at}
 use Rattle.goblin_c.specs.Expected.{ctx_of}
-use Rattle.goblin_c.specs.declared.types.GoblinHeader.{GoblinHeader}
-use Rattle.goblin_c.specs.declared.types.GoblinNote.{GoblinNote}
-use Rattle.goblin_c.specs.declared.types.GoblinRange.{GoblinRange}
-use Rattle.goblin_c.specs.declared.types.GoblinRefusal.{GoblinRefusal}
-use Rattle.goblin_c.specs.declared.kinds.TheConstants.{OK, END, NOTE_HEADER, NOTE_NAME, NOTE_DESC}
+use Rattle.goblin_c.specs.declared.kinds.TheConstants.{NOTE_HEADER, NOTE_NAME, NOTE_DESC}
 use Rattle.goblin_c.specs.Types.{note_converted, refusal_converted}
 
 -- the note at an offset: none from the range's end on

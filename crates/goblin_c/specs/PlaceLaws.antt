@@ -1,8 +1,6 @@
 -- Laws of the calls for numbers in a range, for offsets of addresses, and for ranges that are cut to the file.
 use Rattle.std.specs.Prelude.{◌≡◌, ◌⊎◌, ◌+◌, ◌-◌, ◌^◌, ◌<◌, ◌≤◌, ℕ, List, length, Option, Some, None, Result, Ok, Err}
-use Rattle.goblin_c.specs.declared.types.GoblinHeader.{GoblinHeader}
-use Rattle.goblin_c.specs.declared.types.GoblinRange.{GoblinRange}
-use Rattle.goblin_c.specs.declared.types.GoblinSegment.{GoblinSegment}
+use Rattle.goblin_c.specs.Common.{GoblinHeader, GoblinRange, GoblinSegment}
 use Rattle.goblin_c.specs.Expected.{segment_expected}
 use Rattle.goblin_c.specs.Laws.{LiesIn, RefusesAll, bytes_in}
 use Rattle.goblin_c.specs.Places.{address_to_offset_expected, cut_range, number_in_expected}

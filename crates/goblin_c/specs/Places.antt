@@ -1,11 +1,6 @@
 -- Numbers in a range, the offset of an address, and ranges that are cut to the file.
 use Rattle.std.specs.Prelude.{ℕ, ◌+◌, ◌-◌, ◌^◌, min, if◌then◌else◌, List, length, Option, Some, None, Result, Ok}
-use Rattle.goblin_base.specs.Refusal.{misplaced}
-use Rattle.goblin_base.specs.Room.{room_of}
-use Rattle.goblin_base.specs.Steps.{◌>>=◌, refuse_as}
-use Rattle.goblin.specs.ProgramHeaders.{loaded_from}
-use Rattle.goblin_c.specs.declared.types.GoblinHeader.{GoblinHeader}
-use Rattle.goblin_c.specs.declared.types.GoblinRange.{GoblinRange}
+use Rattle.goblin_c.specs.Common.{misplaced, room_of, ◌>>=◌, refuse_as, loaded_from, GoblinHeader, GoblinRange}
 use Rattle.goblin_c.specs.Expected.{segments_expected}
 use Rattle.goblin_c.specs.Bytes.{is_width, number_expected, range_expected}
 use Rattle.goblin_c.specs.Refused.{RefusalAt, refused_at}

@@ -1,8 +1,6 @@
 -- A refusal, with where in the file the thing that is refused begins.
 use Rattle.std.specs.Prelude.{◌≡◌, ℕ, Result, Ok, Err}
-use Rattle.goblin_base.specs.declared.error.Error.{Error}
-use Rattle.goblin_base.specs.Refusal.{Refusal, refusal_of}
-use Rattle.goblin_c.specs.declared.refused.Refused.{Refused}
+use Rattle.goblin_c.specs.Common.{Error, Refusal, refusal_of, Refused}
 
 -- a refusal, and the offset in the file of the thing that is refused
 pub record RefusalAt : Type 0 where

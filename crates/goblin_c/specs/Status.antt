@@ -1,10 +1,8 @@
 -- What a call for C returns, a number, and what it stores where its caller points.
-use Rattle.std.specs.Prelude.{◌≡◌, ◌≤◌, ℕ, List, length, take, drop, map, min, slice_get}
-use Rattle.std.specs.Prelude.{Option, Some, None, Result, Ok, Err}
+use Rattle.std.specs.Prelude.{◌≡◌, ◌≤◌, ℕ, List, length, take, drop, map, min, slice_get, Option, Some, None, Result}
+use Rattle.std.specs.Prelude.{Ok, Err}
 use Rattle.goblin_c.specs.Refused.{RefusalAt, refusal_at}
-use Rattle.goblin_c.specs.declared.refused.Refused.{Refused}
-use Rattle.goblin_c.specs.declared.kinds.TheConstants.{OK, END}
-use Rattle.goblin_c.specs.declared.types.GoblinRefusal.{GoblinRefusal}
+use Rattle.goblin_c.specs.Common.{Refused, OK, END, GoblinRefusal}
 use Rattle.goblin_c.specs.FilledBuffer.{laid}
 use Rattle.goblin_c.specs.Types.{refusal_converted}
 

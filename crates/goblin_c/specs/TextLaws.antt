@@ -3,36 +3,23 @@ use Rattle.std.proofs.Common.{◌≡◌, ◌+◌, ℕ, zero, suc, Bool, true, fa
 use Rattle.std.proofs.Common.{Err, inl, inr, refl, arith}
 use Rattle.std.specs.Bool.{⊤}
 use Rattle.goblin_base.specs.declared.container.Container.TheVariants.{Little, Big}
-use Rattle.goblin_base.specs.declared.container.Ctx.{Ctx}
+use Rattle.goblin_c.specs.Common.{Ctx, DataType, Layout, Refusal, buffer_too_short, misplaced, refusal_of, room_of}
+use Rattle.goblin_c.specs.Common.{refuse_as, with_size, range_in, refusal_text, header_layout, header_size, read_header}
+use Rattle.goblin_c.specs.Common.{read_in_order, section_headers_from, section_headers_from_tested, GoblinHeader}
+use Rattle.goblin_c.specs.Common.{GoblinRange, GoblinSection, GoblinSegment, GoblinReloc, GoblinSymbol}
 use Rattle.goblin_base.specs.declared.container.Endian.{Endian}
-use Rattle.goblin_base.specs.declared.error.Fault.TheVariants.{DataType}
 use Rattle.goblin_base.specs.Eager.{records_from, records_in, room_of_each}
-use Rattle.goblin_base.specs.Layout.{Layout}
 use Rattle.goblin_base.specs.Record.{read_within}
-use Rattle.goblin_base.specs.Refusal.{Refusal, buffer_too_short, misplaced, refusal_of}
-use Rattle.goblin_base.specs.Room.{room_of}
-use Rattle.goblin_base.specs.Steps.{refuse_as, with_size}
-use Rattle.goblin_base.specs.Strtab.{range_in}
-use Rattle.goblin_base.specs.Texts.{refusal_text}
 use Rattle.goblin.specs.Note.{places_at, read_places}
-use Rattle.goblin.specs.Header.{header_layout, header_size}
-use Rattle.goblin.specs.ReadHeader.{read_header, read_in_order}
-use Rattle.goblin.specs.SectionHeaders.{section_headers_from, section_headers_from_tested}
 use Rattle.goblin_c.specs.Refused.{RefusalAt}
-use Rattle.goblin_c.specs.declared.types.GoblinHeader.{GoblinHeader}
-use Rattle.goblin_c.specs.declared.types.GoblinRange.{GoblinRange}
-use Rattle.goblin_c.specs.declared.types.GoblinSection.{GoblinSection}
-use Rattle.goblin_c.specs.declared.types.GoblinSegment.{GoblinSegment}
 use Rattle.goblin_c.specs.Expected.{ctx_of, header_expected, reloc_count_expected, reloc_expected, relocs_from_expected}
-use Rattle.goblin_c.specs.Expected.{relocs_expected}
-use Rattle.goblin_c.specs.Expected.{section_by_name_expected, section_by_type_expected, section_count_expected}
-use Rattle.goblin_c.specs.Expected.{section_names_expected}
-use Rattle.goblin_c.specs.Expected.{section_expected, sections_from_expected, sections_expected, segment_count_expected}
-use Rattle.goblin_c.specs.Expected.{segment_expected}
+use Rattle.goblin_c.specs.Expected.{relocs_expected, section_by_name_expected, section_by_type_expected}
+use Rattle.goblin_c.specs.Expected.{section_count_expected, section_names_expected, section_expected}
+use Rattle.goblin_c.specs.Expected.{sections_from_expected, sections_expected, segment_count_expected, segment_expected}
 use Rattle.goblin_c.specs.Expected.{segments_expected, string_expected, strings_expected, symbol_by_address_expected}
 use Rattle.goblin_c.specs.Expected.{symbol_by_name_expected, symbol_count_expected, symbol_expected}
-use Rattle.goblin_c.specs.Expected.{symbols_from_expected, symbols_expected}
-use Rattle.goblin_c.specs.Expected.{count_of, each_converted, item_of, items_from, table_expected}
+use Rattle.goblin_c.specs.Expected.{symbols_from_expected, symbols_expected, count_of, each_converted, item_of}
+use Rattle.goblin_c.specs.Expected.{items_from, table_expected}
 use Rattle.goblin_c.specs.Bytes.{number_expected, section_bytes_expected, segment_bytes_expected, string_bytes_expected}
 use Rattle.goblin_c.specs.Notes.{note_expected}
 use Rattle.goblin_c.specs.Places.{address_to_offset_expected, number_in_expected}
@@ -40,8 +27,6 @@ use Rattle.goblin_c.specs.Types.{refusal_converted, reloc_converted, section_con
 use Rattle.goblin_c.specs.Types.{symbol_converted}
 use Rattle.goblin_c.specs.Write.{header_put_expected, number_put_expected, put_if, put_if_there, reloc_put_expected}
 use Rattle.goblin_c.specs.Write.{section_put_expected, segment_put_expected, symbol_put_expected}
-use Rattle.goblin_c.specs.declared.types.GoblinReloc.{GoblinReloc}
-use Rattle.goblin_c.specs.declared.types.GoblinSymbol.{GoblinSymbol}
 use Rattle.goblin_c.specs.Texts.{NamesKnown, TextIsSame, converted_text}
 
 pub text-same : TextIsSame

@@ -1,11 +1,9 @@
 -- The text of a refusal that C has.
 use Rattle.std.specs.Prelude.{◌≡◌, ◌⊎◌, ⊤, ℕ, ◌==◌, not, if◌then◌else◌, List, [], codes, Option, Some, None}
 use Rattle.goblin_base.specs.declared.texts.Kind.{Kind}
-use Rattle.goblin_base.specs.Refusal.{Refusal, malformed, bad_magic, too_big, bad_offset, bad_input, buffer_too_short}
-use Rattle.goblin_base.specs.Refusal.{out_of_memory}
-use Rattle.goblin_base.specs.Texts.{Facts, facts_text, kind_with, refusal_text}
-use Rattle.goblin_c.specs.declared.kinds.TheConstants.{INVALID_UTF8, SECTION_HEADERS, PROGRAM_HEADERS}
-use Rattle.goblin_c.specs.declared.types.GoblinRefusal.{GoblinRefusal}
+use Rattle.goblin_c.specs.Common.{Refusal, malformed, buffer_too_short, Facts, facts_text, kind_with, refusal_text}
+use Rattle.goblin_c.specs.Common.{INVALID_UTF8, SECTION_HEADERS, PROGRAM_HEADERS, GoblinRefusal}
+use Rattle.goblin_base.specs.Refusal.{bad_magic, too_big, bad_offset, bad_input, out_of_memory}
 use Rattle.goblin_c.specs.Refused.{RefusalAt}
 use Rattle.goblin_c.specs.Types.{refusal_converted}
 

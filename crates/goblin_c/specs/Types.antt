@@ -4,24 +4,11 @@ use Rattle.std.specs.Prelude.{ℕ, ◌+◌, ◌-◌, ◌*◌, ◌/◌, ◌^◌, 
 use Rattle.std.specs.Prelude.{Option}
 use Rattle.std.specs.Option.{is_some}
 use Rattle.std.specs.Str.{bytes_eq}
-use Rattle.goblin_base.specs.Texts.{Facts, kind_number, refusal_facts}
-use Rattle.goblin.specs.declared.elf.header.Header.{Header}
+use Rattle.goblin_c.specs.Common.{Facts, kind_number, refusal_facts, Header, ProgramHeader, Reloc, SectionHeader, Sym}
+use Rattle.goblin_c.specs.Common.{names_index, INVALID_UTF8, SECTION_HEADERS, PROGRAM_HEADERS, GoblinHeader, GoblinNote}
+use Rattle.goblin_c.specs.Common.{GoblinRange, GoblinRefusal, GoblinReloc, GoblinSection, GoblinSegment, GoblinSymbol}
 use Rattle.goblin.specs.declared.elf.note.NotePlaces.{NotePlaces}
-use Rattle.goblin.specs.declared.elf.program_header.ProgramHeader.{ProgramHeader}
-use Rattle.goblin.specs.declared.elf.reloc.Reloc.{Reloc}
-use Rattle.goblin.specs.declared.elf.section_header.SectionHeader.{SectionHeader}
-use Rattle.goblin.specs.declared.elf.sym.Sym.{Sym}
-use Rattle.goblin.specs.SectionHeaders.{names_index}
 use Rattle.goblin_c.specs.Refused.{RefusalAt}
-use Rattle.goblin_c.specs.declared.kinds.TheConstants.{INVALID_UTF8, SECTION_HEADERS, PROGRAM_HEADERS}
-use Rattle.goblin_c.specs.declared.types.GoblinHeader.{GoblinHeader}
-use Rattle.goblin_c.specs.declared.types.GoblinNote.{GoblinNote}
-use Rattle.goblin_c.specs.declared.types.GoblinRange.{GoblinRange}
-use Rattle.goblin_c.specs.declared.types.GoblinRefusal.{GoblinRefusal}
-use Rattle.goblin_c.specs.declared.types.GoblinReloc.{GoblinReloc}
-use Rattle.goblin_c.specs.declared.types.GoblinSection.{GoblinSection}
-use Rattle.goblin_c.specs.declared.types.GoblinSegment.{GoblinSegment}
-use Rattle.goblin_c.specs.declared.types.GoblinSymbol.{GoblinSymbol}
 
 -- the number of so many bytes, each of which is a mark
 abbrev pub each_byte : ℕ → ℕ → ℕ

@@ -1,39 +1,22 @@
 -- Putting records and numbers into the bytes of a file: the bytes after, or the refusal.
-use Rattle.std.specs.Prelude.{◌≡◌, ◌⊎◌, ℕ, ◌+◌, ◌*◌, ◌==◌, ◌<◌, ◌^◌, true, false, Bool, if◌then◌else◌}
-use Rattle.std.specs.Prelude.{List, ◌∷◌, ◌++◌, length, take, drop, Option, Some, None, Result, Ok, Err}
-use Rattle.goblin_base.specs.declared.container.Ctx.{Ctx}
-use Rattle.goblin_base.specs.declared.error.Error.{Error}
+use Rattle.std.specs.Prelude.{◌≡◌, ◌⊎◌, ℕ, ◌+◌, ◌*◌, ◌==◌, ◌<◌, ◌^◌, true, false, Bool, if◌then◌else◌, List, ◌∷◌, ◌++◌}
+use Rattle.std.specs.Prelude.{length, take, drop, Option, Some, None, Result, Ok, Err}
+use Rattle.goblin_c.specs.Common.{Ctx, Error, Data, IntegerFit, InvalidClass, Layout, malformed, refusal_of, room_of}
+use Rattle.goblin_c.specs.Common.{◌>>=◌, refuse_as, Header, ProgramHeader, Reloc, SectionHeader, Sym, HeaderFits}
+use Rattle.goblin_c.specs.Common.{class_of, header_layout, header_size, magic, order_of, sym_layout, GoblinHeader}
+use Rattle.goblin_c.specs.Common.{GoblinRange, GoblinRefusal, GoblinReloc, GoblinSection, GoblinSegment, GoblinSymbol}
 use Rattle.goblin_base.specs.declared.error.Error.TheVariants.{Scroll}
-use Rattle.goblin_base.specs.declared.error.Fault.TheVariants.{Data, IntegerFit, InvalidClass}
-use Rattle.goblin_base.specs.Layout.{Layout}
 use Rattle.goblin_base.specs.Place.{with_number}
-use Rattle.goblin_base.specs.Refusal.{malformed, refusal_of}
-use Rattle.goblin_base.specs.Room.{room_of}
-use Rattle.goblin_base.specs.Steps.{◌>>=◌, refuse_as}
-use Rattle.goblin.specs.declared.elf.header.Header.{Header}
-use Rattle.goblin.specs.declared.elf.program_header.ProgramHeader.{ProgramHeader}
-use Rattle.goblin.specs.declared.elf.reloc.Reloc.{Reloc}
 use Rattle.goblin.specs.declared.elf.reloc.RelocCtx.{RelocCtx}
-use Rattle.goblin.specs.declared.elf.section_header.SectionHeader.{SectionHeader}
-use Rattle.goblin.specs.declared.elf.sym.Sym.{Sym}
-use Rattle.goblin.specs.Header.{HeaderFits, class_of, header_layout, header_size, magic, order_of}
 use Rattle.goblin.specs.ProgramHeader.{program_header_layout}
 use Rattle.goblin.specs.Reloc.{reloc_layout_in}
 use Rattle.goblin.specs.SectionHeader.{section_header_layout}
-use Rattle.goblin.specs.Sym.{sym_layout}
 use Rattle.goblin_c.specs.Bytes.{number_expected}
 use Rattle.goblin_c.specs.Expected.{ctx_of, is_mips64el, reloc_expected, section_expected, segment_expected}
 use Rattle.goblin_c.specs.Expected.{symbol_expected}
 use Rattle.goblin_c.specs.Refused.{RefusalAt, refused_at}
 use Rattle.goblin_c.specs.Status.{Stores}
 use Rattle.goblin_c.specs.Types.{reloc_converted}
-use Rattle.goblin_c.specs.declared.types.GoblinHeader.{GoblinHeader}
-use Rattle.goblin_c.specs.declared.types.GoblinRange.{GoblinRange}
-use Rattle.goblin_c.specs.declared.types.GoblinRefusal.{GoblinRefusal}
-use Rattle.goblin_c.specs.declared.types.GoblinReloc.{GoblinReloc}
-use Rattle.goblin_c.specs.declared.types.GoblinSection.{GoblinSection}
-use Rattle.goblin_c.specs.declared.types.GoblinSegment.{GoblinSegment}
-use Rattle.goblin_c.specs.declared.types.GoblinSymbol.{GoblinSymbol}
 
 -- ---- one record
 -- the bytes after others were written over them at an offset

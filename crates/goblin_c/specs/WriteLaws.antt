@@ -4,18 +4,13 @@ use Rattle.std.specs.Prelude.{◌≡◌, ◌+◌, ◌*◌, ℕ, true, Bool, List
 use Rattle.goblin_base.specs.Number.{IsBytes}
 use Rattle.goblin_c.specs.Expected.{reloc_count_expected, reloc_expected, section_count_expected, section_expected}
 use Rattle.goblin_c.specs.Expected.{segment_count_expected, segment_expected, symbol_count_expected, symbol_expected}
-use Rattle.goblin_c.specs.Bytes.{number_expected}
 use Rattle.goblin_c.specs.Expected.{header_expected}
-use Rattle.goblin_c.specs.Write.{FitsClass, NumberFits, header_put_expected, number_put_expected}
-use Rattle.goblin_c.specs.Write.{RelocFits, SectionFits, SegmentFits, SymbolFits, reloc_layout, reloc_put_expected}
-use Rattle.goblin_c.specs.Write.{section_layout, section_put_expected, segment_layout, segment_put_expected}
-use Rattle.goblin_c.specs.Write.{symbol_layout, symbol_put_expected}
-use Rattle.goblin_c.specs.declared.types.GoblinHeader.{GoblinHeader}
-use Rattle.goblin_c.specs.declared.types.GoblinRange.{GoblinRange}
-use Rattle.goblin_c.specs.declared.types.GoblinReloc.{GoblinReloc}
-use Rattle.goblin_c.specs.declared.types.GoblinSection.{GoblinSection}
-use Rattle.goblin_c.specs.declared.types.GoblinSegment.{GoblinSegment}
-use Rattle.goblin_c.specs.declared.types.GoblinSymbol.{GoblinSymbol}
+use Rattle.goblin_c.specs.Bytes.{number_expected}
+use Rattle.goblin_c.specs.Write.{FitsClass, NumberFits, header_put_expected, number_put_expected, RelocFits}
+use Rattle.goblin_c.specs.Write.{SectionFits, SegmentFits, SymbolFits, reloc_layout, reloc_put_expected, section_layout}
+use Rattle.goblin_c.specs.Write.{section_put_expected, segment_layout, segment_put_expected, symbol_layout}
+use Rattle.goblin_c.specs.Write.{symbol_put_expected}
+use Rattle.goblin_c.specs.Common.{GoblinHeader, GoblinRange, GoblinReloc, GoblinSection, GoblinSegment, GoblinSymbol}
 
 -- a record that fits and was put is stored by the call that reads it, if the list has as many items as before
 pub record PutsAreRead : Type 0 where

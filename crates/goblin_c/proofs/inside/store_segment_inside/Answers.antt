@@ -1,7 +1,7 @@
 -- The record that was found is the expected program header (`segment_is`).
-use Rattle.std.proofs.Common.{Ok, Some, sym, ap, ◌∙◌}
 use Rattle.goblin_c.proofs.InsideLemmas.{segment_is}
 use Rattle.goblin_c.proofs.inside.store_segment_inside.Goals as goal
+use Rattle.goblin_c.proofs.Common.{Ok, Some, sym, ap, ◌∙◌}
 
 pub returns-in-Some-clause-found : goal.returns-in-Some-clause-found
 returns-in-Some-clause-found c _ =

@@ -1,7 +1,7 @@
 -- The record that was found is the expected symbol (`symbol_is`).
-use Rattle.std.proofs.Common.{Ok, Some, sym, ap, ◌∙◌}
 use Rattle.goblin_c.proofs.InsideLemmas.{symbol_is}
 use Rattle.goblin_c.proofs.inside.store_symbol_inside.Goals as goal
+use Rattle.goblin_c.proofs.Common.{Ok, Some, sym, ap, ◌∙◌}
 
 pub returns-in-Some-clause-found : goal.returns-in-Some-clause-found
 returns-in-Some-clause-found c _ =

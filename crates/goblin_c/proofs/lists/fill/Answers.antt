@@ -1,8 +1,7 @@
 -- After i turns the buffer holds the first i items from `first` on (`laid-item`). Where the list has no item for the
 -- next place, these were all, so the buffer stays as it is (`laid-ended`).
-use Rattle.std.proofs.Common.{◌≡◌, ◌<◌, ◌+◌, length, slice_get, Some, sym, ◌∙◌, arith}
-use Rattle.std.proofs.lemmas.List.{set-get_or}
-use Rattle.std.proofs.lemmas.Option.{slice_get_within}
+use Rattle.goblin_c.proofs.Common.{◌≡◌, ◌<◌, ◌+◌, length, slice_get, Some, sym, ◌∙◌, arith, set-get_or}
+use Rattle.goblin_c.proofs.Common.{slice_get_within}
 use Rattle.goblin_c.proofs.FilledBufferLemmas.{laid-item, laid-ended}
 use Rattle.goblin_c.proofs.lists.fill.Goals as goal
 

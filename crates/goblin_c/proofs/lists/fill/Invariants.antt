@@ -1,5 +1,4 @@
-use Rattle.std.proofs.Common.{◌≡◌, ◌≤◌, ◌+◌, length, take, drop}
-use Rattle.goblin_c.specs.FilledBuffer.{laid}
+use Rattle.goblin_c.proofs.Common.{◌≡◌, ◌≤◌, ◌+◌, length, take, drop, laid}
 use Rattle.goblin_c.proofs.lists.fill.Given as goal
 
 abbrev pub invariant-loop-i : goal.invariant-loop-i

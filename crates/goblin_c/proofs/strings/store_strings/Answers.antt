@@ -1,9 +1,7 @@
 -- The result at the index of the loop is what `string_at` returned there (`result_at`). A range is one item more
 -- (`each-step`, `rest-step`). Else the call stops there (`fills_before`).
-use Rattle.std.proofs.Common.{◌≡◌, length, map, take, slice_get, Some, None, Ok, Err, refl, ap, ◌∙◌}
-use Rattle.std.proofs.Common.{arith}
-use Rattle.goblin_c.specs.Expected.{string_expected}
-use Rattle.goblin_c.specs.Refused.{refusal_at}
+use Rattle.goblin_c.proofs.Common.{◌≡◌, length, map, take, slice_get, Some, None, Ok, Err, refl, ap, ◌∙◌, arith}
+use Rattle.goblin_c.proofs.Common.{string_expected, refusal_at}
 use Rattle.goblin_c.proofs.EachLemmas.{each-step, fills_all, fills_before, rest-step, result_at}
 use Rattle.goblin_c.proofs.strings.store_strings.Goals as goal
 

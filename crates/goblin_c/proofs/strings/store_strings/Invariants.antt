@@ -1,5 +1,4 @@
-use Rattle.std.proofs.Common.{◌≡◌, Some, Ok, map, length, take, drop}
-use Rattle.goblin_c.specs.Expected.{string_expected}
+use Rattle.goblin_c.proofs.Common.{◌≡◌, Some, Ok, map, length, take, drop, string_expected}
 use Rattle.goblin_c.proofs.strings.store_strings.Given as goal
 
 abbrev pub invariant-loop-i : goal.invariant-loop-i

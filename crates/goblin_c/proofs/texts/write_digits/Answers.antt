@@ -1,10 +1,9 @@
 -- The digits of `rest`, put before those that are written, are those of the number at each turn: a turn moves the last
 -- digit of `rest` there (`digits_onto_step`). If nothing is left after it, it was the first one (`digits_onto_last`).
 -- The definition has at most 64 digits too, so a full buffer also holds all of them.
-use Rattle.std.proofs.Common.{◌≡◌, ◌-◌, ◌/◌, [], drop, false, length, ap, ◌∙◌, sym, arith}
-use Rattle.std.specs.Fmt.{digits_onto}
+use Rattle.goblin_c.proofs.Common.{◌≡◌, ◌-◌, ◌/◌, [], drop, false, length, ap, ◌∙◌, sym, arith, digits_onto, length-set}
+use Rattle.goblin_c.proofs.Common.{drop_all}
 use Rattle.goblin_c.proofs.DigitLemmas.{digits_onto-nil, digits_onto_last, digits_onto_step, drop-set-before}
-use Rattle.std.proofs.lemmas.List.{length-set, drop_all}
 use Rattle.goblin_c.proofs.texts.write_digits.Goals as goal
 
 pub loop-i-init : goal.loop-i-init

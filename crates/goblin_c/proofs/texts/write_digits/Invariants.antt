@@ -1,6 +1,4 @@
-use Rattle.std.proofs.Common.{◌≡◌, ◌≤◌, length, drop, false}
-use Rattle.std.specs.Fmt.{digits_onto}
-use Rattle.std.specs.Fmt.{digits}
+use Rattle.goblin_c.proofs.Common.{◌≡◌, ◌≤◌, length, drop, false, digits_onto, digits}
 use Rattle.goblin_c.proofs.texts.write_digits.Given as goal
 
 abbrev pub invariant-loop-i : goal.invariant-loop-i

@@ -1,8 +1,8 @@
 -- After each part the buffer holds the text of the parts so far, or as much of it as fits, and `len` is the length of
 -- that text (`laid-part`, `long-part`): with one part more the text goes on with that part's (`joined_more`). The
 -- length is bounded because there are at most 16 parts, each of at most 100 bytes (`short_parts`).
-use Rattle.std.proofs.Common.{ℕ, List, length, ◌≤◌, ◌++◌, ◌+◌, ◌∙◌, ap, append_assoc, arith, sym, take}
-use Rattle.goblin_base.specs.Texts.{facts_of, joined, prefix}
+use Rattle.goblin_c.proofs.Common.{ℕ, List, length, ◌≤◌, ◌++◌, ◌+◌, ◌∙◌, ap, append_assoc, arith, sym, take, facts_of}
+use Rattle.goblin_c.proofs.Common.{joined, prefix}
 use Rattle.goblin_base.proofs.PartsLemmas.{joined_more}
 use Rattle.goblin_c.proofs.TextLemmas.{laid-part, long-part, short_parts}
 use Rattle.goblin_c.proofs.texts.write_parts.Goals as goal

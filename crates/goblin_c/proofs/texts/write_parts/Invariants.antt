@@ -1,6 +1,4 @@
-use Rattle.std.proofs.Common.{◌≡◌, ◌≤◌, ◌+◌, ◌*◌, ◌++◌, length, take}
-use Rattle.goblin_base.specs.Texts.{facts_of, joined, prefix}
-use Rattle.goblin_c.specs.FilledBuffer.{laid}
+use Rattle.goblin_c.proofs.Common.{◌≡◌, ◌≤◌, ◌+◌, ◌*◌, ◌++◌, length, take, facts_of, joined, prefix, laid}
 use Rattle.goblin_c.proofs.texts.write_parts.Given as goal
 
 abbrev pub invariant-loop-part : goal.invariant-loop-part

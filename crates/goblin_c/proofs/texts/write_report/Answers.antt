@@ -1,5 +1,4 @@
-use Rattle.std.proofs.Common.{[], ◌∷◌, refl}
-use Rattle.goblin_base.specs.Texts.{facts_of, facts_text}
+use Rattle.goblin_c.proofs.Common.{[], ◌∷◌, refl, facts_of, facts_text}
 use Rattle.goblin_c.proofs.TextLemmas.{laid-part}
 use Rattle.goblin_c.proofs.texts.write_report.Goals as goal
 

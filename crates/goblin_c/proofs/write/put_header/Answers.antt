@@ -1,4 +1,4 @@
-use Rattle.std.proofs.Common.{sym}
+use Rattle.goblin_c.proofs.Common.{sym}
 use Rattle.goblin_c.proofs.WriteLemmas.{header_refused}
 use Rattle.goblin_c.proofs.write.put_header.Goals as goal
 

@@ -1,4 +1,4 @@
-use Rattle.std.proofs.Common.{Ok, ap, ◌∙◌}
+use Rattle.goblin_c.proofs.Common.{Ok, ap, ◌∙◌}
 use Rattle.goblin_c.proofs.WriteLemmas.{number_there}
 use Rattle.goblin_c.proofs.write.put_number.Goals as goal
 

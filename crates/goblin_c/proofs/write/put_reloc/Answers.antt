@@ -1,6 +1,4 @@
-use Rattle.goblin.specs.Reloc.{reloc_in, reloc_size}
-use Rattle.goblin_c.specs.Expected.{ctx_of, relocs_expected}
-use Rattle.goblin_c.specs.Types.{reloc_converted}
+use Rattle.goblin_c.proofs.Common.{reloc_in, reloc_size, ctx_of, relocs_expected, reloc_converted}
 use Rattle.goblin_c.specs.Write.{reloc_ctx}
 use Rattle.goblin_c.proofs.ReadLemmas.{lists_relocs}
 use Rattle.goblin_c.proofs.WriteLemmas.{room_for}

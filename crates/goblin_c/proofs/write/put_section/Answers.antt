@@ -1,6 +1,4 @@
-use Rattle.goblin.specs.SectionHeader.{section_header_of, section_header_size}
-use Rattle.goblin_c.specs.Expected.{ctx_of, sections_expected}
-use Rattle.goblin_c.specs.Types.{section_converted}
+use Rattle.goblin_c.proofs.Common.{section_header_of, section_header_size, ctx_of, sections_expected, section_converted}
 use Rattle.goblin_c.proofs.ReadLemmas.{lists_sections}
 use Rattle.goblin_c.proofs.WriteLemmas.{room_for}
 use Rattle.goblin_c.proofs.write.put_section.Goals as goal

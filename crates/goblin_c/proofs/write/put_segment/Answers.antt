@@ -1,6 +1,4 @@
-use Rattle.goblin.specs.ProgramHeader.{program_header_of, program_header_size}
-use Rattle.goblin_c.specs.Expected.{ctx_of, segments_expected}
-use Rattle.goblin_c.specs.Types.{segment_converted}
+use Rattle.goblin_c.proofs.Common.{program_header_of, program_header_size, ctx_of, segments_expected, segment_converted}
 use Rattle.goblin_c.proofs.ReadLemmas.{lists_segments}
 use Rattle.goblin_c.proofs.WriteLemmas.{room_for}
 use Rattle.goblin_c.proofs.write.put_segment.Goals as goal

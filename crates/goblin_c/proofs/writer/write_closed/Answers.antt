@@ -1,4 +1,4 @@
-use Rattle.std.proofs.Common.{[], ◌∷◌, refl}
+use Rattle.goblin_c.proofs.Common.{[], ◌∷◌, refl}
 use Rattle.goblin_c.proofs.TextLemmas.{laid-part}
 use Rattle.goblin_c.proofs.writer.write_closed.Goals as goal
 
