@@ -5,11 +5,13 @@ ghost use Rattle.goblin.specs.Room.{room_of};
 ghost use Rattle.goblin.specs.Steps.{refuse_as};
 ghost use Rattle.goblin_c.specs.Refused.{Returns, refused_at};
 ghost use Rattle.goblin_c.specs.Bytes.{is_width, number_expected, range_expected, section_bytes_expected, segment_bytes_expected, string_bytes_expected};
+ghost use Rattle.goblin_c.specs.Status.{Stores};
 
 use crate::headers::ctx_of;
 use crate::refused::{Refused, Result};
+use crate::status::store;
 use crate::strings::string_table_bytes;
-use crate::types::{GoblinHeader, GoblinRange, GoblinSection, GoblinSegment};
+use crate::types::{GoblinHeader, GoblinRange, GoblinRefusal, GoblinSection, GoblinSegment};
 use goblin::elf::program_header::PT_NULL;
 use goblin::elf::section_header::{SHT_NOBITS, SHT_NULL};
 use goblin_base::number::{get_u8, get_u16, get_u32, get_u64};
@@ -50,6 +52,20 @@ pub fn section_bytes(bytes: &[u8], section: &GoblinSection) -> Result<Option<Gob
     range_in(bytes, &section.file)
 }
 
+/// Stores the range of a section's bytes in the file.
+#[unsafe(no_mangle)]
+pub extern "C" fn goblin_section_bytes(
+    bytes: &[u8],
+    section: &GoblinSection,
+    range: &mut GoblinRange,
+    why: &mut GoblinRefusal,
+) -> u32
+    ensures { Stores (section_bytes_expected bytes.now section.now)
+        range.old why.old result range.new why.new }
+{
+    store(section_bytes(bytes, section), range, why)
+}
+
 /// Returns the range of a segment's bytes in the file.
 pub fn segment_bytes(bytes: &[u8], segment: &GoblinSegment) -> Result<Option<GoblinRange>>
     ensures { Returns (λ found. found) result (segment_bytes_expected bytes.now segment.now) }
@@ -58,6 +74,20 @@ pub fn segment_bytes(bytes: &[u8], segment: &GoblinSegment) -> Result<Option<Gob
         return Ok(None);
     }
     range_in(bytes, &segment.file)
+}
+
+/// Stores the range of a segment's bytes in the file.
+#[unsafe(no_mangle)]
+pub extern "C" fn goblin_segment_bytes(
+    bytes: &[u8],
+    segment: &GoblinSegment,
+    range: &mut GoblinRange,
+    why: &mut GoblinRefusal,
+) -> u32
+    ensures { Stores (segment_bytes_expected bytes.now segment.now)
+        range.old why.old result range.new why.new }
+{
+    store(segment_bytes(bytes, segment), range, why)
 }
 
 /// Returns the range in the file of the string at an offset of a string table, which need not be UTF-8.
@@ -74,6 +104,21 @@ pub fn string_bytes(bytes: &[u8], range: &GoblinRange, offset: u64) -> Result<Op
         offset: range.offset + offset,
         size: piece_len(strings, start, 0) as u64,
     }))
+}
+
+/// Stores the range in the file of the string at an offset of a string table, which need not be UTF-8.
+#[unsafe(no_mangle)]
+pub extern "C" fn goblin_string_bytes(
+    bytes: &[u8],
+    strings: &GoblinRange,
+    offset: u64,
+    string: &mut GoblinRange,
+    why: &mut GoblinRefusal,
+) -> u32
+    ensures { Stores (string_bytes_expected bytes.now strings.now offset)
+        string.old why.old result string.new why.new }
+{
+    store(string_bytes(bytes, strings, offset), string, why)
 }
 
 /// Reports whether numbers of the format have this width in bytes.
@@ -102,4 +147,20 @@ pub fn number(bytes: &[u8], header: &GoblinHeader, offset: u64, width: u64) -> R
     } else {
         get_u64(bytes, place, order)
     }))
+}
+
+/// Stores the number of 1, 2, 4 or 8 bytes at an offset, in the file's byte order.
+#[unsafe(no_mangle)]
+pub extern "C" fn goblin_number(
+    bytes: &[u8],
+    header: &GoblinHeader,
+    offset: u64,
+    width: u64,
+    value: &mut u64,
+    why: &mut GoblinRefusal,
+) -> u32
+    ensures { Stores (number_expected bytes.now header.now offset width)
+        value.old why.old result value.new why.new }
+{
+    store(number(bytes, header, offset, width), value, why)
 }

@@ -1,14 +1,14 @@
 //! The header, the section headers and the program headers, as the library reads them.
 ghost use Rattle.std.specs.Prelude.{◌≡◌, ◌+◌, ◌<◌, ◌==◌, ◌^◌, IfSome, drop, map, position};
 ghost use Rattle.goblin_c.specs.Refused.{Returns};
-ghost use Rattle.goblin_c.specs.Expected.{ctx_of, header_expected, section_at, section_by_type_expected, section_names_expected, sections_expected, segments_expected, table_at, table_expected, whole_header};
-ghost use Rattle.goblin_c.specs.Status.{Stores};
+ghost use Rattle.goblin_c.specs.Expected.{ctx_of, header_expected, section_at, section_by_type_expected, section_names_expected, sections_expected, segments_expected, table_at, table_expected, whole_header, section_count_expected, sections_from_expected, segment_count_expected};
+ghost use Rattle.goblin_c.specs.Status.{Stores, Fills, StoresBoth};
 ghost use Rattle.goblin_c.specs.Types.{section_converted, segment_converted};
 
 use crate::kinds::OK;
-use crate::lists::Listed;
+use crate::lists::{Listed, count_of, store_from};
 use crate::refused::{Refused, Result, refused_at};
-use crate::status::refuse;
+use crate::status::{refuse, store, store_both};
 use crate::types::{
     GoblinHeader, GoblinRefusal, GoblinSection, GoblinSegment, convert_header, convert_section,
     convert_segment,
@@ -37,8 +37,13 @@ pub fn ctx_of(header: &GoblinHeader) -> Ctx
     Ctx::new(container, order)
 }
 
-/// Stores the header at the file's start, or its refusal.
-pub fn store_header(bytes: &[u8], header: &mut GoblinHeader, why: &mut GoblinRefusal) -> u32
+/// Stores the header at the file's start.
+#[unsafe(no_mangle)]
+pub extern "C" fn goblin_header(
+    bytes: &[u8],
+    header: &mut GoblinHeader,
+    why: &mut GoblinRefusal,
+) -> u32
     ensures { Stores (header_expected bytes.now) header.old why.old result header.new why.new }
 {
     // (it is converted where it is read, since a copy of it takes as long as reading it)
@@ -62,6 +67,36 @@ pub fn sections_of<'a>(
     let count = usize::from(header.e_shnum);
     let table = SectionHeader::table(bytes, header.e_shoff as usize, count, ctx_of(header));
     refused_at(header.e_shoff, table)
+}
+
+/// Stores the section headers from an index on, as many as the buffer holds.
+#[unsafe(no_mangle)]
+pub extern "C" fn goblin_sections(
+    bytes: &[u8],
+    header: &GoblinHeader,
+    first: u64,
+    sections: &mut [GoblinSection],
+    filled: &mut u64,
+    why: &mut GoblinRefusal,
+) -> u32
+    ensures { Fills (sections_from_expected bytes.now header.now first)
+        sections.old filled.old why.old result sections.new filled.new why.new }
+{
+    store_from(sections_of(bytes, header), first, sections, filled, why)
+}
+
+/// Stores the number of section headers.
+#[unsafe(no_mangle)]
+pub extern "C" fn goblin_section_count(
+    bytes: &[u8],
+    header: &GoblinHeader,
+    count: &mut u64,
+    why: &mut GoblinRefusal,
+) -> u32
+    ensures { Stores (section_count_expected bytes.now header.now)
+        count.old why.old result count.new why.new }
+{
+    store(count_of(sections_of(bytes, header)), count, why)
 }
 
 impl Listed for Table<'_, SectionHeader, Ctx> {
@@ -119,6 +154,24 @@ pub fn section_by_type(
     Ok(section_at(&sections, found))
 }
 
+/// Stores the first section of a type, from an index on, and its index.
+#[unsafe(no_mangle)]
+pub extern "C" fn goblin_section_by_type(
+    bytes: &[u8],
+    header: &GoblinHeader,
+    sh_type: u32,
+    first: u64,
+    index: &mut u64,
+    section: &mut GoblinSection,
+    why: &mut GoblinRefusal,
+) -> u32
+    ensures { StoresBoth (section_by_type_expected bytes.now header.now sh_type first)
+        index.old section.old why.old result index.new section.new why.new }
+{
+    let found = section_by_type(bytes, header, sh_type, first);
+    store_both(found, index, section, why)
+}
+
 // Returns the section at an index for C, if it is a table by that index.
 fn converted_table(sections: &Table<'_, SectionHeader, Ctx>, index: usize) -> Option<GoblinSection>
     ensures { result ≡ table_at sections.now index }
@@ -137,6 +190,22 @@ pub fn table_section(
     Ok(converted_table(&sections_of(bytes, header)?, index as usize))
 }
 
+/// Stores the section at an index if it can be a table that something names by this index: not index 0,
+/// and not a section of the type without bytes in the file.
+#[unsafe(no_mangle)]
+pub extern "C" fn goblin_linked_section(
+    bytes: &[u8],
+    header: &GoblinHeader,
+    index: u64,
+    section: &mut GoblinSection,
+    why: &mut GoblinRefusal,
+) -> u32
+    ensures { Stores (table_expected bytes.now header.now index)
+        section.old why.old result section.new why.new }
+{
+    store(table_section(bytes, header, index), section, why)
+}
+
 /// Returns the section that holds the sections' names for C, if it is a table.
 pub fn section_names(bytes: &[u8], header: &GoblinHeader) -> Result<Option<GoblinSection>>
     ensures { Returns (λ found. found) result (section_names_expected bytes.now header.now) }
@@ -145,6 +214,20 @@ pub fn section_names(bytes: &[u8], header: &GoblinHeader) -> Result<Option<Gobli
     let first = sections.get(0);
     let index = header.names_index(first.as_ref());
     Ok(converted_table(&sections, index))
+}
+
+/// Stores the section that holds the sections' names, if it is such a table.
+#[unsafe(no_mangle)]
+pub extern "C" fn goblin_section_names(
+    bytes: &[u8],
+    header: &GoblinHeader,
+    section: &mut GoblinSection,
+    why: &mut GoblinRefusal,
+) -> u32
+    ensures { Stores (section_names_expected bytes.now header.now)
+        section.old why.old result section.new why.new }
+{
+    store(section_names(bytes, header), section, why)
 }
 
 /// Returns a copy of a header that counts only the headers that lie whole in the file.
@@ -162,6 +245,14 @@ pub fn whole_header(bytes: &[u8], header: &GoblinHeader) -> GoblinHeader
     }
 }
 
+/// Stores a copy of a header that counts only the section headers and program headers that lie whole in the file.
+#[unsafe(no_mangle)]
+pub extern "C" fn goblin_whole_header(bytes: &[u8], header: &GoblinHeader, whole: &mut GoblinHeader)
+    ensures { whole.new ≡ whole_header bytes.now header.now }
+{
+    *whole = whole_header(bytes, header);
+}
+
 /// Returns the program headers.
 #[inline(always)]
 pub fn segments_of<'a>(
@@ -176,6 +267,20 @@ pub fn segments_of<'a>(
     let count = refused_at(sections, count)?;
     let table = ProgramHeader::table(bytes, header.e_phoff as usize, count, ctx);
     refused_at(header.e_phoff, table)
+}
+
+/// Stores the number of program headers.
+#[unsafe(no_mangle)]
+pub extern "C" fn goblin_segment_count(
+    bytes: &[u8],
+    header: &GoblinHeader,
+    count: &mut u64,
+    why: &mut GoblinRefusal,
+) -> u32
+    ensures { Stores (segment_count_expected bytes.now header.now)
+        count.old why.old result count.new why.new }
+{
+    store(count_of(segments_of(bytes, header)), count, why)
 }
 
 impl Listed for Table<'_, ProgramHeader, Ctx> {

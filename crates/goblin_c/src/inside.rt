@@ -101,8 +101,9 @@ fn store_symbol_inside(
     }
 }
 
-/// Stores the symbol at an index of a range, or its refusal.
-pub fn store_symbol(
+/// Stores the symbol at an index of the table that lies in a range.
+#[unsafe(no_mangle)]
+pub extern "C" fn goblin_symbol(
     bytes: &[u8],
     header: &GoblinHeader,
     range: &GoblinRange,
@@ -165,8 +166,9 @@ fn store_section_inside(
     }
 }
 
-/// Stores the section header at an index, or its refusal.
-pub fn store_section(
+/// Stores the section header at an index.
+#[unsafe(no_mangle)]
+pub extern "C" fn goblin_section(
     bytes: &[u8],
     header: &GoblinHeader,
     index: u64,
@@ -226,8 +228,9 @@ fn store_segment_inside(
     }
 }
 
-/// Stores the program header at an index, or its refusal.
-pub fn store_segment(
+/// Stores the program header at an index.
+#[unsafe(no_mangle)]
+pub extern "C" fn goblin_segment(
     bytes: &[u8],
     header: &GoblinHeader,
     index: u64,
@@ -342,8 +345,9 @@ fn store_reloc_inside(
     }
 }
 
-/// Stores the relocation at an index of a range, or its refusal.
-pub fn store_reloc(
+/// Stores the relocation at an index of those that lie in a range, with addends or without.
+#[unsafe(no_mangle)]
+pub extern "C" fn goblin_reloc(
     bytes: &[u8],
     header: &GoblinHeader,
     range: &GoblinRange,

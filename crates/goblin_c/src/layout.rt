@@ -54,3 +54,11 @@ pub fn marked_layout() -> GoblinLayout
         note: marked_note(),
     }
 }
+
+/// Stores the sizes of the structs, and one of each, whose fields are numbered.
+#[unsafe(no_mangle)]
+pub extern "C" fn goblin_layout(marks: &mut GoblinLayout)
+    ensures { marks.new ≡ layout }
+{
+    *marks = marked_layout();
+}

@@ -4,11 +4,12 @@ ghost use Rattle.goblin.specs.Refusal.{refusal_of};
 ghost use Rattle.goblin.specs.NoteType.{note_type_name};
 ghost use Rattle.goblin_c.specs.Refused.{Returns};
 ghost use Rattle.goblin_c.specs.Notes.{StoresNote, bytes_from, note_bytes_expected, note_expected, part_converted, part_number};
+ghost use Rattle.goblin_c.specs.Status.{Stores};
 
 use crate::headers::ctx_of;
 use crate::kinds::{END, NOTE_DESC, NOTE_HEADER, NOTE_NAME, OK};
 use crate::refused::{Refused, Result, refused_at};
-use crate::status::refuse;
+use crate::status::{refuse, store};
 use crate::types::{GoblinHeader, GoblinNote, GoblinRange, GoblinRefusal, convert_note};
 use goblin::elf::note::{Note, NotePart, NotePlaces, NoteRefusal};
 
@@ -29,6 +30,25 @@ pub fn note_from(
     let ctx = (alignment as usize, ctx_of(header));
     let (_, places) = refused_at(offset, Note::at(bytes, offset as usize, ctx))?;
     Ok(Some(convert_note(offset, &places)))
+}
+
+/// Stores the note at an offset of the file, among those of a range. The first one is at the range's
+/// start, and each has the offset of the next one.
+#[unsafe(no_mangle)]
+pub extern "C" fn goblin_note(
+    bytes: &[u8],
+    header: &GoblinHeader,
+    notes: &GoblinRange,
+    alignment: u64,
+    offset: u64,
+    note: &mut GoblinNote,
+    why: &mut GoblinRefusal,
+) -> u32
+    ensures { Stores (note_expected bytes.now header.now notes.now alignment offset)
+        note.old why.old result note.new why.new }
+{
+    let found = note_from(bytes, header, notes, alignment, offset);
+    store(found, note, why)
 }
 
 // Returns the bytes up to the end of a range.
@@ -84,9 +104,10 @@ fn refuse_note(e: NoteRefusal, offset: u64, why: &mut GoblinRefusal) -> u32
     kind
 }
 
-/// Stores the whole note at an offset, or its refusal. Returns 0 for a note, 1 past the range's end, or the number of the
-/// kind.
-pub fn store_note(
+/// Stores the note at an offset of the file as `goblin_note` does, but with all of its name, UTF-8 or not, if the note
+/// lies in the range whole.
+#[unsafe(no_mangle)]
+pub extern "C" fn goblin_note_bytes(
     bytes: &[u8],
     header: &GoblinHeader,
     range: &GoblinRange,

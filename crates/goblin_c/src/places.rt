@@ -1,15 +1,17 @@
 //! Numbers in a range, the offset of an address, and ranges that are cut to the file.
-ghost use Rattle.std.specs.Prelude.{◌≡◌, ◌≤◌, ◌+◌, ◌-◌, ◌^◌, min, IsOk};
+ghost use Rattle.std.specs.Prelude.{◌≡◌, ◌≤◌, ◌+◌, ◌-◌, ◌^◌, min, IsOk, length};
 ghost use Rattle.goblin.specs.Refusal.{misplaced};
 ghost use Rattle.goblin.specs.Room.{room_of};
 ghost use Rattle.goblin.specs.Steps.{refuse_as};
 ghost use Rattle.goblin_c.specs.Places.{address_to_offset_expected, cut_range, number_in_expected};
 ghost use Rattle.goblin_c.specs.Refused.{Returns, refused_at};
+ghost use Rattle.goblin_c.specs.Status.{Stores};
 
 use crate::bytes::{fits, is_width, number};
 use crate::headers::segments_of;
 use crate::refused::{Refused, Result};
-use crate::types::{GoblinHeader, GoblinRange};
+use crate::status::store;
+use crate::types::{GoblinHeader, GoblinRange, GoblinRefusal};
 use goblin::elf::program_header::ProgramHeader;
 use goblin_base::room::room;
 
@@ -49,6 +51,23 @@ pub fn number_in(
     number(bytes, header, range.offset + offset, width)
 }
 
+/// Stores the number of 1, 2, 4 or 8 bytes at an offset in a range, in the file's byte order.
+#[unsafe(no_mangle)]
+pub extern "C" fn goblin_number_in(
+    bytes: &[u8],
+    header: &GoblinHeader,
+    range: &GoblinRange,
+    offset: u64,
+    width: u64,
+    value: &mut u64,
+    why: &mut GoblinRefusal,
+) -> u32
+    ensures { Stores (number_in_expected bytes.now header.now range.now offset width)
+        value.old why.old result value.new why.new }
+{
+    store(number_in(bytes, header, range, offset, width), value, why)
+}
+
 /// Returns the offset in the file of the byte that is loaded at an address.
 pub fn address_to_offset(bytes: &[u8], header: &GoblinHeader, address: u64) -> Result<Option<u64>>
     ensures { Returns (λ found. found) result
@@ -64,6 +83,21 @@ pub fn address_to_offset(bytes: &[u8], header: &GoblinHeader, address: u64) -> R
     }
 }
 
+/// Stores the offset in the file of the byte that is loaded at an address.
+#[unsafe(no_mangle)]
+pub extern "C" fn goblin_address_to_offset(
+    bytes: &[u8],
+    header: &GoblinHeader,
+    address: u64,
+    offset: &mut u64,
+    why: &mut GoblinRefusal,
+) -> u32
+    ensures { Stores (address_to_offset_expected bytes.now header.now address)
+        offset.old why.old result offset.new why.new }
+{
+    store(address_to_offset(bytes, header, address), offset, why)
+}
+
 /// Returns the part of a range that lies in a file of so many bytes.
 pub fn cut_range(len: usize, range: &GoblinRange) -> GoblinRange
     ensures { result ≡ cut_range len range.now }
@@ -71,4 +105,12 @@ pub fn cut_range(len: usize, range: &GoblinRange) -> GoblinRange
     let offset = range.offset.min(len as u64);
     let size = range.size.min(len as u64 - offset);
     GoblinRange { offset, size }
+}
+
+/// Stores the part of a range that lies in the file.
+#[unsafe(no_mangle)]
+pub extern "C" fn goblin_range_in_file(bytes: &[u8], range: &GoblinRange, part: &mut GoblinRange)
+    ensures { part.new ≡ cut_range (length bytes.now) range.now }
+{
+    *part = cut_range(bytes.len(), range);
 }

@@ -2,11 +2,11 @@
 ghost use Rattle.std.specs.Prelude.{◌≡◌, ◌+◌, ◌≤◌, IfOk, length, map, take};
 ghost use Rattle.goblin_c.specs.Refused.{Returns};
 ghost use Rattle.goblin_c.specs.Expected.{string_expected, strings_expected};
-ghost use Rattle.goblin_c.specs.Status.{FillsEach};
+ghost use Rattle.goblin_c.specs.Status.{FillsEach, Stores};
 
 use crate::kinds::{END, OK};
 use crate::refused::{Result, refused_at};
-use crate::status::refuse;
+use crate::status::{refuse, store};
 use crate::types::{GoblinRange, GoblinRefusal};
 use goblin::options::ParseMode;
 use goblin::strtab;
@@ -45,10 +45,25 @@ pub fn string_at(bytes: &[u8], range: &GoblinRange, offset: u64) -> Result<Optio
     }
 }
 
-/// Stores the ranges of the strings at offsets of a string table, in their order, up to the first offset at which there
-/// is none, and their number. Returns 0 if each has a range that the buffer has a place for, 1 if an offset is past the
-/// table, or the number of the kind of the refusal, which it stores.
-pub fn store_strings(
+/// Stores the range in the file of the string at an offset of a string table.
+#[unsafe(no_mangle)]
+pub extern "C" fn goblin_string(
+    bytes: &[u8],
+    strings: &GoblinRange,
+    offset: u64,
+    string: &mut GoblinRange,
+    why: &mut GoblinRefusal,
+) -> u32
+    ensures { Stores (string_expected bytes.now strings.now offset)
+        string.old why.old result string.new why.new }
+{
+    store(string_at(bytes, strings, offset), string, why)
+}
+
+/// Stores the ranges that `goblin_string` stores at some offsets, in their order, up to the first offset at which it
+/// stores none.
+#[unsafe(no_mangle)]
+pub extern "C" fn goblin_strings(
     bytes: &[u8],
     strings: &GoblinRange,
     offsets: &[u64],

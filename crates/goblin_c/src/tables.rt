@@ -1,16 +1,18 @@
 //! Symbols, relocations and what is found by its name, as the library reads them.
 ghost use Rattle.std.specs.Prelude.{◌≡◌, length, map, position};
 ghost use Rattle.goblin_c.specs.Refused.{Returns};
-ghost use Rattle.goblin_c.specs.Expected.{relocs_expected, section_by_name_expected, symbol_by_address_expected, symbol_by_name_expected, is_named, symbols_expected};
+ghost use Rattle.goblin_c.specs.Expected.{relocs_expected, section_by_name_expected, symbol_by_address_expected, symbol_by_name_expected, is_named, symbols_expected, symbol_count_expected, symbols_from_expected, reloc_count_expected, relocs_from_expected};
 ghost use Rattle.goblin_c.specs.Types.{reloc_converted, symbol_converted};
+ghost use Rattle.goblin_c.specs.Status.{Stores, Fills, StoresBoth};
 
 use crate::headers::{ctx_of, section_at, sections_of};
-use crate::lists::Listed;
+use crate::lists::{Listed, count_of, store_from};
 use crate::refused::{Result, refused_at};
+use crate::status::{store, store_both};
 use crate::strings::string_table_bytes;
 use crate::types::{
-    GoblinHeader, GoblinRange, GoblinReloc, GoblinSection, GoblinSymbol, convert_reloc,
-    convert_symbol,
+    GoblinHeader, GoblinRange, GoblinRefusal, GoblinReloc, GoblinSection, GoblinSymbol,
+    convert_reloc, convert_symbol,
 };
 use goblin::elf::reloc::{RelocSection, is_mips64el_in};
 use goblin::elf::section_header::SectionHeader;
@@ -29,6 +31,39 @@ pub fn symbols_of<'a>(
     let (offset, size) = (range.offset as usize, range.size as usize);
     let table = Symtab::in_range(bytes, offset, size, ctx_of(header), &ParseOptions::strict());
     refused_at(range.offset, table)
+}
+
+/// Stores the symbols from an index on, as many as the buffer holds.
+#[unsafe(no_mangle)]
+pub extern "C" fn goblin_symbols(
+    bytes: &[u8],
+    header: &GoblinHeader,
+    table: &GoblinRange,
+    first: u64,
+    symbols: &mut [GoblinSymbol],
+    filled: &mut u64,
+    why: &mut GoblinRefusal,
+) -> u32
+    ensures { Fills (symbols_from_expected bytes.now header.now table.now first)
+        symbols.old filled.old why.old result symbols.new filled.new why.new }
+{
+    let list = symbols_of(bytes, header, table);
+    store_from(list, first, symbols, filled, why)
+}
+
+/// Stores the number of symbols in a range, without a last one that is cut.
+#[unsafe(no_mangle)]
+pub extern "C" fn goblin_symbol_count(
+    bytes: &[u8],
+    header: &GoblinHeader,
+    table: &GoblinRange,
+    count: &mut u64,
+    why: &mut GoblinRefusal,
+) -> u32
+    ensures { Stores (symbol_count_expected bytes.now header.now table.now)
+        count.old why.old result count.new why.new }
+{
+    store(count_of(symbols_of(bytes, header, table)), count, why)
 }
 
 impl Listed for Symtab<'_> {
@@ -67,6 +102,42 @@ pub fn relocs_of<'a>(
     refused_at(range.offset, relocs)
 }
 
+/// Stores the relocations from an index on, as many as the buffer holds.
+#[unsafe(no_mangle)]
+pub extern "C" fn goblin_relocs(
+    bytes: &[u8],
+    header: &GoblinHeader,
+    relocs: &GoblinRange,
+    is_rela: bool,
+    first: u64,
+    items: &mut [GoblinReloc],
+    filled: &mut u64,
+    why: &mut GoblinRefusal,
+) -> u32
+    ensures { Fills (relocs_from_expected bytes.now header.now relocs.now is_rela first)
+        items.old filled.old why.old result items.new filled.new why.new }
+{
+    let list = relocs_of(bytes, header, relocs, is_rela);
+    store_from(list, first, items, filled, why)
+}
+
+/// Stores the number of relocations in a range, with addends or without.
+#[unsafe(no_mangle)]
+pub extern "C" fn goblin_reloc_count(
+    bytes: &[u8],
+    header: &GoblinHeader,
+    relocs: &GoblinRange,
+    is_rela: bool,
+    count: &mut u64,
+    why: &mut GoblinRefusal,
+) -> u32
+    ensures { Stores (reloc_count_expected bytes.now header.now relocs.now is_rela)
+        count.old why.old result count.new why.new }
+{
+    let found = count_of(relocs_of(bytes, header, relocs, is_rela));
+    store(found, count, why)
+}
+
 impl Listed for RelocSection<'_> {
     type Converted = GoblinReloc;
 
@@ -99,6 +170,25 @@ pub fn section_by_name(
     Ok(section_at(&sections, found))
 }
 
+/// Stores the first section with a name, from an index on, and its index.
+#[unsafe(no_mangle)]
+pub extern "C" fn goblin_section_by_name(
+    bytes: &[u8],
+    header: &GoblinHeader,
+    names: &GoblinRange,
+    name: &[u8],
+    first: u64,
+    index: &mut u64,
+    section: &mut GoblinSection,
+    why: &mut GoblinRefusal,
+) -> u32
+    ensures { StoresBoth (section_by_name_expected bytes.now header.now names.now name.now first)
+        index.old section.old why.old result index.new section.new why.new }
+{
+    let found = section_by_name(bytes, header, names, name, first);
+    store_both(found, index, section, why)
+}
+
 /// Returns the index of the first symbol with a name.
 pub fn symbol_by_name(
     bytes: &[u8],
@@ -116,6 +206,24 @@ pub fn symbol_by_name(
     Ok(found.map(|index| index as u64))
 }
 
+/// Stores the index of the first symbol with a name.
+#[unsafe(no_mangle)]
+pub extern "C" fn goblin_symbol_by_name(
+    bytes: &[u8],
+    header: &GoblinHeader,
+    table: &GoblinRange,
+    names: &GoblinRange,
+    name: &[u8],
+    index: &mut u64,
+    why: &mut GoblinRefusal,
+) -> u32
+    ensures { Stores (symbol_by_name_expected bytes.now header.now table.now names.now name.now)
+        index.old why.old result index.new why.new }
+{
+    let found = symbol_by_name(bytes, header, table, names, name);
+    store(found, index, why)
+}
+
 /// Returns the index of the symbol of an address: one that contains it, or a label at or below it.
 pub fn symbol_by_address(
     bytes: &[u8],
@@ -128,4 +236,20 @@ pub fn symbol_by_address(
 {
     let found = symbols_of(bytes, header, range)?.at(address);
     Ok(found.map(|index| index as u64))
+}
+
+/// Stores the index of the symbol of an address: one that contains it, or a label at or below it.
+#[unsafe(no_mangle)]
+pub extern "C" fn goblin_symbol_by_address(
+    bytes: &[u8],
+    header: &GoblinHeader,
+    table: &GoblinRange,
+    address: u64,
+    index: &mut u64,
+    why: &mut GoblinRefusal,
+) -> u32
+    ensures { Stores (symbol_by_address_expected bytes.now header.now table.now address)
+        index.old why.old result index.new why.new }
+{
+    store(symbol_by_address(bytes, header, table, address), index, why)
 }

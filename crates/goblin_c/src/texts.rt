@@ -137,9 +137,9 @@ fn report_from(why: &GoblinRefusal, kind: Kind) -> Report
     }
 }
 
-/// Writes the text of a refusal with a zero byte after it, or as much of them as the buffer holds. Returns the length of
-/// the text.
-pub fn write_refusal(why: &GoblinRefusal, text: &mut [u8]) -> u64
+/// Writes the text of a refusal.
+#[unsafe(no_mangle)]
+pub extern "C" fn goblin_refusal_text(why: &GoblinRefusal, text: &mut [u8]) -> u64
     ensures written { text.new ≡ laid (closed (converted_text why.now)) text.old }
     ensures value { result ≡ length (converted_text why.now) }
 {

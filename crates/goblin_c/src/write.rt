@@ -76,8 +76,9 @@ fn put_found<T: Drop, R: LaidOut<C>, C: Copy>(
     }
 }
 
-/// Puts the section header at an index. Returns the status.
-pub fn put_section(
+/// Puts the section header at an index.
+#[unsafe(no_mangle)]
+pub extern "C" fn goblin_put_section(
     bytes: &mut [u8],
     header: &GoblinHeader,
     index: u64,
@@ -98,8 +99,9 @@ pub fn put_section(
     put_found(bytes, found, place, record, ctx, fits, why)
 }
 
-/// Puts the program header at an index. Returns the status.
-pub fn put_segment(
+/// Puts the program header at an index.
+#[unsafe(no_mangle)]
+pub extern "C" fn goblin_put_segment(
     bytes: &mut [u8],
     header: &GoblinHeader,
     index: u64,
@@ -120,8 +122,9 @@ pub fn put_segment(
     put_found(bytes, found, place, record, ctx, fits, why)
 }
 
-/// Puts the symbol at an index of a table. Returns the status.
-pub fn put_symbol(
+/// Puts the symbol at an index of the table that lies in a range.
+#[unsafe(no_mangle)]
+pub extern "C" fn goblin_put_symbol(
     bytes: &mut [u8],
     header: &GoblinHeader,
     table: &GoblinRange,
@@ -163,8 +166,9 @@ fn is_exact(reloc: &GoblinReloc) -> bool
     reloc.has_addend == 1 || reloc.has_addend == 0 && reloc.r_addend == 0
 }
 
-/// Puts the relocation at an index of those of a range, with addends or without. Returns the status.
-pub fn put_reloc(
+/// Puts the relocation at an index of those that lie in a range, with addends or without.
+#[unsafe(no_mangle)]
+pub extern "C" fn goblin_put_reloc(
     bytes: &mut [u8],
     header: &GoblinHeader,
     table: &GoblinRange,
@@ -221,8 +225,9 @@ fn put_width(bytes: &mut [u8], place: usize, width: u64, value: u64, order: Endi
     }
 }
 
-/// Puts a number of a width at an offset, in the file's byte order. Returns the status.
-pub fn put_number(
+/// Puts a number of 1, 2, 4 or 8 bytes at an offset, in the file's byte order.
+#[unsafe(no_mangle)]
+pub extern "C" fn goblin_put_number(
     bytes: &mut [u8],
     header: &GoblinHeader,
     offset: u64,
@@ -269,8 +274,13 @@ fn named_ctx(bytes: &[u8], header: &GoblinHeader) -> goblin::error::Result<Ctx>
     Ok(ctx)
 }
 
-/// Puts the header at the start of the file, in the class and the byte order that it names. Returns the status.
-pub fn put_header(bytes: &mut [u8], header: &GoblinHeader, why: &mut GoblinRefusal) -> u32
+/// Puts the header at the start of the file, in the class and the byte order that it names.
+#[unsafe(no_mangle)]
+pub extern "C" fn goblin_put_header(
+    bytes: &mut [u8],
+    header: &GoblinHeader,
+    why: &mut GoblinRefusal,
+) -> u32
     ensures { Puts (FitsClass bytes.old header.now) (header_put_expected bytes.old header.now)
         bytes.old why.old result bytes.new why.new }
 {

@@ -1,5 +1,5 @@
 use Rattle.goblin_c.proofs.Common.{◌≡◌, Some, Ok, map, length, take, drop, string_expected}
-use Rattle.goblin_c.proofs.strings.store_strings.Given as goal
+use Rattle.goblin_c.proofs.strings.goblin_strings.Given as goal
 
 abbrev pub invariant-loop-i : goal.invariant-loop-i
 invariant-loop-i l =

@@ -1,6 +1,6 @@
 use Rattle.goblin_c.proofs.ReadLemmas.{lists_symbols}
 use Rattle.goblin_c.proofs.WriteLemmas.{room_for}
-use Rattle.goblin_c.proofs.write.put_symbol.Goals as goal
+use Rattle.goblin_c.proofs.write.goblin_put_symbol.Goals as goal
 use Rattle.goblin_c.proofs.Common.{sym_of, sym_size, ctx_of, symbols_expected, symbol_converted}
 
 pub put_found-requires : goal.put_found-requires

@@ -1,6 +1,6 @@
 use Rattle.goblin_c.proofs.Common.{sym}
 use Rattle.goblin_c.proofs.WriteLemmas.{header_refused}
-use Rattle.goblin_c.proofs.write.put_header.Goals as goal
+use Rattle.goblin_c.proofs.write.goblin_put_header.Goals as goal
 
 pub returns-in-Err : goal.returns-in-Err
 returns-in-Err c =

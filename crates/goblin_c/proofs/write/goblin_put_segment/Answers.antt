@@ -1,7 +1,7 @@
 use Rattle.goblin_c.proofs.Common.{program_header_of, program_header_size, ctx_of, segments_expected, segment_converted}
 use Rattle.goblin_c.proofs.ReadLemmas.{lists_segments}
 use Rattle.goblin_c.proofs.WriteLemmas.{room_for}
-use Rattle.goblin_c.proofs.write.put_segment.Goals as goal
+use Rattle.goblin_c.proofs.write.goblin_put_segment.Goals as goal
 
 pub put_found-requires : goal.put_found-requires
 put_found-requires c =

@@ -3,7 +3,7 @@
 use Rattle.goblin_c.proofs.Common.{◌≡◌, length, map, take, slice_get, Some, None, Ok, Err, refl, ap, ◌∙◌, arith}
 use Rattle.goblin_c.proofs.Common.{string_expected, refusal_at}
 use Rattle.goblin_c.proofs.EachLemmas.{each-step, fills_all, fills_before, rest-step, result_at}
-use Rattle.goblin_c.proofs.strings.store_strings.Goals as goal
+use Rattle.goblin_c.proofs.strings.goblin_strings.Goals as goal
 
 pub loop-i-preserved : goal.loop-i-preserved
 loop-i-preserved c =

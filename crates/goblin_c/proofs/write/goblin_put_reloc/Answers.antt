@@ -2,7 +2,7 @@ use Rattle.goblin_c.proofs.Common.{reloc_in, reloc_size, ctx_of, relocs_expected
 use Rattle.goblin_c.specs.Write.{reloc_ctx}
 use Rattle.goblin_c.proofs.ReadLemmas.{lists_relocs}
 use Rattle.goblin_c.proofs.WriteLemmas.{room_for}
-use Rattle.goblin_c.proofs.write.put_reloc.Goals as goal
+use Rattle.goblin_c.proofs.write.goblin_put_reloc.Goals as goal
 
 pub put_found-requires : goal.put_found-requires
 put_found-requires c =

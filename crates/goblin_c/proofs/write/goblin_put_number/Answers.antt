@@ -1,6 +1,6 @@
 use Rattle.goblin_c.proofs.Common.{Ok, ap, ◌∙◌}
 use Rattle.goblin_c.proofs.WriteLemmas.{number_there}
-use Rattle.goblin_c.proofs.write.put_number.Goals as goal
+use Rattle.goblin_c.proofs.write.goblin_put_number.Goals as goal
 
 pub put_width-requires-clause-room : goal.put_width-requires-clause-room
 put_width-requires-clause-room c =

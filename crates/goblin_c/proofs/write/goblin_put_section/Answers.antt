@@ -1,7 +1,7 @@
 use Rattle.goblin_c.proofs.Common.{section_header_of, section_header_size, ctx_of, sections_expected, section_converted}
 use Rattle.goblin_c.proofs.ReadLemmas.{lists_sections}
 use Rattle.goblin_c.proofs.WriteLemmas.{room_for}
-use Rattle.goblin_c.proofs.write.put_section.Goals as goal
+use Rattle.goblin_c.proofs.write.goblin_put_section.Goals as goal
 
 pub put_found-requires : goal.put_found-requires
 put_found-requires c =

@@ -1,0 +1,106 @@
+//! The names of numbers, written for C.
+ghost use Rattle.std.specs.Prelude.{◌≡◌, length};
+ghost use Rattle.goblin.specs.HeaderNames.{class_name, type_name as file_type_name};
+ghost use Rattle.goblin.specs.Machines.{machine_name};
+ghost use Rattle.goblin.specs.NoteType.{note_type_name};
+ghost use Rattle.goblin.specs.SectionNames.{section_flag_name, section_name};
+ghost use Rattle.goblin.specs.SegmentNames.{segment_name};
+ghost use Rattle.goblin.specs.SymParts.{bind_name, type_name, visibility_name};
+ghost use Rattle.goblin_c.specs.FilledBuffer.{closed, laid};
+
+use crate::notes::note_type;
+use crate::writer::write_text;
+use goblin::elf::header::{class_to_str, et_to_str, machine_to_str};
+use goblin::elf::program_header::pt_to_str;
+use goblin::elf::section_header::{shf_to_str, sht_to_str};
+use goblin::elf::sym::{bind_to_str, type_to_str, visibility_to_str};
+
+/// Writes the name of a class.
+#[unsafe(no_mangle)]
+pub extern "C" fn goblin_class_to_str(ei_class: u8, text: &mut [u8]) -> u64
+    ensures written { text.new ≡ laid (closed (class_name ei_class)) text.old }
+    ensures value { result ≡ length (class_name ei_class) }
+{
+    write_text(class_to_str(ei_class), text)
+}
+
+/// Writes the name of a file's type.
+#[unsafe(no_mangle)]
+pub extern "C" fn goblin_et_to_str(e_type: u16, text: &mut [u8]) -> u64
+    ensures written { text.new ≡ laid (closed (file_type_name e_type)) text.old }
+    ensures value { result ≡ length (file_type_name e_type) }
+{
+    write_text(et_to_str(e_type), text)
+}
+
+/// Writes the name of a machine.
+#[unsafe(no_mangle)]
+pub extern "C" fn goblin_machine_to_str(e_machine: u16, text: &mut [u8]) -> u64
+    ensures written { text.new ≡ laid (closed (machine_name e_machine)) text.old }
+    ensures value { result ≡ length (machine_name e_machine) }
+{
+    write_text(machine_to_str(e_machine), text)
+}
+
+/// Writes the name of a segment's type.
+#[unsafe(no_mangle)]
+pub extern "C" fn goblin_pt_to_str(p_type: u32, text: &mut [u8]) -> u64
+    ensures written { text.new ≡ laid (closed (segment_name p_type)) text.old }
+    ensures value { result ≡ length (segment_name p_type) }
+{
+    write_text(pt_to_str(p_type), text)
+}
+
+/// Writes the name of a section's type.
+#[unsafe(no_mangle)]
+pub extern "C" fn goblin_sht_to_str(sh_type: u32, text: &mut [u8]) -> u64
+    ensures written { text.new ≡ laid (closed (section_name sh_type)) text.old }
+    ensures value { result ≡ length (section_name sh_type) }
+{
+    write_text(sht_to_str(sh_type), text)
+}
+
+/// Writes the name of one flag of a section.
+#[unsafe(no_mangle)]
+pub extern "C" fn goblin_shf_to_str(flag: u32, text: &mut [u8]) -> u64
+    ensures written { text.new ≡ laid (closed (section_flag_name flag)) text.old }
+    ensures value { result ≡ length (section_flag_name flag) }
+{
+    write_text(shf_to_str(flag), text)
+}
+
+/// Writes the name of a symbol's binding.
+#[unsafe(no_mangle)]
+pub extern "C" fn goblin_bind_to_str(binding: u8, text: &mut [u8]) -> u64
+    ensures written { text.new ≡ laid (closed (bind_name binding)) text.old }
+    ensures value { result ≡ length (bind_name binding) }
+{
+    write_text(bind_to_str(binding), text)
+}
+
+/// Writes the name of a symbol's type.
+#[unsafe(no_mangle)]
+pub extern "C" fn goblin_type_to_str(typ: u8, text: &mut [u8]) -> u64
+    ensures written { text.new ≡ laid (closed (type_name typ)) text.old }
+    ensures value { result ≡ length (type_name typ) }
+{
+    write_text(type_to_str(typ), text)
+}
+
+/// Writes the name of a symbol's visibility.
+#[unsafe(no_mangle)]
+pub extern "C" fn goblin_visibility_to_str(visibility: u8, text: &mut [u8]) -> u64
+    ensures written { text.new ≡ laid (closed (visibility_name visibility)) text.old }
+    ensures value { result ≡ length (visibility_name visibility) }
+{
+    write_text(visibility_to_str(visibility), text)
+}
+
+/// Writes the name of a note's type, whose meaning depends on the note's name.
+#[unsafe(no_mangle)]
+pub extern "C" fn goblin_note_type_to_str(name: &[u8], n_type: u32, text: &mut [u8]) -> u64
+    ensures written { text.new ≡ laid (closed (note_type_name name.now n_type)) text.old }
+    ensures value { result ≡ length (note_type_name name.now n_type) }
+{
+    write_text(note_type(name, n_type), text)
+}
