@@ -309,7 +309,7 @@ function ready(made) {
 const EXPORTS = ['memory', '__heap_base', ...`
     version layout header whole_header section_count section sections linked_section section_names section_by_name section_by_type
     section_bytes segment_count segment segment_bytes address_to_offset symbol_count symbol symbols symbol_by_name symbol_by_address
-    reloc_count reloc relocs note note_bytes string string_bytes number number_in range_in_file
+    reloc_count reloc relocs note note_bytes string strings string_bytes number number_in range_in_file
     put_header put_section put_segment put_symbol put_reloc put_number
     class_to_str et_to_str machine_to_str pt_to_str sht_to_str shf_to_str bind_to_str type_to_str visibility_to_str note_type_to_str
     refusal_text
