@@ -46,8 +46,10 @@ unfolding records_from
 listed_is_whole size read bytes start zero name all some is = omega arith
 listed_is_whole size read bytes start (suc count) name all some is =
     let rooms = room_of_each (length bytes) start size (suc count) in
-    let few = step (refuse_if (nat_lt (length bytes / size) (suc count)) (buffer_too_short (suc count) name)) _ all is in
-    let each = step (refuse_as misplaced rooms) (λ _. Ok (records size read (suc count) (drop start bytes))) all few.rest in
+    let many = nat_lt (length bytes / size) (suc count) in
+    let few = step (refuse_if many (buffer_too_short (suc count) name)) _ all is in
+    let items = records size read (suc count) (drop start bytes) in
+    let each = step (refuse_as misplaced rooms) (λ _. Ok items) all few.rest in
     let fits = each_fits (length bytes) start size count (found_within misplaced rooms tt each.is) in
     (le-div_iff_mul-le {k = size} {x = suc count} {y = length bytes - start} some).1 (omega (arith, fits))
 
