@@ -6,5 +6,5 @@ use Rattle.goblin_headers.proofs.header32.HeaderTryFromCtxEndian.try_from_ctx.Go
 pub returns : goal.returns
 returns c =
     ap (with_size 52)
-    (reads_found (headed header32) _ c.args.bytes.now c.in-Some.order c.at.result (sym c.in-Some.is ∙ c.order_of.ensures)
-    c.at.ensures (omega arith) (c.in_ok-room-2.ensures.fits.0 refl))
+    (reads_found (headed header32) _ c.args.bytes.now c.in-Some.order c.at.result
+    (sym c.in-Some.is ∙ c.order_of.ensures) c.at.ensures (omega arith) (c.in_ok-room-2.ensures.fits.0 refl))
