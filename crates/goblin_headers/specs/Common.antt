@@ -19,8 +19,3 @@ pub use Rattle.goblin_base.specs.declared.error.Fault.{Fault}
 pub use Rattle.goblin_headers.specs.declared.header.Header.{Header}
 pub use Rattle.goblin_headers.specs.declared.program_header.ProgramHeader.{ProgramHeader}
 pub use Rattle.goblin_headers.specs.declared.section_header.SectionHeader.{SectionHeader}
-pub use Rattle.std.proofs.Common.{lit<, refl}
-pub use Rattle.std.specs.Prelude.{Bool, Err, IsOk, List, None, Ok, Option, Result, Some, [], codes, drop, find}
-pub use Rattle.std.specs.Prelude.{if◌then◌else◌, length, map, max, min, nat_eq, nat_le, nat_lt, not, replicate}
-pub use Rattle.std.specs.Prelude.{slice_index, take, true, ℕ, ◌&&◌, ◌++◌, ◌+◌, ◌-◌, ◌/◌, ◌==◌, ◌^◌, ◌||◌, ◌↔◌, ◌∷◌, ◌≡◌}
-pub use Rattle.std.specs.Prelude.{◌≤◌}

@@ -1,9 +1,9 @@
 -- The header of a file of either class (System V gABI, "ELF Header" and "ELF Identification").
-use Rattle.goblin_headers.specs.Common.{◌≡◌, ◌+◌, ℕ, ◌==◌, if◌then◌else◌, List, [], ◌∷◌, ◌++◌, length, replicate}
-use Rattle.goblin_headers.specs.Common.{slice_index, take, Option, Some, None, Result, Ok, Container, Ctx, Endian}
-use Rattle.goblin_headers.specs.Common.{Error, Malformed, Fault, values_of, Field, field, FieldsFit, image_of_fields}
-use Rattle.goblin_headers.specs.Common.{values_at, total, widths_of, lows_of, Layout, widened, ◌>>=◌, or_refuse, Header}
-use Rattle.goblin_headers.specs.Common.{SectionHeader}
+use Rattle.std.specs.Prelude.{◌≡◌, ◌+◌, ℕ, ◌==◌, if◌then◌else◌, List, [], ◌∷◌, ◌++◌, length, replicate, slice_index}
+use Rattle.std.specs.Prelude.{take, Option, Some, None, Result, Ok}
+use Rattle.goblin_headers.specs.Common.{Container, Ctx, Endian, Error, Malformed, Fault, values_of, Field, field}
+use Rattle.goblin_headers.specs.Common.{FieldsFit, image_of_fields, values_at, total, widths_of, lows_of, Layout}
+use Rattle.goblin_headers.specs.Common.{widened, ◌>>=◌, or_refuse, Header, SectionHeader}
 use Rattle.goblin_base.specs.declared.error.Fault.TheVariants.{InvalidClass, InvalidEndianness}
 use Rattle.goblin_base.specs.declared.container.Container.TheVariants as class
 use Rattle.goblin_base.specs.declared.container.Endian.TheVariants as endian

@@ -1,5 +1,5 @@
 -- Ranges of offsets and addresses.
-use Rattle.goblin_headers.specs.Common.{◌+◌, ◌-◌, ◌^◌, ℕ, min}
+use Rattle.std.specs.Prelude.{◌+◌, ◌-◌, ◌^◌, ℕ, min}
 
 -- the start and the end of a range; an end past the greatest 64-bit number is that number
 abbrev pub span : ℕ → ℕ → ℕ × ℕ

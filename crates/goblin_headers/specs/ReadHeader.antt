@@ -1,7 +1,7 @@
 -- Reading a header: the first refusal that applies, or else the header.
-use Rattle.goblin_headers.specs.Common.{ℕ, nat_lt, nat_eq, not, List, length, Result, Ok, Endian, Error, Malformed}
-use Rattle.goblin_headers.specs.Common.{BadMagic, Scroll, Fault, Layout, number_at, ◌>>=◌, with_size, Header, room_of}
-use Rattle.goblin_headers.specs.Common.{refuse_if, refuse_as}
+use Rattle.std.specs.Prelude.{ℕ, nat_lt, nat_eq, not, List, length, Result, Ok}
+use Rattle.goblin_headers.specs.Common.{Endian, Error, Malformed, BadMagic, Scroll, Fault, Layout, number_at, ◌>>=◌}
+use Rattle.goblin_headers.specs.Common.{with_size, Header, room_of, refuse_if, refuse_as}
 use Rattle.std.specs.List.{starts_with}
 use Rattle.goblin_base.specs.declared.error.Fault.TheVariants.{TooSmall, ElfClass, DataType}
 use Rattle.goblin_base.specs.declared.container.Endian.TheVariants as endian

@@ -1,7 +1,7 @@
 -- New section headers, lists of them, and whether a section lies in its file (System V gABI, "Section Header").
-use Rattle.goblin_headers.specs.Common.{◌+◌, ◌/◌, ◌^◌, ◌||◌, ◌==◌, ℕ, nat_lt, nat_le, if◌then◌else◌, not, List, []}
-use Rattle.goblin_headers.specs.Common.{codes, drop, length, max, Bool, true, Option, Some, None, Result, Ok, Ctx}
-use Rattle.goblin_headers.specs.Common.{Error, Malformed, records_in, unless_fault, Refusal, buffer_too_short}
+use Rattle.std.specs.Prelude.{◌+◌, ◌/◌, ◌^◌, ◌||◌, ◌==◌, ℕ, nat_lt, nat_le, if◌then◌else◌, not, List, [], codes, drop}
+use Rattle.std.specs.Prelude.{length, max, Bool, true, Option, Some, None, Result, Ok}
+use Rattle.goblin_headers.specs.Common.{Ctx, Error, Malformed, records_in, unless_fault, Refusal, buffer_too_short}
 use Rattle.goblin_headers.specs.Common.{misplaced, room_of, refuse_if, refuse_as, SectionHeader, ◌>>=◌}
 use Rattle.goblin_base.specs.declared.error.Fault.TheVariants.{SectionOffset, SectionAddr}
 use Rattle.goblin_headers.specs.declared.constants_section_header.TheConstants.{SHT_NOBITS}

@@ -8,4 +8,3 @@ pub use Rattle.goblin_base.specs.declared.container.Container.TheVariants.{Big, 
 pub use Rattle.goblin_base.specs.declared.container.Endian.{Endian}
 pub use Rattle.goblin_records.specs.declared.reloc.Reloc.{Reloc}
 pub use Rattle.goblin_records.specs.declared.reloc.RelocCtx.{RelocCtx}
-pub use Rattle.std.proofs.Common.{List, arith, lit<, refl, ℕ, ◌*◌, ◌<◌, ◌^◌, ◌∙◌, ◌≡◌}

@@ -1,7 +1,7 @@
 -- Note headers of the 32-bit and the 64-bit class (System V gABI, "Note Section"; its words are 4 bytes each, and 8
 -- in the 64-bit form).
-use Rattle.std.specs.Prelude.{[], ◌∷◌, slice_index}
-use Rattle.goblin_records.specs.Common.{Endian, field, Shape, shaped, ℕ, List}
+use Rattle.std.specs.Prelude.{[], ◌∷◌, slice_index, ℕ, List}
+use Rattle.goblin_records.specs.Common.{Endian, field, Shape, shaped}
 use Rattle.goblin_records.specs.declared.note.Nhdr32.{Nhdr32}
 use Rattle.goblin_records.specs.declared.note.Nhdr64.{Nhdr64}
 

@@ -1,5 +1,6 @@
 -- Laws of note headers of each class: written headers are read back, and headers that were read are written back.
-use Rattle.goblin_records.specs.Common.{refl, lit<, Endian, IsRecord, shaped}
+use Rattle.std.proofs.Common.{refl, lit<}
+use Rattle.goblin_records.specs.Common.{Endian, IsRecord, shaped}
 use Rattle.goblin_base.specs.LayoutLaws.{plain_laws}
 use Rattle.goblin_records.specs.Nhdr.{nhdr32, nhdr64}
 

@@ -1,9 +1,8 @@
 -- Relocations of either class, with an addend or without, and lists of them (System V gABI, "Relocation").
 use Rattle.std.specs.Prelude.{◌%◌, ℤ, pos, Bool, false, true, Option, Some, None, unwrap_or, IsSomeAnd, [], ◌∷◌}
-use Rattle.std.specs.Prelude.{slice_index}
+use Rattle.std.specs.Prelude.{slice_index, ◌≡◌, ◌<◌, ◌^◌, ℕ, List}
 use Rattle.goblin_records.specs.Common.{Container, Endian, field, Layout, Shape, shaped, converted, widened, low_bits}
-use Rattle.goblin_records.specs.Common.{IsSameInEachClass, Little, Big, FitsSigned, Reloc, RelocCtx, ◌≡◌, ◌<◌, ◌^◌, ℕ}
-use Rattle.goblin_records.specs.Common.{List}
+use Rattle.goblin_records.specs.Common.{IsSameInEachClass, Little, Big, FitsSigned, Reloc, RelocCtx}
 use Rattle.goblin_base.specs.declared.container.Endian.TheVariants as order
 use Rattle.goblin_base.specs.Container.{word_size}
 use Rattle.goblin_base.specs.Signed.{signed_of, complement, signed_low}

@@ -1,7 +1,7 @@
 -- The parts of an `r_info`: the symbol and the type (System V gABI, "Relocation", ELF32_R_SYM and its like), and how
 -- little-endian MIPS64 files store them.
-use Rattle.std.specs.Prelude.{◌+◌, ◌/◌, ◌%◌}
-use Rattle.goblin_records.specs.Common.{Container, number, spelled, Little, Big, ◌≡◌, ◌<◌, ◌*◌, ◌^◌, ℕ}
+use Rattle.std.specs.Prelude.{◌+◌, ◌/◌, ◌%◌, ◌≡◌, ◌<◌, ◌*◌, ◌^◌, ℕ}
+use Rattle.goblin_records.specs.Common.{Container, number, spelled, Little, Big}
 use Rattle.goblin_base.specs.declared.container.Endian.TheVariants as order
 
 -- how many symbols an `r_info` of a class can name

@@ -1,9 +1,10 @@
 -- Laws of relocations of each class, with an addend or without, of MIPS64 or not: written relocations are read back,
 -- and relocations that were read are written back.
-use Rattle.goblin_records.specs.Common.{refl, lit<, ◌≡◌, ◌<◌, ◌*◌, ◌^◌, ℕ, List, ◌∙◌, arith, Container, Endian}
-use Rattle.goblin_records.specs.Common.{IsRecord, shaped, IsBytes, number_at, Little, Big, FitsSigned, Reloc, RelocCtx}
-use Rattle.std.proofs.Common.{◌≤◌, Bool, true, false, Option, Some, None, length, subst, ◌+◌}
 use Rattle.std.specs.Prelude.{ℤ, pos, unwrap_or, IsSomeAnd}
+use Rattle.std.proofs.Common.{refl, lit<, ◌≡◌, ◌<◌, ◌*◌, ◌^◌, ℕ, List, ◌∙◌, arith, ◌≤◌, Bool, true, false, Option, Some}
+use Rattle.std.proofs.Common.{None, length, subst, ◌+◌}
+use Rattle.goblin_records.specs.Common.{Container, Endian, IsRecord, shaped, IsBytes, number_at, Little, Big}
+use Rattle.goblin_records.specs.Common.{FitsSigned, Reloc, RelocCtx}
 use Rattle.std.proofs.Math.Nat.{mod-eq_of_lt}
 use Rattle.goblin_base.specs.LayoutLaws.{shape_laws, plain_laws, converted_laws, same_in_each_class}
 use Rattle.goblin_base.specs.SignedLaws.{signed_of-complement, complement-lt, complement-mod}

@@ -1,7 +1,7 @@
 -- Symbols of either class, and lists of them (System V gABI, "Symbol Table").
-use Rattle.std.specs.Prelude.{codes, Result, [], ◌∷◌, slice_index, Bool, ◌==◌, ◌&&◌, ◌||◌, nat_lt}
+use Rattle.std.specs.Prelude.{codes, Result, [], ◌∷◌, slice_index, Bool, ◌==◌, ◌&&◌, ◌||◌, nat_lt, ℕ, List}
 use Rattle.goblin_records.specs.Common.{Container, Endian, records_from, Refusal, field, values_of, Layout, Shape}
-use Rattle.goblin_records.specs.Common.{shaped, widened, Little, Big, ℕ, List}
+use Rattle.goblin_records.specs.Common.{shaped, widened, Little, Big}
 use Rattle.goblin_base.specs.declared.container.Ctx.{Ctx}
 use Rattle.goblin_records.specs.declared.sym.Sym.{Sym}
 use Rattle.goblin_records.specs.declared.sym32.Sym.{Sym as Sym32}

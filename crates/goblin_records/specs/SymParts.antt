@@ -1,6 +1,6 @@
 -- The parts of a symbol's `st_info` and `st_other`: binding, type and visibility (System V gABI, "Symbol Table").
-use Rattle.std.specs.Prelude.{◌/◌, ◌%◌, ◌⊎◌, [], ◌∷◌, codes}
-use Rattle.goblin_records.specs.Common.{name_in, ◌≡◌, ℕ, List}
+use Rattle.std.specs.Prelude.{◌/◌, ◌%◌, ◌⊎◌, [], ◌∷◌, codes, ◌≡◌, ℕ, List}
+use Rattle.goblin_records.specs.Common.{name_in}
 
 -- the binding is the high four bits of `st_info`
 abbrev pub bind_of : ℕ → ℕ

@@ -1,5 +1,6 @@
 -- The text of a file whose parts are accepted.
-use Rattle.goblin_text.specs.Common.{ℕ, List, vec_items, flat_map, Header, SectionHeader, ◌&◌}
+use Rattle.std.specs.Prelude.{ℕ, List, vec_items}
+use Rattle.goblin_text.specs.Common.{flat_map, Header, SectionHeader, ◌&◌}
 use Rattle.goblin_text.specs.declared.accept.Accepted.{Accepted}
 use Rattle.goblin_text.specs.declared.accept.Parts.{Parts}
 use Rattle.goblin_text.specs.declared.accept.RelocPart.{RelocPart}

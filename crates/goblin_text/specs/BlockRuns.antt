@@ -1,6 +1,6 @@
 -- Runs of a file's blocks that are text, or text with no zero byte.
-use Rattle.goblin_text.specs.Common.{◌≡◌, ℕ, zero, suc, ◌+◌, ◌-◌, ◌*◌, ◌/◌, ◌<◌, ◌≤◌, ◌==◌, ◌&&◌, nat_lt, nat_le, min}
-use Rattle.goblin_text.specs.Common.{if◌then◌else◌, List, [], ◌∷◌, length, slice_index, slice_range, Option}
+use Rattle.std.specs.Prelude.{◌≡◌, ℕ, zero, suc, ◌+◌, ◌-◌, ◌*◌, ◌/◌, ◌<◌, ◌≤◌, ◌==◌, ◌&&◌, nat_lt, nat_le, min}
+use Rattle.std.specs.Prelude.{if◌then◌else◌, List, [], ◌∷◌, length, slice_index, slice_range, Option}
 use Rattle.goblin_text.specs.Common.{before_first, IsUtf8, BLOCK, BLOCKS}
 use Rattle.std.specs.Option.{IfSome, MatchOption}
 use Rattle.goblin_text.specs.declared.block_runs.Kind.{Kind}

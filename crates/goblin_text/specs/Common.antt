@@ -14,9 +14,5 @@ pub use Rattle.goblin.specs.declared.options.ParseMode.TheVariants.{Permissive, 
 pub use Rattle.goblin_text.specs.declared.block_runs.TheConstants.{BLOCK, BLOCKS}
 pub use Rattle.std.specs.Io.KnownBytes.{Appends, Consumes, IsAtEnd, append_known}
 pub use Rattle.std.specs.List.{before_first, flat_map}
-pub use Rattle.std.specs.Prelude.{Bool, Err, IsTrue, List, None, Ok, Option, Result, Some, String, [], codes, decimal}
-pub use Rattle.std.specs.Prelude.{false, if◌then◌else◌, is_err, length, map, min, nat_le, nat_lt, not, slice_get}
-pub use Rattle.std.specs.Prelude.{slice_index, slice_range, string_bytes, suc, take, true, unwrap_or, vec_items, zero}
-pub use Rattle.std.specs.Prelude.{ℕ, ℤ, ◌&&◌, ◌*◌, ◌+◌, ◌-◌, ◌/◌, ◌<◌, ◌==◌, ◌^◌, ◌||◌, ◌∷◌, ◌≡◌, ◌≢◌, ◌≤◌, ◌⊎◌}
 pub use Rattle.std.specs.Str.{IsUtf8, bytes_eq}
 pub use Rattle.std.specs.declared.io.Error.{Error}

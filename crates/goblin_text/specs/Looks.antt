@@ -1,6 +1,7 @@
 -- The looks at a file for its names: the view of what reads them, and how many looks it may take.
-use Rattle.goblin_text.specs.Common.{◌≡◌, ℕ, ◌+◌, ◌*◌, ◌≤◌, ◌==◌, if◌then◌else◌, List, [], ◌∷◌, length, Result, Ok, Err}
-use Rattle.goblin_text.specs.Common.{unwrap_or, ParseMode, read_header, refusal_of, ◌>>=◌, refuse_as, BLOCK}
+use Rattle.std.specs.Prelude.{◌≡◌, ℕ, ◌+◌, ◌*◌, ◌≤◌, ◌==◌, if◌then◌else◌, List, [], ◌∷◌, length, Result, Ok, Err}
+use Rattle.std.specs.Prelude.{unwrap_or}
+use Rattle.goblin_text.specs.Common.{ParseMode, read_header, refusal_of, ◌>>=◌, refuse_as, BLOCK}
 use Rattle.std.specs.Result.{result_ok}
 use Rattle.goblin_base.specs.Entries.{CountsAtLeast}
 use Rattle.goblin_text.specs.RunOutcome.{input_limit}

@@ -1,7 +1,7 @@
 -- The options that the program's words ask for.
-use Rattle.goblin_text.specs.Common.{ℕ, Bool, true, false, if◌then◌else◌, List, [], ◌∷◌, map, Option, None, Some}
-use Rattle.goblin_text.specs.Common.{Result, Ok, Err, vec_items, String, string_bytes, codes, bytes_eq, Error}
-use Rattle.goblin_text.specs.Common.{ParseMode, Strict, Permissive}
+use Rattle.std.specs.Prelude.{ℕ, Bool, true, false, if◌then◌else◌, List, [], ◌∷◌, map, Option, None, Some, Result, Ok}
+use Rattle.std.specs.Prelude.{Err, vec_items, String, string_bytes, codes}
+use Rattle.goblin_text.specs.Common.{bytes_eq, Error, ParseMode, Strict, Permissive}
 use Rattle.std.specs.Global.{Vec}
 use Rattle.std.specs.declared.alloc.Global.{Global}
 use Rattle.goblin.specs.declared.options.ParseOptions.{ParseOptions}

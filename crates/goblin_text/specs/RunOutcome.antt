@@ -1,7 +1,8 @@
 -- How a run ends: what it reads and writes.
-use Rattle.goblin_text.specs.Common.{◌≡◌, ◌≢◌, ℕ, ◌+◌, ◌-◌, ◌^◌, ◌<◌, ◌≤◌, ◌⊎◌, min, IsTrue, List, length, codes}
-use Rattle.goblin_text.specs.Common.{decimal, Option, Ok, Err, vec_items, Appends, Consumes, IsAtEnd, Refusal}
-use Rattle.goblin_text.specs.Common.{out_of_memory, refusal_of, ◌&◌, refusal_text, ParseMode}
+use Rattle.std.specs.Prelude.{◌≡◌, ◌≢◌, ℕ, ◌+◌, ◌-◌, ◌^◌, ◌<◌, ◌≤◌, ◌⊎◌, min, IsTrue, List, length, codes, decimal}
+use Rattle.std.specs.Prelude.{Option, Ok, Err, vec_items}
+use Rattle.goblin_text.specs.Common.{Appends, Consumes, IsAtEnd, Refusal, out_of_memory, refusal_of, ◌&◌, refusal_text}
+use Rattle.goblin_text.specs.Common.{ParseMode}
 use Rattle.goblin.specs.declared.error.Error.{Error}
 use Rattle.goblin_text.specs.ShownLines.{newline}
 use Rattle.goblin_text.specs.StreamMarks.{StreamMarks}

@@ -1,8 +1,8 @@
 -- What is shown of the bytes of a file.
-use Rattle.goblin_text.specs.Common.{◌≡◌, ℕ, ◌+◌, ◌/◌, ◌==◌, ◌&&◌, ◌||◌, nat_lt, not, Bool, if◌then◌else◌, List, []}
-use Rattle.goblin_text.specs.Common.{◌∷◌, length, slice_get, Option, None, Some, Result, Ok, unwrap_or, Header}
-use Rattle.goblin_text.specs.Common.{SectionHeader, Reloc, Sym, ParseMode, Strict, Permissive, read_header, Refusal}
-use Rattle.goblin_text.specs.Common.{refusal_of, ◌>>=◌, refuse_as, StringTable, look_up, strtab_of, ◌&◌}
+use Rattle.std.specs.Prelude.{◌≡◌, ℕ, ◌+◌, ◌/◌, ◌==◌, ◌&&◌, ◌||◌, nat_lt, not, Bool, if◌then◌else◌, List, [], ◌∷◌}
+use Rattle.std.specs.Prelude.{length, slice_get, Option, None, Some, Result, Ok, unwrap_or}
+use Rattle.goblin_text.specs.Common.{Header, SectionHeader, Reloc, Sym, ParseMode, Strict, Permissive, read_header}
+use Rattle.goblin_text.specs.Common.{Refusal, refusal_of, ◌>>=◌, refuse_as, StringTable, look_up, strtab_of, ◌&◌}
 use Rattle.goblin.specs.declared.container.Ctx.{Ctx}
 use Rattle.goblin.specs.declared.error.Error.{Error}
 use Rattle.goblin.specs.Header.{names_index_of, ctx_of}

@@ -1,6 +1,7 @@
 -- The lines of the shown text.
-use Rattle.goblin_text.specs.Common.{ℕ, ◌==◌, ◌||◌, nat_lt, Bool, if◌then◌else◌, List, slice_index, codes, decimal, map}
-use Rattle.goblin_text.specs.Common.{ℤ, Option, None, Some, Header, SectionHeader, Reloc, Sym, ◌&◌, hexadecimal}
+use Rattle.std.specs.Prelude.{ℕ, ◌==◌, ◌||◌, nat_lt, Bool, if◌then◌else◌, List, slice_index, codes, decimal, map, ℤ}
+use Rattle.std.specs.Prelude.{Option, None, Some}
+use Rattle.goblin_text.specs.Common.{Header, SectionHeader, Reloc, Sym, ◌&◌, hexadecimal}
 use Rattle.std.specs.Fmt.{signed_decimal}
 use Rattle.goblin.specs.Machines.{machine_name}
 use Rattle.goblin.specs.HeaderNames.{class_name, type_name as file_type_name}

@@ -1,6 +1,7 @@
 -- What a reader or a writer has reported so far.
-use Rattle.goblin_text.specs.Common.{ℕ, ◌+◌, ◌-◌, ◌^◌, min, Bool, ◌||◌, ◌&&◌, ◌==◌, nat_lt, not, false, true, List}
-use Rattle.goblin_text.specs.Common.{length, Result, Ok, Err, is_err, Error}
+use Rattle.std.specs.Prelude.{ℕ, ◌+◌, ◌-◌, ◌^◌, min, Bool, ◌||◌, ◌&&◌, ◌==◌, nat_lt, not, false, true, List, length}
+use Rattle.std.specs.Prelude.{Result, Ok, Err, is_err}
+use Rattle.goblin_text.specs.Common.{Error}
 use Rattle.std.specs.IoError.{error_kind}
 use Rattle.std.specs.declared.io.ErrorKind.{ErrorKind}
 use Rattle.std.specs.declared.io.ErrorKind.TheVariants.{Interrupted}

@@ -1,5 +1,6 @@
 -- The string tables of a file: ranges of its bytes, of which names are read where they stand.
-use Rattle.goblin_text.specs.Common.{ℕ, true, List, slice_range, StringTable}
+use Rattle.std.specs.Prelude.{ℕ, true, List, slice_range}
+use Rattle.goblin_text.specs.Common.{StringTable}
 use Rattle.goblin_text.specs.declared.names.Strings.{Strings}
 
 -- the table with the delimiter 0 of these bytes

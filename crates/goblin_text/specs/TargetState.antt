@@ -1,5 +1,6 @@
 -- The state of a target, and what is put into it.
-use Rattle.goblin_text.specs.Common.{◌≡◌, ℕ, List, take, Option, Bool, IsTrue, Result, Ok, Err, Appends, append_known}
+use Rattle.std.specs.Prelude.{◌≡◌, ℕ, List, take, Option, Bool, IsTrue, Result, Ok, Err}
+use Rattle.goblin_text.specs.Common.{Appends, append_known}
 
 -- the bytes that it holds, if they are known, and whether it reported an error
 pub record State : Type 0 where
