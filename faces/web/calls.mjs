@@ -26,8 +26,6 @@ const WITHOUT_EXPORTS = Uint8Array.of(0, 0x61, 0x73, 0x6d, 1, 0, 0, 0);
 const error_of = (read) => { try { return read(); } catch (error) { return error; } };
 const is_refusal = (kind) => (error) => error instanceof GoblinError && (kind === undefined || error.kind === kind);
 
-// ---- engines ----
-
 async function check_missing_memories() {
     assert.throws(() => Elf.parse(own), /not ready/);
     assert.throws(() => goblin.et_to_str(1), /not ready/);
@@ -38,23 +36,11 @@ async function check_missing_memories() {
     WebAssembly.validate = validate;
 }
 
-// ---- modules ----
-
-// Returns a module with another name for one of its exports. Sections begin with a number and their size, whose bytes have seven bits each.
+// Returns a module with another name for one of its exports. Their names, each after its length, come before those of all functions.
 function without(module, name) {
-    const copy = Buffer.from(module);
-    for (let at = 8, size; at < copy.length; at += size) {
-        const section = copy[at++];
-        size = 0;
-        for (let shift = 0, more = true; more; shift += 7) {
-            size += (copy[at] & 0x7f) * 2 ** shift;
-            more = copy[at++] >= 0x80;
-        }
-        if (section !== 7) continue;
-        const found = copy.subarray(at, at + size).indexOf(Buffer.from([name.length, ...Buffer.from(name)]));
-        assert.ok(found > 0, name);
-        copy[at + found + 1] = 0x78;
-    }
+    const copy = Buffer.from(module), at = copy.indexOf(Buffer.from([name.length, ...Buffer.from(name)]));
+    assert.ok(at > 0, name);
+    copy[at + 1] = 0x78;
     return copy;
 }
 
@@ -77,8 +63,6 @@ async function check_modules() {
     assert.equal(Elf.parse(own).section_headers().length, own.readUInt16LE(60));
     return `${exported.length} exports`;
 }
-
-// ---- types of bytes ----
 
 function check_bytes() {
     const length = own.length + 8 - own.length % 8, whole = new ArrayBuffer(length + 16), shared = new SharedArrayBuffer(length);
@@ -111,7 +95,13 @@ function check_bytes() {
     return `${Object.keys(given).length} kinds of bytes`;
 }
 
-// ---- lists ----
+// Returns the items that a function returns for the indices of a list, or for all up to the first without an item.
+const of_each = ({ length }, by_index) => Array.from({ length }, (_, index) => by_index(index));
+function each(by_index) {
+    const items = [];
+    for (let item; (item = by_index(items.length)) !== undefined;) items.push(item);
+    return items;
+}
 
 // Ways to iterate over a list: each returns the items.
 const WAYS = {
@@ -124,38 +114,33 @@ const WAYS = {
     'as arguments': (list) => ((...items) => items)(...list),
     Set: (list) => [...new Set(list)],
     'next by next': (list) => {
-        const items = [];
-        for (let step, left = list[Symbol.iterator](); !(step = left.next()).done;) items.push(step.value);
-        return items;
+        const items = list[Symbol.iterator](), item_of = ({ done, value }) => (done ? undefined : value);
+        return each(() => item_of(items.next()));
     },
     'a generator over it': (list) => [...(function* go() { yield* list; }())],
     map: (list) => list.map((item) => item),
     'map by indices': (list) => list.map((_, index) => list.at(index)),
     forEach: (list) => { const items = []; list.forEach((item, index) => { items[index] = item; }); return items; },
     filter: (list) => list.filter(() => true),
-    'filter by indices': (list) => Array.from({ length: list.length }, (_, wanted) => list.filter((_item, index) => index === wanted)).flat(),
-    find: (list) => Array.from({ length: list.length }, (_, wanted) => list.find((_item, index) => index === wanted)),
-    some: (list) => Array.from({ length: list.length }, (_, wanted) => {
+    'filter by indices': (list) => of_each(list, (wanted) => list.filter((_, index) => index === wanted)).flat(),
+    find: (list) => of_each(list, (wanted) => list.find((_, index) => index === wanted)),
+    some: (list) => of_each(list, (wanted) => {
         let found;
         return list.some((item, index) => { found = item; return index === wanted; }) && found;
     }),
     reduce: (list) => list.reduce((items, item, index) => { items[index] = item; return items; }, []),
     'reduce without a start': (list) => (list.length ? [list.reduce((first) => first), ...[...list].slice(1)] : []),
     slice: (list) => [...list.slice(0, 1), ...list.slice(1)],
-    'an index in brackets': (list) => Array.from({ length: list.length }, (_, index) => list[index]),
+    'an index in brackets': (list) => of_each(list, (index) => list[index]),
     entries: (list) => [...list.entries()].map(([, item]) => item),
     'entries by indices': (list) => { const items = []; for (const [index, item] of list.entries()) items[index] = item; return items; },
-    'at and length': (list) => Array.from({ length: list.length }, (_, index) => list.at(index)),
-    'at from the end': (list) => Array.from({ length: list.length }, (_, index) => list.at(index - list.length)),
-    'at until there is none': (list) => {
-        const items = [];
-        for (let i = 0; list.at(i) !== undefined; i++) items.push(list.at(i));
-        return items;
-    },
+    'at and length': (list) => of_each(list, (index) => list.at(index)),
+    'at from the end': (list) => of_each(list, (index) => list.at(index - list.length)),
+    'at until there is none': (list) => each((index) => list.at(index)),
 };
 const WAYS_OF_LISTS = {
-    get: (list) => Array.from({ length: list.length }, (_, index) => list.get(index)),
-    'get until there is none': (list) => { const items = []; for (let i = 0n; list.get(i); i++) items.push(list.get(i)); return items; },
+    get: (list) => of_each(list, (index) => list.get(index)),
+    'get until there is none': (list) => each((index) => list.get(BigInt(index))),
     from: (list) => [...list.from(0, 1), ...list.from(1)],
     toJSON: (list) => list.toJSON(),
 };
@@ -179,13 +164,6 @@ function has_each(list, items, what) {
     assert.equal(JSON.stringify(list), JSON.stringify(items), what);
 }
 
-// Returns the items that a call reads by their indices.
-function each(by_index) {
-    const items = [];
-    for (let item; (item = by_index(items.length)) !== undefined;) items.push(item);
-    return items;
-}
-
 // Returns the lists of a file: a title, the call that makes the list, how many bytes from the start of the file it needs, and the items.
 function lists_of(whole) {
     const { e_phoff, e_phnum, e_shoff, e_shnum } = whole.header, [of_segment, of_section] = whole.is_64() ? [56n, 64n] : [32n, 40n];
@@ -194,45 +172,33 @@ function lists_of(whole) {
     assert.equal(sections.length, e_shnum);
     const of_segments = e_phnum ? e_phoff + of_segment * BigInt(e_phnum) : 0n, of_sections = e_shoff + of_section * BigInt(e_shnum);
     const end = ({ sh_offset, sh_size }) => sh_offset + sh_size, latest = (...ends) => ends.reduce((a, b) => (a > b ? a : b), 0n);
-    const made = [
-        ['program headers', (elf) => elf.program_headers(), of_segments, segments],
-        ['section headers', (elf) => elf.section_headers(), of_sections, sections],
-    ];
+    const made = [], add = (...list) => made.push(list);
+    add('program headers', (elf) => elf.program_headers(), of_segments, segments);
+    add('section headers', (elf) => elf.section_headers(), of_sections, sections);
     for (const segment of segments) {
-        made.push(['sections of a segment', (elf) => elf.segment_sections(segment), of_sections,
-            sections.slice(1).filter((section) => goblin.segment_holds(segment, section))]);
+        const held = sections.slice(1).filter((section) => goblin.segment_holds(segment, section));
+        add('sections of a segment', (elf) => elf.segment_sections(segment), of_sections, held);
     }
-    const of_type = (...types) => sections.filter(({ sh_type }) => types.includes(sh_type));
-    const pairs = (list) => list.map(([section, relocs]) => [section, [...relocs]]);
+    const of_type = (...types) => sections.filter(({ sh_type }) => types.includes(sh_type)), items_of = (list) => each((i) => list.get(i));
     for (const section of of_type(goblin.SHT_SYMTAB, goblin.SHT_DYNSYM)) {
-        const symtab = whole.symtab(section), items = each((i) => symtab.get(i)), needed = latest(of_sections, end(section));
-        made.push(['symbols', (elf) => elf.symtab(section), needed, items]);
+        const items = items_of(whole.symtab(section)), needed = latest(of_sections, end(section));
         const first = section.sh_type === goblin.SHT_SYMTAB ? 'syms' : 'dynsyms';
-        made.push([first, (elf) => elf[first](), needed, items]);
+        add('symbols', (elf) => elf.symtab(section), needed, items);
+        add(first, (elf) => elf[first](), needed, items);
     }
-    const of_relocs = of_type(goblin.SHT_REL, goblin.SHT_RELA);
-    const items_of = (section) => {
-        const list = whole.relocs(section);
-        return each((i) => list.get(i));
-    };
-    for (const section of of_relocs) made.push(['relocations', (elf) => elf.relocs(section), end(section), items_of(section)]);
-    made.push(['sections of relocations', (elf) => pairs(elf.shdr_relocs()), latest(of_sections, ...of_relocs.map(end)),
-        of_relocs.map((section) => [section, items_of(section)])]);
+    const of_relocs = of_type(goblin.SHT_REL, goblin.SHT_RELA), relocs = of_relocs.map((section) => [section, items_of(whole.relocs(section))]);
+    for (const [section, items] of relocs) add('relocations', (elf) => elf.relocs(section), end(section), items);
+    const pairs = (elf) => elf.shdr_relocs().map(([section, list]) => [section, [...list]]);
+    add('sections of relocations', pairs, latest(of_sections, ...of_relocs.map(end)), relocs);
     // (the padding of the last descriptor isn't needed)
     const end_of_notes = (notes) => latest(...notes.map(({ desc_range: { offset, size } }) => offset + size));
-    const section_notes = [], segment_notes = [];
-    for (const section of of_type(goblin.SHT_NOTE)) {
-        const notes = whole.notes(section);
-        made.push(['notes of a section', (elf) => elf.notes(section), end_of_notes(notes), notes]);
-        section_notes.push(...notes);
-    }
-    for (const segment of segments.filter(({ p_type }) => p_type === goblin.PT_NOTE)) {
-        const notes = whole.notes(segment);
-        made.push(['notes of a segment', (elf) => elf.notes(segment), end_of_notes(notes), notes]);
-        segment_notes.push(...notes);
-    }
-    made.push(['notes of all sections', (elf) => elf.iter_note_sections(), latest(of_sections, end_of_notes(section_notes)), section_notes]);
-    made.push(['notes of all segments', (elf) => elf.iter_note_headers(), latest(of_segments, end_of_notes(segment_notes)), segment_notes]);
+    const add_notes = (all_of, headers, holders) => {
+        const each_one = holders.map((holder) => [holder, whole.notes(holder)]), all = each_one.flatMap(([, notes]) => notes);
+        for (const [holder, notes] of each_one) add('notes', (elf) => elf.notes(holder), end_of_notes(notes), notes);
+        add(all_of, (elf) => elf[all_of](), latest(headers, end_of_notes(all)), all);
+    };
+    add_notes('iter_note_sections', of_sections, of_type(goblin.SHT_NOTE));
+    add_notes('iter_note_headers', of_segments, segments.filter(({ p_type }) => p_type === goblin.PT_NOTE));
     return made;
 }
 
@@ -249,12 +215,12 @@ function check_lists() {
                 if (end < Number(needed)) {
                     assert.throws(() => make(elf), is_refusal(), `${what} of the first ${end} bytes`);
                     refused++;
-                } else {
-                    const list = make(elf), is_near = end - Number(needed) < 2 || end === content.length;
-                    if (is_near && items.length < 200) has_each(list, items, what);
-                    else assert.deepEqual([...list].length, items.length);
-                    made++;
+                    continue;
                 }
+                const list = make(elf), is_near = end - Number(needed) < 2 || end === content.length;
+                if (is_near && items.length < 200) has_each(list, items, what);
+                else assert.deepEqual([...list].length, items.length);
+                made++;
             }
         }
     }
@@ -437,8 +403,6 @@ function check_types_of_sections() {
     return `${found} sections by their types`;
 }
 
-// ---- notes ----
-
 function check_notes() {
     const elf = Elf.parse(noted), said = (notes) => notes.map(({ name, n_type, desc }) => [name, n_type, Buffer.from(desc).toString()]);
     const calls = [
@@ -489,8 +453,6 @@ function check_notes_as_bytes() {
     assert.throws(() => elf.notes_bytes({ ...section, sh_addralign: 16n }), ({ kind, item }) => kind === Kind.NOTE_ALIGN && item === 0);
 }
 
-// ---- items and JSON ----
-
 // Returns an item as JSON has it, by the type of each of its fields.
 const as_json = (item) => Object.fromEntries(Object.entries(item).filter(([, value]) => value !== undefined).map(([name, value]) => {
     if (typeof value === 'bigint') return [name, value.toString()];
@@ -530,8 +492,6 @@ function check_json() {
     return `${items.length} items as JSON`;
 }
 
-// ---- arguments ----
-
 function check_arguments() {
     const elf = Elf.parse(own);
     for (const width of [0, 3, 5, 7, 9, 16, -1, 1.5, 8n, '8', undefined, null, NaN, Symbol('8')]) {
@@ -557,8 +517,6 @@ function check_arguments() {
     const symbols = elf.syms(), main = symbols.by_name('main'), { st_value } = symbols.get(main);
     assert.equal(symbols.name(symbols.get(symbols.by_address(st_value))), 'main');
 }
-
-// ---- parts of a file ----
 
 const END = (1n << 64n) - 1n;
 
@@ -656,8 +614,6 @@ function check_offsets_of_errors() {
     }
 }
 
-// ---- a map of addresses ----
-
 // A map finds what `by_address` finds.
 function check_address_map() {
     let found = 0;
@@ -702,8 +658,6 @@ function check_address_map() {
     return `${found} addresses in maps`;
 }
 
-// ---- sections of segments ----
-
 function check_segments() {
     const { PT_DYNAMIC, PT_GNU_EH_FRAME, PT_GNU_RELRO, PT_GNU_STACK, PT_INTERP, PT_LOAD, PT_NOTE, PT_PHDR, PT_TLS } = goblin;
     const { SHF_ALLOC, SHF_TLS, SHT_NOBITS, SHT_NOTE, SHT_PROGBITS } = goblin;
@@ -739,8 +693,6 @@ function check_segments() {
         [true, false, false],
     ]);
 }
-
-// ---- constants ----
 
 // Returns the library's constants, each as a BigInt or a list of BigInts. The name of a constant of one class starts with its module.
 function constants_of_library() {
@@ -784,8 +736,6 @@ async function check_constants() {
     assert.deepEqual(sorted(found), sorted(wanted));
     return `${wanted.size} constants`;
 }
-
-// ---- the package ----
 
 // Returns the declarations for TypeScript: for each type the names and types of its members.
 function declared_members(declared, word) {
