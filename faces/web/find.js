@@ -8,8 +8,7 @@ import { hex } from './text.js';
 
 const MOST = 40;
 
-// Returns the numbers that a text may mean, with the reading of each if it has no 0x: first as decimal, unless it starts with a zero, as nm
-// prints addresses. Letters alone are a name.
+// Returns the numbers that a text may mean, and how it is read if it has no 0x: first as decimal, unless it starts with a zero, as in nm.
 function numbers_in(text) {
     if (/^(0x[0-9a-f]{1,16}|0*\d)$/i.test(text)) return [{ value: BigInt(text) }];
     const decimal = /^\d{1,19}$/.test(text) ? [{ value: BigInt(text), read: 'read as decimal' }] : [];
@@ -18,15 +17,11 @@ function numbers_in(text) {
 }
 
 function places_of_number({ value, read }) {
-    const found = [];
-    if (value < BigInt(file.content.length)) {
-        found.push({ title: `offset ${hex(value)}`, detail: offset_details(Number(value)).what, to: `offset/${hex(value)}`, read });
-    }
-    if (is_address(value)) {
-        found.push({ title: `address ${hex(value)}`, detail: address_details(value).what, to: `address/${hex(value)}`, read });
-    }
+    const place = (kind, { what }) => ({ title: `${kind} ${hex(value)}`, detail: what, to: `${kind}/${hex(value)}`, read });
+    const offset = value < BigInt(file.content.length) ? [place('offset', offset_details(Number(value)))] : [];
+    const address = is_address(value) ? [place('address', address_details(value))] : [];
     // (an offset in a gap is hardly ever meant)
-    return found.length === 2 && offset_details(Number(value)).what === 'in a gap' ? found.reverse() : found;
+    return offset[0]?.detail === 'in a gap' ? [...address, ...offset] : [...offset, ...address];
 }
 
 // Collects results by how the text matches their name: the whole name, its start, or a part.

@@ -1,5 +1,4 @@
-// The lists of the page. Each is a source: its items, the cells of its columns, what a saved list has in their place, the values that columns
-// without text are sorted by, and whether an item holds an offset or address.
+// The lists of the page. Each is a source: its items, its columns, and whether an item holds an offset or address.
 import * as goblin from './goblin.js';
 import {
     called, file, name_of_section, part, refusal, RELOCATION_TYPES, RELR, section_at, section_refusal, sections, segments, SYMBOL_TYPES,
@@ -11,22 +10,19 @@ import * as labels from './labels.js';
 import { notes_of } from './notes.js';
 import { parts, titled } from './pieces.js';
 import { has_mangled, name_of_symbol, section_of_symbol, symtab_at } from './resolve.js';
-import { count, hex } from './text.js';
+import { count, hex, once } from './text.js';
 
 const SPECIAL = new Map([[0n, 'undefined'], [0xfff1n, 'absolute'], [0xfff2n, 'common'], [0xffffn, 'extended index']]);
-
-// A column has a title, a hint, such as the standard's name of the field, the least width, the share of the rest of the width, and functions of
-// an item that return its text, and, where they are others, the number to sort by and the text in a saved list.
+// A column has a title, a hint, such as the standard's name of the field, the least width, the share of the rest of the width, and functions
+// that return an item's text, and perhaps another one for a saved list, and a number to sort by.
 const column = (title, hint, least, share, given) =>
     ({ title, hint, least, wide: share ? `minmax(${least}px, ${share}fr)` : `${least}px`, ...given });
 const text = (title, hint, least, share, say) => column(title, hint, least, share, { text: say });
 const number = (title, key, least, share, say = hex) =>
     column(title, key, least, share, { is_right: true, text: (item) => say(item[key]), number: (item) => item[key] });
 
-let known_rooms;
 // Returns the widths of columns of some kinds of numbers, in which those of the file fit, but for some of damaged files.
-function rooms() {
-    if (known_rooms) return known_rooms;
+const rooms = once(() => {
     let address = 0n, align = 0n, index = 0;
     const raise = (end) => { if (end > address && end < 1n << 64n) address = end; };
     for (const { section } of sections()) {
@@ -37,8 +33,8 @@ function rooms() {
     for (const { segment } of segments()) raise(segment.p_vaddr + segment.p_memsz);
     const room = (shown, least, most = 20) => Math.max(Math.ceil(7.6 * Math.min(shown.length, most)) + 1, least);
     const offset = room(hex(file.content.length), 60);
-    return (known_rooms = { address: room(hex(address), 60), offset, align: room(`${align}`, 36, 10), index: room(`${index}`, 32) });
-}
+    return { address: room(hex(address), 60), offset, align: room(`${align}`, 36, 10), index: room(`${index}`, 32) };
+});
 
 const within = (start, size, value) => start <= value && value < start + size;
 const is_refused = (range) => part(() => { range(); return {}; }, () => true).refused;
@@ -191,13 +187,11 @@ export function open_source(list, of) {
 export const columns_of = ({ place = 0, columns = [] } = {}) =>
     [column('#', 'index', place, 0, { is_right: true, is_dim: true }), ...columns].map(({ title, hint, least, wide, is_right, is_dim }) =>
         ({ title, hint, least, wide, is_right, is_dim }));
-
 /** Returns the cells of an item. The first is its index. */
 export const cells_of = ({ columns }, item, index) => [`${index}`, ...columns.map((column) => column.text(item, index))];
 /** Returns the cells of an item in a saved list, where numbers are plain. */
 export const plain_cells_of = ({ columns }, item, index) =>
     [`${index}`, ...columns.map((column) => (column.plain ?? column.text)(item, index))];
-
 // How long the worker works before it reads messages.
 const SLICE = 25;
 const pause = () => new Promise((resume) => setTimeout(resume, 0));
