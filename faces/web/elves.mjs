@@ -38,10 +38,7 @@ export function symbols_file(symbols, ...others) {
 /** Returns a relocation with an addend. */
 export const rela = ({ offset = 0, sym = 0, type, addend = 0 }) => packed([offset, 8], [type, 4], [sym, 4], [addend, 8]);
 
-/**
- * Returns a file of a type, for a machine, with sections { name, type, flags, addr, link, info, entsize, bytes } and segments { type, flags,
- * vaddr, bytes }. The section at index 0 and the section names at the end are added.
- */
+/** Returns a file with sections and segments, of the fields below. The section at index 0 and the section names at the end are added. */
 export function elf_file({ type = 1, machine = 62, osabi = 0, sections = [], segments = [] }) {
     const parts = [];
     let at = 64 + 56 * segments.length;
