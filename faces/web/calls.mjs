@@ -335,33 +335,22 @@ function check_writer() {
     return `${written} records that are written`;
 }
 
-// Returns a copy of a file in which the bytes of a section start at the file's last byte.
-function with_moved(content, elf, index) {
-    const copy = Buffer.from(content), view = new DataView(copy.buffer, copy.byteOffset), at = Number(elf.header.e_shoff);
-    if (elf.is_64()) view.setBigUint64(at + 64 * index + 24, BigInt(content.length - 1), elf.little_endian());
-    else view.setUint32(at + 40 * index + 16, content.length - 1, elf.little_endian());
-    return copy;
-}
-
 // If one section of several ends past the end of the file, its list throws, and so does each list that includes it. Others do not.
 function check_moved_sections() {
-    const calls = {
-        2: [(elf, section) => elf.symtab(section), (elf) => elf.syms()], 11: [(elf, section) => elf.symtab(section), (elf) => elf.dynsyms()],
-        4: [(elf, section) => elf.relocs(section), (elf) => elf.shdr_relocs()], 9: [(elf, section) => elf.relocs(section), (elf) => elf.shdr_relocs()],
-        7: [(elf, section) => elf.notes(section), (elf) => elf.iter_note_sections()],
-    };
+    const calls = { 2: ['symtab', 'syms'], 11: ['symtab', 'dynsyms'], 4: ['relocs', 'shdr_relocs'], 9: ['relocs', 'shdr_relocs'],
+        7: ['notes', 'iter_note_sections'] };
     let moved = 0;
     for (const content of files) {
-        const whole = Elf.parse(content), sections = [...whole.section_headers()];
-        sections.forEach(({ sh_type }, index) => {
-            if (!calls[sh_type]) return;
-            const elf = Elf.parse(with_moved(content, whole, index));
-            for (const call of calls[sh_type]) assert.throws(() => call(elf, elf.section_header(index)), is_refusal());
-            for (const other of sections) {
-                if (calls[other.sh_type] && other !== sections[index]) assert.ok(calls[other.sh_type][0](elf, other).length > 0);
-            }
+        const whole = Elf.parse(content), lists = [...whole.section_headers().entries()].filter(([, { sh_type }]) => calls[sh_type]);
+        for (const [index, section] of lists) {
+            const copy = new Uint8Array(content);
+            whole.writer(copy).put_section_header(index, { ...section, sh_offset: BigInt(content.length - 1) });
+            const elf = Elf.parse(copy), [of_one, of_all] = calls[section.sh_type];
+            assert.throws(() => elf[of_one](elf.section_header(index)), is_refusal());
+            assert.throws(() => elf[of_all](), is_refusal());
+            for (const [at, other] of lists) assert.ok(at === index || elf[calls[other.sh_type][0]](other).length > 0);
             moved++;
-        });
+        }
     }
     assert.ok(moved >= 10, `${moved} sections`);
     return `${moved} sections that pass the end`;
@@ -405,23 +394,18 @@ function check_types_of_sections() {
 
 function check_notes() {
     const elf = Elf.parse(noted), said = (notes) => notes.map(({ name, n_type, desc }) => [name, n_type, Buffer.from(desc).toString()]);
-    const calls = [
-        [elf.section('.note'), 'notes', 'readable_notes', 'iter_note_sections'],
-        [elf.program_header(0), 'notes', 'readable_notes', 'iter_note_headers'],
-    ];
-    for (const [holder, of_one, readable, of_all] of calls) {
-        const notes = elf[of_one](holder);
+    for (const [holder, of_all] of [[elf.section('.note'), 'iter_note_sections'], [elf.program_header(0), 'iter_note_headers']]) {
+        const notes = elf.notes(holder);
         assert.deepEqual([said(notes), said(elf[of_all]())], [NOTES, NOTES]);
         assert.deepEqual(notes.map((item) => goblin.note_type_to_str(item)), ['NT_GNU_BUILD_ID', 'NT_UNKNOWN']);
-        assert.deepEqual(elf[readable](holder), { notes, refusal: undefined });
-        assert.deepEqual(elf[readable](holder, 1), { notes: notes.slice(0, 1), refusal: undefined });
+        assert.deepEqual(elf.readable_notes(holder), { notes, refusal: undefined });
+        assert.deepEqual(elf.readable_notes(holder, 1), { notes: notes.slice(0, 1), refusal: undefined });
         notes.forEach(({ name_range }, before) => {
             const copy = Buffer.from(noted);
             copy[Number(name_range.offset)] = 0xff; // (which is not UTF-8)
-            const damaged = Elf.parse(copy), found = damaged[readable](holder);
+            const damaged = Elf.parse(copy), found = damaged.readable_notes(holder);
             assert.deepEqual([said(found.notes), found.refusal.kind], [NOTES.slice(0, before), Kind.BAD_INPUT]);
-            assert.throws(() => damaged[of_one](holder), is_refusal(Kind.BAD_INPUT));
-            assert.throws(() => damaged[of_all](), is_refusal(Kind.BAD_INPUT));
+            for (const read of [() => damaged.notes(holder), () => damaged[of_all]()]) assert.throws(read, is_refusal(Kind.BAD_INPUT));
         });
     }
     assert.equal(goblin.note_type_to_str({ name: 'GNU', n_type: 99 }), 'NT_UNKNOWN');
