@@ -64,10 +64,8 @@ async function key(event) {
 export function set_up_goto() {
     let soon;
     const field = get('goto');
-    field.addEventListener('input', () => { clearTimeout(soon); soon = setTimeout(look, 120); });
-    field.addEventListener('keydown', key);
-    field.addEventListener('blur', close);
-    field.addEventListener('focus', look);
+    const soon_look = () => { clearTimeout(soon); soon = setTimeout(look, 120); };
+    Object.assign(field, { oninput: soon_look, onkeydown: key, onblur: close, onfocus: look });
     addEventListener('keydown', (event) => {
         if (event.key !== '/' || event.target.closest('input, select') || field.offsetParent === null) return;
         event.preventDefault();

@@ -12,41 +12,33 @@ export class Grid {
         Object.assign(this, { columns, rows, chosen, opened, sorted, high, length: 0, active: -1, column: 0 });
         Object.assign(this, { blocks: new Map(), lines: [], version: 0, id: `list-${++ids}` });
         this.columns_css = columns.map(({ wide }) => wide).join(' ');
-        this.body = make('div', { class: 'body', role: 'rowgroup' });
-        this.head = make('div', { class: 'row', role: 'row', id: `${this.id}-head`, 'aria-rowindex': '1' });
+        this.body = make('div', {
+            class: 'body', role: 'rowgroup', onclick: (event) => this.click(event),
+            ondblclick: () => { if (this.active >= 0) this.opened(this.active); },
+        });
+        this.head = make('div', { class: 'row', role: 'row', id: `${this.id}-head`, 'aria-rowindex': '1' }, ...this.made_heads());
+        this.head.style.gridTemplateColumns = this.columns_css;
         this.heads = make('div', { class: 'heads' }, this.head);
         const has_heads = columns.some(({ title }) => title);
         this.scroller = make('div', {
             class: 'grid', role: 'grid', tabindex: '0', 'aria-label': label, 'aria-colcount': columns.length,
-            'aria-owns': has_heads && `${this.id}-head`,
+            'aria-owns': has_heads && `${this.id}-head`, onkeydown: (event) => this.key(event), onscroll: () => {
+                this.heads.scrollLeft = this.scroller.scrollLeft;
+                this.draw_soon();
+            },
         }, this.body);
+        new ResizeObserver(() => this.draw_soon()).observe(this.scroller);
         // (the column heads are before the list, for the keyboard, too)
         this.box = make('div', { class: `list-box ${kind}` }, ...(has_heads ? [this.heads] : []), this.scroller);
         const least = columns.reduce((all, { least: own = 70 }) => all + own + 12, 12);
         this.box.style.setProperty('--least', kind === 'hex' ? '0' : `${least}px`);
         this.box.style.setProperty('--high', `${high}px`);
-        this.make_head();
-        this.listen();
     }
 
-    listen() {
-        this.scroller.addEventListener('scroll', () => {
-            this.heads.scrollLeft = this.scroller.scrollLeft;
-            this.draw_soon();
-        });
-        this.scroller.addEventListener('keydown', (event) => this.key(event));
-        this.body.addEventListener('click', (event) => this.click(event));
-        this.body.addEventListener('dblclick', () => { if (this.active >= 0) this.opened(this.active); });
-        new ResizeObserver(() => this.draw_soon()).observe(this.scroller);
-    }
-
-    make_head() {
-        this.head.style.gridTemplateColumns = this.columns_css;
-        this.columns.forEach(({ title, is_right, hint }, column) => {
-            const inside = this.sorted ? button(title, () => this.sort(column)) : title;
-            const given = { class: `cell ${is_right ? 'right' : ''}`, role: 'columnheader', 'aria-sort': 'none', title: hint };
-            this.head.append(make('div', given, inside));
-        });
+    made_heads() {
+        return this.columns.map(({ title, is_right, hint }, column) => make('div',
+            { class: `cell ${is_right ? 'right' : ''}`, role: 'columnheader', 'aria-sort': 'none', title: hint },
+            this.sorted ? button(title, () => this.sort(column)) : title));
     }
 
     sort(column) {

@@ -84,7 +84,6 @@ function why_unread({ size }) {
 }
 
 let loading;
-
 async function open(file) {
     loading?.end();
     const wrong = why_unread(file);

@@ -47,7 +47,6 @@ async function bytes_box(blocks) {
 
 // How many bytes a row has, and what shows the bytes again once the width has changed.
 let shown_each, shown_again;
-
 export function set_up_side() {
     for (const event of ['pointerover', 'focusin']) {
         get('chosen').addEventListener(event, ({ target }) => light(target.closest('[data-field]')?.dataset.field));

@@ -156,7 +156,8 @@ async function list_panel(mine, wanted) {
     if (list.length === 0) return [make('p', { class: 'empty' }, NONE[name])];
     // (a refusal is shown before an empty list)
     const [longest] = list.toSorted((a, b) => (b.length ?? 0.5) - (a.length ?? 0.5)), of = wanted ?? longest.of;
-    Object.assign(mine, { list, of, query: '', column: 0, is_descending: false, output: make('output'), below: make('div', { class: 'notice' }) });
+    Object.assign(mine, { list, of, query: '', column: 0, is_descending: false });
+    Object.assign(mine, { output: make('output'), below: make('div', { class: 'notice' }) });
     mine.grid = new Grid(name, await ask('columns', { list: name, of: mine.of }), {
         rows: (from, size) => ask('rows', { list: name, from, size }),
         chosen: (at, is_step) => go_to_row(mine, at, is_step), opened: (at) => open_row(mine, at),
@@ -167,26 +168,22 @@ async function list_panel(mine, wanted) {
     return [bar, mine.below, mine.grid.box];
 }
 
-// Shows how much of a call is done while it runs.
-function show_progress(call, output, word) {
-    shown_file.reader.on_progress = ({ progress, done }) => {
-        if (progress === call) output.textContent = `${word} … ${Math.floor(100 * done)} %`;
-    };
-}
-
 // Shows the list again, for its search and order.
 async function refresh(mine) {
     const { name, of, query, column, is_descending, output, below, grid } = mine;
     output.textContent = 'reading …';
-    show_progress(name, output, 'reading');
-    const view = await ask('view', { list: name, of, query, column, is_descending });
-    if (view.is_over) return;
-    below.replaceChildren(...await notices_of(mine, view));
-    const is_shown = !view.refused && !view.is_none;
+    shown_file.reader.on_progress = ({ progress, done }) => {
+        if (progress === name) output.textContent = `reading … ${Math.floor(100 * done)} %`;
+    };
+    const { is_over, refused, is_none, length, all } = await ask('view', { list: name, of, query, column, is_descending });
+    if (is_over) return;
+    below.replaceChildren(...await notices_of(mine, { refused, is_none }));
+    const is_shown = !refused && !is_none;
     grid.box.hidden = !is_shown;
-    output.textContent = view.refused ? 'refused' : view.is_none ? 'none' : `${query ? `${number(view.length)} of ` : ''}${number(view.all)}`;
-    mine.saving.hidden = !is_shown || view.length === 0;
-    grid.show(is_shown ? view.length : 0);
+    const count = is_shown && (query ? `${number(length)} of ${number(all)}` : number(all));
+    output.textContent = refused ? 'refused' : is_none ? 'none' : count;
+    mine.saving.hidden = !is_shown || length === 0;
+    grid.show(is_shown ? length : 0);
 }
 
 
@@ -206,13 +203,11 @@ async function note_refusals(by) {
     return is_cut ? [...boxes, make('p', { class: 'empty' }, 'There are more notes, which are not read.')] : boxes;
 }
 
-const place_of = ({ name, of }, index) => (of === undefined ? `${name}/${index}` : `${name}/${of}/${index}`);
-
 async function go_to_row(mine, at, is_step) {
     const index = await ask('index', { list: mine.name, at });
     if (open !== mine) return;
     mine.own = index; // (the list has already moved to that row, and perhaps on since)
-    await go(place_of(mine, index), is_step);
+    await go([mine.name, mine.of, index].filter((part) => part !== undefined).join('/'), is_step);
 }
 
 // Goes to a row, and to what is shown of it.
@@ -245,10 +240,9 @@ function tools(mine) {
     const { name, list, of, output, grid } = mine;
     const bar = make('div', { class: 'tools' });
     if (list.length > 1) {
-        const choice = make('select', { 'aria-label': `Which ${name}` },
-            ...list.map((item, i) => make('option', { value: `${i}`, selected: item.of === of }, visible(item.text))));
-        choice.addEventListener('change', () => go(`${name}/${list[choice.selectedIndex].of}`));
-        bar.append(choice);
+        const onchange = ({ target }) => go(`${name}/${list[target.selectedIndex].of}`);
+        bar.append(make('select', { 'aria-label': `Which ${name}`, onchange },
+            ...list.map((item, i) => make('option', { value: `${i}`, selected: item.of === of }, visible(item.text)))));
     }
     const hidden = (shown_file.summary[name]?.all ?? 0) - (shown_file.summary[name]?.found?.length ?? 0);
     if (hidden > 0) bar.append(make('span', {}, `and ${number(hidden)} more: choose them among the sections`));
@@ -260,25 +254,22 @@ function tools(mine) {
 }
 
 function search_field(mine) {
-    const search = make('input', {
-        type: 'search', placeholder: 'Search: text or 0x…', 'aria-label': `Search ${mine.name} by text, offset or address`,
-        spellcheck: 'false', autocomplete: 'off',
-    });
     let soon;
     const look = async () => {
-        clearTimeout(soon);
-        const query = search.value.trim();
+        const query = mine.search.value.trim();
         if (query === mine.query) return;
         mine.query = query;
         await refresh(mine);
     };
-    search.addEventListener('input', () => { clearTimeout(soon); soon = setTimeout(look, 120); });
-    search.addEventListener('keydown', async (event) => {
-        if (event.key !== 'Enter') return;
-        await look();
-        if (mine.grid.length > 0) open_row(mine, 0);
+    return make('input', {
+        type: 'search', placeholder: 'Search: text or 0x…', 'aria-label': `Search ${mine.name} by text, offset or address`,
+        spellcheck: 'false', autocomplete: 'off', oninput: () => { clearTimeout(soon); soon = setTimeout(look, 120); },
+        onkeydown: async ({ key }) => {
+            if (key !== 'Enter') return;
+            await look();
+            if (mine.grid.length > 0) open_row(mine, 0);
+        },
     });
-    return search;
 }
 
 // Copies the result of a function for the active row's cells, whose invisible characters are made visible.
@@ -288,8 +279,10 @@ function copy_active(grid, of, what) {
 }
 
 async function save({ name, output }) {
-    const { title } = shown_file, before = output.textContent;
-    show_progress('csv', output, 'saving');
+    const { reader, title } = shown_file, before = output.textContent;
+    reader.on_progress = ({ progress, done }) => {
+        if (progress === 'csv') output.textContent = `saving … ${Math.floor(100 * done)} %`;
+    };
     const content = await ask('csv', { list: name });
     output.textContent = before;
     const link = make('a', { href: URL.createObjectURL(content), download: `${visible(title)}.${name}.csv` });
