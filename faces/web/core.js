@@ -16,7 +16,8 @@ const MOST_FILES = 10000, MOST_NAME = 4096;
 
 /** Returns a signal's number with its name. (MIPS has other numbers for some.) */
 export function signal_of({ note }) {
-    const number = Number(number_at(note.desc_range.offset + 12n, 2)), is_own = file.elf.header.e_machine === goblin.EM_MIPS && [7, 10, 12].includes(number);
+    const number = Number(number_at(note.desc_range.offset + 12n, 2));
+    const is_own = file.elf.header.e_machine === goblin.EM_MIPS && [7, 10, 12].includes(number);
     return SIGNALS[number] && !is_own ? `${number}, SIG${SIGNALS[number]}` : `${number}`;
 }
 

@@ -79,7 +79,7 @@ const INFO_WORDS = { [goblin.SHT_SYMTAB]: 'symbols that are local', [goblin.SHT_
 // Returns the list that a section holds.
 function list_of({ sh_type }, index) {
     if (SYMBOL_TYPES.includes(sh_type)) return { text: 'its symbols', to: `symbols/${index}` };
-    if (RELOCATION_TYPES.includes(sh_type) || sh_type === RELR) return { text: 'its relocations', to: `relocations/${index}` };
+    if (RELOCATION_TYPES.includes(sh_type)) return { text: 'its relocations', to: `relocations/${index}` };
     return undefined;
 }
 
@@ -210,10 +210,8 @@ function part_details(index) {
     };
 }
 
-const LISTS = {
-    sections: section_details, segments: segment_details, symbols: symbol_details, relocations: relocation_details,
-    notes: note_details, layout: (item, index) => part_details(index),
-};
+const LISTS = { sections: section_details, segments: segment_details, symbols: symbol_details, relocations: relocation_details,
+    notes: note_details, layout: part_details };
 /** Returns what is shown of an item of a list. */
 export const item_details = (source, { list, index, of }) => LISTS[list](source.list.get(index), index, of);
 
@@ -227,7 +225,8 @@ export function offset_details(offset) {
         title: `offset ${hex(offset)}`, what: pieces[0] ? `in ${pieces[0].title}` : 'in a gap', kind: pieces[0]?.kind,
         fields: [
             inside.length > 0 && field('in', '', '', ...inside),
-            address !== undefined && field('address', hex(address), '', at_address(address)), symbol && field('symbol', '', '', to_symbol(symbol)),
+            address !== undefined && field('address', hex(address), '', at_address(address)),
+            symbol && field('symbol', '', '', to_symbol(symbol)),
         ],
         blocks: [{ word: 'bytes from there on', at: offset, size: end - offset }],
     };

@@ -1,7 +1,7 @@
 // The dynamic section and packed relocations, which the library doesn't read. The page reads them by numbers, and what these mean is not
 // proved. Parts are found by their addresses, so that a file without section headers has them, too.
 import * as goblin from './goblin.js';
-import { file, is_wide, name_at, own_sections, read_or, RELOCATION_TYPES, RELR, sections, segment_of, size_of, SYMBOL_TYPES } from './file.js';
+import { file, is_wide, name_at, own_sections, read_or, RELR, sections, segment_of, size_of, SYMBOL_TYPES } from './file.js';
 import { offset_of_address } from './resolve.js';
 import { once } from './text.js';
 
@@ -67,7 +67,8 @@ export function versions() {
 
 // Returns the number of dynamic symbols: that of the hash table, or that of the last chain of a table of GNU's form, which ends at an odd number.
 function symbol_count() {
-    const hash = offset_of(DT.HASH), gnu = BigInt(offset_of(DT.GNU_HASH) ?? 0), wide = file.elf.header.e_machine === goblin.EM_S390 ? word() : 4n;
+    const hash = offset_of(DT.HASH), gnu = BigInt(offset_of(DT.GNU_HASH) ?? 0);
+    const wide = file.elf.header.e_machine === goblin.EM_S390 ? word() : 4n;
     if (hash !== undefined || !gnu) return hash === undefined ? 0n : number_at(BigInt(hash) + wide, wide);
     const [buckets, first, blooms] = [0n, 4n, 8n].map((at) => number_at(gnu + at, 4));
     const item = (index) => number_at(gnu + 16n + blooms * word() + 4n * index, 4);
@@ -89,7 +90,7 @@ export function find_own_sections() {
     const entry = size_of('symbol'), table = { sh_link: 'DT_SYMTAB' }, { SHT_REL, SHT_RELA, SHT_DYNSYM } = goblin;
     if (lacks(...SYMBOL_TYPES)) add('SYMTAB', SHT_DYNSYM, symbol_count() * BigInt(entry), entry, { sh_link: 0, strtab: strtab() });
     if (lacks(RELR)) add('RELR', RELR, value_of(DT.RELRSZ), word(), table);
-    if (!lacks(...RELOCATION_TYPES)) return;
+    if (!lacks(SHT_REL, SHT_RELA)) return;
     const [type, kind] = value_of(DT.PLTREL) === DT.RELA ? [SHT_RELA, 'rela'] : [SHT_REL, 'rel'];
     add('RELA', SHT_RELA, value_of(DT.RELASZ), size_of('rela'), table);
     add('REL', SHT_REL, value_of(DT.RELSZ), size_of('rel'), table);

@@ -4,12 +4,13 @@ import { count, hex, name_of, NAME, once } from './text.js';
 
 export const file = { elf: undefined, content: new Uint8Array(0) };
 export const is_wide = () => file.elf.is_64();
+
 // The size of an entry of each table, in 32-bit and 64-bit files.
 const SIZES = { header: [52, 64], segment: [32, 56], section: [40, 64], symbol: [16, 24], rel: [8, 16], rela: [12, 24] };
 export const size_of = (kind) => SIZES[kind][Number(is_wide())];
 export const RELR = 19;
 export const SYMBOL_TYPES = [goblin.SHT_SYMTAB, goblin.SHT_DYNSYM];
-export const RELOCATION_TYPES = [goblin.SHT_REL, goblin.SHT_RELA];
+export const RELOCATION_TYPES = [goblin.SHT_REL, goblin.SHT_RELA, RELR];
 
 // Returns the result of reading a part, or that of a function for its refusal.
 function read_part(read, refused) {
@@ -74,6 +75,12 @@ export function segment_refusal(error, index) {
     const { p_offset, p_filesz } = file.elf.program_header(index), size = size_of('segment');
     const mark = { at: Number(file.elf.header.e_phoff) + index * size, size };
     return range_refusal(error, `the bytes of segment ${index}`, `segment ${index}`, p_offset, p_filesz, mark);
+}
+
+/** Returns the bytes of a range as hexadecimal digits, those past a number of bytes as an ellipsis. */
+export function digits_of({ offset, size }, most = Infinity) {
+    const bytes = file.content.subarray(Number(offset), Number(offset + size)).subarray(0, most);
+    return Array.from(bytes, (byte) => byte.toString(16).padStart(2, '0')).join('') + (size > most ? '…' : '');
 }
 
 /** The tables that the dynamic section leads to, and no section header, by the name of their tag: as sections, which the page makes. */

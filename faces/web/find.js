@@ -25,25 +25,19 @@ function places_of_number({ value, read }) {
 }
 
 // Collects results by how the text matches their name: the whole name, its start, or a part.
-class Found {
-    ranks = [[], [], []];
-    #wanted;
-
-    constructor(text) { this.#wanted = text.toLowerCase(); }
-
-    add(name, place) {
-        const at = name.toLowerCase().indexOf(this.#wanted);
-        if (at < 0) return;
-        const rank = this.ranks[at > 0 ? 2 : name.length === this.#wanted.length ? 0 : 1];
-        if (rank.length < MOST) rank.push({ title: name, ...place() });
-    }
+function collector(text) {
+    const ranks = [[], [], []], wanted = text.toLowerCase();
+    const add = (name, place) => {
+        const at = name.toLowerCase().indexOf(wanted), rank = at > 0 ? 2 : name.length === wanted.length ? 0 : 1;
+        if (at >= 0 && ranks[rank].length < MOST) ranks[rank].push({ title: name, ...place() });
+    };
+    return { ranks, add };
 }
 
 function add_small(found) {
     for (const { name, words } of header_fields()) found.add(name, () => ({ detail: words, to: `header/${name}` }));
-    for (const { index, section } of sections()) {
-        found.add(name_of_section(section), () => ({ detail: `section ${index}`, to: `sections/${index}` }));
-    }
+    sections().forEach(({ index, section }) =>
+        found.add(name_of_section(section), () => ({ detail: `section ${index}`, to: `sections/${index}` })));
     for (const by of ['sections', 'segments']) {
         notes_of(by).items.forEach((item, index) =>
             found.add(title_of(item), () => ({ detail: `note ${index} of ${by}`, to: `notes/${by}/${index}` })));
@@ -52,7 +46,7 @@ function add_small(found) {
 
 /** Returns the results for a text, the best first, or nothing if it is no longer wanted. */
 export async function find(text, is_wanted) {
-    const numbers = numbers_in(text).flatMap(places_of_number), found = new Found(text);
+    const numbers = numbers_in(text).flatMap(places_of_number), found = collector(text);
     add_small(found);
     for (const table of symbol_tables()) {
         const source = read_or(undefined, () => symtab_at(table)) && open_source('symbols', table);

@@ -1,4 +1,4 @@
-// Names of numbers: the library's, which are goblin's, if they are right for the file's machine and system; else the page's own, or the number.
+// Names of numbers: the library's, which are goblin's, if they are right for the file's machine and system; else the page's own, or digits.
 import * as goblin from './goblin.js';
 import { file, is_wide } from './file.js';
 import * as own from './names.js';
@@ -36,10 +36,9 @@ export const prefixed = (prefix, name) => (/^(0x|\d+$)/.test(name) ? name : `${p
 /** Returns the name of a relocation's type with its prefix, or the number. */
 export const relocation_type = once((type) => own.relocation_type(type, file.elf.header.e_machine, is_wide()) ?? `${type}`);
 
-const BITS = Array.from({ length: 32 }, (_, bit) => bit);
 /** Returns the names of a section's flags. Flags without a name are numbers. */
 export const section_flags = once((flags) => {
-    const names = BITS.filter((bit) => flags >> BigInt(bit) & 1n).map((bit) => {
+    const names = Array.from({ length: 32 }, (_, bit) => bit).filter((bit) => flags >> BigInt(bit) & 1n).map((bit) => {
         const given = own.section_flag(bit, file.elf.header.e_machine) ?? fitting(goblin.shf_to_str(2 ** bit));
         return given ? without('SHF_', given) : hex(2 ** bit);
     });

@@ -1,6 +1,6 @@
 // The pieces of the file, and the parts that the ends of pieces divide it into.
 import * as goblin from './goblin.js';
-import { called, file, is_debug, RELOCATION_TYPES, RELR, section_at, sections, segments, size_of, SYMBOL_TYPES, read_or } from './file.js';
+import { called, file, is_debug, RELOCATION_TYPES, section_at, sections, segments, size_of, SYMBOL_TYPES, read_or } from './file.js';
 import { segment_type } from './labels.js';
 import { notes_of, title_of } from './notes.js';
 import { first_after } from './spans.js';
@@ -11,7 +11,7 @@ export const KINDS = ['header', 'tables', 'code', 'data', 'constants', 'names', 
 export function kind_of(section) {
     const { sh_type, sh_flags } = section;
     if (SYMBOL_TYPES.includes(sh_type) || sh_type === goblin.SHT_STRTAB) return 'names';
-    if (RELOCATION_TYPES.includes(sh_type) || sh_type === RELR) return 'relocations';
+    if (RELOCATION_TYPES.includes(sh_type)) return 'relocations';
     if (sh_type === goblin.SHT_NOTE) return 'notes';
     if (sh_flags & 4n) return 'code';
     if (sh_flags & 2n) return sh_flags & 1n ? 'data' : 'constants';
@@ -86,7 +86,7 @@ class Cover {
 const ends_of = (pieces) => pieces.flatMap(({ start, end }) => [start, end]);
 
 // A part ends where a piece of sections ends, and where another piece of segments is drawn.
-/** Returns the parts: their starts and ends, the pieces that are drawn, and the numbers of pieces of sections; and the pieces past the end. */
+/** Returns the parts: their starts and ends, the pieces that are drawn, and how many of sections lie there; and the pieces past the end. */
 export const parts = once(() => {
     const of_sections = pieces_of_sections(), of_segments = pieces_of_segments(), size = file.content.length;
     const first = of_sections.found, second = [...of_sections.cut, ...of_segments.found, ...of_segments.cut];

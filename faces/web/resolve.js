@@ -83,8 +83,8 @@ export const segments_of_address = (address) => (has_addresses()
 
 /** Returns the index of the section that holds an address, or nothing. */
 export function section_of_address(address) {
-    const is_there = ({ sh_flags, sh_type }) => sh_flags & goblin.SHF_ALLOC && !(sh_type === goblin.SHT_NOBITS && sh_flags & goblin.SHF_TLS);
-    const found = sections().find(({ section }) => is_there(section) && holds(section.sh_addr, section.sh_size, address));
+    const is_in = ({ sh_flags, sh_type }) => sh_flags & goblin.SHF_ALLOC && !(sh_type === goblin.SHT_NOBITS && sh_flags & goblin.SHF_TLS);
+    const found = sections().find(({ section }) => is_in(section) && holds(section.sh_addr, section.sh_size, address));
     return has_addresses() ? found?.index : undefined;
 }
 
@@ -106,9 +106,8 @@ export function address_of_offset(offset) {
 
 /** Returns the symbol for an address: its table, index and name, and the distance from its start; or nothing. */
 export function symbol_of_address(address) {
-    if (!has_addresses()) return undefined;
-    for (const table of symbol_tables()) {
-        const thumb = file.elf.header.e_machine === goblin.EM_ARM ? 1n : 0n;
+    const thumb = file.elf.header.e_machine === goblin.EM_ARM ? 1n : 0n;
+    for (const table of has_addresses() ? symbol_tables() : []) {
         const index = read_or(undefined, () => symtab_at(table).by_address(address | thumb));
         if (index === undefined) continue;
         const symbol = symtab_at(table).get(index), start = address_of_symbol(symbol);

@@ -81,7 +81,7 @@ function overview() {
         words: [kind_in_words(), labels.file_class(header.ei_class), elf.little_endian() ? 'little endian' : 'big endian',
             labels.file_type(header.e_type), labels.machine(header.e_machine), `entry ${hex(header.e_entry)}`],
         symbols: refused ? { refused } : tables(SYMBOL_TYPES, (section, index) => symtab_at(index)),
-        relocations: refused ? { refused } : tables([...RELOCATION_TYPES, RELR], relocations_of),
+        relocations: refused ? { refused } : tables(RELOCATION_TYPES, relocations_of),
         notes: { sections: notes_summary('sections', headers.sections), segments: notes_summary('segments', headers.segments) },
         map: map(),
     };
@@ -108,12 +108,9 @@ const calls = {
     async open({ module, given }) {
         await init(module);
         file.content = await bytes_of(given);
-        try {
-            file.elf = goblin.Elf.parse(file.content);
-        } catch (error) {
-            return { refused: header_refusal(error), start: file.content.slice(0, 16) };
-        }
-        return overview();
+        const { elf, refused } = part(() => ({ elf: goblin.Elf.parse(file.content) }), header_refusal);
+        file.elf = elf;
+        return refused ? { refused, start: file.content.slice(0, 16) } : overview();
     },
 
     bytes([at, size]) { return file.content.slice(at, at + size); },
