@@ -22,11 +22,9 @@ const url = pathToFileURL(page).href, quoted = JSON.stringify;
 const evaluate = (expression) => browser.evaluate(expression);
 const until = (expression) => browser.until(expression);
 
-// ---- the page ----
-
 // Expressions for an element, and for the first one of several with a text; and the results of an expression for several items.
 const one = (selector) => `document.querySelector(${quoted(selector)})`;
-const with_text = (selector, text) => `[...document.querySelectorAll(${quoted(selector)})].find((item) => item.textContent === ${quoted(text)})`;
+const with_text = (place, text) => `[...document.querySelectorAll(${quoted(place)})].find((item) => item.textContent === ${quoted(text)})`;
 const each_of = (selector, of) => evaluate(`Array.from(document.querySelectorAll(${quoted(selector)}), (item) => ${of})`);
 const text_of = (selector) => evaluate(`${one(selector)}?.textContent ?? null`);
 const until_there = (selector) => until(`${one(selector)} !== null`);
@@ -39,14 +37,15 @@ const press_button = (text) => evaluate(`${with_text('main button', text)}.click
 const is_hidden = (id) => evaluate(`document.getElementById('${id}').hidden`);
 const is_visible = (selector) => evaluate(`${one(selector)}.offsetParent !== null`);
 const set_place = (place) => evaluate(`void (location.hash = ${quoted(place)})`);
-const is_busy = `document.body.ariaBusy === 'true'`, drawn = `${one('#panel .body .row')}?.row !== undefined || ${one('#panel .grid')}?.ariaRowCount === '1'`;
-const bytes_drawn = `${one('#chosen .hex .row')}?.row`, active_row = '#panel .row[aria-selected=true]';
+const drawn = `${one('#panel .body .row')}?.row !== undefined || ${one('#panel .grid')}?.ariaRowCount === '1'`;
+const bytes_drawn = `${one('#chosen .hex .row')}?.row`, is_busy = `document.body.ariaBusy === 'true'`;
+const active_row = '#panel .row[aria-selected=true]';
 const fragment = () => evaluate('location.hash.slice(1)');
 const side = () => text_of('#chosen');
 const cells = (column) => each_of('#panel .body .row', `item.children[${column}].textContent`);
 const click_row = (row) => evaluate(`document.querySelectorAll('#panel .body .row')[${row}].children[1].click()`);
-const field_of = (name) =>
-    evaluate(`[...document.querySelectorAll('#chosen tr')].find((row) => row.firstChild.textContent === ${quoted(name)})?.lastChild.innerText`);
+const field_of = (name) => evaluate(`[...document.querySelectorAll('#chosen tr')]
+    .find((row) => row.firstChild.textContent === ${quoted(name)})?.lastChild.innerText`);
 
 // Picks a file, and waits until the bar has its name.
 async function pick(path) {
@@ -105,8 +104,6 @@ async function go_by_field(text, title) {
     if (title) await until_chosen(title);
 }
 
-// ---- what readelf and C report ----
-
 function run(command, ...words) {
     const { stdout, error } = spawnSync(command, words, { encoding: 'utf8', env: { ...process.env, LC_ALL: 'C' }, maxBuffer: 1 << 28 });
     if (error) throw error;
@@ -149,17 +146,19 @@ const sections = sections_of(dump), symbols = symbols_of(dump), symtab = `symbol
 const main = symbols.find(({ name }) => name === 'main'), main_place = `${symtab}/${main.index}`, main_address = hex(main.value);
 const main_at = main.value - text.address + text.offset;
 
-async function check_counts(path) {
-    await pick(path);
-    const wanted = counts_of(path), found = {};
-    for (const name of Object.keys(wanted)) found[name] = Number((await text_of(`#tab-${name} span`)).replaceAll(',', ''));
-    assert.deepEqual(found, wanted, path);
-    assert.ok(wanted.sections > 5 && wanted.symbols > 5 && wanted.notes > 0, path);
-    await open_tab('sections');
-    const names = [...run('readelf', '-W', '-S', path).matchAll(/^ {2}\[ *\d+\] (\S*) +[A-Z]/gm)].map(([, name]) => name);
-    const shown = await cells(1);
-    assert.ok(shown.length > 5);
-    assert.deepEqual(shown, names.slice(0, shown.length), path);
+async function check_all_counts() {
+    for (const path of counted) {
+        await pick(path);
+        const wanted = counts_of(path), found = {};
+        for (const name of Object.keys(wanted)) found[name] = Number((await text_of(`#tab-${name} span`)).replaceAll(',', ''));
+        assert.deepEqual(found, wanted, path);
+        assert.ok(wanted.sections > 5 && wanted.symbols > 5 && wanted.notes > 0, path);
+        await open_tab('sections');
+        const names = [...run('readelf', '-W', '-S', path).matchAll(/^ {2}\[ *\d+\] (\S*) +[A-Z]/gm)].map(([, name]) => name);
+        const shown = await cells(1);
+        assert.ok(shown.length > 5);
+        assert.deepEqual(shown, names.slice(0, shown.length), path);
+    }
 }
 
 async function check_refusal(content, what, ...words) {
@@ -213,8 +212,7 @@ async function check_unknown() {
     await search('a', 'none');
     // (a note whose owner is not UTF-8 is read; a cut one is refused, and those after it are not read)
     await open_tab('notes');
-    assert.equal(await text_of('#tab-notes span'), '2+');
-    assert.deepEqual(await cells(2), ['GNU', 'GAU+0000\\xff']);
+    assert.deepEqual([await text_of('#tab-notes span'), await cells(2)], ['2+', ['GNU', 'GAU+0000\\xff']]);
     assert.match(await text_of('#panel .refused'), /^Refused: .* while reading the descriptor of the note at 0x[0-9a-f]+, of \.note/);
 }
 
@@ -306,7 +304,7 @@ async function check_core() {
 
 // Returns the legend's percentages by their names.
 async function shares() {
-    const items = await each_of('#legend li', 'item.textContent'), found = items.flatMap((item) => [...item.matchAll(/^(.+) ([\d.]+) %$/g)]);
+    const found = (await each_of('#legend li', 'item.textContent')).flatMap((item) => [...item.matchAll(/^(.+) ([\d.]+) %$/g)]);
     return Object.fromEntries(found.map(([, word, share]) => [word, Number(share)]));
 }
 
@@ -325,12 +323,13 @@ async function check_segments() {
         { flags: 6, vaddr: 0x600000, bytes: Buffer.alloc(8192, 2) }];
     const path = await pick_written('core', elf_file({ type: 4, segments }), 'notes');
     const { code, data, notes: of_notes, gap: between = 0 } = await shares(), size = readFileSync(path).length;
-    assert.deepEqual([code, data, of_notes], [4096, 8192, Buffer.concat(notes).length].map((bytes) => Math.round(1000 * bytes / size) / 10));
+    assert.deepEqual([code, data, of_notes], [4096, 8192, Buffer.concat(notes).length].map((held) => Math.round(1000 * held / size) / 10));
     assert.ok(between < 0.2, `gap ${between} %`);
-    assert.deepEqual(await cells(3), core_notes.map(([, , name]) => name));
-    assert.deepEqual(await cells(4), core_notes.map(([, , , thread]) => `${thread ?? ''}`));
+    const shown = core_notes.map(([, , name, thread = '']) => [name, `${thread}`]), threads = await cells(4);
+    assert.deepEqual((await cells(3)).map((name, i) => [name, threads[i]]), shown);
     await open_tab('layout');
-    const pieces = await cells(5), titles = core_notes.map(([owner, , name, thread]) => `${owner} ${name}${thread ? `, thread ${thread}` : ''}`);
+    const pieces = await cells(5);
+    const titles = core_notes.map(([owner, , name, thread]) => `${owner} ${name}${thread ? `, thread ${thread}` : ''}`);
     for (const title of [...titles, 'segment 1, LOAD', 'segment 2, LOAD']) assert.ok(pieces.includes(title), pieces.join('; '));
     const stripped = readFileSync(program_file).fill(0, 0x28, 0x30).fill(0, 0x3c, 0x40);
     const all = segments_of(await pick_written('stripped', stripped)).filter(({ type }) => type === 'LOAD');
@@ -397,8 +396,8 @@ async function check_labels() {
     const names = { 62: 'X86_64_UNWIND', 40: 'ARM_EXIDX', 243: '0x70000001' };
     for (const [machine, name] of Object.entries(names)) {
         await pick_written(`labels${machine}`, elf_file({ machine: Number(machine), osabi: 3, sections: given }), 'sections');
-        assert.deepEqual((await cells(2)).slice(2, 6), [name, 'RELR', '0x61234567', 'PROGBITS']);
-        assert.equal((await cells(6))[5], 'ALLOC GNU_RETAIN');
+        const types = (await cells(2)).slice(2, 6), { 5: flags } = await cells(6);
+        assert.deepEqual([...types, flags], [name, 'RELR', '0x61234567', 'PROGBITS', 'ALLOC GNU_RETAIN']);
     }
     await open_tab('notes');
     assert.deepEqual(await cells(3), ['STAPSDT', 'GNU_BUILD_ID', '0x3']);
@@ -634,7 +633,8 @@ const rows_of = (text) => text.trim().split('\r\n').slice(1).map((line) =>
 
 // Saves the open list, and returns the content of the file. (Until that is whole, it has another name, or there is one with its part.)
 async function saved(name) {
-    const form = new RegExp(`\\.${name}(\\(\\d+\\))?( \\(\\d+\\))?\\.csv$`), content_of = (file) => readFileSync(join(browser.downloads, file), 'utf8');
+    const form = new RegExp(`\\.${name}(\\(\\d+\\))?( \\(\\d+\\))?\\.csv$`);
+    const content_of = (file) => readFileSync(join(browser.downloads, file), 'utf8');
     await press_button('Save CSV');
     const content = await waited('a saved list', () => {
         const [file, ...others] = readdirSync(browser.downloads);
@@ -652,8 +652,7 @@ async function check_section_indices() {
     const content = symbols_file([{ info: 3, shndx: 5 }, { text: 'past', info: 0x12, shndx: 0xffff }], indices, ...others);
     const path = await pick_written('indices', content, 'symbols');
     assert.deepEqual(symbols_of(path).map(({ section }) => section), ['UND', '5', '6']);
-    assert.deepEqual(await cells(1), ['', '.s5', 'past']);
-    assert.deepEqual(await cells(7), ['undefined', '.s5', '.s6']);
+    assert.deepEqual([await cells(1), await cells(7)], [['', '.s5', 'past'], ['undefined', '.s5', '.s6']]);
     await go('symbols/1/2', 'past');
     await follow('.s6');
 }
@@ -698,8 +697,7 @@ async function check_formula() {
         sections: [{ name: '.rela', type: 4, entsize: 24, bytes: rela({ type: 2, addend: (1n << 64n) - 16n }) }] });
     await pick_written('numbers', content);
     const saved_cells = (name) => open_tab(name).then(() => saved_rows(name));
-    assert.equal((await saved_cells('relocations'))[0][4], '-0x10');
-    assert.equal((await saved_cells('segments'))[0][2], '0x5');
+    assert.deepEqual([(await saved_cells('relocations'))[0][4], (await saved_cells('segments'))[0][2]], ['-0x10', '0x5']);
     const parts = (await saved_cells('layout')).map(([, from, to, size, share]) => [Number(to) - Number(from), Number(size), share]);
     assert.ok(parts.length > 4);
     assert.deepEqual(parts, parts.map(([size]) => [size, size, (100 * size / content.length).toFixed(2)]));
@@ -1114,12 +1112,7 @@ async function check_requests() {
     const is_asked = (text) => text.includes('http://127.0.0.1:9/asked') && /Content.Security.Policy/.test(text);
     assert.ok(browser.refusals.every(is_asked), browser.refusals.join('\n'));
     const others = browser.requests.filter((request) => request.split(/[?#]/)[0] !== url && !/^(blob:|data:|about:blank$)/.test(request));
-    assert.deepEqual(others, []);
-    assert.deepEqual(browser.faults, []);
-}
-
-async function check_all_counts() {
-    for (const path of counted) await check_counts(path);
+    assert.deepEqual([others, browser.faults], [[], []]);
 }
 
 async function check_refusals() {
@@ -1133,17 +1126,14 @@ const checks = [
     check_all_counts, check_refusals, check_trouble, check_unknown, check_own_tables, check_summary, check_core, check_segments,
     check_many_segments, check_padding, check_cut, check_labels, check_loading, check_symbol_links, check_early_link, check_section_links,
     check_history, check_relocation_links, check_goto, check_search, check_relocation_names, check_section_indices, check_named_links,
-    check_fields, check_low, check_plain_words, check_copies, check_formula, check_refused_tables, check_demangled, check_words, check_cells,
-    check_widths, check_map, check_zoom, check_classes, check_sizes, check_narrow, check_themes, check_names, check_keys, check_requests,
-    check_unsupported,
+    check_fields, check_low, check_plain_words, check_copies, check_formula, check_refused_tables, check_demangled, check_words,
+    check_cells, check_widths, check_map, check_zoom, check_classes, check_sizes, check_narrow, check_themes, check_names, check_keys,
+    check_requests, check_unsupported,
 ];
-
-// Reports whether the browser has 64-bit memories, which the library needs.
-const is_able = `WebAssembly.validate(new Uint8Array([0, 97, 115, 109, 1, 0, 0, 0, 5, 3, 1, 4, 0]))`;
 
 async function run_checks() {
     await check_hearing();
-    if (!await evaluate(is_able)) {
+    if (!await evaluate(`WebAssembly.validate(new Uint8Array([0, 97, 115, 109, 1, 0, 0, 0, 5, 3, 1, 4, 0]))`)) {
         console.log(`${browser.constructor.title} has no 64-bit memories, so the page is not tested in it`);
         return;
     }

@@ -27,9 +27,8 @@ class Socket {
     constructor(receive) { this.receive = receive; }
 
     connect(url) {
-        const headers = {
-            Connection: 'Upgrade', Upgrade: 'websocket', 'Sec-WebSocket-Key': randomBytes(16).toString('base64'), 'Sec-WebSocket-Version': 13,
-        };
+        const headers = { Connection: 'Upgrade', Upgrade: 'websocket', 'Sec-WebSocket-Version': 13,
+            'Sec-WebSocket-Key': randomBytes(16).toString('base64') };
         return new Promise((resolve, reject) => {
             request(url.replace(/^ws:/, 'http:'), { headers }).on('error', reject).on('upgrade', (response, stream, head) => {
                 this.stream = stream;
@@ -68,8 +67,7 @@ class Socket {
         if ((first & 0x0f) > 1) return;
         this.#parts.push(content);
         if (!(first & 0x80)) return;
-        const text = Buffer.concat(this.#parts.splice(0)).toString();
-        this.receive(text);
+        this.receive(Buffer.concat(this.#parts.splice(0)).toString());
     }
 }
 
@@ -83,8 +81,7 @@ class Browser {
     constructor(folder) {
         this.downloads = join(folder, 'downloads');
         this.profile = join(folder, 'profile');
-        mkdirSync(this.downloads);
-        mkdirSync(this.profile);
+        for (const path of [this.downloads, this.profile]) mkdirSync(path);
     }
 
     /** Returns the browser's answer to a message, which `send` sends with a number, and whose answer has it. */
