@@ -1,5 +1,5 @@
 // Tests goblin.js against C: test.mjs FOLDER DUMP FILE.. What goblin.js in FOLDER reads of the files and of damaged copies must be, line by
-// line, what DUMP prints, the program of faces/c/dump.c. The module must have no imports, and goblin.js the structs and refusals of goblin.h.
+// line, what DUMP prints, the program of faces/c/dump.c. The module must have no imports, and goblin.js goblin.h's structs and refusals.
 import assert from 'node:assert/strict';
 import { spawnSync } from 'node:child_process';
 import { mkdtempSync, readFileSync, rmSync, writeFileSync } from 'node:fs';
@@ -102,7 +102,8 @@ class Dump {
 
     // Adds the lines of some numbers of a range.
     numbers_in(size, read) {
-        this.ask_each('goblin_number_in', [[0, 8], [size / 2n, 2], [BigInt.asUintN(64, size - 1n), 1]], ([offset, width]) => read(offset, width));
+        const last = BigInt.asUintN(64, size - 1n);
+        this.ask_each('goblin_number_in', [[0, 8], [size / 2n, 2], [last, 1]], ([offset, width]) => read(offset, width));
     }
 
     string(strtab, offset) {
@@ -150,19 +151,17 @@ class Dump {
     relocs(elf, section) {
         const is_list = section.sh_type === goblin.SHT_RELA || section.sh_type === goblin.SHT_REL;
         const put = ({ r_offset, r_sym, r_addend, r_type }) =>
-            fields({ r_offset, r_sym, r_addend: r_addend ?? 0, r_type, has_addend: Number(r_addend !== undefined) })
-                + ` ${r_addend ?? 0}`;
+            fields({ r_offset, r_sym, r_addend: r_addend ?? 0, r_type, has_addend: Number(r_addend !== undefined) }) + ` ${r_addend ?? 0}`;
         const table = is_list ? section : as_type(section, goblin.SHT_REL);
         const relocs = this.ask('goblin_reloc_count', () => elf.relocs(table), length);
         if (!relocs) return;
-        const count = relocs.length;
         let index = 0;
-        for (const reloc of relocs.from(0, is_list ? count : FEW)) {
+        for (const reloc of relocs.from(0, is_list ? relocs.length : FEW)) {
             this.ask('goblin_reloc', () => reloc, put);
             const at = index++, changed = { ...reloc, r_offset: reloc.r_offset ^ 1n, r_sym: reloc.r_sym + any_high(at) };
             if (at < FEW) this.write('goblin_put_reloc', (writer) => writer.put_reloc(table, at, changed));
         }
-        this.ask('goblin_reloc', () => relocs.get(count), put);
+        this.ask('goblin_reloc', () => relocs.get(relocs.length), put);
     }
 
     // Adds the lines of the notes of a section or segment, first with names that must be UTF-8, and then as bytes.
@@ -186,7 +185,8 @@ class Dump {
             this.ask('goblin_segment_bytes', () => elf.range(segment));
             this.ask('goblin_range_in_file', () => elf.readable_data(segment), size_and_first);
             this.numbers_in(p_filesz, (offset, width) => elf.number_in(segment, offset, width));
-            this.ask_each('goblin_address_to_offset', [0n, half, 2n * half], (before) => elf.address_to_offset(BigInt.asUintN(64, p_vaddr + before)));
+            const addresses = [0n, half, 2n * half].map((before) => BigInt.asUintN(64, p_vaddr + before));
+            this.ask_each('goblin_address_to_offset', addresses, (address) => elf.address_to_offset(address));
             this.notes(elf, segment);
             const changed = { ...segment, p_flags: segment.p_flags ^ goblin.PF_X, p_memsz: segment.p_memsz + any_high(index) };
             if (index < FEW) this.write('goblin_put_segment', (writer) => writer.put_program_header(index, changed));
@@ -199,26 +199,24 @@ class Dump {
         if (!list) return;
         const names = this.ask('goblin_section_names', () => elf.shdr_strtab(), ({ range }) => fields(range));
         if (!names) return;
-        let index = 0;
-        for (const section of list) {
+        for (const [index, section] of list.entries()) {
             const flags = Array.from({ length: 32 }, (_, bit) => 2 ** bit).filter((flag) => section.sh_flags & BigInt(flag));
             this.ask('goblin_section', () => section, (item) =>
                 fields(item) + [goblin.sht_to_str(item.sh_type), ...flags.map(goblin.shf_to_str)].map((name) => ` ${name}`).join(''));
             const name = this.string(names, section.sh_name), found = ({ index: at, section: it }) => ` ${hex(at)}${fields(it)}`;
             const firsts = name === undefined ? [] : [0, index, 2 * index], { sh_type } = section;
             this.ask_each('goblin_section_by_name', firsts, (first) => elf.section_by_name(name, first), found);
-            this.ask_each('goblin_section_by_type', [Math.floor(index / 2), index + 1], (first) => elf.section_by_type(sh_type, first), found);
+            this.ask_each('goblin_section_by_type', [index >> 1, index + 1], (first) => elf.section_by_type(sh_type, first), found);
             this.ask('goblin_section_bytes', () => elf.range(section));
             this.ask('goblin_range_in_file', () => elf.readable_data(section), size_and_first);
-            const { sh_size } = as_type(section, section.sh_type);
-            this.numbers_in(sh_size, (offset, width) => elf.number_in(section, offset, width));
+            this.numbers_in(as_type(section, sh_type).sh_size, (offset, width) => elf.number_in(section, offset, width));
             this.symbols(elf, section);
             this.relocs(elf, section);
             this.notes(elf, section);
-            const at = index++, changed = { ...section, sh_flags: section.sh_flags ^ goblin.SHF_WRITE, sh_name: section.sh_name + any_high(at) };
-            if (at < FEW) this.write('goblin_put_section', (writer) => writer.put_section_header(at, changed));
+            const changed = { ...section, sh_flags: section.sh_flags ^ goblin.SHF_WRITE, sh_name: section.sh_name + any_high(index) };
+            if (index < FEW) this.write('goblin_put_section', (writer) => writer.put_section_header(index, changed));
         }
-        this.ask('goblin_section', () => list.get(index));
+        this.ask('goblin_section', () => list.get(list.length));
     }
 
     whole(elf) {
