@@ -28,10 +28,7 @@ export const part = (read, refused) => read_part(read, (error) => ({ refused: re
 export const read_or = (other, read) => read_part(read, () => other);
 
 /** Returns a refusal for the page: the library's text, what was being read, the bytes that hold its offset, and perhaps what that means. */
-export function refusal(error, what, marks, words) {
-    if (!(error instanceof goblin.GoblinError)) throw error;
-    return { text: error.message, kind: error.kind, what, marks, words };
-}
+export const refusal = ({ message: text, kind }, what, marks, words) => ({ text, kind, what, marks, words });
 
 // Returns in words that something ends past the end of the file, or nothing if it doesn't.
 function words_of_cut(what, start, size) {

@@ -37,7 +37,7 @@ const rooms = once(() => {
 });
 
 const within = (start, size, value) => start <= value && value < start + size;
-const is_refused = (range) => part(() => { range(); return {}; }, () => true).refused;
+const is_refused = (range) => read_or(true, () => { range(); return false; });
 
 /** Returns the title of a symbol's section. */
 export function section_word(table, index, symbol) {
