@@ -8,30 +8,50 @@ import { randomBytes } from 'node:crypto';
 import { existsSync, mkdtempSync, readdirSync, readFileSync, rmSync, truncateSync, writeFileSync } from 'node:fs';
 import { tmpdir } from 'node:os';
 import { basename, join } from 'node:path';
+import { setTimeout } from 'node:timers/promises';
 import { pathToFileURL } from 'node:url';
-import { PATIENCE, Chromium, Firefox } from './browsers.mjs';
+import { Chromium, Firefox, waited } from './browsers.mjs';
 import { elf_file, note, packed, rela, symbols_file } from './elves.mjs';
 
 const [, , kind, program, page, dump, made_files, ...files] = process.argv;
-const made = join(made_files, 'little64'), content = readFileSync(made);
+const made = join(made_files, 'little64'), content = readFileSync(made), program_file = files.at(-1);
 const counted = [...readdirSync(made_files).map((name) => join(made_files, name)), dump, ...files];
 const folder = mkdtempSync(join(tmpdir(), 'goblin-'));
 const browser = new { chromium: Chromium, firefox: Firefox }[kind](folder);
-const url = pathToFileURL(page).href;
+const url = pathToFileURL(page).href, quoted = JSON.stringify;
 const evaluate = (expression) => browser.evaluate(expression);
 const until = (expression) => browser.until(expression);
-const quoted = JSON.stringify;
 
-// ---- the page ----
-
-const text_of = (selector) => evaluate(`document.querySelector(${quoted(selector)})?.textContent ?? null`);
-const is_busy = `document.body.ariaBusy === 'true'`;
+// Expressions for an element, and for the first one of several with a text; and the results of an expression for several items.
+const one = (selector) => `document.querySelector(${quoted(selector)})`;
+const with_text = (place, text) => `[...document.querySelectorAll(${quoted(place)})].find((item) => item.textContent === ${quoted(text)})`;
+const each_of = (selector, of) => evaluate(`Array.from(document.querySelectorAll(${quoted(selector)}), (item) => ${of})`);
+const text_of = (selector) => evaluate(`${one(selector)}?.textContent ?? null`);
+const until_there = (selector) => until(`${one(selector)} !== null`);
+const until_text = (selector, text) => until(`${one(selector)}?.textContent === ${quoted(text)}`);
+const until_chosen = (title) => until_text('#chosen h2', title);
+const until_active = (selector) => until(`document.activeElement.matches(${quoted(selector)})`);
+const click = (selector) => evaluate(`${one(selector)}.click()`);
+const focus = (selector) => evaluate(`${one(selector)}.focus()`);
+const press_button = (text) => evaluate(`${with_text('main button', text)}.click()`);
+const is_hidden = (id) => evaluate(`document.getElementById('${id}').hidden`);
+const is_visible = (selector) => evaluate(`${one(selector)}.offsetParent !== null`);
+const set_place = (place) => evaluate(`void (location.hash = ${quoted(place)})`);
+const drawn = `${one('#panel .body .row')}?.row !== undefined || ${one('#panel .grid')}?.ariaRowCount === '1'`;
+const bytes_drawn = `${one('#chosen .hex .row')}?.row`, is_busy = `document.body.ariaBusy === 'true'`;
+const active_row = '#panel .row[aria-selected=true]';
+const fragment = () => evaluate('location.hash.slice(1)');
+const side = () => text_of('#chosen');
+const cells = (column) => each_of('#panel .body .row', `item.children[${column}].textContent`);
+const click_row = (row) => evaluate(`document.querySelectorAll('#panel .body .row')[${row}].children[1].click()`);
+const field_of = (name) => evaluate(`[...document.querySelectorAll('#chosen tr')]
+    .find((row) => row.firstChild.textContent === ${quoted(name)})?.lastChild.innerText`);
 
 // Picks a file, and waits until the bar has its name.
 async function pick(path) {
     await evaluate(`document.getElementById('file').replaceChildren()`);
     await browser.pick('#pick', path);
-    await until(`document.querySelector('#file b')?.textContent === ${quoted(basename(path))} && !(${is_busy})`);
+    await until(`${one('#file b')}?.textContent === ${quoted(basename(path))} && !(${is_busy})`);
 }
 
 // Writes a file, and picks it, and perhaps opens a tab.
@@ -43,9 +63,6 @@ async function pick_written(name, content, tab) {
     return path;
 }
 
-const click = (selector) => evaluate(`document.querySelector(${quoted(selector)}).click()`);
-const drawn = `document.querySelector('#panel .body .row')?.row !== undefined || document.querySelector('#panel .grid')?.ariaRowCount === '1'`;
-
 async function open_tab(name) {
     await click(`#tab-${name}`);
     await until(`document.querySelector('#panel .grid[aria-label=${name}]') && (${drawn})`);
@@ -53,44 +70,21 @@ async function open_tab(name) {
 
 // Goes to a list, and waits until the page says how many items it has, or `none` or `refused`.
 async function open_list(place, said) {
-    await evaluate(`void (location.hash = ${quoted(place)})`);
-    await until(`document.querySelector('#panel output')?.textContent === '${said}' && (${drawn} || ${/[a-z]/.test(said)})`);
+    await set_place(place);
+    await until(`${one('#panel output')}?.textContent === '${said}' && (${drawn} || ${/[a-z]/.test(said)})`);
 }
 
-// Goes to a location, and waits until the title of what is chosen has a text.
-async function go(place, title) {
-    await evaluate(`void (location.hash = ${quoted(place)})`);
-    await until_chosen(title);
-}
-
-const until_chosen = (title) => until(`document.querySelector('#chosen h2')?.textContent === ${quoted(title)}`);
-
-// Goes back, or forward, and waits until the title of what is chosen has a text.
-async function go_in_history(way, title) {
-    await evaluate(`history.${way}()`);
-    await until_chosen(title);
-}
-
-const fragment = () => evaluate('location.hash.slice(1)');
-const side = () => text_of('#chosen');
-const cells = (column) => evaluate(`[...document.querySelectorAll('#panel .body .row')].map((row) => row.children[${column}].textContent)`);
-
-async function follow(text, title = text) {
-    await evaluate(`[...document.querySelectorAll('#chosen a')].find((link) => link.textContent === ${quoted(text)}).click()`);
-    await until_chosen(title);
-}
-
-const press_button = (text) =>
-    evaluate(`[...document.querySelectorAll('main button')].find((button) => button.textContent === ${quoted(text)}).click()`);
-const field_of = (name) =>
-    evaluate(`[...document.querySelectorAll('#chosen tr')].find((row) => row.firstChild.textContent === ${quoted(name)})?.lastChild.innerText`);
+// Goes to a location, back or forward, or to that of a link, and waits until the title of what is chosen has a text.
+const go = (place, title) => set_place(place).then(() => until_chosen(title));
+const go_in_history = (way, title) => evaluate(`history.${way}()`).then(() => until_chosen(title));
+const follow = (text, title = text) => evaluate(`${with_text('#chosen a', text)}.click()`).then(() => until_chosen(title));
 
 // Returns the first bytes that the side shows, in the lines that are drawn.
 async function bytes_shown() {
-    await until(`document.querySelector('#chosen .hex .row')?.row`);
-    const lines = await evaluate(`[...document.querySelectorAll('#chosen .hex .row')].map((row) => [...row.children[1].childNodes]
-        .filter((node) => node.nodeType === 3).map((node) => node.textContent).join(' '))`);
-    return lines.join(' ').split(/\s+/).filter((byte) => byte).join('');
+    await until(bytes_drawn);
+    const lines = await each_of('#chosen .hex .row',
+        `[...item.children[1].childNodes].filter((node) => node.nodeType === 3).map((node) => node.textContent).join(' ')`);
+    return lines.join(' ').replaceAll(/\s/g, '');
 }
 
 async function search(text, shown) {
@@ -104,12 +98,11 @@ async function search(text, shown) {
 }
 
 async function go_by_field(text, title) {
-    await evaluate(`(() => { const field = document.getElementById('goto'); field.focus(); field.value = ${quoted(text)}; })()`);
+    await focus('#goto');
+    await evaluate(`void (document.getElementById('goto').value = ${quoted(text)})`);
     await browser.press('Enter');
     if (title) await until_chosen(title);
 }
-
-// ---- what readelf and C report ----
 
 function run(command, ...words) {
     const { stdout, error } = spawnSync(command, words, { encoding: 'utf8', env: { ...process.env, LC_ALL: 'C' }, maxBuffer: 1 << 28 });
@@ -117,17 +110,15 @@ function run(command, ...words) {
     return stdout;
 }
 
-// Returns the segments of a file.
 const segments_of = (path) => [...run('readelf', '-W', '-l', path).matchAll(/^ {2}([A-Z_]+) +(0x\S+) \S+ \S+ (0x\S+) \S+ +([RWE ]+) (0x\S+)$/gm)]
     .map(([, type, offset, size, flags, align]) => ({ type, offset: Number(offset), size: Number(size), flags: flags.trim(), align }));
 
-const sum = (text, pattern) => [...text.matchAll(pattern)].reduce((all, [, count]) => all + Number(count), 0);
-
 function counts_of(path) {
     const output = run('readelf', '-W', '-h', '-s', '-r', '-n', path);
+    const sum = (pattern) => [...output.matchAll(pattern)].reduce((all, [, count]) => all + Number(count), 0);
     return {
-        sections: sum(output, /Number of section headers: +(\d+)/g), segments: sum(output, /Number of program headers: +(\d+)/g),
-        symbols: sum(output, /Symbol table .* contains (\d+) entr/g), relocations: sum(output, /Relocation section .* contains (\d+) entr/g),
+        sections: sum(/Number of section headers: +(\d+)/g), segments: sum(/Number of program headers: +(\d+)/g),
+        symbols: sum(/Symbol table .* contains (\d+) entr/g), relocations: sum(/Relocation section .* contains (\d+) entr/g),
         notes: [...output.matchAll(/^ {2}\S+ +0x[0-9a-f]{8}\t/gm)].length,
     };
 }
@@ -149,39 +140,34 @@ function symbols_of(path) {
             ({ index: Number(index), value: parseInt(value, 16), size: Number(size), type, section, name }));
 }
 
-// Of the program that is picked most: its sections, its symbols and the location of their table, and its function main with its location,
-// address and offset.
-const hex = (number) => `0x${number.toString(16)}`;
+// Of the program that is picked most: its sections and symbols, the location of these, and main with its location, address and offset.
+const hex = (number) => `0x${number.toString(16)}`, decimal = (number) => number.toLocaleString('en');
 const sections = sections_of(dump), symbols = symbols_of(dump), symtab = `symbols/${sections['.symtab'].index}`, text = sections['.text'];
 const main = symbols.find(({ name }) => name === 'main'), main_place = `${symtab}/${main.index}`, main_address = hex(main.value);
 const main_at = main.value - text.address + text.offset;
 
-// ---- what the page shows of files ----
-
-async function check_counts(path) {
-    await pick(path);
-    const wanted = counts_of(path), found = {};
-    for (const name of Object.keys(wanted)) found[name] = Number((await text_of(`#tab-${name} span`)).replaceAll(',', ''));
-    assert.deepEqual(found, wanted, path);
-    assert.ok(wanted.sections > 5 && wanted.symbols > 5 && wanted.notes > 0, path);
-    await open_tab('sections');
-    const names = [...run('readelf', '-W', '-S', path).matchAll(/^ {2}\[ *\d+\] (\S*) +[A-Z]/gm)].map(([, name]) => name);
-    const shown = await cells(1);
-    assert.ok(shown.length > 5);
-    assert.deepEqual(shown, names.slice(0, shown.length), path);
+async function check_all_counts() {
+    for (const path of counted) {
+        await pick(path);
+        const wanted = counts_of(path), found = {};
+        for (const name of Object.keys(wanted)) found[name] = Number((await text_of(`#tab-${name} span`)).replaceAll(',', ''));
+        assert.deepEqual(found, wanted, path);
+        assert.ok(wanted.sections > 5 && wanted.symbols > 5 && wanted.notes > 0, path);
+        await open_tab('sections');
+        const names = [...run('readelf', '-W', '-S', path).matchAll(/^ {2}\[ *\d+\] (\S*) +[A-Z]/gm)].map(([, name]) => name);
+        const shown = await cells(1);
+        assert.ok(shown.length > 5);
+        assert.deepEqual(shown, names.slice(0, shown.length), path);
+    }
 }
 
-const refusal_line = (path) => run(dump, path).split('\n')[1];
-
 async function check_refusal(content, what, ...words) {
-    const path = await pick_written('refused', content), line = refusal_line(path);
+    const [, line] = run(dump, await pick_written('refused', content)).split('\n');
     assert.match(line, /^goblin_header kind=/);
-    const text = await text_of('#refused:not([hidden]) h3');
+    const text = await text_of('#refused:not([hidden]) h3'), said = await text_of('#refused');
     assert.ok(text?.startsWith('Refused: ') && line.endsWith(text.slice('Refused: '.length)), `${text}, ${line}`);
-    const said = await text_of('#refused');
     for (const word of [what, ...words]) assert.ok(said.includes(word), said);
-    assert.equal(said.includes('This is not an ELF file'), words.length > 0);
-    assert.equal(await evaluate(`document.getElementById('shown').hidden`), true);
+    assert.deepEqual([said.includes('This is not an ELF file'), await is_hidden('shown')], [words.length > 0, true]);
 }
 
 // A file that is not read: the page shows why, instead of the previous file.
@@ -189,15 +175,14 @@ async function check_trouble() {
     await pick(made);
     await pick_written('empty', '');
     assert.equal(await text_of('#trouble:not([hidden])'), 'The file is empty: it has 0 bytes.');
-    assert.equal(await evaluate(`document.getElementById('shown').hidden && document.getElementById('refused').hidden`), true);
+    assert.deepEqual([await is_hidden('shown'), await is_hidden('refused')], [true, true]);
     const large = join(folder, 'large');
     writeFileSync(large, content);
     truncateSync(large, 2 ** 31 + 1);
     await pick(made);
     await pick(large);
-    assert.equal(await text_of('#trouble:not([hidden])'),
-        'The file has 2,147,483,649 bytes. This page reads files of at most 2 GiB (2,147,483,648 bytes).');
-    assert.equal(await evaluate(`document.getElementById('shown').hidden`), true);
+    const words = 'The file has 2,147,483,649 bytes. This page reads files of at most 2 GiB (2,147,483,648 bytes).';
+    assert.deepEqual([await text_of('#trouble:not([hidden])'), await is_hidden('shown')], [words, true]);
     assert.match(await text_of('#start .drop'), /at most 2 GiB/);
 }
 
@@ -211,7 +196,7 @@ async function check_unknown() {
         assert.equal(await text_of(`#tab-${name} span`), 'refused', name);
         await evaluate(`document.getElementById('panel').replaceChildren()`);
         await click(`#tab-${name}`);
-        await until(`document.querySelector('#panel .refused') !== null`);
+        await until_there('#panel .refused');
         words.push(await text_of('#panel .refused'));
     }
     assert.match(words[0], /^The section headers begin at 0x2000, .*Refused: .* while reading the section headers: e_shnum \d+, e_shoff 0x/s);
@@ -227,49 +212,47 @@ async function check_unknown() {
     await search('a', 'none');
     // (a note whose owner is not UTF-8 is read; a cut one is refused, and those after it are not read)
     await open_tab('notes');
-    assert.equal(await text_of('#tab-notes span'), '2+');
-    assert.deepEqual(await cells(2), ['GNU', 'GAU+0000\\xff']);
+    assert.deepEqual([await text_of('#tab-notes span'), await cells(2)], ['2+', ['GNU', 'GAU+0000\\xff']]);
     assert.match(await text_of('#panel .refused'), /^Refused: .* while reading the descriptor of the note at 0x[0-9a-f]+, of \.note/);
 }
 
-// Packed relocations are counted and listed, and so are the symbols and relocations that only the dynamic section leads to. The page says of
-// both that they are outside of what is proved.
+// Packed relocations are listed, and so is what only the dynamic section leads to. The page says that both are outside of what is proved.
 async function check_own_tables() {
     const words = [[0x1000, 8], [0b1011, 8], [0b11, 8], [0x2000, 8]], wanted = ['0x1000', '0x1008', '0x1018', '0x1200', '0x2000'];
     const file = elf_file({ type: 3, sections: [{ name: '.relr.dyn', type: 19, flags: 2, bytes: packed(...words) }] });
     const path = await pick_written('packed', file, 'relocations');
-    const listed = run('readelf', '-W', '-r', path).split('offsets')[1].trim().split('\n').map((line) => `0x${parseInt(line, 16).toString(16)}`);
+    const listed = run('readelf', '-W', '-r', path).split('offsets')[1].trim().split('\n').map((line) => hex(parseInt(line, 16)));
     assert.deepEqual([listed, await cells(1), await text_of('#tab-relocations span')], [wanted, wanted, '5']);
     assert.match(await text_of('#panel .others'), /packed relocations .* outside of what is proved/i);
     await go('relocations/1/3', 'packed relocation 3');
     assert.match(await field_of('r_offset'), /^0x1200/);
-    const whole = files.at(-1), of = sections_of(whole), output = run('readelf', '-W', '-s', '-r', whole);
-    await pick_written('headless', readFileSync(whole).fill(0, 0x28, 0x30).fill(0, 0x3a, 0x40), 'symbols');
-    const [symbols, ...relocations] = ['.dynsym', '.rela.dyn', '.rela.plt'].map((name) => of[name].size / 24);
-    assert.equal(await text_of('#tab-symbols span'), `${symbols}`);
-    assert.equal(await text_of('#tab-relocations span'), `${relocations[0] + relocations[1]}`);
-    const names = [...output.split("'.dynsym'")[1].matchAll(/^ *\d+: .* (?:UND|ABS|\d+) ?([^@ \n]*)/gm)].map(([, name]) => name);
+    const of = sections_of(program_file), output = run('readelf', '-W', '-s', '-r', program_file);
+    await pick_written('headless', readFileSync(program_file).fill(0, 0x28, 0x30).fill(0, 0x3a, 0x40), 'symbols');
+    const [symbols, dyn, plt] = ['.dynsym', '.rela.dyn', '.rela.plt'].map((name) => of[name].size / 24);
+    assert.deepEqual([await text_of('#tab-symbols span'), await text_of('#tab-relocations span')], [`${symbols}`, `${dyn + plt}`]);
     assert.match(await text_of('#panel .others'), /the numbers of the dynamic section, which is outside of what is proved/);
-    assert.deepEqual((await cells(1)).slice(0, 20), names.slice(0, 20));
-    await open_list('relocations/DT_JMPREL', relocations[1]);
-    const of_plt = [...output.split("'.rela.plt'")[1].matchAll(/R_\w+ +[0-9a-f]+ ([^@ ]+)/g)].map(([, name]) => name);
-    assert.deepEqual((await cells(3)).slice(0, 20), of_plt.slice(0, 20));
+    const is_listed = async (column, table, pattern) => {
+        const names = [...output.split(`'${table}'`)[1].matchAll(pattern)].map(([, name]) => name);
+        assert.deepEqual((await cells(column)).slice(0, 20), names.slice(0, 20));
+    };
+    await is_listed(1, '.dynsym', /^ *\d+: .* (?:UND|ABS|\d+) ?([^@ \n]*)/gm);
+    await open_list('relocations/DT_JMPREL', plt);
+    await is_listed(3, '.rela.plt', /R_\w+ +[0-9a-f]+ ([^@ ]+)/g);
 }
 
 // Returns the rows of the summary: the name and value of each, and whether it is marked as not proved.
 async function facts(path) {
     await pick(path);
     await click('[role=tab]');
-    await until(`document.querySelector('#panel .summary h3')`);
-    const rows = await evaluate(`[...document.querySelectorAll('#panel .summary tr')].map(({ children: [name, value] }) =>
-        [name.textContent, value.textContent])`);
+    await until_there('#panel .summary h3');
+    const rows = await each_of('#panel .summary tr', '[...item.children].map(({ textContent }) => textContent)');
     return rows.map(([name, value]) => [name, value.replace(/ not proved$/, ''), value.endsWith(' not proved')]);
 }
 
 // The first tab says in words what readelf lists of a program. What rests on the dynamic section is marked, and what rests on headers is not.
 async function check_summary() {
-    const path = files.at(-1), rows = await facts(path), of = (name) => rows.filter(([title]) => title === name).map(([, value]) => value);
-    const listed = run('readelf', '-W', '-d', '-l', '-n', '-s', '-V', path), has = (pattern) => pattern.test(listed);
+    const rows = await facts(program_file), of = (name) => rows.filter(([title]) => title === name).map(([, value]) => value);
+    const listed = run('readelf', '-W', '-d', '-l', '-n', '-s', '-V', program_file), has = (pattern) => pattern.test(listed);
     const needs = listed.split('Version needs section')[1].matchAll(/File: (\S+).*\n((?:.* Name: .*\n)*)/g);
     const libraries = Object.fromEntries(Array.from(needs, ([, name, lines]) =>
         [name, [...lines.matchAll(/Name: (\S+)/g)].map(([, version]) => version)]));
@@ -283,12 +266,12 @@ async function check_summary() {
     assert.equal(of('stack canary')[0], has(/ __stack_chk_fail(@|$)/m) ? 'yes, __stack_chk_fail' : 'no symbol of one');
     assert.match(of('stripped')[0], has(/'.symtab'/) ? /^no, / : /^yes/);
     for (const [name, , is_own] of rows) assert.equal(is_own, /^(kind|needs|read-only relocations|debug file)$/.test(name), name);
-    const largest = Object.entries(sections_of(path)).sort(([, a], [, b]) => b.size - a.size)[0];
-    assert.ok(rows.some(([size, value]) => size.startsWith(`${largest[1].size.toLocaleString('en')} bytes, `) && value === largest[0]));
+    const [[name, { size: largest }]] = Object.entries(sections_of(program_file)).sort(([, a], [, b]) => b.size - a.size);
+    assert.ok(rows.some(([size, value]) => size.startsWith(`${decimal(largest)} bytes, `) && value === name));
     const functions = symbols.filter(({ type, size }) => type === 'FUNC' && size > 0).sort((a, b) => b.size - a.size).slice(0, 10);
     const found = (await facts(dump)).slice(-functions.length);
     assert.equal(found[0][1], functions[0].name);
-    assert.deepEqual(found.map(([size]) => size), functions.map(({ size }) => `${size.toLocaleString('en')} bytes`));
+    assert.deepEqual(found.map(([size]) => size), functions.map(({ size }) => `${decimal(size)} bytes`));
     const { kind: words, 'debug information': debug } = Object.fromEntries(await facts(made));
     assert.deepEqual([words, debug], ['Object file for x86-64', '64 bytes, .debug_info']);
 }
@@ -315,23 +298,22 @@ async function check_core() {
         const status = note('CORE', 1, put(480, ...Object.values(places).map((place) => [112 + 8 * place, 0x1000 + place])));
         await pick_written(`core${machine}`, elf_file({ type: 4, machine, segments: [{ type: 4, bytes: status }] }));
         await go('notes/segments/0', 'CORE PRSTATUS, thread 0');
-        for (const [name, place] of Object.entries(places)) assert.equal(await field_of(name), `0x${(0x1000 + place).toString(16)}`, name);
+        for (const [name, place] of Object.entries(places)) assert.equal(await field_of(name), hex(0x1000 + place), name);
     }
 }
 
 // Returns the legend's percentages by their names.
 async function shares() {
-    const items = await evaluate(`[...document.querySelectorAll('#legend li')].map((item) => item.textContent)`);
-    const found = items.flatMap((item) => [...item.matchAll(/^(.+) ([\d.]+) %$/g)]);
+    const found = (await each_of('#legend li', 'item.textContent')).flatMap((item) => [...item.matchAll(/^(.+) ([\d.]+) %$/g)]);
     return Object.fromEntries(found.map(([, word, share]) => [word, Number(share)]));
 }
 
 const status = (thread) => Buffer.concat([Buffer.alloc(32), packed([thread, 4]), Buffer.alloc(300)]);
 const core_notes = [
-    ['CORE', 1, 'PRSTATUS', 71], ['CORE', 3, 'PRPSINFO'], ['CORE', 0x53494749, 'SIGINFO'], ['CORE', 6, 'AUXV'], ['CORE', 0x46494c45, 'FILE'],
-    ['CORE', 2, 'FPREGSET', 71], ['LINUX', 0x202, 'X86_XSTATE', 71], ['CORE', 1, 'PRSTATUS', 72], ['CORE', 2, 'FPREGSET', 72],
-    ['LINUX', 0x7777, '0x7777', 72], ['LINUX', 0x205, 'X86_XSAVE_LAYOUT'],
-    ['GDB', 0xff000000, 'GDB_TDESC'], ['GNU', 3, 'GNU_BUILD_ID'],
+    ['CORE', 1, 'PRSTATUS', 71], ['CORE', 3, 'PRPSINFO'], ['CORE', 0x53494749, 'SIGINFO'], ['CORE', 6, 'AUXV'],
+    ['CORE', 0x46494c45, 'FILE'], ['CORE', 2, 'FPREGSET', 71], ['LINUX', 0x202, 'X86_XSTATE', 71], ['CORE', 1, 'PRSTATUS', 72],
+    ['CORE', 2, 'FPREGSET', 72], ['LINUX', 0x7777, '0x7777', 72], ['LINUX', 0x205, 'X86_XSAVE_LAYOUT'], ['GDB', 0xff000000, 'GDB_TDESC'],
+    ['GNU', 3, 'GNU_BUILD_ID'],
 ];
 
 // The memory and notes of a core file are pieces, with the number of each thread. So are the segments of a program without section headers.
@@ -340,30 +322,26 @@ async function check_segments() {
     const segments = [{ type: 4, bytes: Buffer.concat(notes) }, { flags: 5, vaddr: 0x400000, bytes: Buffer.alloc(4096, 1) },
         { flags: 6, vaddr: 0x600000, bytes: Buffer.alloc(8192, 2) }];
     const path = await pick_written('core', elf_file({ type: 4, segments }), 'notes');
-    const core = await shares(), size = readFileSync(path).length, part = (bytes) => Math.round(1000 * bytes / size) / 10;
-    assert.equal(core.code, part(4096));
-    assert.equal(core.data, part(8192));
-    assert.equal(core.notes, part(Buffer.concat(notes).length));
-    assert.ok((core.gap ?? 0) < 0.2, `gap ${core.gap} %`);
-    assert.deepEqual(await cells(3), core_notes.map(([, , name]) => name));
-    assert.deepEqual(await cells(4), core_notes.map(([, , , thread]) => `${thread ?? ''}`));
+    const { code, data, notes: of_notes, gap: between = 0 } = await shares(), size = readFileSync(path).length;
+    assert.deepEqual([code, data, of_notes], [4096, 8192, Buffer.concat(notes).length].map((held) => Math.round(1000 * held / size) / 10));
+    assert.ok(between < 0.2, `gap ${between} %`);
+    const shown = core_notes.map(([, , name, thread = '']) => [name, `${thread}`]), threads = await cells(4);
+    assert.deepEqual((await cells(3)).map((name, i) => [name, threads[i]]), shown);
     await open_tab('layout');
-    const pieces = await cells(5), named = (name, thread) => (thread ? `${name}, thread ${thread}` : name);
-    for (const [owner, , name, thread] of core_notes) assert.ok(pieces.includes(named(`${owner} ${name}`, thread)), pieces.join('; '));
-    assert.ok(pieces.includes('segment 1, LOAD') && pieces.includes('segment 2, LOAD'), pieces.join('; '));
-    const stripped = readFileSync(files.at(-1)).fill(0, 0x28, 0x30).fill(0, 0x3c, 0x40);
+    const pieces = await cells(5);
+    const titles = core_notes.map(([owner, , name, thread]) => `${owner} ${name}${thread ? `, thread ${thread}` : ''}`);
+    for (const title of [...titles, 'segment 1, LOAD', 'segment 2, LOAD']) assert.ok(pieces.includes(title), pieces.join('; '));
+    const stripped = readFileSync(program_file).fill(0, 0x28, 0x30).fill(0, 0x3c, 0x40);
     const all = segments_of(await pick_written('stripped', stripped)).filter(({ type }) => type === 'LOAD');
-    const covered = all.reduce((sum_of_all, { size: bytes }) => sum_of_all + bytes, 0);
-    const { gap } = await shares();
+    const covered = all.reduce((sum, { size: bytes }) => sum + bytes, 0), { gap } = await shares();
     assert.ok(covered > 0 && Math.abs(gap - 100 * (stripped.length - covered) / stripped.length) < 0.1, `gap ${gap} %`);
 }
 
 // If a file has more segments than its header can say, the first section header says how many.
 async function check_many_segments() {
     const many = Buffer.concat([elf_file({ type: 4 }), Buffer.alloc(64 + 56 * 70000)]);
-    for (const [at, value, width] of [[0x20, 128, 8], [0x28, 64, 8], [0x38, 0xffff, 2], [0x3a, 64, 2], [0x3c, 1, 2], [64 + 44, 70000, 4]]) {
-        packed([value, width]).copy(many, at);
-    }
+    const numbers = [[0x20, 128, 8], [0x28, 64, 8], [0x38, 0xffff, 2], [0x3a, 64, 2], [0x3c, 1, 2], [64 + 44, 70000, 4]];
+    for (const [at, value, width] of numbers) packed([value, width]).copy(many, at);
     await pick_written('many', many, 'segments');
     assert.deepEqual([await text_of('#tab-segments span'), await text_of('#panel output')], ['70,000', '70,000']);
     await go('segments/69999', 'segment 69999, NULL');
@@ -377,33 +355,32 @@ async function check_padding() {
     await pick_written('padding', content);
     const { code, other } = await shares(), share = (bytes) => Math.round(1000 * bytes / content.length) / 10;
     assert.deepEqual([code, other], [share(4096), share(4096)]);
-    await pick(files.at(-1));
-    const pattern = /^ {2}\[ *\d+\] \S+ +(?!NOBITS)[A-Z_]+ +\S+ \S+ ([0-9a-f]+) \S+ +[WA]*X/gm, bytes = readFileSync(files.at(-1)).length;
-    const held = [...run('readelf', '-W', '-S', files.at(-1)).matchAll(pattern)].reduce((all, [, size]) => all + parseInt(size, 16), 0);
+    await pick(program_file);
+    const pattern = /^ {2}\[ *\d+\] \S+ +(?!NOBITS)[A-Z_]+ +\S+ \S+ ([0-9a-f]+) \S+ +[WA]*X/gm, bytes = readFileSync(program_file).length;
+    const held = [...run('readelf', '-W', '-S', program_file).matchAll(pattern)].reduce((all, [, size]) => all + parseInt(size, 16), 0);
     assert.ok(held > 1000 && Math.abs((await shares()).code - 100 * held / bytes) < 0.1);
 }
 
 // The part of a segment that a cut file has is named and hatched. It is no gap.
 async function check_cut() {
-    const path = files.at(-1), all = segments_of(path), last = all.findIndex(({ flags }) => flags === 'R E');
-    const { offset: start, size } = all[last], end = start + Math.floor(size / 2);
-    await pick_written('cut', readFileSync(path).subarray(0, end));
+    const all = segments_of(program_file), last = all.findIndex(({ flags }) => flags === 'R E'), { offset: start, size } = all[last];
+    const end = start + Math.floor(size / 2), final = hex(end - 1), share = (bytes) => 100 * bytes / end;
+    await pick_written('cut', readFileSync(program_file).subarray(0, end));
     const held = Buffer.alloc(end).fill(1, 0, 64 + 56 * all.length);
     for (const { offset, size: bytes } of all) held.fill(1, Math.min(offset, end), Math.min(offset + bytes, end));
     const { gap = 0, 'hatched: cut at the file’s end': cut } = await shares();
-    const share = (bytes) => 100 * bytes / end;
     assert.ok(Math.abs(gap - share(held.filter((byte) => byte === 0).length)) < 0.1, `gap ${gap} %`);
     assert.ok(Math.abs(cut - share(end - start)) < 0.1, `cut ${cut} %`);
-    await go(`offset/0x${(end - 1).toString(16)}`, `offset 0x${(end - 1).toString(16)}`);
-    const title = `segment ${last}, LOAD (cut: ${(end - start).toLocaleString('en')} of ${size.toLocaleString('en')} bytes are here)`;
-    assert.ok((await side()).includes(`in ${title}`) && (await side()).includes(`${title} + 0x${(end - 1 - start).toString(16)}`), await side());
+    await go(`offset/${final}`, `offset ${final}`);
+    const title = `segment ${last}, LOAD (cut: ${decimal(end - start)} of ${decimal(size)} bytes are here)`, shown = await side();
+    assert.ok(shown.includes(`in ${title}`) && shown.includes(`${title} + ${hex(end - 1 - start)}`), shown);
     // (the lines of the hatching divide its colour)
     const low = await evaluate(`document.getElementById('canvas').height - 16`), is_code = await row_of('code', low);
     assert.ok(is_code.filter((is_it, i) => is_it && !is_code[i - 1]).length > 20);
     // (what lies past the end is marked there, and named)
-    const marked = (await row_of('bad', low)).indexOf(true), headers = readFileSync(path).readBigUInt64LE(0x28).toString(16);
+    const marked = (await row_of('bad', low)).indexOf(true), headers = hex(readFileSync(program_file).readBigUInt64LE(0x28));
     assert.ok(marked > 0 && Math.abs(marked - is_code.lastIndexOf(true)) < 8, `${marked}, ${is_code.lastIndexOf(true)}`);
-    assert.match(await text_of('#legend .past'), new RegExp(`^past the end: Section headers at 0x${headers}, segment \\d+, `));
+    assert.match(await text_of('#legend .past'), new RegExp(`^past the end: Section headers at ${headers}, segment \\d+, `));
     const damaged = elf_file({ sections: [{ name: '.text', type: 1, flags: 6, bytes: Buffer.alloc(64) }] });
     damaged.writeBigUInt64LE(1n << 40n, Number(damaged.readBigUInt64LE(0x28)) + 64 + 0x20);
     await pick_written('damaged', damaged, 'layout');
@@ -419,8 +396,8 @@ async function check_labels() {
     const names = { 62: 'X86_64_UNWIND', 40: 'ARM_EXIDX', 243: '0x70000001' };
     for (const [machine, name] of Object.entries(names)) {
         await pick_written(`labels${machine}`, elf_file({ machine: Number(machine), osabi: 3, sections: given }), 'sections');
-        assert.deepEqual((await cells(2)).slice(2, 6), [name, 'RELR', '0x61234567', 'PROGBITS']);
-        assert.equal((await cells(6))[5], 'ALLOC GNU_RETAIN');
+        const types = (await cells(2)).slice(2, 6), { 5: flags } = await cells(6);
+        assert.deepEqual([...types, flags], [name, 'RELR', '0x61234567', 'PROGBITS', 'ALLOC GNU_RETAIN']);
     }
     await open_tab('notes');
     assert.deepEqual(await cells(3), ['STAPSDT', 'GNU_BUILD_ID', '0x3']);
@@ -428,10 +405,10 @@ async function check_labels() {
     await until(`document.querySelector('[data-field=ei_osabi]')?.textContent.includes('ELFOSABI_GNU')`);
     await pick(dump);
     await go(main_place, 'main');
-    assert.equal(await field_of('st_info'), '0x12, STB_GLOBAL (1), STT_FUNC (2)');
     // (what belongs together is apart in the text, too, which is copied and read aloud)
-    assert.equal(await field_of('st_size'), `${main.size}, ${main.size.toLocaleString('en')} bytes`);
-    assert.deepEqual([await text_of('#tab-sections'), await text_of('h1')], [`Sections ${counts_of(dump).sections}`, 'goblin what an ELF file holds']);
+    assert.deepEqual([await field_of('st_info'), await field_of('st_size'), await text_of('#tab-sections'), await text_of('h1')],
+        ['0x12, STB_GLOBAL (1), STT_FUNC (2)', `${main.size}, ${decimal(main.size)} bytes`, `Sections ${counts_of(dump).sections}`,
+            'goblin what an ELF file holds']);
     assert.match(await field_of('st_other'), /STV_DEFAULT \(0\)/);
 }
 
@@ -441,11 +418,11 @@ const READ = ['_ZN5space5ClassILi5ELb1ELm7EEC2ERKS1_', '_ZNKSs4sizeEv', '_ZStlsI
 const LEFT_ALONE = ['_Z1fILi1EEvRAT__c', '_ZZ1fvENKUlvE_clEv', '_ZN4core3fmt17h0123456789abcdefE', '_Z', '_ZN', 'main', '_Z1fS9_'];
 
 async function check_demangled() {
-    const library = ['/usr/lib/x86_64-linux-gnu', '/usr/lib64', '/usr/lib'].map((path) => join(path, 'libstdc++.so.6')).find((path) => existsSync(path));
+    const library = ['/usr/lib/x86_64-linux-gnu', '/usr/lib64', '/usr/lib'].map((path) => join(path, 'libstdc++.so.6')).find(existsSync);
     const listed = library ? [...run('readelf', '-W', '--dyn-syms', library).matchAll(/ (_Z[^\s@]+)/g)].map(([, name]) => name) : [];
     const names = [...READ, ...LEFT_ALONE, ...new Set(listed)], wanted = run('c++filt', '-n', ...names).split('\n');
     await pick_written('mangled', symbols_file(names.map((text) => ({ text }))), 'symbols');
-    const found = rows_of(await saved('symbols')).slice(1).map((cells_of_name) => cells_of_name[2]);
+    const found = (await saved_rows('symbols')).slice(1).map(([, , demangled]) => demangled);
     assert.deepEqual(found.slice(0, READ.length + LEFT_ALONE.length), [...wanted.slice(0, READ.length), ...LEFT_ALONE.map(() => '')]);
     const read = found.filter(Boolean).length;
     assert.ok(read > 0.95 * names.length || !library, `${read} of ${names.length}`);
@@ -463,25 +440,18 @@ async function check_loading() {
     truncateSync(large, 4e8);
     await browser.pick('#pick', large);
     await until(is_busy);
-    for (let row = 1; row < 4; row++) {
-        const name = await evaluate(`(() => {
-            const row = document.querySelectorAll('#panel .body .row')[${row}];
-            row.children[1].click();
-            return ${is_busy} && row.children[1].textContent;
-        })()`);
-        assert.ok(name, 'the file is read before its test is done');
-        await until_chosen(name);
+    for (const row of [1, 2, 3]) {
+        await click_row(row);
+        assert.ok(await evaluate(is_busy), 'the file is read before its test is done');
+        await until_chosen((await cells(1))[row]);
     }
-    await until(`document.body.classList.contains('dimmed')`);
+    await until_there('body.dimmed');
     assert.match(await text_of('#loading'), /^Reading large: [\d,]+ MB of 400 MB left$/);
     assert.equal(await text_of('#file b'), 'dump');
-    await until(`document.querySelector('#file b').textContent === 'large' && !(${is_busy})`);
-    assert.equal(await text_of('#loading'), '');
-    assert.equal(await evaluate(`document.body.classList.contains('dimmed')`), false);
+    await until(`${one('#file b')}.textContent === 'large' && !(${is_busy})`);
+    assert.deepEqual([await text_of('#loading'), await evaluate(`${one('.dimmed')} === null`)], ['', true]);
     rmSync(large);
 }
-
-// ---- links ----
 
 const bytes_of = (path, at, size) => readFileSync(path).subarray(at, at + size).toString('hex');
 
@@ -501,10 +471,10 @@ async function check_symbol_links() {
     await follow('main');
     await follow('.text');
     assert.equal(await fragment(), `sections/${text.index}`);
-    await go_in_history('back', 'main');
-    assert.equal(await fragment(), main_place);
-    await go_in_history('back', `address ${main_address}`);
-    assert.equal(await fragment(), `address/${main_address}`);
+    for (const [title, place] of [['main', main_place], [`address ${main_address}`, `address/${main_address}`]]) {
+        await go_in_history('back', title);
+        assert.equal(await fragment(), place);
+    }
     await go_in_history('forward', 'main');
 }
 
@@ -513,7 +483,7 @@ async function check_early_link() {
     await browser.open(`${url}#sections/${sections['.dynstr'].index}`);
     await pick(dump);
     await until_chosen('.dynstr');
-    assert.equal(await evaluate(`document.querySelector('#panel .row[aria-selected=true]').children[1].textContent`), '.dynstr');
+    assert.equal(await text_of(`${active_row} :nth-child(2)`), '.dynstr');
 }
 
 async function check_section_links() {
@@ -534,45 +504,44 @@ async function check_history() {
     await open_tab('sections');
     const [, first, second, third] = await cells(1);
     for (const [row, title] of [[1, first], [2, second]]) {
-        await evaluate(`document.querySelectorAll('#panel .body .row')[${row}].children[1].click()`);
+        await click_row(row);
         await until_chosen(title);
     }
-    await evaluate(`document.querySelector('#panel .grid').focus()`);
+    await focus('#panel .grid');
     await browser.press('ArrowDown');
     await until_chosen(third);
     await go_in_history('back', first);
-    assert.equal(await evaluate(`document.querySelector('#panel .row[aria-selected=true]').children[1].textContent`), first);
+    assert.equal(await text_of(`${active_row} :nth-child(2)`), first);
     // (a tab where nothing is chosen shows nothing of the tab before)
     await open_tab('segments');
     await until_chosen('ELF header');
     await go_in_history('back', first);
     await click('#tab-sections');
     await until_chosen('ELF header');
-    assert.equal(await evaluate(`document.querySelector('#panel .row[aria-selected=true]')`), null);
+    assert.equal(await text_of(active_row), null);
     // (what is not a location leaves a tab open; a failing script would be reported at the end)
     for (const wrong of ['%', 'sections/x', 'offset/0xffffffffffffffff', 'address/0x', 'symbols/99999/1', '__proto__/1']) {
-        await evaluate(`void (location.hash = ${quoted(wrong)})`);
-        await new Promise((resume) => setTimeout(resume, 50));
-        assert.equal(await evaluate(`document.querySelectorAll('[role=tab][aria-selected=true]').length`), 1, wrong);
+        await set_place(wrong);
+        await setTimeout(50);
+        assert.equal((await each_of('[role=tab][aria-selected=true]', 'item.id')).length, 1, wrong);
     }
 }
 
 async function check_relocation_links() {
-    const path = files.at(-1), sections = sections_of(path), { index } = sections['.rela.dyn'];
-    const listed = run('readelf', '-W', '-r', path).split("'.rela.plt'")[0];
+    const of = sections_of(program_file), [listed] = run('readelf', '-W', '-r', program_file).split("'.rela.plt'");
     const all = [...listed.matchAll(/^([0-9a-f]{16}) +[0-9a-f]{16} (R_\w+) +(?:[0-9a-f]{16} (\w+)(?:@\S+)? \+ )?([0-9a-f]+)$/gm)];
-    const at = all.findIndex(([, , type]) => type === 'R_X86_64_GLOB_DAT');
-    await pick(path);
-    await go(`relocations/${index}/${at}`, all[at][3]);
-    const address = parseInt(all[at][1], 16), got = Object.values(sections).find((section) =>
-        section.address > 0 && address >= section.address && address < section.address + section.size && section.type !== 'NOBITS');
-    assert.equal(await bytes_shown(), bytes_of(path, address - got.address + got.offset, 8));
+    const at = all.findIndex(([, , type]) => type === 'R_X86_64_GLOB_DAT'), [, digits, , name] = all[at], place = parseInt(digits, 16);
+    await pick(program_file);
+    await go(`relocations/${of['.rela.dyn'].index}/${at}`, name);
+    const got = Object.values(of).find(({ address, size, type }) =>
+        address > 0 && place >= address && place < address + size && type !== 'NOBITS');
+    assert.equal(await bytes_shown(), bytes_of(program_file, place - got.address + got.offset, 8));
     assert.match(await field_of('r_type'), /R_X86_64_GLOB_DAT/);
-    await follow('address', `address 0x${address.toString(16)}`);
-    await go_in_history('back', all[at][3]);
-    await follow(all[at][3]);
-    await until(`location.hash.startsWith('#symbols/${sections['.dynsym'].index}/')`);
-    await until(`[...document.querySelectorAll('#chosen th')].some((cell) => cell.textContent === 'st_info')`);
+    await follow('address', `address ${hex(place)}`);
+    await go_in_history('back', name);
+    await follow(name);
+    await until(`location.hash.startsWith('#symbols/${of['.dynsym'].index}/')`);
+    await until(`${with_text('#chosen th', 'st_info')} !== undefined`);
     // an object file, whose relocations have offsets in the section at sh_info
     const bytes = Buffer.from('0011223344556677', 'hex'), table = { name: '.rela.text', type: 4, link: 0, info: 1, entsize: 24 };
     const object = elf_file({ sections: [{ name: '.text', type: 1, flags: 6, bytes }, { ...table, bytes: rela({ offset: 3, type: 2 }) }] });
@@ -590,16 +559,16 @@ async function check_goto() {
     await until_place(inside);
     assert.match(await side(), /main \+ 0x1/);
     await go_by_field('.dynstr', '.dynstr');
-    await until(`document.activeElement === document.querySelector('#chosen h2')`);
+    await until_active('#chosen h2');
     await go_by_field('main', 'main');
     assert.equal(await fragment(), main_place);
     await go_by_field('there is no such name');
-    await until(`!document.getElementById('none').hidden`);
+    await until_there('#none:not([hidden])');
     // Digits without 0x are decimal or hexadecimal. The page says how it reads them, and has a link to the other reading.
     const readings = ['offset 0x64, read as decimal', 'offset 0x100, read as hexadecimal'];
-    for (const [text, [taken, other]] of [['100', readings], ['0000000000000100', [...readings].reverse()]]) {
+    for (const [text, [taken, other]] of [['100', readings], ['0000000000000100', readings.toReversed()]]) {
         await go_by_field(text, taken.split(',')[0]);
-        await until(`document.getElementById('said').textContent === ${quoted(`${taken}, or ${other}`)}`);
+        await until_text('#said', `${taken}, or ${other}`);
         await click('#said a');
         await until_chosen(other.split(',')[0]);
     }
@@ -613,28 +582,25 @@ async function check_goto() {
 }
 
 async function check_search() {
-    const all = symbols.length.toLocaleString('en');
+    const all = decimal(symbols.length), at = main.value + 1, of_all = (is_found) => `${symbols.filter(is_found).length} of ${all}`;
     await pick(dump);
     await open_list(symtab, all);
-    const holding = symbols.filter(({ value, size }) => value === main.value + 1 || (value < main.value + 1 && main.value + 1 < value + size));
-    await search(`  ${hex(main.value + 1)} `, `${holding.length} of ${all}`);
+    await search(`  ${hex(at)} `, of_all(({ value, size }) => value === at || (value < at && at < value + size)));
     assert.ok((await cells(1)).includes('main'));
-    const kinds = symbols.filter(({ type }) => type === 'SECTION' || type === 'FILE').length;
-    assert.ok(kinds > 0);
-    const files_of = symbols.filter(({ type, name }) => type === 'FILE' || /file/i.test(name));
-    await search('FILE', `${files_of.length} of ${all}`);
+    assert.ok(symbols.some(({ type }) => type === 'SECTION' || type === 'FILE'));
+    await search('FILE', of_all(({ type, name }) => type === 'FILE' || /file/i.test(name)));
     // Enter opens the first result, and a row of the list, whose column heads are before it.
-    await search('main', `${symbols.filter(({ name }) => name.includes('main')).length} of ${all}`);
-    await evaluate(`document.querySelector('#panel input').focus()`);
+    await search('main', of_all(({ name }) => name.includes('main')));
+    await focus('#panel input');
     await browser.press('Enter');
-    await until(`document.activeElement === document.querySelector('#chosen h2')`);
-    await evaluate(`document.querySelector('#panel .saving button:last-child').focus()`);
+    await until_active('#chosen h2');
+    await focus('#panel .saving button:last-child');
     await browser.press('Tab');
     assert.equal(await evaluate(`document.activeElement.closest('[role=columnheader]')?.textContent`), '#');
     for (let column = 0; column < 8; column++) await browser.press('Tab');
-    assert.equal(await evaluate(`document.activeElement.getAttribute('role')`), 'grid');
+    await until_active('[role=grid]');
     await browser.press('ArrowDown', 'Enter');
-    await until(`document.activeElement === document.querySelector('#chosen h2')`);
+    await until_active('#chosen h2');
 }
 
 // Types that have other names in readelf than in the ABI.
@@ -648,11 +614,10 @@ async function check_relocation_names() {
         const names = new Map([...run('readelf', '-W', '-r', path).matchAll(/^0{16} +([0-9a-f]{16}) (R_\w+)/gm)].map(([, info, name]) =>
             [Number(BigInt(`0x${info}`) & 0xffffffffn), name]));
         await open_list('relocations/1', '1,040');
-        const own = rows_of(await saved('relocations')).map(([, , type]) => type);
-        const both = own.flatMap((name, type) => (name.startsWith('R_') && names.has(type) && !NAMED_OTHERWISE[machine]?.includes(type)
-            ? [[name, names.get(type)]] : []));
-        assert.deepEqual(both.map(([name]) => name), both.map(([, name]) => name), `machine ${machine}`);
-        assert.ok(both.length >= least, `${both.length} names of machine ${machine}`);
+        const own = new Map((await saved_rows('relocations')).map(([, , name], type) => [type, name]).filter(([type, name]) =>
+            name.startsWith('R_') && names.has(type) && !NAMED_OTHERWISE[machine]?.includes(type)));
+        assert.deepEqual([...own], Array.from(own.keys(), (type) => [type, names.get(type)]), `machine ${machine}`);
+        assert.ok(own.size >= least, `${own.size} names of machine ${machine}`);
     }
     // (in 64-bit files for MIPS a relocation has three types, the first one in the last byte)
     const three = rela({ type: 0 });
@@ -666,24 +631,19 @@ async function check_relocation_names() {
 const rows_of = (text) => text.trim().split('\r\n').slice(1).map((line) =>
     [...line.matchAll(/(?:^|,)(?:"((?:[^"]|"")*)"|([^,]*))/g)].map(([, inside, plain]) => inside?.replaceAll('""', '"') ?? plain));
 
-// Saves the open list, and returns the content of the file.
+// Saves the open list, and returns the content of the file. (Until that is whole, it has another name, or there is one with its part.)
 async function saved(name) {
-    const before = new Set(readdirSync(browser.downloads)), form = new RegExp(`\\.${name}(\\(\\d+\\))?( \\(\\d+\\))?\\.csv$`);
-    const is_done = (file) => form.test(file) && !before.has(file); // (until it is whole, Firefox gives it another name)
+    const form = new RegExp(`\\.${name}(\\(\\d+\\))?( \\(\\d+\\))?\\.csv$`);
+    const content_of = (file) => readFileSync(join(browser.downloads, file), 'utf8');
     await press_button('Save CSV');
-    for (const end = Date.now() + PATIENCE; Date.now() < end;) {
-        const now = readdirSync(browser.downloads), file = now.find(is_done);
-        if (file && !now.some((other) => /\.(crdownload|part)$/.test(other))) {
-            const content = readFileSync(join(browser.downloads, file), 'utf8');
-            if (content) {
-                rmSync(join(browser.downloads, file)); // (else another of its name would replace it)
-                return content;
-            }
-        }
-        await new Promise((resume) => setTimeout(resume, 20));
-    }
-    throw new Error('nothing is saved');
+    const content = await waited('a saved list', () => {
+        const [file, ...others] = readdirSync(browser.downloads);
+        return others.length === 0 && form.test(file) && content_of(file);
+    });
+    for (const file of readdirSync(browser.downloads)) rmSync(join(browser.downloads, file));
+    return content;
 }
+const saved_rows = async (name) => rows_of(await saved(name));
 
 // A section's index that does not fit in its symbol, and the symbol of a section.
 async function check_section_indices() {
@@ -692,24 +652,24 @@ async function check_section_indices() {
     const content = symbols_file([{ info: 3, shndx: 5 }, { text: 'past', info: 0x12, shndx: 0xffff }], indices, ...others);
     const path = await pick_written('indices', content, 'symbols');
     assert.deepEqual(symbols_of(path).map(({ section }) => section), ['UND', '5', '6']);
-    assert.deepEqual(await cells(1), ['', '.s5', 'past']);
-    assert.deepEqual(await cells(7), ['undefined', '.s5', '.s6']);
+    assert.deepEqual([await cells(1), await cells(7)], [['', '.s5', 'past'], ['undefined', '.s5', '.s6']]);
     await go('symbols/1/2', 'past');
     await follow('.s6');
+}
+
+// Returns what a button copies.
+async function copied(button) {
+    await evaluate(`void (globalThis.copied = undefined, navigator.clipboard.writeText = async (text) => { globalThis.copied = text; })`);
+    await press_button(button);
+    await until('globalThis.copied !== undefined');
+    return evaluate('globalThis.copied');
 }
 
 async function check_copies() {
     await pick(dump);
     await go(main_place, 'main');
-    await evaluate(`void (navigator.clipboard.writeText = async (text) => { globalThis.copied = text; })`);
-    await evaluate(`document.querySelector('#panel .row[aria-selected=true]').children[1].click()`);
+    await click(`${active_row} :nth-child(2)`);
     await until_chosen('main');
-    const copied = async (button) => {
-        await evaluate('void (globalThis.copied = undefined)');
-        await press_button(button);
-        await until('globalThis.copied !== undefined');
-        return evaluate('globalThis.copied');
-    };
     assert.equal(await copied('Copy cell'), 'main');
     assert.equal(await evaluate(`(() => {
         const grid = document.querySelector('#panel .grid');
@@ -736,9 +696,8 @@ async function check_formula() {
     const content = elf_file({ segments: [{ flags: 5, bytes: Buffer.alloc(4096) }],
         sections: [{ name: '.rela', type: 4, entsize: 24, bytes: rela({ type: 2, addend: (1n << 64n) - 16n }) }] });
     await pick_written('numbers', content);
-    const saved_cells = async (name) => { await open_tab(name); return rows_of(await saved(name)); };
-    assert.equal((await saved_cells('relocations'))[0][4], '-0x10');
-    assert.equal((await saved_cells('segments'))[0][2], '0x5');
+    const saved_cells = (name) => open_tab(name).then(() => saved_rows(name));
+    assert.deepEqual([(await saved_cells('relocations'))[0][4], (await saved_cells('segments'))[0][2]], ['-0x10', '0x5']);
     const parts = (await saved_cells('layout')).map(([, from, to, size, share]) => [Number(to) - Number(from), Number(size), share]);
     assert.ok(parts.length > 4);
     assert.deepEqual(parts, parts.map(([size]) => [size, size, (100 * size / content.length).toFixed(2)]));
@@ -754,15 +713,13 @@ async function check_refused_tables() {
             await pick_written(`refused-${name}`, content);
             for (const index of opened) {
                 await open_list(`${name}/${index}`, { 1: 3, 2: 'refused', 3: 'none' }[index]);
-                assert.equal(await evaluate(`document.querySelector('#panel .saving').offsetParent !== null`), index === 1);
+                assert.equal(await is_visible('#panel .saving'), index === 1);
                 const lines = (await saved(name)).trim().split('\r\n');
                 assert.equal(lines.length, index === 1 ? 4 : 1, `${name} of section ${index}: ${lines}`);
             }
         }
     }
 }
-
-// ---- layout ----
 
 // What a file is that is no ELF file, and what a refusal means, in words.
 async function check_plain_words() {
@@ -772,23 +729,21 @@ async function check_plain_words() {
     }
     await pick_written('short', content.subarray(0, 0x1000));
     await click('#tab-sections');
-    await until(`document.querySelector('#panel .plainly') !== null`);
+    await until_there('#panel .plainly');
     assert.match(await text_of('#panel .plainly'), /^The section headers begin at 0x1800, the file ends at 0x1000: it is cut/);
     assert.ok((await facts(join(folder, 'short'))).some(([, value]) => value === 'unknown, the section headers are refused'));
     await click('#example');
-    await until(`document.querySelector('#file b')?.textContent === 'example'`);
+    await until_text('#file b', 'example');
     assert.match(await text_of('#file'), /program at fixed addresses for x86-64/);
 }
 
 // A link by a name leads to a section or symbol of a file that is built anew, wherever it is there.
 async function check_named_links() {
     await pick(dump);
-    await evaluate(`void (navigator.clipboard.writeText = async (given) => { globalThis.copied = given; })`);
     for (const [place, name, value] of [['section=.text', 'sh_offset', text.offset], ['symbol=main', 'st_value', main.value]]) {
         await go(place, place.split('=')[1]);
-        assert.match(await field_of(name), new RegExp(`^0x${value.toString(16)}\\b`));
-        await press_button('Copy link');
-        await until(`globalThis.copied === ${quoted(`${url}#${place}`)}`);
+        assert.match(await field_of(name), new RegExp(`^${hex(value)}\\b`));
+        assert.equal(await copied('Copy link'), `${url}#${place}`);
     }
     await go('symbol=%', 'ELF header');
     await go('section=.no', 'ELF header');
@@ -796,29 +751,30 @@ async function check_named_links() {
 
 // A row of bytes has as many as there is room for. A field of a record shows its bytes, and a byte its field.
 async function check_fields() {
-    const { index, size, offset } = text, little = (number) => packed([number, 8]).toString('hex');
+    const { index, size, offset } = text, length = `${one('#chosen .hex .row :nth-child(2)')}?.textContent.trim().split(' ').length`;
     await pick(dump);
     for (const [width, each] of [[1600, 16], [1280, 8], [800, 16], [400, 8], [1400, 8]]) {
         await browser.resize(width, 1000);
         await go('header', 'ELF header');
         await go(`sections/${index}`, '.text');
-        await until(`document.querySelector('#chosen .hex .row')?.row`);
-        assert.equal((await text_of('#chosen .hex .row :nth-child(2)')).trim().split(' ').length, each, `${width}`);
+        await until(bytes_drawn);
+        assert.equal(await evaluate(length), each, `${width}`);
     }
     await browser.resize(1280, 1000);
     for (const each of [32, 8]) {
         await press_button('Wide');
-        await until(`document.querySelector('#chosen .hex .row :nth-child(2)')?.textContent.trim().split(' ').length === ${each}`);
-        assert.equal(await evaluate(`document.getElementById('panel').offsetParent === null`), each === 32);
+        await until(`${length} === ${each}`);
+        assert.equal(await is_visible('#panel'), each !== 32);
     }
     await browser.resize(1400, 1000);
-    const lit = () => evaluate(`['tr.lit th', '.hex .cell:nth-child(2) .lit'].map((place) =>
-        [...document.querySelectorAll('#chosen ' + place)].map((item) => item.textContent).join(''))`);
+    const lit = (place) => each_of(`#chosen ${place}`, 'item.textContent').then((texts) => texts.join(''));
+    const is_lit = async (name, number) =>
+        assert.deepEqual([await lit('tr.lit th'), await lit('.hex .cell:nth-child(2) .lit')], [name, packed([number, 8]).toString('hex')]);
     await press_button('sh_size');
-    await until(`document.querySelector('#chosen .hex .lit') !== null`);
-    assert.deepEqual(await lit(), ['sh_size', little(size)]);
-    await evaluate(`document.querySelector('#chosen .hex [data-field=sh_offset]').dispatchEvent(new PointerEvent('pointerover', { bubbles: true }))`);
-    assert.deepEqual(await lit(), ['sh_offset', little(offset)]);
+    await until_there('#chosen .hex .lit');
+    await is_lit('sh_size', size);
+    await evaluate(`${one('#chosen .hex [data-field=sh_offset]')}.dispatchEvent(new PointerEvent('pointerover', { bubbles: true }))`);
+    await is_lit('sh_offset', offset);
 }
 
 async function check_words() {
@@ -826,28 +782,26 @@ async function check_words() {
     assert.match(await text_of('#file'), /little endian/);
     await pick_written('big', readFileSync(join(made_files, 'big64')), 'segments');
     assert.match(await text_of('#file'), /big endian/);
-    const heads = await evaluate(`[...document.querySelectorAll('#panel [role=columnheader]')].map((cell) => [cell.textContent, cell.title])`);
+    const heads = await each_of('#panel [role=columnheader]', '[item.textContent, item.title]');
     assert.deepEqual(heads.slice(3, 7), [['Offset', 'p_offset'], ['File size', 'p_filesz'], ['Address', 'p_vaddr'], ['Memory size', 'p_memsz']]);
 }
 
 // A cut cell has its whole text as a tooltip, and cells of segments are not cut.
 async function check_cells() {
     await browser.resize(1280, 900);
-    await pick(files.at(-1));
-    const seen = `(([a, b]) => a.left >= b.left - 1 && a.right <= b.right + 1)`;
-    const cut = (at) => evaluate(`[...document.querySelectorAll('#panel .body .cell')].filter((cell) => cell.scrollWidth > cell.clientWidth
-        || !${seen}([cell.getBoundingClientRect(), document.querySelector('#panel .grid').getBoundingClientRect()]))${at}`);
+    await pick(program_file);
+    const cut = () => evaluate(`[...document.querySelectorAll('#panel .body .cell')].filter((cell) => {
+        const [a, b] = [cell, document.querySelector('#panel .grid')].map((box) => box.getBoundingClientRect());
+        return cell.scrollWidth > cell.clientWidth || a.left < b.left - 1 || a.right > b.right + 1;
+    }).map((cell) => cell.title)`);
     await open_tab('segments');
-    const aligned = segments_of(files.at(-1)).map(({ align }) => align);
+    const aligned = segments_of(program_file).map(({ align }) => align);
     assert.ok(aligned.includes('0x1000'));
-    assert.deepEqual(await cells(8), aligned);
-    assert.equal(await cut('.length'), 0);
+    assert.deepEqual([await cells(8), await cut()], [aligned, []]);
     const name = 'a_name_that_has_no_room_in_any_list_'.repeat(9);
     await pick_written('long', symbols_file([{ text: name }]), 'symbols');
-    assert.deepEqual(await cut('.map((cell) => cell.title)'), [name]);
+    assert.deepEqual(await cut(), [name]);
 }
-
-const sizes = [[1280, 900], [800, 900], [400, 800]];
 
 // In low and narrow windows the first result of a search is in view, and so are the first bytes of what is chosen.
 async function check_low() {
@@ -858,10 +812,10 @@ async function check_low() {
         await browser.resize(width, height);
         await go(symtab, 'ELF header');
         await click('#back');
-        await search('main', `${number} of ${symbols.length.toLocaleString('en')}`);
+        await search('main', `${number} of ${decimal(symbols.length)}`);
         assert.ok(await evaluate(is_seen('#panel .body .row')), `${width} ${height}`);
         await go('section=.text', '.text');
-        await until(`document.querySelector('#chosen .hex .row')?.row`);
+        await until(bytes_drawn);
         assert.ok(await evaluate(is_seen('#chosen .hex .row')), `${width} ${height}`);
     }
     await browser.resize(1400, 1600);
@@ -869,12 +823,12 @@ async function check_low() {
 
 // In windows of three widths: the map takes at most a third, no word is broken, and the page has no scroll bar but that of the list.
 async function check_widths() {
-    await pick(files.at(-1));
-    for (const [width, height] of sizes) {
+    await pick(program_file);
+    for (const [width, height] of [[1280, 900], [800, 900], [400, 800]]) {
         await browser.resize(width, height);
         await until(`innerWidth === ${width} && document.querySelector('section.map').offsetHeight <= innerHeight / 3`);
         await click('#tab-header');
-        await until(`document.querySelector('[data-field=ei_data]')`);
+        await until_there('[data-field=ei_data]');
         await click('#back');
         assert.deepEqual(await evaluate(`[...document.querySelectorAll('.fields.header span, .fields.header .words')].flatMap((cell) =>
             [...cell.textContent.matchAll(/\\S+/g)].filter(({ 0: word, index }) => {
@@ -885,7 +839,7 @@ async function check_widths() {
             }).map(([word]) => word))`), [], `${width}`);
         for (const [name, widest] of [['sections', 'Name'], ['relocations', 'Symbol'], ['symbols', 'Name']]) {
             await open_tab(name);
-            const heads = await evaluate(`[...document.querySelectorAll('#panel [role=columnheader]')].map((cell) => [cell.offsetWidth, cell.textContent])`);
+            const heads = await each_of('#panel [role=columnheader]', '[item.offsetWidth, item.textContent]');
             assert.equal(heads.sort(([a], [b]) => b - a)[0][1], widest, `${name}, ${width}`);
         }
         const bars = await evaluate(`[...document.querySelectorAll('html, body, main, #shown, .columns, .lists, #panel, .grid')]
@@ -894,9 +848,9 @@ async function check_widths() {
         assert.ok(bars.length <= 1 && bars.every((name) => name === 'grid'), `${width}: ${bars}`);
         assert.ok(await evaluate(`document.documentElement.scrollWidth <= innerWidth`), `${width}`);
         // The side is beside the list, or replaces it until the user goes back.
-        await evaluate(`document.querySelectorAll('#panel .body .row')[1].children[1].click()`);
-        await until(`document.querySelector('#chosen').offsetParent !== null && document.querySelector('#chosen h2').textContent !== 'ei_data'`);
-        assert.equal(await evaluate(`document.getElementById('panel').offsetParent !== null`), width > 1000);
+        await click_row(1);
+        await until(`${one('#chosen')}.offsetParent !== null && ${one('#chosen h2')}.textContent !== 'ei_data'`);
+        assert.equal(await is_visible('#panel'), width > 1000);
         await evaluate('history.back()');
         await until(`document.getElementById('panel').offsetParent !== null`);
     }
@@ -949,14 +903,13 @@ async function pixels_of(kind, line) {
 }
 
 async function check_map() {
-    const path = files.at(-1), all = segments_of(path), index = all.findIndex(({ type, flags }) => type === 'LOAD' && flags === 'R E');
-    const { offset: start, size } = all[index];
-    await pick(path);
-    const each = await each_row();
+    const all = segments_of(program_file), index = all.findIndex(({ type, flags }) => type === 'LOAD' && flags === 'R E');
+    const { offset: start, size } = all[index], rows = [];
+    await pick(program_file);
+    const each = await each_row(), high = (await canvas_box()).height - 28;
     await check_colours();
     // A segment is outlined in each of its rows.
     await go(`segments/${index}`, `segment ${index}, LOAD`);
-    const rows = [], high = (await canvas_box()).height - 28;
     for (let y = 7; y < high; y += 24) if ((await row_of('ink', y)).filter((is_it) => is_it).length > 20) rows.push((y - 7) / 24);
     const first = Math.floor(start / each), last = Math.floor((start + size - 1) / each);
     assert.ok(last > first);
@@ -970,22 +923,21 @@ async function pointed(x, y) {
     await browser.point(x, y);
     await readout(/ · 0x[0-9a-f]+ to 0x.* at 0x[0-9a-f]+$/);
     const text = await text_of('#readout');
-    return { text, byte: Number(/0x[0-9a-f]+$/.exec(text)[0]) };
+    return { text, byte: Number(text.split(' ').at(-1)) };
 }
 
-// The wheel zooms to what is below the pointer, dragging moves it, and keys zoom and move, too. Zooming shows functions, a click on which
-// leads to their symbol, and then bytes.
+// The wheel zooms to what is below the pointer, dragging moves it, and keys do both. Zooming shows functions, which are links, then bytes.
 async function check_zoom() {
     await pick(dump);
     const { left, top, width } = await canvas_box(), [x, y] = [left + 500, top + 40], whole = await each_row(), { byte } = await pointed(x, y);
-    const zoomed = (each) => readout(new RegExp(`each row has ${each.toLocaleString('en')} bytes`));
+    const zoomed = (each) => readout(new RegExp(`each row has ${decimal(each)} bytes`));
     const is_near = async (at) => assert.ok(Math.abs((await pointed(at, y)).byte - byte) < whole / 400);
     await browser.wheel(x, y, -120);
     await zoomed(whole / 2);
     await is_near(x);
     await browser.drag([x, y], [x + 90, y]);
     await is_near(x + 90);
-    await evaluate(`document.getElementById('canvas').focus()`);
+    await focus('#canvas');
     await browser.press('PageDown');
     assert.ok((await pointed(x, y)).byte > byte + whole / 2);
     await browser.press('0');
@@ -1011,7 +963,7 @@ async function check_zoom() {
 
 // The strip below a row says what the bytes are like.
 async function check_classes() {
-    const size = 8192, { offset } = sections_of(files.at(-1))['.text'], code = readFileSync(files.at(-1)).subarray(offset, offset + size);
+    const size = 8192, { offset } = sections_of(program_file)['.text'], code = readFileSync(program_file).subarray(offset, offset + size);
     const numbers = Buffer.from(Uint32Array.from({ length: size / 4 }, (_, i) => i).buffer), words = Buffer.alloc(size, 'What is below a row? ');
     const all = [Buffer.alloc(size), words, numbers, code, randomBytes(size)].map((bytes) => ({ name: '.bytes', type: 1, bytes }));
     const path = await pick_written('classes', elf_file({ sections: all })), bar = await bar_of(readFileSync(path).length);
@@ -1029,10 +981,10 @@ async function check_sizes() {
     const section = (name) => ({ name, ...sections[name], place: `sections/${sections[name].index}` });
     await pick(dump);
     for (const { name, size, place } of [...['.text', '.rodata', '.symtab'].map(section), { ...largest, place: `${symtab}/${largest.index}` }]) {
-        await Promise.all([click('#tab-sizes'), until(`document.querySelector('.areas a') !== null`)]);
-        const areas = await evaluate(`[...document.querySelectorAll('.areas a')].map(({ hash, title, style: { width, height }, className }) =>
-            ({ hash, title, area: parseFloat(width) * parseFloat(height) / 100, is_inside: className === 'inside' }))`);
-        const { area, hash, is_inside } = areas.find(({ title }) => title.startsWith(`${name}: ${size.toLocaleString('en')} bytes, `));
+        await Promise.all([click('#tab-sizes'), until_there('.areas a')]);
+        const areas = await each_of('.areas a', `({ hash: item.hash, title: item.title, is_inside: item.className === 'inside',
+            area: parseFloat(item.style.width) * parseFloat(item.style.height) / 100 })`);
+        const { area, hash, is_inside } = areas.find(({ title }) => title.startsWith(`${name}: ${decimal(size)} bytes, `));
         assert.deepEqual([hash, is_inside || Math.abs(area - 100 * size / whole) < 0.1], [`#${place}`, true], `${name}: ${area} %`);
         assert.ok(Math.abs(areas.reduce((all, item) => all + (item.is_inside ? 0 : item.area), 0) - 100) < 0.1);
         await click(`.areas [href='${hash}']`);
@@ -1064,11 +1016,12 @@ async function check_colours() {
     const kinds = ['header', 'tables', 'code', 'data', 'constants', 'names', 'relocations', 'notes', 'debug', 'other'];
     const [edge, ground, kind, on] = await evaluate(`(() => {
         const { probe, style } = ${PIXELS}, edge = (selector) => probe(getComputedStyle(document.querySelector(selector)).borderTopColor);
-        const on = ['paper', 'on-kind'].map(style), ground = ['paper', 'raised'].map(style);
-        return [[...${quoted(edges)}.map(edge), style('gap')], ground, ${quoted(kinds)}.map(style), on];
+        return [[...${quoted(edges)}.map(edge), style('gap')], ['paper', 'raised'].map(style), ${quoted(kinds)}.map(style),
+            ['paper', 'on-kind'].map(style)];
     })()`);
-    edge.forEach((colour, i) => ground.forEach((other) => assert.ok(contrast(colour, other) >= 3, `${edges[i]}: ${contrast(colour, other)}`)));
-    kind.forEach((colour, i) => assert.ok(contrast(colour, on[Number(i > 0)]) >= 3, `${kinds[i]}: ${contrast(colour, on[Number(i > 0)])}`));
+    const differs = (a, b, name) => assert.ok(contrast(a, b) >= 3, `${name}: ${contrast(a, b)}`);
+    edge.forEach((colour, i) => ground.forEach((other) => differs(colour, other, edges[i])));
+    kind.forEach((colour, i) => differs(colour, on[Number(i > 0)], kinds[i]));
     for (const [a, b] of [[2, 5], [3, 6]]) assert.ok(contrast(kind[a], kind[b]) >= 1.4, `${kinds[a]} and ${kinds[b]}`);
     const seen = kind.map(without_green), apart = (i, j) => Math.hypot(...seen[i].map((value, k) => value - seen[j][k]));
     kinds.forEach((name, i) => kinds.slice(0, i).forEach((other, j) => assert.ok(apart(i, j) >= 0.07, `${name} and ${other}: ${apart(i, j)}`)));
@@ -1078,7 +1031,7 @@ async function check_themes() {
     for (const theme of browser.theme ? ['dark', 'light'] : []) {
         await browser.theme(theme);
         await until(`matchMedia('(prefers-color-scheme: ${theme})').matches`);
-        await pick(files.at(-1));
+        await pick(program_file);
         await check_colours();
     }
 }
@@ -1091,40 +1044,40 @@ function renamed(content, name, bytes) {
 }
 
 async function check_names() {
-    const markup = '<img src onerror=a>';
-    let content = renamed(readFileSync(made), 'weak_undefined_data', Buffer.from(markup));
-    content = renamed(renamed(content, 'zeros', Buffer.from([0xc2, 0x80, 0xe2, 0x80, 0xa8])), 'weak_function', Buffer.from('<img src=abc>'));
-    content = renamed(content, 'data', Buffer.from([0xff, 0x41, 0x1b, 0x0a]));
-    await pick_written('<img src=a>', content, 'symbols');
+    const markup = '<img src onerror=a>', others = { weak_undefined_data: markup, zeros: '\x80\u2028', weak_function: '<img src=abc>',
+        data: [0xff, 0x41, 0x1b, 0x0a] };
+    const named = Object.entries(others).reduce((all, [name, other]) => renamed(all, name, Buffer.from(other)), content);
+    await pick_written('<img src=a>', named, 'symbols');
     const names = await cells(1);
-    assert.ok(names.includes(markup) && names.includes('U+0080U+2028') && names.includes('\\xffAU+001BU+000A'), names.join(' '));
-    assert.ok(names.includes('été'));
-    assert.equal(await evaluate(`document.querySelectorAll('#panel .esc').length`), 5);
+    for (const name of [markup, 'U+0080U+2028', '\\xffAU+001BU+000A', 'été']) assert.ok(names.includes(name), names.join(' '));
+    assert.equal((await each_of('#panel .esc', 'item.title')).length, 5);
     await search('ONERROR', '1 of 21');
     assert.deepEqual(await cells(1), [markup]);
     await go_by_field('onerror', markup);
-    await Promise.all([click('#tab-sizes'), until(`document.querySelector('.areas [title^="<img"]') !== null`)]);
-    assert.equal(await evaluate(`document.querySelectorAll('img').length`), 0);
+    await Promise.all([click('#tab-sizes'), until_there('.areas [title^="<img"]')]);
+    assert.equal(await text_of('img'), null);
 }
 
 // The keyboard reaches the map's parts, which are also described in words, a row of a list, and the next tab.
 async function check_keys() {
     await pick(made);
     await open_tab('sections');
-    await evaluate(`document.getElementById('canvas').focus()`);
+    await focus('#canvas');
     await browser.press('ArrowRight');
-    await until(`document.getElementById('canvas').ariaValueText?.startsWith('ELF header: ')`);
-    await evaluate(`document.querySelector('#panel .grid').focus()`);
+    await until_there('#canvas[aria-valuetext^="ELF header: "]');
+    await focus('#panel .grid');
     await browser.press('ArrowDown', 'ArrowDown', 'ArrowDown', 'ArrowUp');
     await until_chosen('.text');
     const active = `document.activeElement.getAttribute('aria-activedescendant')`;
     assert.equal(await evaluate(`document.getElementById(${active}).children[1].textContent`), '.text');
     await click('#tab-header');
     await click('[popovertarget]');
-    await until(`document.querySelector('.fields.header')?.getAttribute('role') === 'grid' && document.querySelector('#keys:popover-open') !== null`);
-    await evaluate(`(document.querySelector('#keys').hidePopover(), ['click', 'focus'].forEach((act) => document.querySelector('#tab-sections')[act]()))`);
+    await until_there('body:has(#keys:popover-open) .fields.header[role=grid]');
+    await evaluate(`${one('#keys')}.hidePopover()`);
+    await click('#tab-sections');
+    await focus('#tab-sections');
     await browser.press('ArrowRight');
-    await until(`document.activeElement.id === 'tab-segments' && document.activeElement.ariaSelected === 'true'`);
+    await until_active('#tab-segments[aria-selected=true]');
 }
 
 // If the engine lacks what the library needs, the page says so, and reads no file.
@@ -1132,13 +1085,13 @@ async function check_unsupported() {
     for (const hidden of ['WebAssembly.validate = () => false;', 'delete globalThis.WebAssembly;']) {
         const show = await browser.before_pages(hidden);
         await browser.open(`${url}?${hidden.length}`);
-        await until(`!document.getElementById('unsupported')?.hidden`);
+        await until_there('#unsupported:not([hidden])');
         assert.match(await text_of('#unsupported'), /no 64-bit WebAssembly memories/);
-        assert.equal(await evaluate(`document.getElementById('drop').hidden`), true);
+        assert.equal(await is_hidden('drop'), true);
         await show();
     }
     await browser.open(url);
-    assert.equal(await evaluate(`document.getElementById('unsupported').hidden && !document.getElementById('drop').hidden`), true);
+    assert.deepEqual([await is_hidden('unsupported'), await is_hidden('drop')], [true, false]);
 }
 
 // Tests that the test sees the requests of an empty page. Else it would miss the page's.
@@ -1155,40 +1108,32 @@ async function check_requests() {
         fetch('http://127.0.0.1:9/asked').catch(() => setTimeout(() => resolve('not refused by the policy'), 500));
     })`);
     assert.match(blocked, /^http:\/\/127\.0\.0\.1:9\//);
-    for (const end = Date.now() + PATIENCE; browser.refusals.length === 0 && Date.now() < end;) await evaluate('null');
+    await waited('a refusal', () => browser.refusals.length > 0);
     const is_asked = (text) => text.includes('http://127.0.0.1:9/asked') && /Content.Security.Policy/.test(text);
-    assert.ok(browser.refusals.length > 0 && browser.refusals.every(is_asked), browser.refusals.join('\n'));
+    assert.ok(browser.refusals.every(is_asked), browser.refusals.join('\n'));
     const others = browser.requests.filter((request) => request.split(/[?#]/)[0] !== url && !/^(blob:|data:|about:blank$)/.test(request));
-    assert.deepEqual(others, []);
-    assert.deepEqual(browser.faults, []);
-}
-
-async function check_all_counts() {
-    for (const path of counted) await check_counts(path);
+    assert.deepEqual([others, browser.faults], [[], []]);
 }
 
 async function check_refusals() {
+    const foreign = ['the file header', 'This is not an ELF file'];
     await check_refusal(content.subarray(0, 40), 'the file header');
-    await check_refusal(Buffer.concat([Buffer.from('MZ'), content.subarray(2)]), 'the file header', 'This is not an ELF file', '4d 5a 4c 46');
-    await check_refusal(Buffer.from('text\n'), 'the file header', 'This is not an ELF file', '74 65 78 74 0a');
+    await check_refusal(Buffer.concat([Buffer.from('MZ'), content.subarray(2)]), ...foreign, '4d 5a 4c 46');
+    await check_refusal(Buffer.from('text\n'), ...foreign, '74 65 78 74 0a');
 }
 
 const checks = [
     check_all_counts, check_refusals, check_trouble, check_unknown, check_own_tables, check_summary, check_core, check_segments,
-    check_many_segments, check_padding,
-    check_cut, check_labels, check_loading, check_symbol_links, check_early_link, check_section_links, check_history, check_relocation_links,
-    check_goto, check_search, check_relocation_names, check_section_indices, check_named_links, check_fields, check_low, check_plain_words,
-    check_copies, check_formula, check_refused_tables, check_demangled, check_words, check_cells, check_widths, check_map, check_zoom, check_classes,
-    check_sizes, check_narrow, check_themes,
-    check_names, check_keys, check_requests, check_unsupported,
+    check_many_segments, check_padding, check_cut, check_labels, check_loading, check_symbol_links, check_early_link, check_section_links,
+    check_history, check_relocation_links, check_goto, check_search, check_relocation_names, check_section_indices, check_named_links,
+    check_fields, check_low, check_plain_words, check_copies, check_formula, check_refused_tables, check_demangled, check_words,
+    check_cells, check_widths, check_map, check_zoom, check_classes, check_sizes, check_narrow, check_themes, check_names, check_keys,
+    check_requests, check_unsupported,
 ];
-
-// Reports whether the browser has 64-bit memories, which the library needs.
-const is_able = `WebAssembly.validate(new Uint8Array([0, 97, 115, 109, 1, 0, 0, 0, 5, 3, 1, 4, 0]))`;
 
 async function run_checks() {
     await check_hearing();
-    if (!await evaluate(is_able)) {
+    if (!await evaluate(`WebAssembly.validate(new Uint8Array([0, 97, 115, 109, 1, 0, 0, 0, 5, 3, 1, 4, 0]))`)) {
         console.log(`${browser.constructor.title} has no 64-bit memories, so the page is not tested in it`);
         return;
     }

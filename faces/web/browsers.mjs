@@ -5,29 +5,18 @@ import { randomBytes } from 'node:crypto';
 import { mkdirSync, writeFileSync } from 'node:fs';
 import { request } from 'node:http';
 import { join } from 'node:path';
+import { setTimeout } from 'node:timers/promises';
 
-/** How many milliseconds the test waits for a result, on a machine that may be busy with proofs. */
-export const PATIENCE = 120_000;
+// How many milliseconds the test waits for a result, on a machine that may be busy with proofs.
+const PATIENCE = 120_000;
 
-// Requests and their answers, by number.
-class Calls {
-    #waiting = new Map();
-    #asked = 0;
-
-    constructor(send) { this.send = send; }
-
-    ask(message) {
-        return new Promise((resolve, reject) => {
-            this.#waiting.set(++this.#asked, { resolve, reject });
-            this.send({ id: this.#asked, ...message });
-        });
+/** Waits until a function returns something, and returns that. */
+export async function waited(what, find) {
+    for (const end = Date.now() + PATIENCE; Date.now() < end; await setTimeout(20)) {
+        const found = await find();
+        if (found) return found;
     }
-
-    answer({ id, result, error, message }) {
-        const { resolve, reject } = this.#waiting.get(id);
-        this.#waiting.delete(id);
-        if (error) reject(new Error(message ?? error.message)); else resolve(result);
-    }
+    throw new Error(`not so after ${PATIENCE / 1000} seconds: ${what}`);
 }
 
 // A WebSocket for texts (RFC 6455). Node 20 has none without an option, and with the option one that stops after 4,096 messages.
@@ -38,9 +27,8 @@ class Socket {
     constructor(receive) { this.receive = receive; }
 
     connect(url) {
-        const headers = {
-            Connection: 'Upgrade', Upgrade: 'websocket', 'Sec-WebSocket-Key': randomBytes(16).toString('base64'), 'Sec-WebSocket-Version': 13,
-        };
+        const headers = { Connection: 'Upgrade', Upgrade: 'websocket', 'Sec-WebSocket-Version': 13,
+            'Sec-WebSocket-Key': randomBytes(16).toString('base64') };
         return new Promise((resolve, reject) => {
             request(url.replace(/^ws:/, 'http:'), { headers }).on('error', reject).on('upgrade', (response, stream, head) => {
                 this.stream = stream;
@@ -51,7 +39,7 @@ class Socket {
         });
     }
 
-    // Returns a text in one frame, masked as a client's must be.
+    // Sends a text in one frame, masked as a client's must be.
     send(text) {
         const content = Buffer.from(text), { length } = content, mask = randomBytes(4);
         const head = length < 126 ? Buffer.from([0x81, 0x80 | length]) : Buffer.alloc(length < 0x10000 ? 4 : 10);
@@ -79,8 +67,7 @@ class Socket {
         if ((first & 0x0f) > 1) return;
         this.#parts.push(content);
         if (!(first & 0x80)) return;
-        const text = Buffer.concat(this.#parts.splice(0)).toString();
-        this.receive(text);
+        this.receive(Buffer.concat(this.#parts.splice(0)).toString());
     }
 }
 
@@ -89,28 +76,29 @@ class Browser {
     faults = [];
     /** The messages of the browser on what the page's policy blocks. In Chromium also its other messages. */
     refusals = [];
+    #waiting = [];
 
     constructor(folder) {
         this.downloads = join(folder, 'downloads');
         this.profile = join(folder, 'profile');
-        mkdirSync(this.downloads);
-        mkdirSync(this.profile);
+        for (const path of [this.downloads, this.profile]) mkdirSync(path);
+    }
+
+    /** Returns the browser's answer to a message, which `send` sends with a number, and whose answer has it. */
+    call(message) {
+        return new Promise((resolve, reject) => { this.send({ id: this.#waiting.push({ resolve, reject }), ...message }); });
+    }
+
+    answer({ id, result, error, message }) {
+        const { resolve, reject } = this.#waiting[id - 1];
+        if (error) reject(new Error(message ?? error.message)); else resolve(result);
     }
 
     /** Returns the value of an expression, which may be a promise. */
-    async evaluate(expression) {
-        const text = await this.run(`(async () => JSON.stringify(await (${expression})) ?? 'null')()`);
-        return JSON.parse(text);
-    }
+    async evaluate(expression) { return JSON.parse(await this.run(`(async () => JSON.stringify(await (${expression})) ?? 'null')()`)); }
 
     /** Waits until an expression is true. */
-    async until(expression) {
-        for (const end = Date.now() + PATIENCE; Date.now() < end;) {
-            if (await this.evaluate(expression)) return;
-            await new Promise((resume) => setTimeout(resume, 20));
-        }
-        throw new Error(`not so after ${PATIENCE / 1000} seconds: ${expression}`);
-    }
+    until(expression) { return waited(expression, () => this.evaluate(expression)); }
 
     async end() {
         const ended = new Promise((resolve) => this.process.on('exit', resolve));
@@ -127,7 +115,7 @@ export class Chromium extends Browser {
     async start(program) {
         const options = ['--headless', '--no-sandbox', '--disable-gpu', '--remote-debugging-pipe', `--user-data-dir=${this.profile}`];
         this.process = spawn(program, options, { stdio: ['ignore', 'ignore', 'ignore', 'pipe', 'pipe'] });
-        this.calls = new Calls((message) => this.process.stdio[3].write(`${JSON.stringify(message)}\0`));
+        this.send = (message) => this.process.stdio[3].write(`${JSON.stringify(message)}\0`);
         let rest = '';
         this.process.stdio[4].on('data', (data) => {
             const parts = (rest + data).split('\0');
@@ -141,11 +129,11 @@ export class Chromium extends Browser {
         await this.#ask('Browser.setDownloadBehavior', { behavior: 'allow', downloadPath: this.downloads }, undefined);
     }
 
-    #ask(method, params = {}, sessionId = this.tab) { return this.calls.ask({ method, params, sessionId }); }
+    #ask(method, params = {}, sessionId = this.tab) { return this.call({ method, params, sessionId }); }
 
     #receive(message) {
         const { id, method, params } = message;
-        if (id) this.calls.answer(message);
+        if (id) this.answer(message);
         if (method === 'Network.requestWillBeSent') this.requests.push(params.request.url);
         if (method === 'Runtime.exceptionThrown') this.faults.push(params.exceptionDetails.exception?.description ?? params.exceptionDetails.text);
         // (without hints on rendering)
@@ -195,7 +183,6 @@ export class Chromium extends Browser {
     }
 
     async point(x, y) { await this.#ask('Input.dispatchMouseEvent', { type: 'mouseMoved', x, y }); }
-
     async wheel(x, y, deltaY) { await this.#ask('Input.dispatchMouseEvent', { type: 'mouseWheel', x, y, deltaX: 0, deltaY }); }
 
     async drag(from, to) {
@@ -208,7 +195,6 @@ export class Chromium extends Browser {
     }
 
     async theme(value) { await this.#ask('Emulation.setEmulatedMedia', { features: [{ name: 'prefers-color-scheme', value }] }); }
-
     async screenshot() { return Buffer.from((await this.#ask('Page.captureScreenshot')).data, 'base64'); }
 }
 
@@ -229,7 +215,7 @@ export class Firefox extends Browser {
         this.process = spawn(program, options, { stdio: ['ignore', 'ignore', 'pipe'], env: { ...process.env, HOME: this.profile } });
         const socket = new Socket((text) => this.#receive(JSON.parse(text)));
         await socket.connect(`${await this.#address()}/session`);
-        this.calls = new Calls((message) => socket.send(JSON.stringify(message)));
+        this.send = (message) => socket.send(JSON.stringify(message));
         await this.#ask('session.new', { capabilities: {} });
         await this.#ask('session.subscribe', { events: ['network.beforeRequestSent', 'log.entryAdded'] });
         this.tab = (await this.#ask('browsingContext.getTree')).contexts[0].context;
@@ -248,11 +234,11 @@ export class Firefox extends Browser {
         });
     }
 
-    #ask(method, params = {}) { return this.calls.ask({ method, params }); }
+    #ask(method, params = {}) { return this.call({ method, params }); }
 
     #receive(message) {
         const { id, method, params } = message;
-        if (id) this.calls.answer(message);
+        if (id) this.answer(message);
         if (method === 'network.beforeRequestSent') this.requests.push(params.request.url);
         if (method !== 'log.entryAdded' || params.type !== 'javascript' || params.level !== 'error') return;
         (params.text.startsWith('Content-Security-Policy') ? this.refusals : this.faults).push(params.text);
@@ -286,9 +272,7 @@ export class Firefox extends Browser {
     }
 
     async #act(type, ...actions) { await this.#ask('input.performActions', { context: this.tab, actions: [{ type, id: type, actions }] }); }
-
     async point(x, y) { await this.#act('pointer', { type: 'pointerMove', x: Math.round(x), y: Math.round(y) }); }
-
     async wheel(x, y, deltaY) { await this.#act('wheel', { type: 'scroll', x: Math.round(x), y: Math.round(y), deltaX: 0, deltaY }); }
 
     async drag(...points) {
@@ -297,6 +281,5 @@ export class Firefox extends Browser {
     }
 
     async resize(width, height) { await this.#ask('browsingContext.setViewport', { context: this.tab, viewport: { width, height } }); }
-
     async screenshot() { return Buffer.from((await this.#ask('browsingContext.captureScreenshot', { context: this.tab })).data, 'base64'); }
 }

@@ -1,6 +1,7 @@
 // What the notes of a core file of Linux hold, read by numbers. The library reads the notes; what their descriptors mean is not proved.
+import * as goblin from './goblin.js';
 import { number_at } from './dynamic.js';
-import { EM_MIPS, file, is_wide, name_at, STRTAB } from './file.js';
+import { file, is_wide, name_at } from './file.js';
 
 // The names of the registers of a PRSTATUS, by machine and class.
 const REGISTERS = {
@@ -15,7 +16,8 @@ const MOST_FILES = 10000, MOST_NAME = 4096;
 
 /** Returns a signal's number with its name. (MIPS has other numbers for some.) */
 export function signal_of({ note }) {
-    const number = Number(number_at(note.desc_range.offset + 12n, 2)), is_own = file.elf.header.e_machine === EM_MIPS && [7, 10, 12].includes(number);
+    const number = Number(number_at(note.desc_range.offset + 12n, 2));
+    const is_own = file.elf.header.e_machine === goblin.EM_MIPS && [7, 10, 12].includes(number);
     return SIGNALS[number] && !is_own ? `${number}, SIG${SIGNALS[number]}` : `${number}`;
 }
 
@@ -26,7 +28,7 @@ export function registers_of({ note: { desc_range: { offset, size } } }) {
         .filter(([, at]) => at + width <= size).map(([name, at]) => [name, number_at(offset + at, width)]);
 }
 
-const strtab = (at, size) => file.elf.strtab({ sh_type: STRTAB, sh_offset: at, sh_size: size });
+const strtab = (at, size) => file.elf.strtab({ sh_type: goblin.SHT_STRTAB, sh_offset: at, sh_size: size });
 
 // Where a PRPSINFO of a size has the process's number and its arguments.
 const PROCESS = { 124: [12n, 44n], 128: [16n, 48n], 136: [24n, 56n] };

@@ -1,5 +1,5 @@
-// Reads mangled names of C++ in Itanium's form: names, templates, functions and most types. A name that holds an expression, a lambda, a
-// conversion, an array, a pointer to a member, a name inside of a function, or a pack of parameters is left alone.
+// Reads mangled names of C++ in Itanium's form: names, templates, functions and most types. A name is left alone if it holds anything else:
+// an expression, a lambda, a conversion, an array, a pointer to a member, a name inside of a function, or a pack of parameters.
 
 // Returns a table from a text: each item is a code, and what it stands for.
 const table = (text) => new Map(text.split(', ').map((item) => [item.split(' ')[0], item.slice(item.indexOf(' ') + 1)]));

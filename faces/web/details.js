@@ -3,7 +3,7 @@ import * as goblin from './goblin.js';
 import { registers_of } from './core.js';
 import { demangled } from './demangle.js';
 import {
-    called, EM_MIPS, ET_CORE, file, GROUP, is_wide, name_of_section, part, RELOCATION_TYPES, RELR, section_at, section_refusal, sections,
+    called, file, is_wide, name_of_section, part, RELOCATION_TYPES, RELR, section_at, section_refusal, sections,
     segment_refusal, size_of, SYMBOL_TYPES, read_or,
 } from './file.js';
 import * as labels from './labels.js';
@@ -20,11 +20,9 @@ const { prefixed } = labels;
 // Returns a field: its name, its value, its meaning, and its links, as `{ text, to }`.
 const field = (name, value, meaning = '', ...links) => ({ name, value: `${value}`, meaning, links: links.filter((link) => link) });
 const bytes_word = (size) => `${count(size)} bytes`;
-
 // Returns a field's link to an address, if the file has addresses and something is loaded there.
 const at_address = (address) => (has_addresses() && address > 0n ? { ...to_address(address), text: 'address' } : undefined);
 const at_offset = (offset) => (Number(offset) < file.content.length ? { ...to_offset(offset), text: 'offset' } : undefined);
-
 // Returns a location by a name, if the name is whole and UTF-8.
 const link_by_name = (kind, name) => (name && name.isWellFormed() && !name.endsWith('…') ? `${kind}=${encodeURIComponent(name)}` : undefined);
 
@@ -43,7 +41,7 @@ const RECORDS = {
 
 // Returns a record at an offset of the file, with the bytes of each field.
 function record(word, kind, at, size = size_of(kind)) {
-    const is_first = !file.elf.little_endian() || (file.elf.header.e_machine === EM_MIPS && is_wide());
+    const is_first = !file.elf.little_endian() || (file.elf.header.e_machine === goblin.EM_MIPS && is_wide());
     const form = RECORDS[/^rel/.test(kind) ? (is_first ? 'symbol_first' : 'rela') : kind];
     let next = at;
     const fields = (form[Number(is_wide())] ?? form[0]).split(' ').map((text) => {
@@ -63,20 +61,17 @@ function block(word, range, refused) {
 }
 
 const from_place = (section) => (section === undefined ? 'from its place on' : `from its place in ${called(section)} on`);
-
 const to_section_number = (index) => (index > 0 && section_at(index) ? to_section(index) : undefined);
 
 // Returns the link of a section's sh_info, if it has one: to a section, or to the symbol that identifies a group.
 function info_link({ sh_type, sh_flags, sh_info, sh_link }) {
-    const is_section = RELOCATION_TYPES.includes(sh_type) || sh_flags & 0x40n;
-    if (is_section) return to_section_number(sh_info);
-    return sh_type === GROUP ? symbol_link(sh_link, sh_info) : undefined;
+    if (RELOCATION_TYPES.includes(sh_type) || sh_flags & goblin.SHF_INFO_LINK) return to_section_number(sh_info);
+    return sh_type === goblin.SHT_GROUP ? symbol_link(sh_link, sh_info) : undefined;
 }
 
 function symbol_link(table, index) {
     const symbol = index ? read_or(undefined, () => symtab_at(table)?.get(index)) : undefined;
-    if (!symbol) return undefined;
-    return to_symbol({ table, index, name: name_of_symbol(table, index, symbol) || `symbol ${index}` });
+    return symbol && to_symbol({ table, index, name: name_of_symbol(table, index, symbol) || `symbol ${index}` });
 }
 
 const INFO_WORDS = { [goblin.SHT_SYMTAB]: 'symbols that are local', [goblin.SHT_DYNSYM]: 'symbols that are local' };
@@ -84,7 +79,7 @@ const INFO_WORDS = { [goblin.SHT_SYMTAB]: 'symbols that are local', [goblin.SHT_
 // Returns the list that a section holds.
 function list_of({ sh_type }, index) {
     if (SYMBOL_TYPES.includes(sh_type)) return { text: 'its symbols', to: `symbols/${index}` };
-    if (RELOCATION_TYPES.includes(sh_type) || sh_type === RELR) return { text: 'its relocations', to: `relocations/${index}` };
+    if (RELOCATION_TYPES.includes(sh_type)) return { text: 'its relocations', to: `relocations/${index}` };
     return undefined;
 }
 
@@ -109,17 +104,11 @@ function section_details(item, index) {
 
 // How many sections of a segment are named at most.
 const MOST_SECTIONS = 24;
-function sections_in(segment) {
-    const found = [];
-    for (const { index, section } of sections()) {
-        if (index && goblin.segment_holds(segment, section) && found.push(to_section(index)) > MOST_SECTIONS) break;
-    }
-    return found;
-}
 
 function segment_details(item, index) {
     const { p_type, p_flags, p_offset, p_vaddr, p_paddr, p_filesz, p_memsz, p_align } = item;
-    const inside = sections_in(item), is_cut = inside.length > MOST_SECTIONS;
+    const inside = sections().filter(({ index: of, section }) => of && goblin.segment_holds(item, section));
+    const first = inside.slice(0, MOST_SECTIONS).map(({ index: of }) => to_section(of)), is_cut = inside.length > MOST_SECTIONS;
     const header = record('program header', 'segment', Number(file.elf.header.e_phoff) + index * size_of('segment'));
     return {
         title: title_of_segment(index, item), what: `segment ${count(index)} of ${count(file.elf.program_headers().length)}`,
@@ -129,16 +118,14 @@ function segment_details(item, index) {
             field('p_flags', hex(p_flags), labels.segment_flags(p_flags)), field('p_offset', hex(p_offset), '', at_offset(p_offset)),
             field('p_vaddr', hex(p_vaddr), '', at_address(p_vaddr)), field('p_paddr', hex(p_paddr)),
             field('p_filesz', hex(p_filesz), bytes_word(p_filesz)), field('p_memsz', hex(p_memsz), bytes_word(p_memsz)),
-            field('p_align', hex(p_align)),
-            ...(inside.length
-                ? [field('sections', '', is_cut ? `the first ${MOST_SECTIONS}` : '', ...inside.slice(0, MOST_SECTIONS))] : []),
+            field('p_align', hex(p_align)), first.length > 0 && field('sections', '', is_cut ? `the first ${MOST_SECTIONS}` : '', ...first),
         ],
         blocks: [block('bytes', () => file.elf.range(item), (error) => segment_refusal(error, index)), header],
     };
 }
 
 // Returns the field of a name of C++ as it is written there, if it is one that is read.
-const in_source = (name) => [demangled(name)].filter(Boolean).map((text) => field('demangled', text, 'not proved'));
+const in_source = (name) => demangled(name) && field('demangled', demangled(name), 'not proved');
 
 function symbol_details(item, index, table) {
     const { st_name, st_value, st_size, st_info, st_other } = item;
@@ -151,7 +138,7 @@ function symbol_details(item, index, table) {
         kind: of === undefined || !section_at(of) ? undefined : kind_of(section_at(of)),
         link: link_by_name('symbol', name_of_symbol(table, index, item)),
         fields: [
-            ...in_source(name_of_symbol(table, index, item)), field('st_name', hex(st_name)),
+            in_source(name_of_symbol(table, index, item)), field('st_name', hex(st_name)),
             field('st_value', hex(st_value), place?.section ? with_offset(called(of), place.from) : '', address),
             field('st_size', st_size, bytes_word(st_size)), field('st_info', hex(st_info), info),
             field('st_other', hex(st_other), `${prefixed('STV_', labels.symbol_visibility(visibility))} (${visibility})`),
@@ -174,7 +161,7 @@ function relocation_details(item, index, of) {
         title: is_packed ? `packed relocation ${count(index)}` : name || labels.relocation_type(r_type),
         what: `relocation ${count(index)} of ${called(of)}`, kind: 'relocations',
         fields: [
-            ...in_source(name), field('r_offset', hex(r_offset), '', target ?? at_address(r_offset), changed && to_symbol(changed)),
+            in_source(name), field('r_offset', hex(r_offset), '', target ?? at_address(r_offset), changed && to_symbol(changed)),
             ...(is_packed ? [field('type', 'relative, packed')] : [
                 field('r_type', r_type, prefixed('', labels.relocation_type(r_type)) === `${r_type}` ? '' : labels.relocation_type(r_type)),
                 field('r_sym', r_sym, '', symbol_link(section.sh_link, r_sym)), field('r_addend', addend(item))]),
@@ -190,14 +177,14 @@ function relocation_details(item, index, of) {
 function note_details(item, index, by) {
     const { note, holder, start, end, thread } = item, type = labels.note_type(note);
     const of = { text: holder.title, to: `${by}/${holder.index}` }, is_status = note.name === 'CORE' && type === 'PRSTATUS';
-    const registers = is_status && file.elf.header.e_type === ET_CORE ? registers_of(item) : [];
+    const registers = is_status && file.elf.header.e_type === goblin.ET_CORE ? registers_of(item) : [];
     return {
         title: title_of(item), what: `note ${count(index)} of ${by}`, kind: 'notes',
         fields: [
             field('name', note.name), field('n_type', hex(note.n_type), type.startsWith('0x') ? '' : prefixed('NT_', type)),
             field('n_descsz', note.desc_range.size, bytes_word(note.desc_range.size)), field('from', '', '', of),
-            ...(thread === undefined ? [] : [field('thread', thread)]),
-            ...(registers.length ? [field('registers', '', 'not proved: read by this page, by numbers')] : []),
+            thread !== undefined && field('thread', thread),
+            registers.length > 0 && field('registers', '', 'not proved: read by this page, by numbers'),
             ...registers.map(([register, value]) => field(register, hex(value), '', is_address(value) ? at_address(value) : undefined)),
         ],
         blocks: [
@@ -217,21 +204,16 @@ function part_details(index) {
         what: depth > 1 ? `part ${count(index)}, ${depth} pieces overlap` : `part ${count(index)}`,
         fields: [
             field('from', hex(start), '', at_address(address_of_offset(start) ?? 0n)), field('to', hex(end)),
-            ...(top ? [field('piece', '', '', link(top))] : []), ...(others.length ? [field('also', '', '', ...others.map(link))] : []),
+            top && field('piece', '', '', link(top)), others.length > 0 && field('also', '', '', ...others.map(link)),
         ],
         blocks: [top ? { word: 'bytes', at: top.start, size: top.end - top.start } : { word: 'bytes', at: start, size: end - start }],
     };
 }
 
-const LISTS = {
-    sections: section_details, segments: segment_details, symbols: symbol_details, relocations: relocation_details,
-    notes: note_details, layout: (item, index) => part_details(index),
-};
-
+const LISTS = { sections: section_details, segments: segment_details, symbols: symbol_details, relocations: relocation_details,
+    notes: note_details, layout: part_details };
 /** Returns what is shown of an item of a list. */
 export const item_details = (source, { list, index, of }) => LISTS[list](source.list.get(index), index, of);
-
-// ---- offsets and addresses ----
 
 /** Returns what is shown of an offset: the pieces that hold it, and the bytes from there to the end of the piece that is drawn. */
 export function offset_details(offset) {
@@ -242,9 +224,9 @@ export function offset_details(offset) {
     return {
         title: `offset ${hex(offset)}`, what: pieces[0] ? `in ${pieces[0].title}` : 'in a gap', kind: pieces[0]?.kind,
         fields: [
-            ...(inside.length ? [field('in', '', '', ...inside)] : []),
-            ...(address === undefined ? [] : [field('address', hex(address), '', at_address(address))]),
-            ...(symbol ? [field('symbol', '', '', to_symbol(symbol))] : []),
+            inside.length > 0 && field('in', '', '', ...inside),
+            address !== undefined && field('address', hex(address), '', at_address(address)),
+            symbol && field('symbol', '', '', to_symbol(symbol)),
         ],
         blocks: [{ word: 'bytes from there on', at: offset, size: end - offset }],
     };
@@ -267,15 +249,13 @@ export function address_details(address) {
         title: `address ${hex(address)}`, what: symbol ? `in ${symbol.name}` : of ? `in ${called(section)}` : 'in memory',
         kind: section === undefined ? pieces[0]?.kind : kind_of(section_at(section)),
         fields: [
-            ...(symbol ? [field('symbol', '', '', to_symbol(symbol))] : []), ...(of ? [field('section', '', '', of)] : []),
-            ...(inside.length ? [field('segment', '', '', ...inside.map(segment))] : []),
+            symbol && field('symbol', '', '', to_symbol(symbol)), of && field('section', '', '', of),
+            inside.length > 0 && field('segment', '', '', ...inside.map(segment)),
             at === undefined ? field('offset', 'none', 'no bytes in the file') : field('offset', hex(at), '', at_offset(at)),
         ],
         blocks: at === undefined ? [] : [{ word: 'bytes from there on', at, size: (pieces[0]?.end ?? file.content.length) - at }],
     };
 }
-
-// ---- the header ----
 
 const named = (name, prefix) => (/^(0x|\d+$)/.test(name) ? '' : prefixed(prefix, name));
 const to_headers = (offset) => (offset ? at_offset(offset) : undefined);

@@ -1,6 +1,8 @@
 // Elements of the page and their texts. A text of a file is always inserted as text, with invisible characters made visible.
 
 export const get = (id) => document.getElementById(id);
+export const focus_chosen = () => get('chosen').querySelector('h2')?.focus();
+export const bytes_of = (id) => Uint8Array.from(atob(get(id).textContent), (sign) => sign.charCodeAt(0));
 export const number = (value) => value.toLocaleString('en');
 export const hex = (value) => `0x${value.toString(16)}`;
 export const plural = (count, word) => `${number(count)} ${word}${count === 1 ? '' : 's'}`;
@@ -18,12 +20,10 @@ export function make(name, given = {}, ...content) {
 
 /** Returns elements with commas between them, which a copied text has, too. */
 export const joined = (parts) => parts.flatMap((part, i) => (i ? [', ', part] : [part]));
-
 export const button = (text, onclick, given = {}) => make('button', { type: 'button', onclick, ...given }, text);
-
 // Characters that are invisible or change how others look: control and format characters, separators, lone surrogates (which stand for
 // bytes that are not UTF-8), and spaces that look like others.
-const UNSEEN = /[\p{Cc}\p{Cf}\p{Zl}\p{Zp}\p{Cs}\p{Co}\p{Cn}]|(?! )\p{Zs}/gu;
+const UNSEEN = /([\p{Cc}\p{Cf}\p{Zl}\p{Zp}\p{Cs}\p{Co}\p{Cn}]|(?! )\p{Zs})/gu;
 
 function shown(sign) {
     const code = sign.codePointAt(0);
@@ -36,17 +36,8 @@ export const visible = (text) => text.replace(UNSEEN, shown);
 
 /** Replaces the content of an element by a text of a file. */
 export function put_text(element, text) {
-    if (!text.match(UNSEEN)) {
-        element.textContent = text;
-        return element;
-    }
-    const parts = [];
-    let end = 0;
-    for (const { 0: sign, index } of text.matchAll(UNSEEN)) {
-        parts.push(text.slice(end, index), make('span', { class: 'esc' }, shown(sign)));
-        end = index + sign.length;
-    }
-    element.replaceChildren(...parts, text.slice(end));
+    // (each second part is such a character)
+    element.replaceChildren(...text.split(UNSEEN).map((part, i) => (i % 2 ? make('span', { class: 'esc' }, shown(part)) : part)));
     return element;
 }
 

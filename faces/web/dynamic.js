@@ -1,8 +1,9 @@
 // The dynamic section and packed relocations, which the library doesn't read. The page reads them by numbers, and what these mean is not
 // proved. Parts are found by their addresses, so that a file without section headers has them, too.
 import * as goblin from './goblin.js';
-import { file, is_wide, name_at, own_sections, RELOCATION_TYPES, RELR, sections, segments, size_of, STRTAB, SYMBOL_TYPES, read_or } from './file.js';
+import { file, is_wide, name_at, own_sections, read_or, RELR, sections, segment_of, size_of, SYMBOL_TYPES } from './file.js';
 import { offset_of_address } from './resolve.js';
+import { once } from './text.js';
 
 /** Tags of the dynamic section. */
 export const DT = {
@@ -11,7 +12,7 @@ export const DT = {
     FLAGS_1: 0x6ffffffbn, VERNEED: 0x6ffffffen, VERNEEDNUM: 0x6fffffffn,
 };
 // How many entries, versions, and symbols of a hash table or packed relocations are read at most.
-const MOST_ENTRIES = 10000, MOST_VERSIONS = 4096, MOST_ITEMS = 1 << 20, S390 = 22;
+const MOST_ENTRIES = 10000, MOST_VERSIONS = 4096, MOST_ITEMS = 1 << 20;
 
 const word = () => (is_wide() ? 8n : 4n);
 /** Returns a number at an offset of the file, or 0 if it is not inside. */
@@ -19,25 +20,22 @@ export const number_at = (at, width) => read_or(0n, () => file.elf.number(BigInt
 
 // Returns the place of the dynamic section. In a file with sections a segment alone may be what a section without bytes left over.
 function place() {
-    const all = [...sections()], section = all.find((item) => item.section.sh_type === goblin.SHT_DYNAMIC)?.section;
-    if (section || all.length > 1) return { at: section?.sh_offset, size: section?.sh_size ?? 0n };
-    const segment = [...segments()].find((item) => item.segment.p_type === goblin.PT_DYNAMIC)?.segment;
-    return { at: segment?.p_offset, size: segment?.p_filesz ?? 0n };
+    const section = sections().find((item) => item.section.sh_type === goblin.SHT_DYNAMIC)?.section;
+    if (section || sections().length > 1) return { at: section?.sh_offset, size: section?.sh_size ?? 0n };
+    const { p_offset, p_filesz = 0n } = segment_of(goblin.PT_DYNAMIC)?.segment ?? {};
+    return { at: p_offset, size: p_filesz };
 }
 
-let known;
 /** Returns the values of each tag of the dynamic section. */
-export function dynamic() {
-    if (known) return known;
-    const { at, size } = place(), width = word();
-    known = new Map();
+export const dynamic = once(() => {
+    const { at, size } = place(), width = word(), found = new Map();
     for (let next = 0n; next + 2n * width <= size && next < MOST_ENTRIES * 16; next += 2n * width) {
         const tag = number_at(at + next, width);
         if (tag === 0n) break;
-        known.set(tag, known.get(tag) ?? []).get(tag).push(number_at(at + next + width, width));
+        found.set(tag, found.get(tag) ?? []).get(tag).push(number_at(at + next + width, width));
     }
-    return known;
-}
+    return found;
+});
 
 /** Returns the first value of a tag, or 0. */
 export const value_of = (tag) => dynamic().get(tag)?.[0] ?? 0n;
@@ -45,7 +43,7 @@ const offset_of = (tag) => (dynamic().has(tag) ? offset_of_address(value_of(tag)
 
 function strtab() {
     const at = offset_of(DT.STRTAB) ?? 0, left = BigInt(file.content.length - at), size = value_of(DT.STRSZ);
-    return file.elf.strtab({ sh_type: STRTAB, sh_offset: BigInt(at), sh_size: size < left ? size : left });
+    return file.elf.strtab({ sh_type: goblin.SHT_STRTAB, sh_offset: BigInt(at), sh_size: size < left ? size : left });
 }
 
 /** Returns the texts of a tag. */
@@ -69,7 +67,8 @@ export function versions() {
 
 // Returns the number of dynamic symbols: that of the hash table, or that of the last chain of a table of GNU's form, which ends at an odd number.
 function symbol_count() {
-    const hash = offset_of(DT.HASH), gnu = BigInt(offset_of(DT.GNU_HASH) ?? 0), wide = file.elf.header.e_machine === S390 ? word() : 4n;
+    const hash = offset_of(DT.HASH), gnu = BigInt(offset_of(DT.GNU_HASH) ?? 0);
+    const wide = file.elf.header.e_machine === goblin.EM_S390 ? word() : 4n;
     if (hash !== undefined || !gnu) return hash === undefined ? 0n : number_at(BigInt(hash) + wide, wide);
     const [buckets, first, blooms] = [0n, 4n, 8n].map((at) => number_at(gnu + at, 4));
     const item = (index) => number_at(gnu + 16n + blooms * word() + 4n * index, 4);
@@ -81,7 +80,7 @@ function symbol_count() {
 
 /** Adds the tables of symbols and relocations that the dynamic section leads to, if no section header does. */
 export function find_own_sections() {
-    const types = new Set([...sections()].map(({ section }) => section.sh_type)), lacks = (...all) => !all.some((type) => types.has(type));
+    const lacks = (...types) => !sections().some(({ section }) => types.includes(section.sh_type));
     const add = (tag, sh_type, size, entsize, given) => {
         const at = offset_of(DT[tag]);
         if (at === undefined || size === 0n) return;
@@ -91,17 +90,15 @@ export function find_own_sections() {
     const entry = size_of('symbol'), table = { sh_link: 'DT_SYMTAB' }, { SHT_REL, SHT_RELA, SHT_DYNSYM } = goblin;
     if (lacks(...SYMBOL_TYPES)) add('SYMTAB', SHT_DYNSYM, symbol_count() * BigInt(entry), entry, { sh_link: 0, strtab: strtab() });
     if (lacks(RELR)) add('RELR', RELR, value_of(DT.RELRSZ), word(), table);
-    if (!lacks(...RELOCATION_TYPES)) return;
+    if (!lacks(SHT_REL, SHT_RELA)) return;
     const [type, kind] = value_of(DT.PLTREL) === DT.RELA ? [SHT_RELA, 'rela'] : [SHT_REL, 'rel'];
     add('RELA', SHT_RELA, value_of(DT.RELASZ), size_of('rela'), table);
     add('REL', SHT_REL, value_of(DT.RELSZ), size_of('rel'), table);
     add('JMPREL', type, value_of(DT.PLTRELSZ), size_of(kind), table);
 }
 
-const unpacked = new Map();
 /** Returns the offsets of packed relocations: an even word is one, and a bit of an odd word stands for one of the words that follow. */
 export function packed_offsets({ sh_offset, sh_size }) {
-    if (unpacked.has(sh_offset)) return unpacked.get(sh_offset);
     const width = word(), found = [];
     for (let at = 0n, next = 0n; at + width <= sh_size && found.length < MOST_ITEMS; at += width) {
         const entry = number_at(sh_offset + at, width), is_place = !(entry & 1n);
@@ -109,5 +106,5 @@ export function packed_offsets({ sh_offset, sh_size }) {
         for (let bits = is_place ? 0n : entry >> 1n, place = next; bits; bits >>= 1n, place += width) if (bits & 1n) found.push(place);
         next = is_place ? entry + width : next + (8n * width - 1n) * width;
     }
-    return unpacked.set(sh_offset, found).get(sh_offset);
+    return found;
 }

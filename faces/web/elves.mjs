@@ -38,10 +38,7 @@ export function symbols_file(symbols, ...others) {
 /** Returns a relocation with an addend. */
 export const rela = ({ offset = 0, sym = 0, type, addend = 0 }) => packed([offset, 8], [type, 4], [sym, 4], [addend, 8]);
 
-/**
- * Returns a file of a type, for a machine, with sections { name, type, flags, addr, link, info, entsize, bytes } and segments { type, flags,
- * vaddr, bytes }. The section at index 0 and the section names at the end are added.
- */
+/** Returns a file with sections and segments, of the fields below. The section at index 0 and the section names at the end are added. */
 export function elf_file({ type = 1, machine = 62, osabi = 0, sections = [], segments = [] }) {
     const parts = [];
     let at = 64 + 56 * segments.length;
@@ -57,13 +54,10 @@ export function elf_file({ type = 1, machine = 62, osabi = 0, sections = [], seg
     const all = [{ type: 0, name: '', bytes: Buffer.alloc(0) }, ...sections, { name: '.shstrtab', type: 3 }];
     const names = Buffer.from(all.map(({ name }) => `${name}\0`).join(''));
     all.at(-1).bytes = names;
-    let name_at = 0;
-    const table = all.map(({ name, type: sh_type, flags = 0, addr = 0, link = 0, info = 0, entsize = 0, bytes }, index) => {
-        const named = packed([name_at, 4], [sh_type, 4], [flags, 8], [addr, 8], [index ? put(bytes) : 0, 8], [bytes.length, 8], [link, 4],
-            [info, 4], [4, 8], [entsize, 8]);
-        name_at += Buffer.byteLength(name) + 1;
-        return named;
-    });
+    const name_at = (name) => (name ? names.indexOf(`\0${name}\0`) + 1 : 0);
+    const table = all.map(({ name, type: sh_type, flags = 0, addr = 0, link = 0, info = 0, entsize = 0, bytes }, index) =>
+        packed([name_at(name), 4], [sh_type, 4], [flags, 8], [addr, 8], [index ? put(bytes) : 0, 8], [bytes.length, 8], [link, 4],
+            [info, 4], [4, 8], [entsize, 8]));
     const shoff = put(Buffer.concat(table));
     return Buffer.concat([header({ type, machine, osabi, segments: heads.length, shoff, sections: all.length }), ...heads, ...parts]);
 }

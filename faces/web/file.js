@@ -1,49 +1,34 @@
 // The file that the worker reads, with what several modules need of it: sizes, names of sections, and texts of refusals.
 import * as goblin from './goblin.js';
-import { count, hex, name_of, NAME } from './text.js';
-
-const { GoblinError } = goblin;
+import { count, hex, name_of, NAME, once } from './text.js';
 
 export const file = { elf: undefined, content: new Uint8Array(0) };
-
 export const is_wide = () => file.elf.is_64();
 
 // The size of an entry of each table, in 32-bit and 64-bit files.
 const SIZES = { header: [52, 64], segment: [32, 56], section: [40, 64], symbol: [16, 24], rel: [8, 16], rela: [12, 24] };
 export const size_of = (kind) => SIZES[kind][Number(is_wide())];
-
-export const ET_REL = 1;
-export const ET_CORE = 4;
-export const EM_ARM = 40;
-export const EM_MIPS = 8;
-export const STRTAB = 3;
-export const GROUP = 17;
-export const SYMTAB_SHNDX = 18;
 export const RELR = 19;
 export const SYMBOL_TYPES = [goblin.SHT_SYMTAB, goblin.SHT_DYNSYM];
-export const RELOCATION_TYPES = [goblin.SHT_REL, goblin.SHT_RELA];
+export const RELOCATION_TYPES = [goblin.SHT_REL, goblin.SHT_RELA, RELR];
 
 // Returns the result of reading a part, or that of a function for its refusal.
 function read_part(read, refused) {
     try {
         return read();
     } catch (error) {
-        if (!(error instanceof GoblinError)) throw error;
+        if (!(error instanceof goblin.GoblinError)) throw error;
         return refused(error);
     }
 }
 
 /** Returns the result of reading a part, or its refusal. */
 export const part = (read, refused) => read_part(read, (error) => ({ refused: refused(error) }));
-
 /** Returns the result of reading a part, or a default if it is refused. */
 export const read_or = (other, read) => read_part(read, () => other);
 
 /** Returns a refusal for the page: the library's text, what was being read, the bytes that hold its offset, and perhaps what that means. */
-export function refusal(error, what, marks, words) {
-    if (!(error instanceof GoblinError)) throw error;
-    return { text: error.message, kind: error.kind, what, marks, words };
-}
+export const refusal = ({ message: text, kind }, what, marks, words) => ({ text, kind, what, marks, words });
 
 // Returns in words that something ends past the end of the file, or nothing if it doesn't.
 function words_of_cut(what, start, size) {
@@ -53,9 +38,9 @@ function words_of_cut(what, start, size) {
 }
 
 export function header_refusal(error) {
-    const { BAD_MAGIC, ELF_CLASS, DATA_TYPE } = goblin.Kind;
-    const mark = { [BAD_MAGIC]: { at: 0, size: 8 }, [ELF_CLASS]: { at: 4, size: 1 }, [DATA_TYPE]: { at: 5, size: 1 } }[error.kind];
-    return refusal(error, 'the file header, at 0x0', [mark ?? { at: 0, size: Math.min(64, file.content.length) }]);
+    const { BAD_MAGIC, ELF_CLASS, DATA_TYPE } = goblin.Kind, whole = [0, Math.min(64, file.content.length)];
+    const [at, size] = { [BAD_MAGIC]: [0, 8], [ELF_CLASS]: [4, 1], [DATA_TYPE]: [5, 1] }[error.kind] ?? whole;
+    return refusal(error, 'the file header, at 0x0', [{ at, size }]);
 }
 
 // The offset and size of fields of the header, by the class.
@@ -89,28 +74,26 @@ export function segment_refusal(error, index) {
     return range_refusal(error, `the bytes of segment ${index}`, `segment ${index}`, p_offset, p_filesz, mark);
 }
 
+/** Returns the bytes of a range as hexadecimal digits, those past a number of bytes as an ellipsis. */
+export function digits_of({ offset, size }, most = Infinity) {
+    const bytes = file.content.subarray(Number(offset), Number(offset + size)).subarray(0, most);
+    return Array.from(bytes, (byte) => byte.toString(16).padStart(2, '0')).join('') + (size > most ? '…' : '');
+}
+
 /** The tables that the dynamic section leads to, and no section header, by the name of their tag: as sections, which the page makes. */
 export const own_sections = new Map();
-
 /** Returns a section, by its index, or one of the page's own, by its name. */
 export const section_at = (index) => (typeof index === 'string' ? own_sections.get(index) : file.elf.section_header(index));
-
-/** Returns all sections with their indices, or none if they are refused. */
-export function* sections() {
-    for (const [index, section] of read_or([], () => file.elf.section_headers()).entries()) yield { index, section };
-}
-
+/** Returns all sections with their indices, and all segments, or none if they are refused. */
+export const sections = once(() => read_or([], () => file.elf.section_headers()).map((section, index) => ({ index, section })));
+export const segments = once(() => read_or([], () => file.elf.program_headers()).map((segment, index) => ({ index, segment })));
+export const segment_of = (type) => segments().find(({ segment }) => segment.p_type === type);
+/** Returns all sections, and the page's own. */
+export const all_sections = () => [...sections(), ...Array.from(own_sections, ([index, section]) => ({ index, section }))];
 /** Reports whether a section has debug information, which its name says. */
 export const is_debug = (section) => !(section.sh_flags & 2n) && /^\.(z?debug_|gdb_index|stab|line$)/.test(name_of_section(section));
-
 /** Returns the indices of all symbol tables, and the name of the page's own. */
-export const symbol_tables = () => [...sections(), ...Array.from(own_sections, ([index, section]) => ({ index, section }))]
-    .filter(({ section }) => SYMBOL_TYPES.includes(section.sh_type)).map(({ index }) => index);
-
-/** Returns all segments with their indices, or none if they are refused. */
-export function* segments() {
-    for (const [index, segment] of read_or([], () => file.elf.program_headers()).entries()) yield { index, segment };
-}
+export const symbol_tables = () => all_sections().filter(({ section }) => SYMBOL_TYPES.includes(section.sh_type)).map(({ index }) => index);
 
 /** Returns the name at an offset of a table, cut if it is long, or an empty text if there is none or the table is refused. */
 export function name_at(strtab, offset) {
@@ -118,13 +101,9 @@ export function name_at(strtab, offset) {
     return bytes ? name_of(bytes) : '';
 }
 
-let section_names;
+const section_names = once(() => file.elf.shdr_strtab());
 /** Returns the name of a section header. */
-export function name_of_section({ sh_name }) {
-    section_names ??= file.elf.shdr_strtab();
-    return name_at(section_names, sh_name);
-}
-
+export const name_of_section = ({ sh_name }) => name_at(section_names(), sh_name);
 /** Returns the title of a section: its name, or its index if it has none. */
 export const called = (index, section = section_at(index)) =>
     (typeof index === 'string' ? index : name_of_section(section) || `section ${index}`);

@@ -8,8 +8,7 @@ import { hex } from './text.js';
 
 const MOST = 40;
 
-// Returns the numbers that a text may mean, with the reading of each if it has no 0x: first as decimal, unless it starts with a zero, as nm
-// prints addresses. Letters alone are a name.
+// Returns the numbers that a text may mean, and how it is read if it has no 0x: first as decimal, unless it starts with a zero, as in nm.
 function numbers_in(text) {
     if (/^(0x[0-9a-f]{1,16}|0*\d)$/i.test(text)) return [{ value: BigInt(text) }];
     const decimal = /^\d{1,19}$/.test(text) ? [{ value: BigInt(text), read: 'read as decimal' }] : [];
@@ -18,37 +17,27 @@ function numbers_in(text) {
 }
 
 function places_of_number({ value, read }) {
-    const found = [];
-    if (value < BigInt(file.content.length)) {
-        found.push({ title: `offset ${hex(value)}`, detail: offset_details(Number(value)).what, to: `offset/${hex(value)}`, read });
-    }
-    if (is_address(value)) {
-        found.push({ title: `address ${hex(value)}`, detail: address_details(value).what, to: `address/${hex(value)}`, read });
-    }
+    const place = (kind, { what }) => ({ title: `${kind} ${hex(value)}`, detail: what, to: `${kind}/${hex(value)}`, read });
+    const offset = value < BigInt(file.content.length) ? [place('offset', offset_details(Number(value)))] : [];
+    const address = is_address(value) ? [place('address', address_details(value))] : [];
     // (an offset in a gap is hardly ever meant)
-    return found.length === 2 && offset_details(Number(value)).what === 'in a gap' ? found.reverse() : found;
+    return offset[0]?.detail === 'in a gap' ? [...address, ...offset] : [...offset, ...address];
 }
 
 // Collects results by how the text matches their name: the whole name, its start, or a part.
-class Found {
-    ranks = [[], [], []];
-    #wanted;
-
-    constructor(text) { this.#wanted = text.toLowerCase(); }
-
-    add(name, place) {
-        const at = name.toLowerCase().indexOf(this.#wanted);
-        if (at < 0) return;
-        const rank = this.ranks[at > 0 ? 2 : name.length === this.#wanted.length ? 0 : 1];
-        if (rank.length < MOST) rank.push({ title: name, ...place() });
-    }
+function collector(text) {
+    const ranks = [[], [], []], wanted = text.toLowerCase();
+    const add = (name, place) => {
+        const at = name.toLowerCase().indexOf(wanted), rank = at > 0 ? 2 : name.length === wanted.length ? 0 : 1;
+        if (at >= 0 && ranks[rank].length < MOST) ranks[rank].push({ title: name, ...place() });
+    };
+    return { ranks, add };
 }
 
 function add_small(found) {
     for (const { name, words } of header_fields()) found.add(name, () => ({ detail: words, to: `header/${name}` }));
-    for (const { index, section } of sections()) {
-        found.add(name_of_section(section), () => ({ detail: `section ${index}`, to: `sections/${index}` }));
-    }
+    sections().forEach(({ index, section }) =>
+        found.add(name_of_section(section), () => ({ detail: `section ${index}`, to: `sections/${index}` })));
     for (const by of ['sections', 'segments']) {
         notes_of(by).items.forEach((item, index) =>
             found.add(title_of(item), () => ({ detail: `note ${index} of ${by}`, to: `notes/${by}/${index}` })));
@@ -57,7 +46,7 @@ function add_small(found) {
 
 /** Returns the results for a text, the best first, or nothing if it is no longer wanted. */
 export async function find(text, is_wanted) {
-    const numbers = numbers_in(text).flatMap(places_of_number), found = new Found(text);
+    const numbers = numbers_in(text).flatMap(places_of_number), found = collector(text);
     add_small(found);
     for (const table of symbol_tables()) {
         const source = read_or(undefined, () => symtab_at(table)) && open_source('symbols', table);

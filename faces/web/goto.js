@@ -1,5 +1,5 @@
 // The field for an offset, an address or a name. The results are below it, the best first.
-import { get, make, put_text, say } from './dom.js';
+import { focus_chosen, get, make, put_text, say } from './dom.js';
 import { ask } from './reader.js';
 import { go } from './route.js';
 import { link_to } from './side.js';
@@ -28,7 +28,7 @@ async function take({ title, to, read }) {
     const other = read && found.find((place) => place.read && place.read !== read);
     close();
     await go(to);
-    get('chosen').querySelector('h2')?.focus();
+    focus_chosen();
     if (read) say(`${title}, ${read}`, ...(other ? [', or ', link_to({ text: `${other.title}, ${other.read}`, to: other.to })] : []));
 }
 
@@ -52,11 +52,8 @@ async function look() {
 }
 
 async function key(event) {
-    if (event.key === 'Escape') { close(); return; }
-    if (event.key === 'Enter') {
-        if (await look() && found[active]) take(found[active]);
-        return;
-    }
+    if (event.key === 'Escape') close();
+    if (event.key === 'Enter' && await look() && found[active]) take(found[active]);
     const step = { ArrowDown: 1, ArrowUp: -1 }[event.key];
     if (!step || !found.length) return;
     event.preventDefault();
@@ -67,10 +64,8 @@ async function key(event) {
 export function set_up_goto() {
     let soon;
     const field = get('goto');
-    field.addEventListener('input', () => { clearTimeout(soon); soon = setTimeout(look, 120); });
-    field.addEventListener('keydown', key);
-    field.addEventListener('blur', close);
-    field.addEventListener('focus', look);
+    const soon_look = () => { clearTimeout(soon); soon = setTimeout(look, 120); };
+    Object.assign(field, { oninput: soon_look, onkeydown: key, onblur: close, onfocus: look });
     addEventListener('keydown', (event) => {
         if (event.key !== '/' || event.target.closest('input, select') || field.offsetParent === null) return;
         event.preventDefault();

@@ -1,55 +1,44 @@
 // Lists of any length, of which only the visible rows are drawn.
-import { make, put_text, visible } from './dom.js';
+import { button, make, put_text, visible } from './dom.js';
 
 // The greatest height of an element in all engines. A longer list is scrolled in proportion.
 const HIGHEST = 6e6, BLOCK = 128, KEPT = 64;
 let ids = 0;
 
-/**
- * A list: columns { title, wide, least, is_right, is_dim, sorts, hint }, and rows(from, size), which promises the cells of some rows.
- * `chosen` is called with the position of a row that is chosen, `opened` with that of one that is opened, and `sorted` with a column and an
- * order.
- */
+// A list: columns { title, wide, least, is_right, is_dim, hint }, and rows(from, size), which promises the cells of some rows. `chosen` and
+// `opened` are called with the position of a row, and `sorted` with a column and an order.
 export class Grid {
     constructor(label, columns, { rows, chosen = () => {}, opened = () => {}, sorted, high = 24, kind = '' }) {
         Object.assign(this, { columns, rows, chosen, opened, sorted, high, length: 0, active: -1, column: 0 });
         Object.assign(this, { blocks: new Map(), lines: [], version: 0, id: `list-${++ids}` });
         this.columns_css = columns.map(({ wide }) => wide).join(' ');
-        this.body = make('div', { class: 'body', role: 'rowgroup' });
-        this.head = make('div', { class: 'row', role: 'row', id: `${this.id}-head`, 'aria-rowindex': '1' });
+        this.body = make('div', {
+            class: 'body', role: 'rowgroup', onclick: (event) => this.click(event),
+            ondblclick: () => { if (this.active >= 0) this.opened(this.active); },
+        });
+        this.head = make('div', { class: 'row', role: 'row', id: `${this.id}-head`, 'aria-rowindex': '1' }, ...this.made_heads());
+        this.head.style.gridTemplateColumns = this.columns_css;
         this.heads = make('div', { class: 'heads' }, this.head);
         const has_heads = columns.some(({ title }) => title);
         this.scroller = make('div', {
             class: 'grid', role: 'grid', tabindex: '0', 'aria-label': label, 'aria-colcount': columns.length,
-            'aria-owns': has_heads && `${this.id}-head`,
+            'aria-owns': has_heads && `${this.id}-head`, onkeydown: (event) => this.key(event), onscroll: () => {
+                this.heads.scrollLeft = this.scroller.scrollLeft;
+                this.draw_soon();
+            },
         }, this.body);
+        new ResizeObserver(() => this.draw_soon()).observe(this.scroller);
         // (the column heads are before the list, for the keyboard, too)
         this.box = make('div', { class: `list-box ${kind}` }, ...(has_heads ? [this.heads] : []), this.scroller);
         const least = columns.reduce((all, { least: own = 70 }) => all + own + 12, 12);
         this.box.style.setProperty('--least', kind === 'hex' ? '0' : `${least}px`);
         this.box.style.setProperty('--high', `${high}px`);
-        this.make_head();
-        this.listen();
     }
 
-    listen() {
-        this.scroller.addEventListener('scroll', () => {
-            this.heads.scrollLeft = this.scroller.scrollLeft;
-            this.draw_soon();
-        });
-        this.scroller.addEventListener('keydown', (event) => this.key(event));
-        this.body.addEventListener('click', (event) => this.click(event));
-        this.body.addEventListener('dblclick', () => { if (this.active >= 0) this.opened(this.active); });
-        new ResizeObserver(() => this.draw_soon()).observe(this.scroller);
-    }
-
-    make_head() {
-        this.head.style.gridTemplateColumns = this.columns_css;
-        this.columns.forEach(({ title, is_right, sorts = true, hint }, column) => {
-            const inside = sorts && this.sorted ? make('button', { type: 'button', onclick: () => this.sort(column) }, title) : title;
-            const given = { class: `cell ${is_right ? 'right' : ''}`, role: 'columnheader', 'aria-sort': 'none', title: hint };
-            this.head.append(make('div', given, inside));
-        });
+    made_heads() {
+        return this.columns.map(({ title, is_right, hint }, column) => make('div',
+            { class: `cell ${is_right ? 'right' : ''}`, role: 'columnheader', 'aria-sort': 'none', title: hint },
+            this.sorted ? button(title, () => this.sort(column)) : title));
     }
 
     sort(column) {
@@ -77,6 +66,7 @@ export class Grid {
     }
 
     get room() { return this.scroller.clientHeight; }
+    get seen() { return Math.floor(this.room / this.high); }
     get is_long() { return this.length * this.high > HIGHEST; }
 
     // Returns the index and the position of the first visible row.
@@ -84,7 +74,7 @@ export class Grid {
         const { scrollTop } = this.scroller;
         if (!this.is_long) return { index: Math.floor(scrollTop / this.high), top: Math.floor(scrollTop / this.high) * this.high };
         const part = scrollTop / Math.max(HIGHEST - this.room, 1);
-        return { index: Math.round(Math.min(part, 1) * Math.max(this.length - Math.floor(this.room / this.high), 0)), top: scrollTop };
+        return { index: Math.round(Math.min(part, 1) * Math.max(this.length - this.seen, 0)), top: scrollTop };
     }
 
     draw_soon() {
@@ -108,11 +98,10 @@ export class Grid {
     get active_line() { return this.lines.find((line) => line.at === this.active && line.isConnected); }
 
     make_line() {
-        const line = make('div', { class: 'row', role: 'row', id: `row-${++ids}` });
+        const cells = this.columns.map(({ is_right, is_dim }) =>
+            make('div', { class: `cell ${is_right ? 'right' : ''} ${is_dim ? 'dim' : ''}`, role: 'gridcell' }));
+        const line = make('div', { class: 'row', role: 'row', id: `row-${++ids}` }, ...cells);
         line.style.gridTemplateColumns = this.columns_css;
-        for (const { is_right, is_dim } of this.columns) {
-            line.append(make('div', { class: `cell ${is_right ? 'right' : ''} ${is_dim ? 'dim' : ''}`, role: 'gridcell' }));
-        }
         return line;
     }
 
@@ -163,11 +152,10 @@ export class Grid {
     activate(at) {
         if (this.length === 0) return;
         this.active = Math.min(Math.max(at, 0), this.length - 1);
-        const seen = Math.floor(this.room / this.high), { index } = this.first();
-        let first = index;
-        if (this.active < index) first = this.active;
-        else if (this.active >= index + seen) first = this.active - seen + 1;
-        if (first !== index || (this.active === index && !this.is_long)) this.scroll_to(first, seen);
+        const { seen, is_long } = this, { index } = this.first(), first = Math.max(Math.min(index, this.active), this.active - seen + 1);
+        if (first !== index || (this.active === index && !is_long)) {
+            this.scroller.scrollTop = is_long ? first / Math.max(this.length - seen, 1) * (HIGHEST - this.room) : first * this.high;
+        }
         this.draw();
     }
 
@@ -182,11 +170,6 @@ export class Grid {
         if (this.length > 0) this.chosen(this.active, is_step);
     }
 
-    scroll_to(first, seen) {
-        if (!this.is_long) { this.scroller.scrollTop = first * this.high; return; }
-        this.scroller.scrollTop = first / Math.max(this.length - seen, 1) * (HIGHEST - this.room);
-    }
-
     /** Returns the texts of the active row's cells. */
     get active_cells() {
         const row = this.active < 0 ? undefined : this.blocks.get(Math.floor(this.active / BLOCK))?.rows?.[this.active % BLOCK];
@@ -194,9 +177,8 @@ export class Grid {
     }
 
     key(event) {
-        const page = Math.max(Math.floor(this.room / this.high) - 1, 1);
-        const steps = { ArrowDown: 1, ArrowUp: -1, PageDown: page, PageUp: -page, Home: -this.length, End: this.length };
-        const sides = { ArrowLeft: -1, ArrowRight: 1 };
+        const { length } = this, page = Math.max(this.seen - 1, 1), sides = { ArrowLeft: -1, ArrowRight: 1 };
+        const steps = { ArrowDown: 1, ArrowUp: -1, PageDown: page, PageUp: -page, Home: -length, End: length };
         if (event.key in steps) {
             this.choose(this.active < 0 ? (event.key === 'End' ? this.length : 0) : this.active + steps[event.key], true);
         } else if (event.key in sides && this.active >= 0) {

@@ -18,10 +18,7 @@ export function light(name) {
 /** Returns how many bytes a row has in a view of a width. */
 export const bytes_in = (width) => (width >= 1060 ? 32 : width >= 590 ? 16 : 8);
 
-/**
- * Returns a view of a number of bytes of the file, from an offset on, with `each` bytes in a row. Bytes of the fields of a record, each with
- * its name, offset and size, have a colour of the field, and its name.
- */
+/** Returns a view of bytes of the file, with `each` in a row. Those of a record's fields have the fields' colours and names. */
 export function hex_view(at, size, each, fields = []) {
     const first = Math.floor(at / each) * each;
     const node_of = (text, place) => {

@@ -6,13 +6,13 @@ import { go_over } from './lists.js';
 import { part_at, parts, titled } from './pieces.js';
 import { bytes_of_symbol, name_of_symbol, symtab_at } from './resolve.js';
 import { first_after, visible_ranges } from './spans.js';
-import { count } from './text.js';
+import { count, once } from './text.js';
 
 const TYPES = new Set([goblin.STT_OBJECT, goblin.STT_FUNC, goblin.STT_GNU_IFUNC]);
 const found = { table: undefined, symbols: [], starts: [], ends: [], functions: [] };
 
 // Finds the bytes of functions and variables of the table of symbols. Of those that overlap the first one counts, and the longest of these.
-async function find_symbols() {
+const find_symbols = once(async () => {
     const tables = symbol_tables(), table = tables.find((index) => section_at(index).sh_type === goblin.SHT_SYMTAB) ?? tables[0], all = [];
     const list = read_or(undefined, () => symtab_at(table)) ?? { length: 0, from: () => [] };
     await go_over({ list }, 'symbols inside', () => true, (symbol, index) => {
@@ -25,9 +25,8 @@ async function find_symbols() {
     const functions = all.filter((item) => item.is_function).filter(({ start }, i, list) => start !== list[i - 1]?.start); // (without other names)
     const symbols = all.filter(({ start, end }) => start >= last && (last = end));
     Object.assign(found, { table, functions, symbols, starts: symbols.map(({ start }) => start), ends: symbols.map(({ end }) => end) });
-}
+});
 
-const find_once = () => (found.asked ??= find_symbols());
 const name_of = ({ index }) => name_of_symbol(found.table, index, symtab_at(found.table).get(index)) || `symbol ${index}`;
 
 // Returns a function or variable with its location, and perhaps its name.
@@ -38,7 +37,7 @@ function shown(symbol, has_name = true) {
 
 /** Returns a number of functions, from the largest on. */
 export async function largest(most) {
-    await find_once();
+    await find_symbols();
     return found.functions.sort((a, b) => b.size - a.size).slice(0, most).map((item) => shown(item));
 }
 
@@ -67,7 +66,7 @@ const class_at = (byte) => (file.content[byte] === 0 ? ZEROS : class_of(byte, by
 
 /** Returns what a view of the map shows inside the parts: classes of bytes, each byte if it has a column, symbols, and titles that have room. */
 export async function inside({ start, end, step, columns, least, least_named }) {
-    await find_once();
+    await find_symbols();
     const { tops, ...all } = parts(), { symbols } = found, last = Math.min(end, file.content.length), of = step === 1 ? class_at : class_of;
     const wide_ones = ({ starts, ends }, size) => [...visible_ranges(starts, ends, start, last, size)].filter((i) => ends[i] - starts[i] >= size);
     const symbol = (i) => ({ ...shown(symbols[i], symbols[i].size >= least_named), is_odd: i % 2 > 0 });
@@ -107,7 +106,7 @@ function from_largest(items, least, of, group_of, ...rest) {
 
 /** Returns the pieces of the file by the bytes where they are drawn, from the largest on, each with the functions and variables inside. */
 export async function sizes(least) {
-    await find_once();
+    await find_symbols();
     const { starts, ends, tops } = parts(), pieces = new Map(tops.map((top) => [top, { top, size: 0, inside: [] }]));
     tops.forEach((top, i) => { pieces.get(top).size += ends[i] - starts[i]; });
     for (const symbol of found.symbols) pieces.get(tops[part_at(symbol.start)]).inside.push(symbol);

@@ -1,33 +1,20 @@
-// Names of numbers: the library's, which are goblin's, if they are right for the file's machine and system; else the page's own; else the
-// number.
+// Names of numbers: the library's, which are goblin's, if they are right for the file's machine and system; else the page's own, or digits.
 import * as goblin from './goblin.js';
 import { file, is_wide } from './file.js';
 import * as own from './names.js';
-import { hex } from './text.js';
+import { hex, once } from './text.js';
 
 // The library's names for ends of ranges, which are not names of numbers.
 const ENDS = /^(SHT_|PT_)?(NUM|LO|HI|LOOS|HIOS|LOPROC|HIPROC|LOUSER|HIUSER)$/;
-const SOLARIS = 6, X86_64 = 62, ARM = 40;
-
+const SOLARIS = 6;
 const without = (prefix, name) => (name.startsWith(prefix) ? name.slice(prefix.length) : name);
 
 // Returns the library's name if it is right for the file.
 function fitting(name) {
-    const { e_machine, ei_osabi } = file.elf.header;
-    if (name.includes('UNKNOWN') || ENDS.test(name)) return undefined;
-    if (name.includes('X86_64_') && e_machine !== X86_64) return undefined;
-    if (name.includes('ARM_') && e_machine !== ARM) return undefined;
-    if (name.includes('SUNW') && ei_osabi !== SOLARIS) return undefined;
-    return name;
-}
-
-// Returns a function of a number that computes each name once.
-function once(find) {
-    const found = new Map();
-    return (number) => {
-        if (!found.has(number)) found.set(number, find(number));
-        return found.get(number);
-    };
+    const { e_machine, ei_osabi } = file.elf.header, is_other = (part, is_own) => name.includes(part) && !is_own;
+    const is_wrong = name.includes('UNKNOWN') || ENDS.test(name) || is_other('X86_64_', e_machine === goblin.EM_X86_64)
+        || is_other('ARM_', e_machine === goblin.EM_ARM) || is_other('SUNW', ei_osabi === SOLARIS);
+    return is_wrong ? undefined : name;
 }
 
 const label = (prefix, own_name, library, shown = hex) => once((number) =>
@@ -46,14 +33,12 @@ export const osabi = label('ELFOSABI_', own.osabi, () => 'UNKNOWN', String);
 
 /** Returns a name with its prefix, or only the number. */
 export const prefixed = (prefix, name) => (/^(0x|\d+$)/.test(name) ? name : `${prefix}${name}`);
-
 /** Returns the name of a relocation's type with its prefix, or the number. */
 export const relocation_type = once((type) => own.relocation_type(type, file.elf.header.e_machine, is_wide()) ?? `${type}`);
 
-const BITS = Array.from({ length: 32 }, (_, bit) => bit);
 /** Returns the names of a section's flags. Flags without a name are numbers. */
 export const section_flags = once((flags) => {
-    const names = BITS.filter((bit) => flags >> BigInt(bit) & 1n).map((bit) => {
+    const names = Array.from({ length: 32 }, (_, bit) => bit).filter((bit) => flags >> BigInt(bit) & 1n).map((bit) => {
         const given = own.section_flag(bit, file.elf.header.e_machine) ?? fitting(goblin.shf_to_str(2 ** bit));
         return given ? without('SHF_', given) : hex(2 ** bit);
     });

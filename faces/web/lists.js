@@ -1,9 +1,8 @@
-// The lists of the page. Each is a source: its items, the cells of its columns, what a saved list has in their place, the values that columns
-// without text are sorted by, and whether an item holds an offset or address.
+// The lists of the page. Each is a source: its items, its columns, and whether an item holds an offset or address.
 import * as goblin from './goblin.js';
 import {
-    called, file, name_of_section, part, refusal, RELOCATION_TYPES, RELR, section_at, section_refusal, sections, segments, SYMBOL_TYPES,
-    read_or,
+    called, digits_of, file, name_of_section, part, read_or, refusal, RELOCATION_TYPES, RELR, section_at, section_refusal, sections,
+    segments, SYMBOL_TYPES,
 } from './file.js';
 import { demangled } from './demangle.js';
 import { packed_offsets } from './dynamic.js';
@@ -11,22 +10,19 @@ import * as labels from './labels.js';
 import { notes_of } from './notes.js';
 import { parts, titled } from './pieces.js';
 import { has_mangled, name_of_symbol, section_of_symbol, symtab_at } from './resolve.js';
-import { count, hex } from './text.js';
+import { count, hex, once } from './text.js';
 
 const SPECIAL = new Map([[0n, 'undefined'], [0xfff1n, 'absolute'], [0xfff2n, 'common'], [0xffffn, 'extended index']]);
-
-// A column has a title, a hint, such as the standard's name of the field, the least width, the share of the rest of the width, and functions of
-// an item that return its text, and, where they are others, the number to sort by and the text in a saved list.
+// A column has a title, a hint, such as the standard's name of the field, the least width, the share of the rest of the width, and
+// functions that return an item's text, and perhaps another one for a saved list, and a number to sort by.
 const column = (title, hint, least, share, given) =>
     ({ title, hint, least, wide: share ? `minmax(${least}px, ${share}fr)` : `${least}px`, ...given });
 const text = (title, hint, least, share, say) => column(title, hint, least, share, { text: say });
 const number = (title, key, least, share, say = hex) =>
     column(title, key, least, share, { is_right: true, text: (item) => say(item[key]), number: (item) => item[key] });
 
-let known_rooms;
 // Returns the widths of columns of some kinds of numbers, in which those of the file fit, but for some of damaged files.
-function rooms() {
-    if (known_rooms) return known_rooms;
+const rooms = once(() => {
     let address = 0n, align = 0n, index = 0;
     const raise = (end) => { if (end > address && end < 1n << 64n) address = end; };
     for (const { section } of sections()) {
@@ -37,11 +33,11 @@ function rooms() {
     for (const { segment } of segments()) raise(segment.p_vaddr + segment.p_memsz);
     const room = (shown, least, most = 20) => Math.max(Math.ceil(7.6 * Math.min(shown.length, most)) + 1, least);
     const offset = room(hex(file.content.length), 60);
-    return (known_rooms = { address: room(hex(address), 60), offset, align: room(`${align}`, 36, 10), index: room(`${index}`, 32) });
-}
+    return { address: room(hex(address), 60), offset, align: room(`${align}`, 36, 10), index: room(`${index}`, 32) };
+});
 
 const within = (start, size, value) => start <= value && value < start + size;
-const is_refused = (range) => part(() => { range(); return {}; }, () => true).refused;
+const is_refused = (range) => read_or(true, () => { range(); return false; });
 
 /** Returns the title of a symbol's section. */
 export function section_word(table, index, symbol) {
@@ -58,19 +54,11 @@ export function symbol_of_relocation(table, { r_sym }) {
     return symbol ? name_of_symbol(table, r_sym, symbol) : r_sym ? `symbol ${r_sym}` : '';
 }
 
-// How many bytes of a descriptor a list shows.
-const DESCRIPTOR = 64;
-function descriptor({ note }) {
-    const { offset, size } = note.desc_range;
-    const bytes = file.content.subarray(Number(offset), Number(offset) + Math.min(Number(size), DESCRIPTOR));
-    return Array.from(bytes, (byte) => byte.toString(16).padStart(2, '0')).join('') + (size > DESCRIPTOR ? '…' : '');
-}
+// Returns a list of a number of items, which a function returns by their indices.
+const list_of = (length, get) => ({ length, get, *from(at = 0) { for (; at < length; at++) yield get(at); } });
 
 // Returns the list of packed relocations, which have nothing but their offsets. A number that is added is in place.
-function packed(offsets) {
-    const item = (at) => (at < offsets.length ? { r_offset: offsets[at], r_type: 0, r_sym: 0, r_addend: undefined } : undefined);
-    return { length: offsets.length, get: item, *from(at = 0) { for (; at < offsets.length; at++) yield item(at); } };
-}
+const packed = (offsets) => list_of(offsets.length, (at) => ({ r_offset: offsets[at], r_type: 0, r_sym: 0, r_addend: undefined }));
 
 const sources = {
     sections({ address, offset, align, index }) {
@@ -142,11 +130,11 @@ const sources = {
         const of_thread = { is_right: true, text: ({ thread = '' }) => `${thread}`, number: ({ thread = 0n }) => thread };
         const size = { is_right: true, text: ({ note }) => `${note.desc_range.size}`, number: ({ note }) => note.desc_range.size };
         return {
-            list: { length: items.length, get: (at) => items[at], from: (at = 0) => items.slice(at) }, place: 40,
+            list: list_of(items.length, (at) => items[at]), place: 40,
             columns: [
                 text('From', 'the section or segment', 120, 1, ({ holder }) => holder.title), text('Owner', 'the name', 72, 0.6, ({ note }) => note.name),
                 column('Type', 'n_type', 130, 0.8, type), column('Thread', 'of a core', 60, 0, of_thread), column('Size', 'n_descsz', 56, 0, size),
-                text('Descriptor', 'its first bytes', 160, 2, descriptor),
+                text('Descriptor', 'its first bytes', 160, 2, ({ note }) => digits_of(note.desc_range, 64)),
             ],
             holds: ({ start, end }, value) => within(BigInt(start), BigInt(end - start), value),
         };
@@ -158,7 +146,7 @@ const sources = {
         const sized = (title_of, hint, least, given) => column(title_of, hint, least, 0, { is_right: true, number: size, ...given });
         const place = (name, by) => column(name, 'offset', offset, 0, { is_right: true, text: (at) => hex(starts[at + by]), number: (at) => starts[at + by] });
         return {
-            list: { length: tops.length, get: (at) => at, *from(at = 0) { for (; at < tops.length; at++) yield at; } }, place: 56,
+            list: list_of(tops.length, (at) => at), place: 56,
             columns: [
                 place('From', 0), place('To', 1), sized('Bytes', 'size', 96, { text: (at) => count(size(at)), plain: (at) => `${size(at)}` }),
                 sized('Share', 'of the file', 72, { text: (at) => `${share(at)} %`, plain: share }), text('What', 'the piece that is drawn', 160, 2, title),
@@ -172,35 +160,25 @@ const sources = {
 
 // Reports whether there is such a list. A list of symbols or relocations is a section of that type.
 function is_there(list, of) {
-    const types = { symbols: SYMBOL_TYPES, relocations: [...RELOCATION_TYPES, RELR] }[list];
+    const types = { symbols: SYMBOL_TYPES, relocations: RELOCATION_TYPES }[list];
     return types ? types.includes(section_at(of)?.sh_type) : Object.hasOwn(sources, list);
 }
 
 /** Returns the source of a list, or its refusal, or nothing if there is no such list. */
-export function open_source(list, of) {
-    try {
-        if (!is_there(list, of)) return undefined;
-        return sources[list](rooms(), of);
-    } catch (error) {
-        if (list === 'symbols' || list === 'relocations') return { refused: section_refusal(error, `the ${list}`, of) };
-        return { refused: refusal(error, `the ${list}`, []) };
-    }
-}
+export const open_source = (list, of) => part(() => (is_there(list, of) ? sources[list](rooms(), of) : undefined), (error) =>
+    (['symbols', 'relocations'].includes(list) ? section_refusal(error, `the ${list}`, of) : refusal(error, `the ${list}`, [])));
 
 /** Returns the columns of a list, for the page, or none if there is no such list or it is refused. The first is that of the index. */
 export const columns_of = ({ place = 0, columns = [] } = {}) =>
     [column('#', 'index', place, 0, { is_right: true, is_dim: true }), ...columns].map(({ title, hint, least, wide, is_right, is_dim }) =>
         ({ title, hint, least, wide, is_right, is_dim }));
-
 /** Returns the cells of an item. The first is its index. */
 export const cells_of = ({ columns }, item, index) => [`${index}`, ...columns.map((column) => column.text(item, index))];
 /** Returns the cells of an item in a saved list, where numbers are plain. */
 export const plain_cells_of = ({ columns }, item, index) =>
     [`${index}`, ...columns.map((column) => (column.plain ?? column.text)(item, index))];
-
 // How long the worker works before it reads messages.
 const SLICE = 25;
-const pause = () => new Promise((resume) => setTimeout(resume, 0));
 
 /** Iterates over a source in steps, while `is_wanted` returns true. Returns whether it reached the end. */
 export async function go_over(source, list, is_wanted, each) {
@@ -210,7 +188,7 @@ export async function go_over(source, list, is_wanted, each) {
         each(item, index++);
         if (index % 256 === 0 && performance.now() - last > SLICE) {
             postMessage({ progress: list, done: index / length });
-            await pause();
+            await new Promise((resume) => setTimeout(resume, 0));
             if (!is_wanted()) return false;
             last = performance.now();
         }
@@ -218,15 +196,13 @@ export async function go_over(source, list, is_wanted, each) {
     return true;
 }
 
-// Returns the offset or address that a search is for, if it is for one.
-const number_in = (query) => (/^0x[0-9a-f]{1,16}$/i.test(query) ? BigInt(query) : undefined);
-
 /** Returns the indices of the items that a search finds, in their order, or nothing if these are all items in the list's own order. */
 export async function arranged(source, { query, column, is_descending, list }, is_wanted) {
     const { length } = source.list;
     let order;
     if (query) {
-        const wanted = query.toLowerCase(), value = number_in(wanted), found = [];
+        const wanted = query.toLowerCase(), found = [];
+        const value = /^0x[0-9a-f]{1,16}$/.test(wanted) ? BigInt(wanted) : undefined; // (an offset or address)
         await go_over(source, list, is_wanted, (item, index) => {
             const is_there = (value !== undefined && source.holds(item, value))
                 || cells_of(source, item, index).some((cell) => cell.toLowerCase().includes(wanted));

@@ -13,7 +13,6 @@ const KIND_WORDS = { header: 'ELF header', tables: 'header tables', names: 'symb
 const words_of = (kind) => KIND_WORDS[kind] ?? kind;
 export const colour = (kind) => getComputedStyle(document.documentElement).getPropertyValue(`--${kind}`);
 
-
 /** Returns a dot in the colour of a kind. */
 export function dot(kind) {
     const item = make('i', { 'data-kind': kind });

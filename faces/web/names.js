@@ -23,7 +23,6 @@ function row(text) {
 const OSABI = row('SYSV HPUX NETBSD GNU @6 SOLARIS AIX IRIX FREEBSD TRU64 MODESTO OPENBSD OPENVMS NSK AROS FENIXOS CLOUDABI OPENVOS'
     + ' @97 ARM @255 STANDALONE');
 const OSABI_OF = { [EM.ARM]: row('@64 ARM_AEABI @65 ARM_FDPIC'), 224: row('@64 AMDGPU_HSA AMDGPU_PAL AMDGPU_MESA3D') };
-
 /** Returns the name of an `ei_osabi`. */
 export const osabi = (number, machine) => OSABI.get(number) ?? OSABI_OF[machine]?.get(number);
 
@@ -36,8 +35,7 @@ const SECTIONS = new Map([
 const PROCESSOR = 0x70000000;
 const SECTIONS_OF = {
     [EM.ARM]: row('@1 ARM_EXIDX ARM_PREEMPTMAP ARM_ATTRIBUTES ARM_DEBUGOVERLAY ARM_OVERLAYSECTION'),
-    [EM.AARCH64]: row('@3 AARCH64_ATTRIBUTES'),
-    [EM.RISCV]: row('@3 RISCV_ATTRIBUTES'),
+    [EM.AARCH64]: row('@3 AARCH64_ATTRIBUTES'), [EM.RISCV]: row('@3 RISCV_ATTRIBUTES'),
     [EM.MIPS]: row('MIPS_LIBLIST MIPS_MSYM MIPS_CONFLICT MIPS_GPTAB MIPS_UCODE MIPS_DEBUG MIPS_REGINFO @13 MIPS_OPTIONS'
         + ' @30 MIPS_DWARF @42 MIPS_ABIFLAGS MIPS_XHASH'),
 };
@@ -64,9 +62,7 @@ const SEGMENTS_OF = {
 
 /** Returns the name of a segment's type, without its prefix. */
 export const segment_type = (type, machine) => SEGMENTS.get(type) ?? SEGMENTS_OF[machine]?.get(type - PROCESSOR);
-
 const SYMBOLS_OF = { [EM.ARM]: row('@13 ARM_TFUNC @15 ARM_16BIT') };
-
 /** Returns the name of a symbol's type, without its prefix. */
 export const symbol_type = (type, machine) => SYMBOLS_OF[machine]?.get(type);
 

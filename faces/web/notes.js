@@ -1,24 +1,16 @@
 // The notes of sections or segments.
 import * as goblin from './goblin.js';
-import { called, ET_CORE, file, is_wide, refusal, sections, segments, read_or } from './file.js';
+import { called, file, is_wide, refusal, sections, segments, read_or } from './file.js';
 import { note_type } from './labels.js';
-import { hex, name_of, NAME } from './text.js';
+import { hex, name_of, NAME, once } from './text.js';
 
 const MOST_NOTES = 100000, MOST_REFUSALS = 20, NHDR = 12;
-
-function* holders(by) {
-    if (by === 'sections') {
-        for (const { index, section } of sections()) {
-            if (section.sh_type !== goblin.SHT_NOTE) continue;
-            yield { index, title: called(index, section), start: section.sh_offset, notes: (most) => file.elf.readable_notes_bytes(section, most) };
-        }
-    } else {
-        for (const { index, segment } of segments()) {
-            if (segment.p_type !== goblin.PT_NOTE) continue;
-            yield { index, title: `segment ${index}`, start: segment.p_offset, notes: (most) => file.elf.readable_notes_bytes(segment, most) };
-        }
-    }
-}
+// Returns the sections or segments that hold notes.
+const holders = (by) => (by === 'sections'
+    ? sections().filter(({ section }) => section.sh_type === goblin.SHT_NOTE)
+        .map(({ index, section }) => ({ index, title: called(index, section), start: section.sh_offset, item: section }))
+    : segments().filter(({ segment }) => segment.p_type === goblin.PT_NOTE)
+        .map(({ index, segment }) => ({ index, title: `segment ${index}`, start: segment.p_offset, item: segment })));
 
 // Returns a note with its name as text, without the zero byte that ends it. The name may be of any bytes and any size.
 function named({ n_type, name_range, desc_range, next }) {
@@ -30,14 +22,12 @@ function named({ n_type, name_range, desc_range, next }) {
 // The parts of a note that are refused.
 const PARTS = { [goblin.Item.NOTE_HEADER]: 'header', [goblin.Item.NOTE_NAME]: 'name', [goblin.Item.NOTE_DESC]: 'descriptor' };
 
-const found = {};
 /** Returns the notes of each section or segment up to the first refused one, at most a number: each with its type's name and offset. */
-export function notes_of(by) {
-    if (found[by]) return found[by];
+export const notes_of = once((by) => {
     const items = [], refusals = [];
     let is_cut = false;
     for (const holder of holders(by)) {
-        const left = MOST_NOTES - items.length, { notes, refusal: error } = holder.notes(left + 1);
+        const left = MOST_NOTES - items.length, { notes, refusal: error } = file.elf.readable_notes_bytes(holder.item, left + 1);
         for (const note of notes.slice(0, left)) {
             items.push({ holder, note: named(note), start: Number(note.name_range.offset) - NHDR, end: Number(note.next) });
         }
@@ -51,13 +41,13 @@ export function notes_of(by) {
         if (is_cut || refusals.length > MOST_REFUSALS) break;
     }
     name_threads(items);
-    return (found[by] = { items, refusals, is_cut });
-}
+    return { items, refusals, is_cut };
+});
 
-// Adds to each note of a core file its thread. A note of type PRSTATUS has the thread's number, after the signal's number and two sets of
-// signals. The notes of Linux and GDB up to the next PRSTATUS are of the same thread, but for those of the process.
+// Adds to each note of a core file its thread. A PRSTATUS has the thread's number. The notes up to the next one are of the same thread, but
+// for those of the process.
 function name_threads(items) {
-    if (file.elf.header.e_type !== ET_CORE) return;
+    if (file.elf.header.e_type !== goblin.ET_CORE) return;
     let thread;
     for (const item of items) {
         const { note } = item, type = note_type(note);

@@ -1,23 +1,21 @@
 // The page: opens files, each in its own worker, and shows the location that the address bar has.
-import { button, get, make, number, plural, put_text, visible } from './dom.js';
+import { button, bytes_of, get, make, number, plural, put_text, visible } from './dom.js';
 import { set_up_goto } from './goto.js';
 import { lines_of, refusal_of } from './hex.js';
 import { mark_range, set_up_map, show_map } from './map.js';
 import { ask, is_supported, Reader, shown_file } from './reader.js';
 import { current_place, note_place, on_place } from './route.js';
 import { set_up_side, show_side } from './side.js';
-import { activate, choose_field, is_list, open_tab, set_up_tabs, show_tabs } from './tabs.js';
+import { activate, choose_field, header_block, is_list, open_tab, set_up_tabs, show_tabs } from './tabs.js';
 
 const MAGIC = [0x7f, 0x45, 0x4c, 0x46];
 // The largest file that is read. Some browsers have no longer arrays.
 const LIMIT = 2 ** 31, LIMIT_WORDS = '2 GiB (2,147,483,648 bytes)';
 // After how many milliseconds the page shows that a file is being read.
 const SOON = 200;
-
 // Returns a whole number of a location, or nothing.
 const whole = (text) => (/^\d{1,10}$/.test(text ?? '') ? Number(text) : undefined);
 const from_hex = (text) => (/^0x[0-9a-f]{1,16}$/i.test(text ?? '') ? BigInt(text) : undefined);
-
 // Returns what is shown of a location outside the lists: a part of the map, an offset, an address.
 const PLACES = {
     part: (text) => (whole(text) === undefined ? undefined : ask('item', { list: 'layout', index: whole(text) })),
@@ -39,10 +37,8 @@ function tab_of(place) {
 // Returns what is shown of an item of a tab.
 async function item_of({ name, of, field, index }) {
     if (name === 'header') return choose_field(field);
-    if (name === 'summary') return undefined;
     await activate(index);
-    if (index === undefined) return undefined;
-    return ask('item', { list: name, index, of });
+    return index === undefined ? undefined : ask('item', { list: name, index, of });
 }
 
 // Returns the text of an encoded one, or the text itself if it is none.
@@ -79,8 +75,7 @@ async function show_place(given) {
 }
 
 // Returns what the side shows while nothing is chosen.
-const unchosen = () => ({ title: 'ELF header', kind: 'header', what: 'at the start of the file',
-    blocks: [{ word: 'bytes', at: 0, size: shown_file.summary.header_size, fields: shown_file.summary.header }] });
+const unchosen = () => ({ title: 'ELF header', kind: 'header', what: 'at the start of the file', blocks: [header_block('bytes')] });
 
 // Returns why a file is not read, or nothing.
 function why_unread({ size }) {
@@ -89,7 +84,6 @@ function why_unread({ size }) {
 }
 
 let loading;
-
 async function open(file) {
     loading?.end();
     const wrong = why_unread(file);
@@ -195,9 +189,7 @@ async function show_file(file, reader, summary) {
 
 function set_up_files() {
     get('pick').addEventListener('change', ({ target }) => { if (target.files[0]) open(target.files[0]); target.value = ''; });
-    get('example').addEventListener('click', () => {
-        open(new File([Uint8Array.from(atob(get('example-file').textContent), (sign) => sign.charCodeAt(0))], 'example'));
-    });
+    get('example').addEventListener('click', () => open(new File([bytes_of('example-file')], 'example')));
     let inside = 0;
     const over = (by) => { inside = Math.max(inside + by, 0); document.body.classList.toggle('over', inside > 0); };
     addEventListener('dragenter', (event) => { event.preventDefault(); over(1); });

@@ -1,17 +1,17 @@
 // The pieces of the file, and the parts that the ends of pieces divide it into.
 import * as goblin from './goblin.js';
-import { called, file, is_debug, RELOCATION_TYPES, RELR, section_at, sections, segments, size_of, STRTAB, SYMBOL_TYPES, read_or } from './file.js';
+import { called, file, is_debug, RELOCATION_TYPES, section_at, sections, segments, size_of, SYMBOL_TYPES, read_or } from './file.js';
 import { segment_type } from './labels.js';
 import { notes_of, title_of } from './notes.js';
 import { first_after } from './spans.js';
-import { count, hex } from './text.js';
+import { count, hex, once } from './text.js';
 
 export const KINDS = ['header', 'tables', 'code', 'data', 'constants', 'names', 'relocations', 'notes', 'debug', 'other'];
 
 export function kind_of(section) {
     const { sh_type, sh_flags } = section;
-    if (SYMBOL_TYPES.includes(sh_type) || sh_type === STRTAB) return 'names';
-    if (RELOCATION_TYPES.includes(sh_type) || sh_type === RELR) return 'relocations';
+    if (SYMBOL_TYPES.includes(sh_type) || sh_type === goblin.SHT_STRTAB) return 'names';
+    if (RELOCATION_TYPES.includes(sh_type)) return 'relocations';
     if (sh_type === goblin.SHT_NOTE) return 'notes';
     if (sh_flags & 4n) return 'code';
     if (sh_flags & 2n) return sh_flags & 1n ? 'data' : 'constants';
@@ -36,8 +36,7 @@ function collector() {
     return { found, cut, past, add };
 }
 
-// Collects the pieces that are drawn first: header, program headers, section headers, and the bytes of sections. (The library refuses those
-// that end past the end of the file.)
+// Collects the pieces that are drawn first: the header, the tables of headers, and the bytes of sections, also if the library refuses them.
 function pieces_of_sections() {
     const { add, ...collected } = collector();
     const { e_phoff, e_phnum, e_shoff, e_shnum } = file.elf.header;
@@ -56,7 +55,7 @@ function pieces_of_sections() {
 // Collects the pieces that are drawn elsewhere: segments, and their notes above them. In a file with sections, what a loaded segment has
 // outside of them is mostly padding, and neither code nor data.
 function pieces_of_segments() {
-    const { add, ...collected } = collector(), has_sections = [...sections()].some(({ section }) => section.sh_type !== goblin.SHT_NULL);
+    const { add, ...collected } = collector(), has_sections = sections().some(({ section }) => section.sh_type !== goblin.SHT_NULL);
     for (const { index, segment } of segments()) {
         const { p_type, p_offset, p_filesz } = segment, kind = has_sections && p_type === goblin.PT_LOAD ? 'other' : kind_of_segment(segment);
         add(p_offset, p_filesz, { title: title_of_segment(index, segment), kind, to: `segments/${index}` });
@@ -86,30 +85,24 @@ class Cover {
 
 const ends_of = (pieces) => pieces.flatMap(({ start, end }) => [start, end]);
 
-let known;
-/**
- * Returns the file's parts: the start and end of each, the piece that is drawn there, or none in a gap, and the number of pieces of sections there.
- * A part ends where a piece of sections ends, and where another piece of segments is drawn. And the pieces past the end of the file.
- */
-export function parts() {
-    if (known) return known;
+// A part ends where a piece of sections ends, and where another piece of segments is drawn.
+/** Returns the parts: their starts and ends, the pieces that are drawn, and how many of sections lie there; and the pieces past the end. */
+export const parts = once(() => {
     const of_sections = pieces_of_sections(), of_segments = pieces_of_segments(), size = file.content.length;
     const first = of_sections.found, second = [...of_sections.cut, ...of_segments.found, ...of_segments.cut];
     const ends = new Set([0, size, ...ends_of(first)]);
     const cuts = [...new Set([...ends, ...ends_of(second)])].sort((a, b) => a - b);
     const over = new Cover(first), under = new Cover(second), starts = [], tops = [], depths = [];
-    for (const cut of cuts) {
-        if (cut === size) break;
-        const { top, depth } = over.go_to(cut), below = under.go_to(cut).top;
-        const drawn = top ?? below;
+    for (const cut of cuts.slice(0, -1)) {
+        const { top, depth } = over.go_to(cut), below = under.go_to(cut).top, drawn = top ?? below;
         if (!ends.has(cut) && drawn === tops.at(-1)) continue;
         starts.push(cut);
         tops.push(drawn);
         depths.push(depth);
     }
     starts.push(size);
-    return (known = { starts, ends: starts.slice(1), tops, depths, first, second, past: [...of_sections.past, ...of_segments.past] });
-}
+    return { starts, ends: starts.slice(1), tops, depths, first, second, past: [...of_sections.past, ...of_segments.past] };
+});
 
 /** Returns a piece with its title. That of a piece that is cut says how much of it is in the file. */
 export function titled({ section, title = called(section, section_at(section)), ...piece }) {

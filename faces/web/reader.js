@@ -1,5 +1,5 @@
 // The workers, each of which reads one file. The page shows what the current one sends. A new one replaces it once its file is read.
-import { get } from './dom.js';
+import { bytes_of, get } from './dom.js';
 
 // A module with only a 64-bit memory.
 const WITH_MEMORY = new Uint8Array([0, 0x61, 0x73, 0x6d, 1, 0, 0, 0, 5, 3, 1, 4, 0]);
@@ -7,10 +7,6 @@ const WITH_MEMORY = new Uint8Array([0, 0x61, 0x73, 0x6d, 1, 0, 0, 0, 5, 3, 1, 4,
 export const is_supported = () => typeof WebAssembly === 'object' && WebAssembly.validate(WITH_MEMORY);
 
 let source, module;
-function prepare() {
-    source ??= URL.createObjectURL(new Blob([get('worker').textContent], { type: 'text/javascript' }));
-    module ??= Uint8Array.from(atob(get('module').textContent), (sign) => sign.charCodeAt(0));
-}
 
 export class Reader {
     #waiting = new Map();
@@ -19,7 +15,8 @@ export class Reader {
     on_progress = () => {};
 
     constructor() {
-        prepare();
+        source ??= URL.createObjectURL(new Blob([get('worker').textContent], { type: 'text/javascript' }));
+        module ??= bytes_of('module');
         this.worker = new Worker(source);
         this.worker.onmessage = ({ data }) => this.#receive(data);
         this.worker.onerror = (event) => this.#fail(new Error(event.message || 'the worker ends'));
@@ -52,6 +49,5 @@ export class Reader {
 
 /** The file that is shown: its reader, its size, and the worker's first result. */
 export const shown_file = { reader: undefined, size: 0, summary: undefined };
-
 /** Calls the worker of the file that is shown. */
 export const ask = (call, given) => shown_file.reader.ask(call, given);

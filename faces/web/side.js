@@ -5,15 +5,18 @@ import { dot } from './map.js';
 import { ask } from './reader.js';
 
 const SIDE_BYTES = 8, SIDE_WIDTH = 372;
-
 /** Returns a link to a location. */
 export const link_to = ({ text, to }) => put_text(make('a', { href: `#${to}` }), text);
 
-/** Returns the cell of a field: its value, its meaning and its links. */
-export function value_of({ value, meaning, links }) {
+// Returns the cell of a field: its value, its meaning and its links.
+function value_of({ value, meaning, links }) {
     const said = meaning && put_text(make('span', { class: 'meaning' }), meaning);
     return make('td', {}, ...joined([value && put_text(make('span'), value), said, ...links.map(link_to)].filter((part) => part)));
 }
+
+/** Returns the row of a field, with a name or an element at its head, and perhaps other cells. */
+export const row_of = (field, given = {}, head = field.name, ...cells) =>
+    make('tr', given, make('th', { scope: 'row' }, head), value_of(field), ...cells);
 
 // Returns the width that bytes have. In a low window they are beside the fields.
 const room = () => (matchMedia('(max-height: 600px) and (min-width: 561px)').matches ? SIDE_WIDTH : get('chosen').clientWidth);
@@ -44,7 +47,6 @@ async function bytes_box(blocks) {
 
 // How many bytes a row has, and what shows the bytes again once the width has changed.
 let shown_each, shown_again;
-
 export function set_up_side() {
     for (const event of ['pointerover', 'focusin']) {
         get('chosen').addEventListener(event, ({ target }) => light(target.closest('[data-field]')?.dataset.field));
@@ -70,12 +72,11 @@ export async function show_side({ title, what, kind, link, fields = [], blocks =
     sub.append(widening());
     if (link) sub.append(button('Copy link', () => copy(`${location.href.split('#')[0]}#${link}`, 'a link by the name'), { class: 'copy' }));
     // (the name of a field of a record shows its bytes)
-    const rows = fields.map((field) => {
+    const rows = fields.filter(Boolean).map((field) => {
         const tint = record?.fields.findIndex(({ name }) => name === field.name) ?? -1;
-        if (tint < 0) return make('tr', {}, make('th', { scope: 'row' }, field.name), value_of(field));
-        const show_bytes = async () => { await bytes.show(record); light(field.name); };
-        return make('tr', { 'data-field': field.name, 'data-tint': tint % 4 },
-            make('th', { scope: 'row' }, button(field.name, show_bytes, { title: 'show its bytes' })), value_of(field));
+        if (tint < 0) return row_of(field);
+        const head = button(field.name, () => bytes.show(record).then(() => light(field.name)), { title: 'show its bytes' });
+        return row_of(field, { 'data-field': field.name, 'data-tint': tint % 4 }, head);
     });
     const table = rows.length ? [make('div', { class: 'list' }, make('table', { class: 'fields' }, make('tbody', {}, ...rows)))] : [];
     get('chosen').replaceChildren(put_text(make('h2', { tabindex: '-1' }), title), sub, ...table, ...(bytes ? [bytes.box] : []));

@@ -3,23 +3,22 @@
 import * as goblin from './goblin.js';
 import { mapped_files, process_of, registers_of, signal_of } from './core.js';
 import { DT, dynamic, texts_of, value_of, versions } from './dynamic.js';
-import { called, ET_CORE, ET_REL, file, is_debug, name_at, section_at, sections, segments, STRTAB, symbol_tables, read_or } from './file.js';
+import { called, digits_of, file, is_debug, name_at, read_or, sections, segment_of, symbol_tables } from './file.js';
 import { largest } from './inside.js';
 import * as labels from './labels.js';
 import { notes_of } from './notes.js';
 import { has_addresses, symtab_at, to_address, to_section, to_symbol } from './resolve.js';
 import { count, hex, name_of } from './text.js';
 
-const ET_EXEC = 2, ET_DYN = 3, LARGEST = 10, MOST_ROWS = 200;
+const { ET_CORE, ET_DYN, ET_EXEC, ET_REL } = goblin, LARGEST = 10, MOST_ROWS = 200;
 const DF_TEXTREL = 4n, DF_BIND_NOW = 8n, DF_1_NOW = 1n, DF_1_PIE = 0x8000000n;
 const MACHINES = { 3: 'x86', 8: 'MIPS', 20: 'PowerPC', 21: '64-bit PowerPC', 22: 's390', 40: 'ARM', 62: 'x86-64', 183: 'AArch64', 243: 'RISC-V' };
 
 const row = (name, value, ...links) => ({ name, value: `${value}`, links: links.filter((link) => link) });
 const own = (...given) => ({ ...row(...given), is_own: true });
 const bytes = (size) => `${count(size)} bytes`;
-const segment_of = (type) => [...segments()].find(({ segment }) => segment.p_type === type);
 const to_segment = ({ index }) => ({ text: `segment ${index}`, to: `segments/${index}` });
-const section_called = (name) => [...sections()].find(({ index, section }) => called(index, section) === name);
+const section_called = (name) => sections().find(({ index, section }) => called(index, section) === name);
 const has_flag = (tag, bit) => (value_of(tag) & bit) !== 0n;
 // Returns the text of bytes up to a zero byte.
 const text_of = (data) => name_of(data.subarray(0, data.indexOf(0) < 0 ? data.length : data.indexOf(0)));
@@ -58,14 +57,13 @@ function build_id() {
     for (const by of ['sections', 'segments']) {
         const { items } = notes_of(by), index = items.findIndex(({ note }) => note.name === 'GNU' && note.n_type === 3);
         if (index < 0) continue;
-        const { offset, size } = items[index].note.desc_range, id = file.content.subarray(Number(offset), Number(offset + size));
-        return row('build ID', Array.from(id, (byte) => byte.toString(16).padStart(2, '0')).join(''), { text: 'note', to: `notes/${by}/${index}` });
+        return row('build ID', digits_of(items[index].note.desc_range), { text: 'note', to: `notes/${by}/${index}` });
     }
     return row('build ID', 'none');
 }
 
 function how_it_was_built() {
-    const all = [...sections()], symbols = all.find(({ section }) => section.sh_type === goblin.SHT_SYMTAB);
+    const all = sections(), symbols = all.find(({ section }) => section.sh_type === goblin.SHT_SYMTAB);
     const without = () => (file.elf.section_headers(), 'of all section headers');
     if (file.elf.header.e_type === ET_CORE) return [];
     if (all.length === 0) return [build_id(), row('stripped', read_or('unknown, the section headers are refused', without))];
@@ -78,7 +76,8 @@ function how_it_was_built() {
         debug.length ? row('debug information', bytes(debug.reduce((sum, { section }) => sum + section.sh_size, 0n)), to_section(debug[0].index))
             : row('debug information', 'none in the file'),
         ...(data ? [own('debug file', text_of(data), to_section(link.index))] : []),
-        ...(comment ? [row('compiler', name_at(file.elf.strtab({ ...comment.section, sh_type: STRTAB }), 0), to_section(comment.index))] : []),
+        ...(comment ? [row('compiler', name_at(file.elf.strtab({ ...comment.section, sh_type: goblin.SHT_STRTAB }), 0),
+            to_section(comment.index))] : []),
     ];
 }
 
@@ -124,14 +123,12 @@ function what_was_running() {
 function largest_sections() {
     const share = ({ sh_type, sh_size }) => (sh_type === goblin.SHT_NOBITS ? 'in memory only'
         : `${(100 * Number(sh_size) / file.content.length).toFixed(1)} %`);
-    const all = [...sections()].filter(({ section }) => section.sh_size > 0n).sort((a, b) => Number(b.section.sh_size - a.section.sh_size));
+    const all = sections().filter(({ section }) => section.sh_size > 0n).sort((a, b) => Number(b.section.sh_size - a.section.sh_size));
     return all.slice(0, LARGEST).map(({ index, section }) => row(`${bytes(section.sh_size)}, ${share(section)}`, '', to_section(index)));
 }
 
-async function largest_functions() {
-    return (await largest(LARGEST)).map(({ size, name, title, to }) =>
-        (title === name ? row(bytes(size), '', { text: name, to }) : own(bytes(size), title, { text: name, to })));
-}
+const largest_functions = async () => (await largest(LARGEST)).map(({ size, name, title, to }) =>
+    (title === name ? row(bytes(size), '', { text: name, to }) : own(bytes(size), title, { text: name, to })));
 
 /** Returns the summary: groups with a title and rows. */
 export async function summary() {

@@ -1,19 +1,16 @@
 // The tabs: the header's fields, and the lists with their searches.
 import { area_panel } from './area.js';
-import { button, copy, get, hex, make, number, plural, say, visible } from './dom.js';
+import { button, copy, focus_chosen, get, hex, make, number, plural, say, visible } from './dom.js';
 import { Grid } from './grid.js';
 import { refusal_of } from './hex.js';
 import { ask, shown_file } from './reader.js';
 import { go } from './route.js';
-import { value_of } from './side.js';
+import { row_of } from './side.js';
 
 const LISTS = ['sections', 'segments', 'symbols', 'relocations', 'notes', 'layout'];
 export const is_list = (name) => LISTS.includes(name);
-
 // The open list: its tab, its section or kind, and its grid. And the header's rows.
 let open = { name: undefined };
-
-// ---- tabs ----
 
 // Returns the number of items in the tables as text, with `+` if there are more, or `refused`.
 function sum_of({ refused, found, all }) {
@@ -78,26 +75,24 @@ export async function open_tab(name, of) {
         await open.ready;
         return open.name === name;
     }
-    const mine = open = { name, of };
+    const mine = open = { name, of }, panels = { summary: summary_panel, header: header_panel, sizes: area_panel };
     select_tab(name);
-    mine.ready = (async () => {
-        const panels = { summary: summary_panel, header: header_panel, sizes: area_panel }, content = await (panels[name] ?? list_panel)(mine, of);
-        if (open === mine) get('panel').replaceChildren(...content);
-        if (open === mine) mine.grid?.draw();
-    })();
+    mine.ready = (panels[name] ?? list_panel)(mine, of).then((content) => {
+        if (open !== mine) return;
+        get('panel').replaceChildren(...content);
+        mine.grid?.draw();
+    });
     await mine.ready;
     return open === mine;
 }
 
-// ---- the summary and the header ----
-
 // Returns the facts in words. Those that the page reads itself are marked.
 async function summary_panel() {
     const mark = () => make('span', { class: 'own' }, 'not proved');
-    const line = ({ name, is_own, ...fact }) => {
-        const cell = value_of(fact);
-        cell.append(...(is_own ? [' ', mark()] : []));
-        return make('tr', {}, make('th', { scope: 'row' }, name), cell);
+    const line = (fact) => {
+        const row = row_of(fact);
+        if (fact.is_own) row.lastChild.append(' ', mark());
+        return row;
     };
     const group = ([title, rows]) => make('section', {}, make('h3', {}, title), make('table', { class: 'fields', 'aria-label': title },
         make('tbody', {}, ...rows.map(line))));
@@ -106,17 +101,17 @@ async function summary_panel() {
     return [make('div', { class: 'scroll', tabindex: '0' }, make('div', { class: 'summary' }, ...(await ask('summary')).map(group)), said)];
 }
 
-function header_panel() {
-    const rows = shown_file.summary.header.map(({ name, at, size, words, ...field }) => {
-        const row = make('tr', { tabindex: '0', 'data-field': name }, make('th', { scope: 'row' }, name), value_of(field),
-            make('td', { class: 'words' }, words), make('td', { class: 'dim' }, `${hex(at)}, ${plural(size, 'byte')}`));
-        row.addEventListener('click', (event) => { if (!event.target.closest('a')) go(`header/${name}`); });
-        row.addEventListener('keydown', (event) => {
-            if (event.target !== row || (event.key !== 'Enter' && event.key !== ' ')) return;
+async function header_panel() {
+    const rows = shown_file.summary.header.map((field) => {
+        const { name, at, size, words } = field, show = () => go(`header/${name}`);
+        const onclick = ({ target }) => { if (!target.closest('a')) show(); };
+        const onkeydown = (event) => {
+            if (event.target !== event.currentTarget || !['Enter', ' '].includes(event.key)) return;
             event.preventDefault();
-            go(`header/${name}`);
-        });
-        return row;
+            show();
+        };
+        return row_of(field, { tabindex: '0', 'data-field': name, onclick, onkeydown }, name, make('td', { class: 'words' }, words),
+            make('td', { class: 'dim' }, `${hex(at)}, ${plural(size, 'byte')}`));
     });
     const table = make('table', { class: 'fields header', role: 'grid', 'aria-label': 'Fields of the header' }, make('tbody', {}, ...rows));
     return [make('div', { class: 'scroll' }, table)];
@@ -128,12 +123,12 @@ export function choose_field(wanted) {
     const field = shown_file.summary.header.find(({ name }) => name === wanted);
     if (!field) return undefined;
     const { name, at, size, words, value, meaning, links } = field;
-    const [fields, blocks] = [[{ name: 'value', value, meaning, links }], [{ word: 'bytes', at, size },
-        { word: 'header', at: 0, size: shown_file.summary.header_size, fields: shown_file.summary.header }]];
-    return { title: name, kind: 'header', what: words, fields, blocks };
+    return { title: name, kind: 'header', what: words, fields: [{ name: 'value', value, meaning, links }],
+        blocks: [{ word: 'bytes', at, size }, header_block('header')] };
 }
 
-// ---- lists ----
+/** Returns the block of the header's bytes. */
+export const header_block = (word) => ({ word, at: 0, size: shown_file.summary.header_size, fields: shown_file.summary.header });
 
 // Returns the tables of symbols, relocations or notes to choose from.
 function choices(name) {
@@ -147,7 +142,6 @@ const NONE = {
     symbols: 'The file has no symbols: no section of them (SHT_SYMTAB, SHT_DYNSYM), and no DT_SYMTAB.',
     relocations: 'The file has no relocations: no section of them (SHT_RELA, SHT_REL, SHT_RELR), and no DT_RELA, DT_REL, DT_JMPREL or DT_RELR.',
 };
-
 // What is said of tables that are not wholly read by proved calls.
 const OWN = {
     packed: 'Packed relocations are read by this page itself, by numbers. They are outside of what is proved.',
@@ -161,11 +155,9 @@ async function list_panel(mine, wanted) {
     if (wanted !== undefined && !list.some(({ of }) => of === wanted)) list = [{ of: wanted, text: `section ${wanted}` }, ...list];
     if (list.length === 0) return [make('p', { class: 'empty' }, NONE[name])];
     // (a refusal is shown before an empty list)
-    const weight = ({ length }) => length ?? 0.5;
-    const longest = list.reduce((best, item) => (weight(item) > weight(best) ? item : best));
-    mine.of = wanted ?? longest.of;
-    Object.assign(mine, { list, query: '', column: 0, is_descending: false, output: make('output', {}) });
-    mine.below = make('div', { class: 'notice' });
+    const [longest] = list.toSorted((a, b) => (b.length ?? 0.5) - (a.length ?? 0.5)), of = wanted ?? longest.of;
+    Object.assign(mine, { list, of, query: '', column: 0, is_descending: false });
+    Object.assign(mine, { output: make('output'), below: make('div', { class: 'notice' }) });
     mine.grid = new Grid(name, await ask('columns', { list: name, of: mine.of }), {
         rows: (from, size) => ask('rows', { list: name, from, size }),
         chosen: (at, is_step) => go_to_row(mine, at, is_step), opened: (at) => open_row(mine, at),
@@ -183,17 +175,17 @@ async function refresh(mine) {
     shown_file.reader.on_progress = ({ progress, done }) => {
         if (progress === name) output.textContent = `reading … ${Math.floor(100 * done)} %`;
     };
-    const view = await ask('view', { list: name, of, query, column, is_descending });
-    if (view.is_over) return;
-    below.replaceChildren(...await notices_of(mine, view));
-    const is_shown = !view.refused && !view.is_none;
+    const { is_over, refused, is_none, length, all } = await ask('view', { list: name, of, query, column, is_descending });
+    if (is_over) return;
+    below.replaceChildren(...await notices_of(mine, { refused, is_none }));
+    const is_shown = !refused && !is_none;
     grid.box.hidden = !is_shown;
-    output.textContent = view.refused ? 'refused' : view.is_none ? 'none' : count_of(view, query);
-    mine.saving.hidden = !is_shown || view.length === 0;
-    grid.show(is_shown ? view.length : 0);
+    const count = is_shown && (query ? `${number(length)} of ${number(all)}` : number(all));
+    output.textContent = refused ? 'refused' : is_none ? 'none' : count;
+    mine.saving.hidden = !is_shown || length === 0;
+    grid.show(is_shown ? length : 0);
 }
 
-const count_of = ({ length, all }, query) => (query ? `${number(length)} of ${number(all)}` : number(all));
 
 // Returns the message for a list that is refused, missing or incomplete.
 async function notices_of({ name, of }, { refused, is_none }) {
@@ -211,21 +203,18 @@ async function note_refusals(by) {
     return is_cut ? [...boxes, make('p', { class: 'empty' }, 'There are more notes, which are not read.')] : boxes;
 }
 
-const place_of = ({ name, of }, index) => (of === undefined ? `${name}/${index}` : `${name}/${of}/${index}`);
-
 async function go_to_row(mine, at, is_step) {
     const index = await ask('index', { list: mine.name, at });
     if (open !== mine) return;
     mine.own = index; // (the list has already moved to that row, and perhaps on since)
-    go(place_of(mine, index), is_step);
+    await go([mine.name, mine.of, index].filter((part) => part !== undefined).join('/'), is_step);
 }
 
 // Goes to a row, and to what is shown of it.
 async function open_row(mine, at) {
-    const index = await ask('index', { list: mine.name, at });
-    if (open !== mine) return;
-    await go(place_of(mine, index));
-    get('chosen').querySelector('h2')?.focus();
+    mine.grid.activate(at);
+    await go_to_row(mine, at);
+    if (open === mine) focus_chosen();
 }
 
 /** Makes the item with an index the active row of the open list, or none. If the search hides it, the search ends. */
@@ -247,16 +236,13 @@ export async function activate(index) {
     if (open === mine && at >= 0 && at !== grid.active) grid.activate(at);
 }
 
-// ---- tools ----
-
 function tools(mine) {
     const { name, list, of, output, grid } = mine;
     const bar = make('div', { class: 'tools' });
     if (list.length > 1) {
-        const choice = make('select', { 'aria-label': `Which ${name}` },
-            ...list.map((item, i) => make('option', { value: `${i}`, selected: item.of === of }, visible(item.text))));
-        choice.addEventListener('change', () => go(`${name}/${list[choice.selectedIndex].of}`));
-        bar.append(choice);
+        const onchange = ({ target }) => go(`${name}/${list[target.selectedIndex].of}`);
+        bar.append(make('select', { 'aria-label': `Which ${name}`, onchange },
+            ...list.map((item, i) => make('option', { value: `${i}`, selected: item.of === of }, visible(item.text)))));
     }
     const hidden = (shown_file.summary[name]?.all ?? 0) - (shown_file.summary[name]?.found?.length ?? 0);
     if (hidden > 0) bar.append(make('span', {}, `and ${number(hidden)} more: choose them among the sections`));
@@ -268,25 +254,22 @@ function tools(mine) {
 }
 
 function search_field(mine) {
-    const search = make('input', {
-        type: 'search', placeholder: 'Search: text or 0x…', 'aria-label': `Search ${mine.name} by text, offset or address`,
-        spellcheck: 'false', autocomplete: 'off',
-    });
     let soon;
     const look = async () => {
-        clearTimeout(soon);
-        const query = search.value.trim();
+        const query = mine.search.value.trim();
         if (query === mine.query) return;
         mine.query = query;
         await refresh(mine);
     };
-    search.addEventListener('input', () => { clearTimeout(soon); soon = setTimeout(look, 120); });
-    search.addEventListener('keydown', async (event) => {
-        if (event.key !== 'Enter') return;
-        await look();
-        if (mine.grid.length > 0) open_row(mine, 0);
+    return make('input', {
+        type: 'search', placeholder: 'Search: text or 0x…', 'aria-label': `Search ${mine.name} by text, offset or address`,
+        spellcheck: 'false', autocomplete: 'off', oninput: () => { clearTimeout(soon); soon = setTimeout(look, 120); },
+        onkeydown: async ({ key }) => {
+            if (key !== 'Enter') return;
+            await look();
+            if (mine.grid.length > 0) open_row(mine, 0);
+        },
     });
-    return search;
 }
 
 // Copies the result of a function for the active row's cells, whose invisible characters are made visible.

@@ -1,6 +1,5 @@
-// Tests goblin.js against C: test.mjs FOLDER DUMP FILE..
-// It compares, line by line, what goblin.js in FOLDER reads of the files and of damaged copies with what DUMP prints, the program of
-// faces/c/dump.c. It also tests that the module has no imports, and that goblin.js has the structs and refusals of goblin.h.
+// Tests goblin.js against C: test.mjs FOLDER DUMP FILE.. What goblin.js in FOLDER reads of the files and of damaged copies must be, line by
+// line, what DUMP prints, the program of faces/c/dump.c. The module must have no imports, and goblin.js goblin.h's structs and refusals.
 import assert from 'node:assert/strict';
 import { spawnSync } from 'node:child_process';
 import { mkdtempSync, readFileSync, rmSync, writeFileSync } from 'node:fs';
@@ -11,8 +10,6 @@ import { import_goblin } from './tested.mjs';
 const COPIES = 150, FEW = 3, WHOLE = 20, FIRST = 16;
 const [, , web, dump, ...files] = process.argv;
 const goblin = await import_goblin(web);
-
-// ---- goblin.h ----
 
 const header = readFileSync(new URL('../c/goblin.h', import.meta.url), 'utf8');
 
@@ -39,12 +36,11 @@ function check_module() {
 }
 
 function check_kinds() {
-    const refusals = header.split('GOBLIN_END = 1,\n')[1].split('};')[0];
-    const kinds = Object.fromEntries([...refusals.matchAll(/GOBLIN_(\w+) = (\d+)/g)].map(([, name, number]) => [name, Number(number)]));
+    const numbers_after = (start) => Object.fromEntries(Array.from(header.split(start)[1].split('};')[0].matchAll(/GOBLIN_(\w+) = (\d+)/g),
+        ([, name, number]) => [name, Number(number)]));
+    const kinds = numbers_after('GOBLIN_END = 1,\n');
     assert.equal(Object.keys(kinds).length, 21);
-    const items = header.split('0 for refusals that have none. */\nenum {')[1].split('};')[0];
-    const numbers = [...items.matchAll(/GOBLIN_(\w+) = (\d+)/g)].map(([, name, number]) => [name, Number(number)]);
-    assert.deepEqual({ ...goblin.Item }, Object.fromEntries(numbers));
+    assert.deepEqual({ ...goblin.Item }, numbers_after('0 for refusals that have none. */\nenum {'));
     assert.deepEqual({ ...goblin.Kind }, { ...kinds, SECTION_TYPE: 2 ** 32 - 1 });
     assert.equal(goblin.VERSION, Number(/GOBLIN_VERSION (\d+)/.exec(header)[1]));
 }
@@ -65,8 +61,6 @@ function check_arguments() {
     assert.equal(Buffer.from(names.get_start(1, 4)).toString(), names.get(1).slice(0, 4));
     assert.equal(names.get_start(names.range.size, 4), undefined);
 }
-
-// ---- the lines of dump.c ----
 
 // The names in goblin.h of the fields that have other names in goblin.js.
 const IN_C = {
@@ -103,11 +97,13 @@ class Dump {
         return item;
     }
 
+    // Adds the lines of a call, one for each of some values.
+    ask_each(what, values, read, put) { for (const value of values) this.ask(what, () => read(value), put); }
+
     // Adds the lines of some numbers of a range.
     numbers_in(size, read) {
-        this.ask('goblin_number_in', () => read(0, 8));
-        this.ask('goblin_number_in', () => read(size / 2n, 2));
-        this.ask('goblin_number_in', () => read(BigInt.asUintN(64, size - 1n), 1));
+        const last = BigInt.asUintN(64, size - 1n);
+        this.ask_each('goblin_number_in', [[0, 8], [size / 2n, 2], [last, 1]], ([offset, width]) => read(offset, width));
     }
 
     string(strtab, offset) {
@@ -130,8 +126,8 @@ class Dump {
         if (!symbol) return;
         const name = this.string(symtab.strtab, symbol.st_name);
         if (name !== undefined) this.ask('goblin_symbol_by_name', () => symtab.by_name(name));
-        this.ask('goblin_symbol_by_address', () => symtab.by_address(symbol.st_value));
-        this.ask('goblin_symbol_by_address', () => symtab.by_address(BigInt.asUintN(64, symbol.st_value + symbol.st_size)));
+        const ends = [symbol.st_value, BigInt.asUintN(64, symbol.st_value + symbol.st_size)];
+        this.ask_each('goblin_symbol_by_address', ends, (address) => symtab.by_address(address));
         if (index >= FEW) return;
         const changed = { ...symbol, st_value: symbol.st_value ^ 1n, st_name: symbol.st_name + any_high(index) };
         this.write('goblin_put_symbol', (writer) => writer.put_symbol(section, index, changed));
@@ -155,19 +151,17 @@ class Dump {
     relocs(elf, section) {
         const is_list = section.sh_type === goblin.SHT_RELA || section.sh_type === goblin.SHT_REL;
         const put = ({ r_offset, r_sym, r_addend, r_type }) =>
-            fields({ r_offset, r_sym, r_addend: r_addend ?? 0, r_type, has_addend: Number(r_addend !== undefined) })
-                + ` ${r_addend ?? 0}`;
+            fields({ r_offset, r_sym, r_addend: r_addend ?? 0, r_type, has_addend: Number(r_addend !== undefined) }) + ` ${r_addend ?? 0}`;
         const table = is_list ? section : as_type(section, goblin.SHT_REL);
         const relocs = this.ask('goblin_reloc_count', () => elf.relocs(table), length);
         if (!relocs) return;
-        const count = relocs.length;
         let index = 0;
-        for (const reloc of relocs.from(0, is_list ? count : FEW)) {
+        for (const reloc of relocs.from(0, is_list ? relocs.length : FEW)) {
             this.ask('goblin_reloc', () => reloc, put);
             const at = index++, changed = { ...reloc, r_offset: reloc.r_offset ^ 1n, r_sym: reloc.r_sym + any_high(at) };
             if (at < FEW) this.write('goblin_put_reloc', (writer) => writer.put_reloc(table, at, changed));
         }
-        this.ask('goblin_reloc', () => relocs.get(count), put);
+        this.ask('goblin_reloc', () => relocs.get(relocs.length), put);
     }
 
     // Adds the lines of the notes of a section or segment, first with names that must be UTF-8, and then as bytes.
@@ -191,9 +185,8 @@ class Dump {
             this.ask('goblin_segment_bytes', () => elf.range(segment));
             this.ask('goblin_range_in_file', () => elf.readable_data(segment), size_and_first);
             this.numbers_in(p_filesz, (offset, width) => elf.number_in(segment, offset, width));
-            for (const before of [0n, half, 2n * half]) {
-                this.ask('goblin_address_to_offset', () => elf.address_to_offset(BigInt.asUintN(64, p_vaddr + before)));
-            }
+            const addresses = [0n, half, 2n * half].map((before) => BigInt.asUintN(64, p_vaddr + before));
+            this.ask_each('goblin_address_to_offset', addresses, (address) => elf.address_to_offset(address));
             this.notes(elf, segment);
             const changed = { ...segment, p_flags: segment.p_flags ^ goblin.PF_X, p_memsz: segment.p_memsz + any_high(index) };
             if (index < FEW) this.write('goblin_put_segment', (writer) => writer.put_program_header(index, changed));
@@ -206,28 +199,24 @@ class Dump {
         if (!list) return;
         const names = this.ask('goblin_section_names', () => elf.shdr_strtab(), ({ range }) => fields(range));
         if (!names) return;
-        let index = 0;
-        for (const section of list) {
+        for (const [index, section] of list.entries()) {
             const flags = Array.from({ length: 32 }, (_, bit) => 2 ** bit).filter((flag) => section.sh_flags & BigInt(flag));
             this.ask('goblin_section', () => section, (item) =>
                 fields(item) + [goblin.sht_to_str(item.sh_type), ...flags.map(goblin.shf_to_str)].map((name) => ` ${name}`).join(''));
             const name = this.string(names, section.sh_name), found = ({ index: at, section: it }) => ` ${hex(at)}${fields(it)}`;
-            if (name !== undefined) {
-                for (const first of [0, index, 2 * index]) this.ask('goblin_section_by_name', () => elf.section_by_name(name, first), found);
-            }
-            this.ask('goblin_section_by_type', () => elf.section_by_type(section.sh_type, Math.floor(index / 2)), found);
-            this.ask('goblin_section_by_type', () => elf.section_by_type(section.sh_type, index + 1), found);
+            const firsts = name === undefined ? [] : [0, index, 2 * index], { sh_type } = section;
+            this.ask_each('goblin_section_by_name', firsts, (first) => elf.section_by_name(name, first), found);
+            this.ask_each('goblin_section_by_type', [index >> 1, index + 1], (first) => elf.section_by_type(sh_type, first), found);
             this.ask('goblin_section_bytes', () => elf.range(section));
             this.ask('goblin_range_in_file', () => elf.readable_data(section), size_and_first);
-            const { sh_size } = as_type(section, section.sh_type);
-            this.numbers_in(sh_size, (offset, width) => elf.number_in(section, offset, width));
+            this.numbers_in(as_type(section, sh_type).sh_size, (offset, width) => elf.number_in(section, offset, width));
             this.symbols(elf, section);
             this.relocs(elf, section);
             this.notes(elf, section);
-            const at = index++, changed = { ...section, sh_flags: section.sh_flags ^ goblin.SHF_WRITE, sh_name: section.sh_name + any_high(at) };
-            if (at < FEW) this.write('goblin_put_section', (writer) => writer.put_section_header(at, changed));
+            const changed = { ...section, sh_flags: section.sh_flags ^ goblin.SHF_WRITE, sh_name: section.sh_name + any_high(index) };
+            if (index < FEW) this.write('goblin_put_section', (writer) => writer.put_section_header(index, changed));
         }
-        this.ask('goblin_section', () => list.get(index));
+        this.ask('goblin_section', () => list.get(list.length));
     }
 
     whole(elf) {
@@ -236,12 +225,12 @@ class Dump {
         const sections = this.ask('goblin_section_count', () => whole.section_headers(), length);
         if (!sections) return;
         for (const section of sections.from(0, WHOLE)) this.ask('goblin_section', () => section);
-        for (const index of [sections.length, far]) this.ask('goblin_section', () => whole.section_header(index));
+        this.ask_each('goblin_section', [sections.length, far], (index) => whole.section_header(index));
         this.ask('goblin_section_names', () => whole.shdr_strtab(), ({ range }) => fields(range));
         const segments = this.ask('goblin_segment_count', () => whole.program_headers(), length);
         if (!segments) return;
         for (const segment of segments.from(0, WHOLE)) this.ask('goblin_segment', () => segment);
-        for (const index of [segments.length, far]) this.ask('goblin_segment', () => whole.program_header(index));
+        this.ask_each('goblin_segment', [segments.length, far], (index) => whole.program_header(index));
     }
 
     writing({ header }, length) {
@@ -257,11 +246,8 @@ class Dump {
     numbers(elf, length) {
         const half = BigInt(Math.floor(length / 2));
         for (let width = 0; width <= 9; width++) {
-            for (const place of [0n, half, 2n * half - 4n]) {
-                // (of which there is no other)
-                const is_width = [1, 2, 4, 8].includes(width);
-                this.ask('goblin_number', () => (is_width ? elf.number(BigInt.asUintN(64, place), width) : undefined));
-            }
+            const number = (place) => ([1, 2, 4, 8].includes(width) ? elf.number(BigInt.asUintN(64, place), width) : undefined);
+            this.ask_each('goblin_number', [0n, half, 2n * half - 4n], number);
         }
     }
 
@@ -279,8 +265,6 @@ class Dump {
         this.numbers(elf, content.length);
     }
 }
-
-// ---- damaged copies ----
 
 // Returns the next number of a sequence that is the same in each run.
 let state = 88172645463325252n;

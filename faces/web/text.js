@@ -2,7 +2,6 @@
 
 /** How many bytes of a name are shown, searched and sorted by at most. */
 export const NAME = 1024;
-
 const strict = new TextDecoder('utf-8', { fatal: true, ignoreBOM: true });
 
 // Returns the text of bytes. If they are not UTF-8, each byte from 0x80 on is the character U+DC00 plus the byte, which UTF-8 doesn't have.
@@ -24,3 +23,9 @@ export function name_of(bytes) {
 
 export const hex = (number) => `0x${number.toString(16)}`;
 export const count = (number) => number.toLocaleString('en');
+
+/** Returns a function of a key, or of nothing, that computes each result once. */
+export function once(find) {
+    const found = new Map();
+    return (key) => (found.has(key) ? found : found.set(key, find(key))).get(key);
+}

@@ -1,11 +1,10 @@
-// Reads a file for the page, so that the page stays responsive. A worker reads one file. It answers a message { id, call, given } with
-// { id, result } or { id, failed }. A refusal of the library is { refused } in `result`. What takes long is done in steps, and ends if
-// the same is requested again.
+// Reads one file for the page. A message { id, call, given } is answered with { id, result } or { id, failed }. A refusal of the library is
+// { refused } in `result`. What takes long is done in steps, and ends if the same is requested again.
 import init, * as goblin from './goblin.js';
 import { address_details, header_fields, is_address, item_details, offset_details } from './details.js';
 import {
-    called, file, header_refusal, is_wide, list_refusal, own_sections, part, RELOCATION_TYPES, RELR, section_refusal, sections, segments,
-    SYMBOL_TYPES, symbol_tables, read_or,
+    all_sections, called, file, header_refusal, list_refusal, part, read_or, RELOCATION_TYPES, RELR, segments, size_of, SYMBOL_TYPES,
+    symbol_tables,
 } from './file.js';
 import { find_own_sections, packed_offsets } from './dynamic.js';
 import { find } from './find.js';
@@ -35,16 +34,13 @@ async function bytes_of(given) {
 // Returns the sections that hold a list: the index, name and number of items of the first ones, and the number of the others.
 const MOST_TABLES = 200;
 function tables(types, list_of) {
-    const found = [];
-    let all = 0;
-    const own = Array.from(own_sections, ([index, section]) => ({ index, section }));
-    for (const { index, section } of [...sections(), ...own]) {
-        if (!types.includes(section.sh_type) || ++all > MOST_TABLES) continue;
+    const all = all_sections().filter(({ section }) => types.includes(section.sh_type));
+    const found = all.slice(0, MOST_TABLES).map(({ index, section }) => {
         // (a refusal is shown once the section is chosen)
         const length = read_or(undefined, () => list_of(section, index).length), is_packed = section.sh_type === RELR;
-        found.push({ index, name: called(index, section), length, is_packed, is_own: typeof index === 'string' });
-    }
-    return { found, all };
+        return { index, name: called(index, section), length, is_packed, is_own: typeof index === 'string' };
+    });
+    return { found, all: all.length };
 }
 
 const relocations_of = (section) => (section.sh_type === RELR ? packed_offsets(section) : file.elf.relocs(section));
@@ -63,7 +59,7 @@ function past_end() {
 
 const MOST_LOADED = 1000;
 function map() {
-    const { starts, tops, depths } = parts(), loaded = [...segments()].filter(({ segment }) => segment.p_type === 1).slice(0, MOST_LOADED)
+    const { starts, tops, depths } = parts(), loaded = segments().filter(({ segment }) => segment.p_type === 1).slice(0, MOST_LOADED)
         .map(({ segment: { p_offset, p_filesz, p_flags } }) => [Number(p_offset), Number(p_offset + p_filesz), p_flags & 7]);
     const kinds = Int8Array.from(tops, (top) => (top ? KINDS.indexOf(top.kind) : -1));
     const cuts = Uint8Array.from(tops, (top) => Number(top?.is_cut ?? false));
@@ -72,28 +68,28 @@ function map() {
 
 function overview() {
     const { elf } = file, { header } = elf;
+    const counted = (name, list, offset, number) =>
+        part(() => ({ length: list().length }), (error) => list_refusal(error, `the ${name} headers`, offset, number));
     find_own_sections();
     const headers = {
-        sections: part(() => ({ length: elf.section_headers().length }),
-            (error) => list_refusal(error, 'the section headers', 'e_shoff', 'e_shnum')),
-        segments: part(() => ({ length: elf.program_headers().length }),
-            (error) => list_refusal(error, 'the program headers', 'e_phoff', 'e_phnum')),
+        sections: counted('section', () => elf.section_headers(), 'e_shoff', 'e_shnum'),
+        segments: counted('program', () => elf.program_headers(), 'e_phoff', 'e_phnum'),
     };
     const { refused } = headers.sections;
     return {
-        ...headers, header: header_fields(), header_size: is_wide() ? 64 : 52,
+        ...headers, header: header_fields(), header_size: size_of('header'),
         words: [kind_in_words(), labels.file_class(header.ei_class), elf.little_endian() ? 'little endian' : 'big endian',
             labels.file_type(header.e_type), labels.machine(header.e_machine), `entry ${hex(header.e_entry)}`],
         symbols: refused ? { refused } : tables(SYMBOL_TYPES, (section, index) => symtab_at(index)),
-        relocations: refused ? { refused } : tables([...RELOCATION_TYPES, RELR], relocations_of),
+        relocations: refused ? { refused } : tables(RELOCATION_TYPES, relocations_of),
         notes: { sections: notes_summary('sections', headers.sections), segments: notes_summary('segments', headers.segments) },
         map: map(),
     };
 }
 
-// What the page's lists show, by the list's name: the source, and the indices in their order if it isn't the list's own. And the last
-// request of each list, and of the search over all.
+// What each list shows: the source, and the indices in their order if it isn't the list's own. And its last request, and that of a search.
 const views = {}, runs = {};
+const source_of = (list, of) => (views[list]?.of === of && views[list] ? views[list].source : open_source(list, of));
 
 function begin(name) {
     const run = runs[name] = {};
@@ -112,20 +108,16 @@ const calls = {
     async open({ module, given }) {
         await init(module);
         file.content = await bytes_of(given);
-        try {
-            file.elf = goblin.Elf.parse(file.content);
-        } catch (error) {
-            return { refused: header_refusal(error), start: file.content.slice(0, 16) };
-        }
-        return overview();
+        const { elf, refused } = part(() => ({ elf: goblin.Elf.parse(file.content) }), header_refusal);
+        file.elf = elf;
+        return refused ? { refused, start: file.content.slice(0, 16) } : overview();
     },
 
     bytes([at, size]) { return file.content.slice(at, at + size); },
 
     // Prepares a list: the items of a source that have a text, sorted by a column.
     async view({ list, of, query = '', column = 0, is_descending = false }) {
-        const is_wanted = begin(list), before = views[list];
-        const source = before && before.of === of ? before.source : open_source(list, of);
+        const is_wanted = begin(list), source = source_of(list, of);
         if (!source || source.refused) {
             views[list] = { source, of, order: [], length: 0 }; // (so nothing of the list before is saved)
             return source ?? { is_none: true };
@@ -143,12 +135,11 @@ const calls = {
     },
 
     rows({ list, from, size }) {
-        const { source, order, length } = views[list], rows = [];
-        for (let at = from; at < Math.min(from + size, length); at++) {
-            const index = order ? order[at] : at, item = source.list.get(index);
-            rows.push([...cells_of(source, item, index), source.mark?.(item) && 'refused']);
-        }
-        return rows;
+        const { source, length } = views[list];
+        return Array.from({ length: Math.min(size, length - from) }, (_, i) => {
+            const index = calls.index({ list, at: from + i }), item = source.list.get(index);
+            return [...cells_of(source, item, index), source.mark?.(item) && 'refused'];
+        });
     },
 
     // Returns the position of an item in the list that is shown, or -1.
@@ -157,25 +148,19 @@ const calls = {
         return order ? order.indexOf(index) : index < length ? index : -1;
     },
 
-    index({ list, at }) {
-        const { order } = views[list];
-        return order ? order[at] : at;
-    },
+    index: ({ list, at }) => (views[list].order ? views[list].order[at] : at),
 
     // Returns the list that is shown, as lines of values separated by commas.
     async csv({ list }) {
         const { source, order } = views[list], lines = [csv_line(columns_of(source).map(({ title }) => title))];
-        if (order) {
-            for (const index of order) lines.push(csv_line(plain_cells_of(source, source.list.get(index), index)));
-        } else {
-            await go_over(source, 'csv', () => true, (item, index) => { lines.push(csv_line(plain_cells_of(source, item, index))); });
-        }
+        const add = (item, index) => lines.push(csv_line(plain_cells_of(source, item, index)));
+        if (order) for (const index of order) add(source.list.get(index), index);
+        else await go_over(source, 'csv', () => true, add);
         return new Blob(lines, { type: 'text/csv' });
     },
 
-    item: ({ list, index, of }) => {
-        const view = views[list];
-        const source = view && view.of === of ? view.source : open_source(list, of);
+    item({ list, index, of }) {
+        const source = source_of(list, of);
         return source && !source.refused && index < source.list.length ? item_details(source, { list, index, of }) : undefined;
     },
     offset: (offset) => (offset < file.content.length ? offset_details(offset) : undefined),
