@@ -221,8 +221,10 @@ static void by_address(const goblin_header_t *h, goblin_range_t range) {
     uint64_t number, expected = 0;
     goblin_symbol_t near;
     uint64_t address = any(2) ? any(0x100) : odd();
-    if (any(2) && goblin_symbol(bytes, len, h, &range, any(30), &near, &why) == GOBLIN_OK)
-        address = near.st_value + (any(2) ? near.st_size : 0) - any(2);
+    if (any(2) && goblin_symbol(bytes, len, h, &range, any(30), &near, &why) == GOBLIN_OK) {
+        uint64_t size = any(2) ? near.st_size : 0;
+        address = near.st_value + size - any(2);
+    }
     bool is_found = READS(goblin_symbol_by_address, number, h, &range, address);
     if (is_found != plain_by_address(h, &range, address, &expected) || (is_found && number != expected))
         wrong("goblin_symbol_by_address", is_found);
@@ -482,7 +484,8 @@ static void put_records(const goblin_header_t *h, goblin_range_t range) {
     uint64_t size = (is_rela ? 3 : 2) * (is_64 ? 8 : 4);
     PUTS(goblin_put_reloc, goblin_reloc, goblin_reloc_t, has_addend, any_reloc(is_rela), fits_reloc(&changed, is_rela, is_64), false,
          range.offset + at * size, size, h, &range, is_rela, at);
-    put_number(h, any(2) ? any_offset(len) : odd(), any(10));
+    uint64_t offset = any(2) ? any_offset(len) : odd();
+    put_number(h, offset, any(10));
 }
 
 /* Cuts a range to the file, and reads a number in it. The number must be the one at its offset in the file. */
