@@ -223,6 +223,7 @@ async function check_own_tables() {
     const path = await pick_written('packed', file, 'relocations');
     const listed = run('readelf', '-W', '-r', path).split('offsets')[1].trim().split('\n').map((line) => hex(parseInt(line, 16)));
     assert.deepEqual([listed, await cells(1), await text_of('#tab-relocations span')], [wanted, wanted, '5']);
+    assert.deepEqual((await saved_rows('relocations')).map(([, offset]) => offset), wanted);
     assert.match(await text_of('#panel .others'), /packed relocations .* outside of what is proved/i);
     await go('relocations/1/3', 'packed relocation 3');
     assert.match(await field_of('r_offset'), /^0x1200/);
@@ -390,14 +391,15 @@ async function check_cut() {
 
 // Names depend on the machine and the owner. Numbers without a name are shown as numbers.
 async function check_labels() {
-    const bytes = Buffer.alloc(8), text = (name, type, flags = 0) => ({ name, type, flags, bytes });
+    const bytes = Buffer.alloc(8), segments = [{ type: 0x70000001, bytes }], text = (name, type, flags = 0) => ({ name, type, flags, bytes });
     const notes = { name: '.note', type: 7, bytes: Buffer.concat([note('stapsdt', 3, bytes), note('GNU', 3, bytes), note('other', 3, bytes)]) };
     const given = [notes, text('.unwind', 0x70000001), text('.relr.dyn', 19), text('.unknown', 0x61234567), text('.kept', 1, 0x200002)];
-    const names = { 62: 'X86_64_UNWIND', 40: 'ARM_EXIDX', 243: '0x70000001' };
-    for (const [machine, name] of Object.entries(names)) {
-        await pick_written(`labels${machine}`, elf_file({ machine: Number(machine), osabi: 3, sections: given }), 'sections');
+    const names = [[62, 'X86_64_UNWIND', '0x70000001'], [40, 'ARM_EXIDX', 'ARM_EXIDX'], [243, '0x70000001', '0x70000001']];
+    for (const [machine, name, of_segment] of names) {
+        await pick_written(`labels${machine}`, elf_file({ machine, osabi: 3, sections: given, segments }), 'sections');
         const types = (await cells(2)).slice(2, 6), { 5: flags } = await cells(6);
-        assert.deepEqual([...types, flags], [name, 'RELR', '0x61234567', 'PROGBITS', 'ALLOC GNU_RETAIN']);
+        await open_tab('segments');
+        assert.deepEqual([...types, flags, await cells(1)], [name, 'RELR', '0x61234567', 'PROGBITS', 'ALLOC GNU_RETAIN', [of_segment]]);
     }
     await open_tab('notes');
     assert.deepEqual(await cells(3), ['STAPSDT', 'GNU_BUILD_ID', '0x3']);
@@ -462,9 +464,8 @@ async function check_symbol_links() {
     assert.ok(shown.length > 40 && bytes_of(dump, main_at, main.size).startsWith(shown), shown);
     // (a symbol without a size has the bytes from its offset on)
     const label = symbols.find(({ type, size, section }) => type === 'NOTYPE' && size === 0 && section === `${data.index}`);
-    await go(`${symtab}/${label.index}`, label.name);
-    assert.ok((await bytes_shown()).length > 0);
-    assert.ok(bytes_of(dump, label.value - data.address + data.offset, 16).startsWith(await bytes_shown()), label.name);
+    const of_label = await go(`${symtab}/${label.index}`, label.name).then(bytes_shown);
+    assert.ok(of_label && bytes_of(dump, label.value - data.address + data.offset, 16).startsWith(of_label), label.name);
     await go(main_place, 'main');
     await follow('address', `address ${main_address}`);
     assert.match(await side(), /segment \d+, LOAD/);
@@ -489,8 +490,7 @@ async function check_early_link() {
 async function check_section_links() {
     await pick(dump);
     const links = [['.rela.plt', '.dynsym', '.got'], ['.rela.dyn', '.dynsym'], ['.dynsym', '.dynstr'], ['.symtab', '.strtab']];
-    for (const [name, link, info] of links) {
-        if (!sections[name]) continue;
+    for (const [name, link, info] of links.filter(([name]) => sections[name])) {
         await go(`sections/${sections[name].index}`, name);
         assert.match(await field_of('sh_link'), new RegExp(`^\\d+, ${link.replace('.', '\\.')}$`));
         if (info) assert.match(await field_of('sh_info'), /^\d+, \.got/);
@@ -703,17 +703,19 @@ async function check_formula() {
     assert.deepEqual(parts, parts.map(([size]) => [size, size, (100 * size / content.length).toFixed(2)]));
 }
 
-// Of a refused table nothing can be saved, and by no way another table is.
+// Of a refused table nothing can be saved, and by no way another table is. The bytes that say where it is are marked.
 async function check_refused_tables() {
     const bytes = Buffer.alloc(72), tables = { symbols: { type: 2, entsize: 24, bytes }, relocations: { type: 4, entsize: 24, bytes } };
     for (const [name, table] of Object.entries(tables)) {
         const content = elf_file({ sections: [{ name: '.read', ...table }, { name: '.refused', ...table }, { name: '.data', type: 1, bytes }] });
-        content.writeBigUInt64LE(1n << 40n, Number(content.readBigUInt64LE(0x28)) + 2 * 64 + 0x20);
+        const place = packed([64 + 72, 8], [1n << 40n, 8]); // (the offset of section 2, behind the header and section 1, and its size)
+        place.copy(content, Number(content.readBigUInt64LE(0x28)) + 2 * 64 + 0x18);
         for (const opened of [[2], [1, 2], [1, 3]]) {
             await pick_written(`refused-${name}`, content);
             for (const index of opened) {
                 await open_list(`${name}/${index}`, { 1: 3, 2: 'refused', 3: 'none' }[index]);
-                assert.equal(await is_visible('#panel .saving'), index === 1);
+                const marked = (await each_of('#panel .refused b', 'item.textContent')).filter(({ length }) => length === 2).join('');
+                assert.deepEqual([await is_visible('#panel .saving'), marked], [index === 1, index === 2 ? place.toString('hex') : '']);
                 const lines = (await saved(name)).trim().split('\r\n');
                 assert.equal(lines.length, index === 1 ? 4 : 1, `${name} of section ${index}: ${lines}`);
             }
@@ -926,10 +928,17 @@ async function pointed(x, y) {
     return { text, byte: Number(text.split(' ').at(-1)) };
 }
 
+// Returns where the map of a whole file has some of its bytes.
+async function spots_of(path, ...offsets) {
+    const { left, top, width } = await canvas_box(), bar = await bar_of(readFileSync(path).length), each = await each_row();
+    return offsets.map((at) => [left + width - 7 - bar + bar * (at % each) / each, top + 15 + 24 * Math.floor(at / each)]);
+}
+
 // The wheel zooms to what is below the pointer, dragging moves it, and keys do both. Zooming shows functions, which are links, then bytes.
 async function check_zoom() {
     await pick(dump);
-    const { left, top, width } = await canvas_box(), [x, y] = [left + 500, top + 40], whole = await each_row(), { byte } = await pointed(x, y);
+    const [spot] = await spots_of(dump, main_at), bar = await bar_of(readFileSync(dump).length), whole = await each_row();
+    const { left, top } = await canvas_box(), [x, y] = [left + 500, top + 40], { byte } = await pointed(x, y);
     const zoomed = (each) => readout(new RegExp(`each row has ${decimal(each)} bytes`));
     const is_near = async (at) => assert.ok(Math.abs((await pointed(at, y)).byte - byte) < whole / 400);
     await browser.wheel(x, y, -120);
@@ -946,8 +955,6 @@ async function check_zoom() {
     let each = whole;
     for (; each > main.size; await zoomed(each)) { each /= 2; await browser.press('+'); }
     // (the start of what is chosen stays where it was, and functions have other colours than their section)
-    const bar = await bar_of(readFileSync(dump).length);
-    const spot = [left + width - 7 - bar + bar * (main_at % whole) / whole, top + 15 + 24 * Math.floor(main_at / whole)];
     assert.match((await pointed(...spot)).text, /^main · \.text · code · /);
     assert.ok(await pixels_of('code', 12) < bar && await pixels_of('in-3', 24) > bar);
     await go('header', 'ELF header');
@@ -959,6 +966,11 @@ async function check_zoom() {
     for (; each > 16; await zoomed(each)) { each = Math.max(each / 2, 16); await browser.press('+'); }
     await pointed(x, y); // (then the worker has sent the bytes, too)
     assert.ok(await pixels_of('in-3', 12) > bar && await pixels_of('code', 12) === 0);
+    // (the last byte of a function is in it, and the next one is not)
+    const bytes = Buffer.alloc(16, 1), file = symbols_file([{ text: 'a', info: 2, shndx: 3, size: 8 }], { name: '.text', type: 1, bytes });
+    const at = file.indexOf(bytes), [last, after] = await pick_written('function', file).then((path) => spots_of(path, at + 7, at + 8));
+    assert.match((await pointed(...last)).text, new RegExp(`^a · \\.text · .* at ${hex(at + 7)}$`));
+    assert.match((await pointed(...after)).text, new RegExp(`^\\.text · .* at ${hex(at + 8)}$`));
 }
 
 // The strip below a row says what the bytes are like.

@@ -425,12 +425,11 @@ function check_notes_as_bytes() {
     for (const [size, before, item] of [[11, 0, NOTE_HEADER], [15, 0, NOTE_NAME], [19, 0, NOTE_DESC], [31, 1, NOTE_HEADER], [38, 1, NOTE_NAME],
         [44, 1, NOTE_DESC]]) {
         const refused = (error) => is_refusal(Kind.TOO_BIG)(error) && error.item === item && error.offset === BigInt(start + 20 * before);
-        const cut = { ...section, sh_size: BigInt(size) }, cut_segment = { ...segment, p_offset: BigInt(start), p_filesz: BigInt(size) };
-        for (const { notes, refusal } of [elf.readable_notes_bytes(cut), elf.readable_notes_bytes(cut_segment)]) {
+        for (const cut of [{ ...section, sh_size: BigInt(size) }, { ...segment, p_offset: BigInt(start), p_filesz: BigInt(size) }]) {
+            const { notes, refusal } = elf.readable_notes_bytes(cut);
             assert.deepEqual([fields_of(notes), refused(refusal)], [wanted.slice(0, before), true]);
+            assert.throws(() => elf.notes_bytes(cut), refused);
         }
-        assert.throws(() => elf.notes_bytes(cut), refused);
-        assert.throws(() => elf.notes_bytes(cut_segment), refused);
     }
     assert.equal(elf.readable_notes_bytes(section, 1).notes.length, 1);
     assert.throws(() => elf.notes_bytes({ ...section, sh_addralign: 16n }), ({ kind, item }) => kind === Kind.NOTE_ALIGN && item === 0);
@@ -517,13 +516,11 @@ function check_readable_data() {
 function check_numbers_in() {
     const elf = Elf.parse(own), text = elf.section('.text'), code = elf.program_headers().find(({ p_offset }) => p_offset > 0n);
     const little = (at, size) => BigInt(own.readUIntLE(Number(at), size));
-    assert.equal(elf.number_in(text, 3, 4), little(text.sh_offset + 3n, 4));
-    assert.throws(() => elf.number_in(text, text.sh_size, 1), is_refusal(Kind.BAD_OFFSET));
-    assert.throws(() => elf.number_in(text, text.sh_size - 3n, 4), is_refusal(Kind.TOO_BIG));
     assert.throws(() => elf.number_in({ ...text, sh_type: goblin.SHT_NOBITS }, 0, 1), is_refusal(Kind.BAD_OFFSET));
-    assert.equal(elf.number_in(code, 2, 2), little(code.p_offset + 2n, 2));
-    assert.throws(() => elf.number_in(code, code.p_filesz, 1), is_refusal(Kind.BAD_OFFSET));
-    for (const holder of [text, code]) {
+    for (const [holder, start, size] of [[text, text.sh_offset, text.sh_size], [code, code.p_offset, code.p_filesz]]) {
+        assert.deepEqual([elf.number_in(holder, 3, 4), elf.number_in(holder, 2, 2)], [little(start + 3n, 4), little(start + 2n, 2)]);
+        assert.throws(() => elf.number_in(holder, size, 1), is_refusal(Kind.BAD_OFFSET));
+        assert.throws(() => elf.number_in(holder, size - 3n, 4), is_refusal(Kind.TOO_BIG));
         for (const width of [0, 3, 16, '4', 4n, undefined]) assert.throws(() => elf.number_in(holder, 0, width), RangeError);
     }
 }

@@ -46,18 +46,15 @@ function check_kinds() {
 }
 
 function check_arguments() {
-    const elf = goblin.Elf.parse(readFileSync(files[0]));
-    for (const wrong of [-1, 1.5, 1n << 64n]) assert.throws(() => elf.section_headers().get(wrong), RangeError);
+    const elf = goblin.Elf.parse(readFileSync(files[0])), symbols = elf.syms(), names = symbols.strtab;
     assert.throws(() => elf.section_by_type(1n << 32n), RangeError);
     assert.throws(() => goblin.machine_to_str(0x10000), RangeError);
     const long = 'x'.repeat(1 << 20); // (the memory must grow for it, with the file in it)
     assert.equal(elf.section_by_name(long), undefined);
     assert.deepEqual(elf.section_by_name('.text'), { index: 1, section: elf.section_header(1) });
-    const [first, ...rest] = [...elf.syms()].map((symbol) => elf.syms().name(symbol));
-    assert.equal(first, '');
-    assert.deepEqual([...elf.syms().from(1)].map((symbol) => elf.syms().name(symbol)), rest);
-    assert.deepEqual([...elf.syms().from(2, 3)].map((symbol) => elf.syms().name(symbol)), rest.slice(1, 4));
-    const names = elf.syms().strtab;
+    const [all, ...parts] = [symbols, symbols.from(1), symbols.from(2, 3)].map((list) => Array.from(list, (symbol) => symbols.name(symbol)));
+    assert.equal(all[0], '');
+    assert.deepEqual(parts, [all.slice(1), all.slice(2, 5)]);
     assert.equal(Buffer.from(names.get_start(1, 4)).toString(), names.get(1).slice(0, 4));
     assert.equal(names.get_start(names.range.size, 4), undefined);
 }
