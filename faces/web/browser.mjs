@@ -708,7 +708,7 @@ async function check_refused_tables() {
     const bytes = Buffer.alloc(72), tables = { symbols: { type: 2, entsize: 24, bytes }, relocations: { type: 4, entsize: 24, bytes } };
     for (const [name, table] of Object.entries(tables)) {
         const content = elf_file({ sections: [{ name: '.read', ...table }, { name: '.refused', ...table }, { name: '.data', type: 1, bytes }] });
-        const place = packed([64 + 72, 8], [1n << 40n, 8]); // (the offset of section 2, behind the header and section 1, and its size)
+        const place = packed([64 + 72, 8], [1n << 40n, 8]); // (the offset of section 2, after the header and section 1, and its size)
         place.copy(content, Number(content.readBigUInt64LE(0x28)) + 2 * 64 + 0x18);
         for (const opened of [[2], [1, 2], [1, 3]]) {
             await pick_written(`refused-${name}`, content);

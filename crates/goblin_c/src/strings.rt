@@ -4,9 +4,9 @@ ghost use Rattle.goblin_c.specs.Refused.{Returns};
 ghost use Rattle.goblin_c.specs.Expected.{string_expected, strings_expected};
 ghost use Rattle.goblin_c.specs.Status.{FillsEach, Stores};
 
-use crate::kinds::{END, OK};
+use crate::kinds::OK;
 use crate::refused::{Result, refused_at};
-use crate::status::{refuse, store};
+use crate::status::store;
 use crate::types::{GoblinRange, GoblinRefusal};
 use goblin::options::ParseMode;
 use goblin::strtab;
@@ -77,10 +77,10 @@ pub extern "C" fn goblin_strings(
 {
     *filled = 0;
     for i in 0..offsets.len().min(ranges.len()) {
-        match string_at(bytes, strings, offsets[i]) {
-            Ok(Some(range)) => ranges[i] = range,
-            Ok(None) => return END,
-            Err(e) => return refuse(&e, why),
+        // (a second caller of `string_at` would keep the compiler from putting it into `goblin_string`)
+        let status = goblin_string(bytes, strings, offsets[i], &mut ranges[i], why);
+        if status != OK {
+            return status;
         }
         *filled += 1;
     }
