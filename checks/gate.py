@@ -96,6 +96,9 @@ def has_tests(crate):
     return subprocess.run(['git', 'grep', '-qF', '#[test]', '--', f'crates/{crate}/src']).returncode == 0
 
 
+# These tests are proved before they run. Without a proof they run with checks of each access, and take minutes.
+LONG_TESTS = 'goblin_long_tests'
+
 # What takes seconds. All else waits for it.
 QUICK = {'lint': f'{PYTHON} checks/lint', 'whether edits fit': f'{PYTHON} checks/edits --fits', 'views': 'sh checks/views.sh'}
 
@@ -131,9 +134,10 @@ def test(room, whole):
     parts = [Part(name, command.split(), is_first=True) for name, command in QUICK.items()]
     parts += [Part('rt ci', ['rt', 'ci'], waits, copied(f'{room}/whole'), True)] if whole else []
     # (a crate whose name ends so holds tests alone)
-    parts += proofs([crate for crate in crates_listed() if not crate.endswith('_tests')], copy, waits)
+    proved = [crate for crate in crates_listed() if not crate.endswith('_tests') or crate == LONG_TESTS and not whole]
+    parts += proofs(proved, copy, waits)
     if not whole:
-        parts += [here(f'tests of {crate}', f'sh checks/tests.sh {crate}') for crate in crates_listed() if has_tests(crate)]
+        parts += [here(f'tests of {crate}', f'sh checks/tests.sh {crate}') for crate in crates_listed() if has_tests(crate) and crate != LONG_TESTS]
     parts += [Part('calls from other languages', ['sh', 'checks/faces.sh'], ('proof of goblin_c',), copy, True, weight=3)]
     # (all kinds together take fewer checks, and each by itself ends sooner)
     for some in [','.join(kinds)] if whole else kinds:
@@ -183,7 +187,7 @@ class Run:
     def begin(self, part):
         part.begun = time.time()
         log = open(f'{LOGS}/{part.name.replace(" ", "-")}', 'w', encoding='utf-8')
-        level = 5 if not part.is_first else 0 if self.chain[part.name] + part.weight > 3 else 2
+        level = 15 if not part.is_first else 0 if self.chain[part.name] + part.weight > 3 else 8
         command = ['nice', '-n', str(level), *part.command]
         with log:
             ran = subprocess.Popen(command, cwd=part.where, stdin=subprocess.DEVNULL, stdout=log, stderr=subprocess.STDOUT)

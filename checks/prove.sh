@@ -1,6 +1,7 @@
 #!/bin/sh
 # Proves a crate over those below it, and builds it: sh checks/prove.sh CRATE. A program is built by both compilers of the toolchain, and each
-# build must write for the crate's file stdin what its file stdout has. What the toolchain reports is left in the crate's out/said, and the
+# build must write for the crate's file stdin what its file stdout has. A crate whose name ends with _tests holds tests, which are run.
+# (Other crates wait for a library, so its proof may use more processors.) What the toolchain reports is left in the crate's out/said, and the
 # program of the second compiler beside the first, as CRATE.by-rattle. Run from the root of the repository, or of a copy.
 set -eu
 cd "crates/$1"
@@ -12,10 +13,12 @@ fail() {
 }
 if [ -e src/main.rt ]; then
     for compiler in rattle llvm; do
-        rt run --backend $compiler < stdin > out/written 2> out/said || fail "$1 is not proved, or its build by $compiler fails"
+        rt run --jobs 1 --backend $compiler < stdin > out/written 2> out/said || fail "$1 is not proved, or its build by $compiler fails"
         cmp stdout out/written || fail "the build of $1 by $compiler does not write what the file stdout has"
         if [ $compiler = rattle ]; then mv "out/$1" "out/$1.by-rattle"; fi
     done
+elif [ "${1%_tests}" != "$1" ]; then
+    rt test --jobs 1 > out/said 2>&1 || fail "the tests of $1 are not proved, or do not pass"
 else
     rt lib > out/said 2>&1 || fail "$1 is not proved"
 fi

@@ -1,6 +1,5 @@
 //! Names from tables that begin and end at the edges of the file's blocks. What is cached leads to the same names as a walk
 //! over each table, as `Strtab::parse_with_opts` makes it, or the same refusal.
-use crate::run::{PERMISSIVE, STRICT};
 use goblin::error::Result;
 use goblin::options::ParseOptions;
 use goblin::strtab::Strtab;
@@ -50,14 +49,32 @@ fn bytes_of(
     Ok(bytes)
 }
 
-// Whether the strings have the names that the table has, or were refused as it was.
-fn agrees(
+// The names of a table, as a walk over it makes them, or its refusal.
+#[derive(Drop)]
+struct Walked<'a> {
+    offset: usize,
+    size: usize,
+    table: Result<Strtab<'a>>,
+}
+
+fn walk_over<'a>(
     alloc: Global,
-    names: &mut Names<'_>,
-    strings: Result<Strings>,
-    table: Result<Strtab<'_>>,
-) -> bool {
-    match (strings, table) {
+    bytes: &'a [u8],
+    offset: usize,
+    size: usize,
+    opts: &ParseOptions,
+) -> Walked<'a> {
+    Walked {
+        offset,
+        size,
+        table: Strtab::parse_with_opts(alloc, bytes, offset, size, 0, opts),
+    }
+}
+
+// Whether the names at these offsets are the table's, or it is refused as the table was.
+fn agrees(alloc: Global, names: &mut Names<'_>, walked: &Walked<'_>, opts: &ParseOptions) -> bool {
+    let strings = names.table(walked.offset, walked.size, opts);
+    match (strings, &walked.table) {
         (Ok(strings), Ok(table)) => {
             for offset in OFFSETS {
                 if names.name(strings, offset) != table.get_at(offset).unwrap_or("") {
@@ -74,30 +91,27 @@ fn agrees(
     }
 }
 
-// Whether it does for one table, for another one that lies over it, and for the first one again.
+// Whether they are for one table, for another one that lies over it, and for the first one again.
 fn agrees_on_both(
     alloc: Global,
     bytes: &[u8],
-    one: (usize, usize),
-    other: (usize, usize),
+    one: &Walked<'_>,
+    other: &Walked<'_>,
     opts: &ParseOptions,
 ) -> bool {
     let mut names = Names::new(bytes);
-    for (offset, size) in [one, other, one] {
-        let table = Strtab::parse_with_opts(alloc, bytes, offset, size, 0, opts);
-        let strings = names.table(offset, size, opts);
-        if !agrees(alloc, &mut names, strings, table) {
-            return false;
-        }
-    }
-    true
+    agrees(alloc, &mut names, one, opts)
+        && agrees(alloc, &mut names, other, opts)
+        && agrees(alloc, &mut names, one, opts)
 }
 
-// Whether it does for all tables that begin and end at these places.
+// Whether they are for all tables that begin and end at these places.
 fn agrees_on_each(alloc: Global, bytes: &[u8], opts: &ParseOptions) -> bool {
-    for start in PLACES {
-        for size in PLACES {
-            if !agrees_on_both(alloc, bytes, (start, size), (size, 8_193), opts) {
+    for size in PLACES {
+        let other = walk_over(alloc, bytes, size, 8_193, opts);
+        for start in PLACES {
+            let one = walk_over(alloc, bytes, start, size, opts);
+            if !agrees_on_both(alloc, bytes, &one, &other, opts) {
                 return false;
             }
         }
@@ -108,8 +122,8 @@ fn agrees_on_each(alloc: Global, bytes: &[u8], opts: &ParseOptions) -> bool {
 fn names_are_walked(alloc: Global, letters: &[u8], before: usize, damage: usize) -> bool {
     match bytes_of(alloc, letters, before, damage) {
         Ok(bytes) => {
-            agrees_on_each(alloc, bytes.as_slice(), &STRICT)
-                && agrees_on_each(alloc, bytes.as_slice(), &PERMISSIVE)
+            agrees_on_each(alloc, bytes.as_slice(), &ParseOptions::strict())
+                && agrees_on_each(alloc, bytes.as_slice(), &ParseOptions::permissive())
         }
         Err(_) => false,
     }
@@ -160,9 +174,9 @@ fn looks_at(bytes: &[u8], offsets: &[usize], opts: &ParseOptions) -> Option<u128
 #[test]
 fn counts_looks(rt: HostRuntime) {
     let bytes = b"ab\0cde";
-    assert!(rt; looks_at(bytes, &[], &STRICT) == Some(6));
-    assert!(rt; looks_at(bytes, &[], &PERMISSIVE) == Some(0));
-    assert!(rt; looks_at(bytes, &[0], &PERMISSIVE) == Some(6));
-    assert!(rt; looks_at(bytes, &[3, 3], &PERMISSIVE) == Some(14));
-    assert!(rt; looks_at(bytes, &[6], &STRICT) == Some(6));
+    assert!(rt; looks_at(bytes, &[], &ParseOptions::strict()) == Some(6));
+    assert!(rt; looks_at(bytes, &[], &ParseOptions::permissive()) == Some(0));
+    assert!(rt; looks_at(bytes, &[0], &ParseOptions::permissive()) == Some(6));
+    assert!(rt; looks_at(bytes, &[3, 3], &ParseOptions::permissive()) == Some(14));
+    assert!(rt; looks_at(bytes, &[6], &ParseOptions::strict()) == Some(6));
 }
