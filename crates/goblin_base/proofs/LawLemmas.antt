@@ -41,11 +41,8 @@ all_good false l n e es fs is le h = ⊎_elim
 first_bad_within : (bytes : List ℕ) (d : ℕ) → first_bad bytes d ≤ length bytes
 unfolding first_bad
 first_bad_within bytes d =
-    omega (
-      arith,
-      prefix_len-le-length (λ o. not (is_bad_start bytes d o)) (range_with_len 0 (length bytes)),
-      length-range_with_len 0 (length bytes),
-    )
+    let most = prefix_len-le-length (λ o. not (is_bad_start bytes d o)) (range_with_len 0 (length bytes)) in
+    omega (arith, most, length-range_with_len 0 (length bytes))
 
 good_if_walked : (bytes : List ℕ) (d : ℕ) (es : List (ℕ × List ℕ))
     → walked Strict bytes d ≡ Ok es → first_bad bytes d ≡ length bytes

@@ -116,17 +116,11 @@ module _ (bytes : List ℕ) (from to : ℕ) where
   pub low_is_text : AreAscii bytes from to → IsUtf8 (slice_range bytes from to)
   low_is_text low = IsUtf8-from_ascii (slice_range bytes from to) (λ i. ⊎_elim
       (λ (l : i < to - from).
-      omega (
-        arith,
-        get_or-take (to - from) (drop from bytes) i 0 l,
-        get_or-drop from bytes i 0,
-        low (from + i) (omega arith) (omega arith),
-      ))
+      let kept = get_or-take (to - from) (drop from bytes) i 0 l in
+      omega (arith, kept, get_or-drop from bytes i 0, low (from + i) (omega arith) (omega arith)))
       (λ (l : to - from ≤ i).
-      omega (
-        arith,
-        get_or_past (slice_range bytes from to) i 0 (omega (arith, length-take (to - from) (drop from bytes))),
-      ))
+      let size = length-take (to - from) (drop from bytes) in
+      omega (arith, get_or_past (slice_range bytes from to) i 0 (omega (arith, size))))
       (cases_lt i (to - from)))
 
   -- a piece whose first bytes hold no delimiter ends where the rest of it does

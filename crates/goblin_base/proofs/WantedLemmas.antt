@@ -178,11 +178,8 @@ piece_begins bytes d o text =
 -- bytes that are fewer than those of a text don't begin with it
 pub too_few : (rest text : List ℕ) → length rest < length text → bytes_eq (take (length text) rest) text ≡ false
 too_few rest text few =
-    false_from_ne_true _ (λ t. absurd (omega (
-      arith,
-      few,
-      length-take (length text) rest,
-      ap length ((bytes_eq-Decides (take (length text) rest) text).0 t),
-    )))
+    false_from_ne_true _ (λ t.
+    let same = ap length ((bytes_eq-Decides (take (length text) rest) text).0 t) in
+    absurd (omega (arith, few, length-take (length text) rest, same)))
 
 pub ruleset begins = (too_few)

@@ -28,14 +28,8 @@ unfolding names_looks
 named_line_looks head name =
     let tail = printed name ++ newline in
     let size : length (printed name) ≡ length name = length-map name printable in
-    omega (
-      arith,
-      size,
-      length-append head tail,
-      length-append (printed name) newline,
-      lines-append head tail,
-      lines-append (printed name) newline,
-    )
+    let ends = lines-append (printed name) newline in
+    omega (arith, size, length-append head tail, length-append (printed name) newline, lines-append head tail, ends)
 
 -- names are read, and then more names
 pub more_names : (old mid new : NamesView) (a b most : ℕ)
@@ -60,13 +54,8 @@ pub more_read : (old mid new : NamesView) (all rest line next : List ℕ)
 more_read old mid new all rest line next s e r = record {
   unchanged = r.unchanged ∙ s.unchanged;
   looks = λ short.
-      omega (
-        arith,
-        s.looks short,
-        ap names_looks e,
-        looks-append line next,
-        r.looks (subst IsShort (sym s.unchanged) short),
-      );
+      let read = r.looks (subst IsShort (sym s.unchanged) short) in
+      omega (arith, s.looks short, ap names_looks e, looks-append line next, read);
   looks_least = omega (arith, s.looks_least, r.looks_least);
 }
 
@@ -91,12 +80,8 @@ parts_looks bytes header sections parts =
     let lines = section_lines (strings_in bytes parts.strings) 0 sections in
     let symbols = symbols_text bytes (vec_items parts.symbols) in
     let relocs = relocs_text (vec_items parts.relocs) in
-    omega (
-      arith,
-      looks-append (header_line header) (lines & symbols & relocs),
-      looks-append lines (symbols & relocs),
-      looks-append symbols relocs,
-    )
+    let all = looks-append (header_line header) (lines & symbols & relocs) in
+    omega (arith, all, looks-append lines (symbols & relocs), looks-append symbols relocs)
 
 -- the names of sections are read
 pub sections_in_parts : (old new : NamesView) (header : Header) (sections : List SectionHeader) (parts : Parts)
@@ -136,12 +121,9 @@ section-count : (names : StringTable) (number : ℕ) (sections : List SectionHea
 section-count names number [] = omega arith
 section-count names number (s ∷ sections) =
     let line = section_line number s (name_at names s.sh_name) in
-    omega (
-      arith,
-      named-line (section_head number s) (name_at names s.sh_name),
-      section-count names (number + 1) sections,
-      lines-append line (section_lines names (number + 1) sections),
-    )
+    let one = named-line (section_head number s) (name_at names s.sh_name) in
+    let others = section-count names (number + 1) sections in
+    omega (arith, one, others, lines-append line (section_lines names (number + 1) sections))
 
 lines_most : (bytes : List ℕ) (header : Header) (sections : List SectionHeader) (parts : Parts)
     → length sections + 1 ≤ lines_in (parts_text bytes header sections parts)
@@ -149,13 +131,8 @@ lines_most bytes header sections parts =
     let names = strings_in bytes parts.strings in
     let lines = section_lines names 0 sections in
     let rest = symbols_text bytes (vec_items parts.symbols) & relocs_text (vec_items parts.relocs) in
-    omega (
-      arith,
-      header-line header,
-      section-count names 0 sections,
-      lines-append (header_line header) (lines & rest),
-      lines-append lines rest,
-    )
+    let all = lines-append (header_line header) (lines & rest) in
+    omega (arith, header-line header, section-count names 0 sections, all, lines-append lines rest)
 
 -- the tables and the names of a file that is shown
 pub looks_shown : (old mid new : NamesView) (bytes : List ℕ) (header : Header) (sections : List SectionHeader)

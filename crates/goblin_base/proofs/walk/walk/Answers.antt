@@ -3,8 +3,7 @@
 -- because all before it are text (`strict`, `walked_fault`). A piece of ASCII is text (`no_fault`), so ASCII bytes
 -- never reach these last two cases.
 use Rattle.std.proofs.Common.{rules, ◌≡◌, ◌+◌, ◌-◌, ◌<◌, ◌≤◌, ℕ, List, false, true, length, slice_index, refl, sym, ap}
-use Rattle.std.proofs.Common.{subst, ◌∙◌, Ok, Err}
-use Rattle.std.proofs.Common.{arith}
+use Rattle.std.proofs.Common.{subst, ◌∙◌, Ok, Err, arith}
 use Rattle.std.proofs.lemmas.Bool.{both_ways, false≢true}
 use Rattle.std.specs.Bool.{IsTrue}
 use Rattle.std.specs.Str.{IsAscii, IsUtf8}
@@ -66,53 +65,26 @@ loop-i-preserved-then-is_text c =
     let d = c.args.delim in
     let i = c.loop-i.i in
     let e = c.next_end-end.ensures in
+    let t = c.is_text.ensures in
+    let size = ap length s.same in
     let here = readable_here bytes _ _ d i _ s.same e.unchanged e.value (c.if-is_text.ensures.value.0 refl) in
-    let in_range : i < length bytes = omega (arith, ap length s.same, c.len.ensures.value, c.loop-i-test.true) in
+    let in_range : i < length bytes = omega (arith, size, c.len.ensures.value, c.loop-i-test.true) in
     record {
-      same = c.is_text.ensures.unchanged ∙ e.unchanged ∙ s.same;
-      within = omega (arith, e.within, ap length s.same);
+      same = t.unchanged ∙ e.unchanged ∙ s.same;
+      within = omega (arith, e.within, size);
       walked = walked_text bytes d _ _ i c.next_end-end.result.0 in_range e.ordered
-          (omega (arith, e.within, ap length s.same)) here.0 here.1 c.in_ok-push.ensures.items s.walked;
+          (omega (arith, e.within, size)) here.0 here.1 c.in_ok-push.ensures.items s.walked;
       strict = λ m.
           subst (λ k. IsTextSoFar bytes d (k + 1)) (sym here.0)
           (text_so_far_more bytes d i in_range here.1 (s.strict m));
       near = omega (arith, e.near);
       marked = subst (λ bs. HaveMarks bs d c.next_end-end.new.marks) s.same e.marked;
-      looks = omega (
-        arith,
-        c.is_text.ensures.looks,
-        c.is_text.ensures.rising,
-        e.grows,
-        e.looks,
-        e.within,
-        e.ordered,
-        s.looks,
-        ap length s.same,
-      );
+      looks = omega (arith, t.looks, t.rising, e.grows, e.looks, e.within, e.ordered, s.looks, size);
       ascii = λ low.
           let seen = e.ascii.1 (λ k l r. subst (λ bs. slice_index bs k < 128) (sym s.same) (low k)) in
-          omega (
-            arith,
-            c.is_text.ensures.looks_ascii seen,
-            e.grows,
-            e.looks,
-            e.within,
-            e.ordered,
-            s.ascii low,
-            ap length s.same,
-          );
-      rising = omega (arith, c.is_text.ensures.rising, e.rising, s.rising);
-      least = omega (
-        arith,
-        c.is_text.ensures.looks,
-        c.is_text.ensures.rising,
-        e.grows,
-        e.looks_least,
-        e.within,
-        e.ordered,
-        s.least,
-        ap length s.same,
-      );
+          omega (arith, t.looks_ascii seen, e.grows, e.looks, e.within, e.ordered, s.ascii low, size);
+      rising = omega (arith, t.rising, e.rising, s.rising);
+      least = omega (arith, t.looks, t.rising, e.grows, e.looks_least, e.within, e.ordered, s.least, size);
     }
 
 pub loop-i-preserved : goal.loop-i-preserved
@@ -148,13 +120,15 @@ returns-else-is_permissive c =
     let d = c.args.delim in
     let i = c.loop-i.i in
     let e = c.next_end-end.ensures in
+    let t = c.is_text.ensures in
+    let size = ap length s.same in
     let end : c.next_end-end.result.0 ≡ piece_end bytes d i = e.value ∙ ap (λ bs. piece_end bs d i) s.same in
     let text = ap (λ bs. slice_range bs i c.next_end-end.result.0) (e.unchanged ∙ s.same) in
     let bad = bad_from_fault bytes d i _ end
     (λ u. false≢true (c.if-is_text.ensures.value.1 (subst IsUtf8 (sym text) u))) in
-    let in_range : i < length bytes = omega (arith, ap length s.same, c.len.ensures.value, c.loop-i-test.true) in
+    let in_range : i < length bytes = omega (arith, size, c.len.ensures.value, c.loop-i-test.true) in
     let left : c.len-else-is_permissive.result ≡ length bytes =
-    c.len-else-is_permissive.ensures.value ∙ ap length (c.is_text.ensures.unchanged ∙ e.unchanged ∙ s.same) in
+    c.len-else-is_permissive.ensures.value ∙ ap length (t.unchanged ∙ e.unchanged ∙ s.same) in
     let strict = strict_if_not_permissive c.args.mode c.if-is_permissive.ensures.1 in
     let so_far = s.strict strict in
     record {
@@ -170,18 +144,7 @@ returns-else-is_permissive c =
       looks_least = search rules;
       looks_least_refused = λ _.
           let here = ap (piece_end bytes d) (bad_here bytes d i in_range bad so_far) ∙ sym end in
-          omega (
-            arith,
-            here,
-            c.is_text.ensures.looks,
-            c.is_text.ensures.rising,
-            e.grows,
-            e.looks_least,
-            e.within,
-            e.ordered,
-            s.least,
-            ap length s.same,
-          );
+          omega (arith, here, t.looks, t.rising, e.grows, e.looks_least, e.within, e.ordered, s.least, size);
       first = λ m r.
           let none = nothing_passed bytes d i r so_far in
           c.invalid_utf8.ensures ∙ ap invalid_utf8 (omega (arith, left, none.0));
