@@ -37,9 +37,6 @@ def symbol(name, value):
 
 # ---- files ----
 
-NULL_SECTION = section(SHT_NULL, 0, 0)
-
-
 def body_start(count):
     """Where the body begins of a file of so many sections, the null section not counted."""
     return HEADER_SIZE + SECTION_SIZE * (1 + count)
@@ -47,7 +44,7 @@ def body_start(count):
 
 def elf(sections, body, names=0):
     """A file: its header, the headers of the null section and of these, and the body."""
-    return header(1 + len(sections), names) + NULL_SECTION + b''.join(sections) + body
+    return header(1 + len(sections), names) + section(SHT_NULL, 0, 0) + b''.join(sections) + body
 
 
 def symbols_file(table, names, times=1):
