@@ -1,7 +1,8 @@
 #!/bin/sh
 # Whether the library can be installed and used without the toolchain: sh checks/faces/archive.sh FOLDER, after library.sh
 # The archive has the same bytes whatever the umask, and all users can read what is installed. Another LIBDIR and a shared library can be
-# used too. A new installation leaves no old file, and an uninstallation neither a file nor a folder that was made.
+# used too. A new installation leaves no old file, and an uninstallation neither a file nor a folder that was made. What others
+# made stays.
 . checks/faces/shared.sh
 root=$folder/above/other/root
 export LIBRARY="$folder/libgoblin_c.a" TARGET='' CPU=''
@@ -49,7 +50,8 @@ quietly sh faces/install.sh --uninstall "$root"
 [ ! -e "$folder/above" ] || none_of "$folder/above"
 mkdir -p "$root/share/man"
 install_as 022 lib
+touch "$root/include/own.h"
 quietly sh faces/install.sh --uninstall "$root"
-[ -d "$root/share/man" ] || fail "an uninstallation removes a folder that the installation didn't make"
-none_of "$root/share/man" "$root" -mindepth 1 ! -path "$root/share" ! -path "$root/share/man"
+for own in share/man include/own.h; do [ -e "$root/$own" ] || fail "an uninstallation removes $own, which the installation didn't make"; done
+none_of "$root" -mindepth 1 ! -path "$root/share" ! -path "$root/share/man" ! -path "$root/include" ! -path "$root/include/own.h"
 echo "all users can read what is installed, and it can be removed"
