@@ -65,7 +65,7 @@ bench-faces:
 	$(has_rt)
 	@sh bench/c.sh
 
-# Times the Python package beside pyelftools and readelf, if these are installed: make bench-python [FILE=/usr/lib/libx.so]
+# Times the Python package beside pyelftools and readelf, if these and numpy are installed: make bench-python [FILE=/usr/lib/libx.so]
 bench-python:
 	$(has_rt)
 	@sh bench/python.sh

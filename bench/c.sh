@@ -1,7 +1,7 @@
 #!/bin/sh
 # Times the library for C beside libelf, as faces/c/bench.c says, over a FILE, by default this machine's libLLVM or libstdc++, and
-# over 300,000 made symbols: SHOWN=FILE CPU=x86-64-v2 sh bench/c.sh. LIBRARY names a library to take; else one is made,
-# for the processors that CPU names, by default every x86-64. Run from the repository's root.
+# over 300,000 made symbols: SHOWN=FILE CPU=x86-64-v2 sh bench/c.sh. The library is installed in a folder of this run, by
+# faces/install.sh, whose variables LIBRARY and CPU may be set. Run from the repository's root.
 set -eu
 if ! echo '#include <gelf.h>' | cc -E - > /dev/null 2>&1; then
     echo "make bench-faces: nothing is timed, because the header of libelf (gelf.h) is not installed"
@@ -10,12 +10,8 @@ fi
 folder=$(mktemp -d)
 trap 'rm -rf "$folder"' EXIT
 trap 'exit 1' HUP INT TERM
-library=${LIBRARY:-}
-if [ -z "$library" ]; then
-    (cd crates/goblin_c && rt lib --cpu "${CPU:-x86-64}")
-    library=crates/goblin_c/out/libgoblin_c.a
-fi
-cc -std=c99 -Wall -Wextra -pedantic -O2 -Ifaces/c -o "$folder/bench" faces/c/bench.c "$library" -lelf
+TARGET='' SHARED='' LIBDIR='' sh faces/install.sh "$folder/installed" > "$folder/output" || { cat "$folder/output"; exit 1; }
+cc -std=c99 -Wall -Wextra -pedantic -O2 -Ifaces/c -o "$folder/bench" faces/c/bench.c "$folder/installed/lib/libgoblin_c.a" -lelf
 mkdir "$folder/files"
 python3 checks/hostile.py "$folder/files"
 if [ -z "${SHOWN:-}" ]; then

@@ -54,7 +54,7 @@ def real_files():
 
 def calls():
     """Times calls of the library, by a program over a copy of the crates and of what checks have cached of them."""
-    print('calls of the library, in nanoseconds, the least of 9 runs', flush=True)
+    print('calls of the library, in nanoseconds, the least of 9 runs, once their program is proved:', flush=True)
     with tempfile.TemporaryDirectory(prefix='bench-') as room:
         for crate in ('goblin_base', 'goblin_headers', 'goblin_records', 'goblin'):
             shutil.copytree(f'crates/{crate}', f'{room}/crates/{crate}', ignore=shutil.ignore_patterns('target'), symlinks=True)

@@ -37,9 +37,6 @@ def symbol(name, value):
 
 # ---- files ----
 
-NULL_SECTION = section(SHT_NULL, 0, 0)
-
-
 def body_start(count):
     """Where the body begins of a file of so many sections, the null section not counted."""
     return HEADER_SIZE + SECTION_SIZE * (1 + count)
@@ -47,33 +44,21 @@ def body_start(count):
 
 def elf(sections, body, names=0):
     """A file: its header, the headers of the null section and of these, and the body."""
-    return header(1 + len(sections), names) + NULL_SECTION + b''.join(sections) + body
+    return header(1 + len(sections), names) + section(SHT_NULL, 0, 0) + b''.join(sections) + body
 
 
-def symbols_file(table, names):
-    """A file of a symbol table and, after it, the string table of its names."""
-    start = body_start(2)
-    sections = [section(SHT_STRTAB, start + len(table), len(names)), section(SHT_SYMTAB, start, len(table), link=1)]
-    return elf(sections, table + names)
+def symbols_file(table, names, times=1):
+    """A file of symbol sections over the same symbols, so many times, and of the string table of their names."""
+    start = body_start(1 + times)
+    strings = section(SHT_STRTAB, start + len(table), len(names))
+    return elf([strings] + [section(SHT_SYMTAB, start, len(table), link=1)] * times, table + names)
 
 
-def by_turns(tables, count, start):
-    """Returns the headers of `count` symbol sections of one byte, all at the same offset. They follow the headers of `tables`
-    string tables and are linked to these in turn."""
-    return [section(SHT_SYMTAB, start, 1, link=1 + i % tables) for i in range(1 + tables, 1 + tables + count)]
-
-
-def overlapping(step, text):
-    """32,000 symbol sections of a byte, each linked to a string table of its own that begins `step` bytes after the one before."""
-    start = body_start(64_000)
-    tables = [section(SHT_STRTAB, start + i * step, len(text) - i * step) for i in range(32_000)]
-    return elf(tables + by_turns(32_000, 32_000, start), text)
-
-
-def in_turn(tables, count, text):
-    """Symbol sections of a byte, linked in turn to so many string tables, each of which begins a byte after the one before."""
+def in_turn(tables, count, text, step=1):
+    """Symbol sections of a byte, linked in turn to so many string tables, each of which begins `step` bytes after the one before."""
     start = body_start(tables + count)
-    return elf([section(SHT_STRTAB, start + i, len(text) - i) for i in range(tables)] + by_turns(tables, count, start), text)
+    strings = [section(SHT_STRTAB, start + i * step, len(text) - i * step) for i in range(tables)]
+    return elf(strings + [section(SHT_SYMTAB, start, 1, link=1 + i % tables) for i in range(1 + tables, 1 + tables + count)], text)
 
 
 def named(places, strings):
@@ -83,12 +68,6 @@ def named(places, strings):
 
 NAMES = b''.join(b'symbol_%06d\0' % i for i in range(300_000))
 NAMED = b''.join(symbol(14 * i, i) for i in range(300_000))
-
-
-def endless():
-    start = body_start(60_001)
-    table = section(SHT_STRTAB, start + len(NAMED), len(NAMES))
-    return elf([table] + [section(SHT_SYMTAB, start, len(NAMED), link=1)] * 60_000, NAMED + NAMES)
 
 
 def relocs():
@@ -157,8 +136,8 @@ MAKERS = {
     'turns': (lambda: in_turn(2, 64_999, b'a' * 12_000_000), 1, 1),
     'damaged': (lambda: in_turn(1, 65_000, b'a' * 11_999_999 + BAD), 1, 1),
     # 32,000 overlapping string tables, of characters of one byte and of four
-    'narrow': (lambda: overlapping(1, b'a' * 12_000_000), 1, 1),
-    'wide': (lambda: overlapping(len(WIDE), WIDE * 3_000_000), 3, 1),
+    'narrow': (lambda: in_turn(32_000, 32_000, b'a' * 12_000_000), 1, 1),
+    'wide': (lambda: in_turn(32_000, 32_000, WIDE * 3_000_000, len(WIDE)), 3, 1),
     # 60,000 symbol sections linked in turn to two tables of 6 MB, of 3,000,000 strings and a byte that is not UTF-8
     'strings': (lambda: in_turn(2, 60_000, b'a\0' * 2_999_999 + b'a' + BAD), 1, 1),
     # 200,000 names that begin inside a character of four bytes, in a string table of 11 MB
@@ -169,7 +148,7 @@ MAKERS = {
     'failing': (lambda: named(range(1, 29 * 300_000, 29), b'a' * 8_999_999 + BAD), 1, 6),
     'failing_wide': (lambda: named(range(4, 28 * 300_000, 28), WIDE * 2_249_999 + b'abc' + BAD), 2, 11),
     # 60,000 symbol sections over the same 300,000 symbols with names
-    'endless': (endless, 7, 7),
+    'endless': (lambda: symbols_file(NAMED, NAMES, 60_000), 7, 7),
     # 65,000 relocation sections of one entry each, at the end of a file of 16 MB; and one section of 690,000
     'relocs': (relocs, 1, 1),
     'relocations': (relocations, 2, 2),

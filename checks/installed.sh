@@ -4,23 +4,21 @@
 # Rust by a path. The examples are compiled, and a shared library and the program are tried if the archive has them. What the
 # machine lacks is left out. COMPILER and RUNNER are for an archive of another target: the compiler makes static programs, which the
 # runner runs. Run it from the repository's root.
-set -eu
-compiler=${2:-cc}
-runner=${3:-}
+archive=$1 compiler=${2:-cc} runner=${3:-}
 linker=${compiler%% *}
-folder=$(mktemp -d)
+set -- "$(mktemp -d)"
 trap 'rm -rf "$folder"' EXIT
 trap 'exit 1' HUP INT TERM
-tar -C "$folder" -xzf "$1"
+. checks/faces/shared.sh
+tar -C "$folder" -xzf "$archive"
 there=$(ls -d "$folder"/goblin_c-*)
 libdir=$(dirname "$(find "$there" -name libgoblin_c.a)")
-version=$(awk -F '"' '/^version = / { print $2; exit }' faces/rust/Cargo.toml)
 target=${there##*"/goblin_c-$version-"}
 cargo_folder=$(dirname "$(command -v cargo || echo /usr/bin/cargo)")
 
 # Runs a command in an environment that has only the compilers and the library.
 bare() {
-    env -i PATH="/usr/bin:/bin:$cargo_folder" HOME="${HOME:-/}" PKG_CONFIG_PATH="$libdir/pkgconfig" LD_LIBRARY_PATH="$libdir" \
+    env -i PATH="$cargo_folder:/usr/bin:/bin" HOME="${HOME:-/}" PKG_CONFIG_PATH="$libdir/pkgconfig" LD_LIBRARY_PATH="$libdir" \
         CARGO_TARGET_DIR="$folder/target" "$@"
 }
 has() { bare sh -c "command -v $1" > /dev/null; }
@@ -29,19 +27,12 @@ has() { bare sh -c "command -v $1" > /dev/null; }
 compile() { bare $compiler "$@"; }
 # shellcheck disable=SC2086
 run() { bare $runner "$@"; }
-quietly() { "$@" > "$folder/output" 2>&1 || { echo "failed: $*"; cat "$folder/output"; exit 1; }; }
 
 # Fails if cargo's output doesn't say that the library is missing, where it was looked for, and in which archive it is.
 says_where() {
     for line in "libgoblin_c.a is missing for " "$1" "to get it, unpack goblin_c-$version-$target.tar.gz"; do
-        grep -qF "$line" "$folder/output" && continue
-        echo "cargo should have printed '$line', since the library is missing; it printed:"; cat "$folder/output"; exit 1
+        grep -qF "$line" "$folder/output" || fail "cargo should have printed '$line', since the library is missing; it printed: $(cat "$folder/output")"
     done
-}
-
-fail() {
-    echo "$1"
-    exit 1
 }
 
 # Checks that the installed page lists each installed file, or a folder that has it, but for the licences, and that what it links to is there.
@@ -149,7 +140,8 @@ by_cmake() {
     quietly run "$folder/$name/built/listing" "$folder/$name/built/listing"
 }
 if has "$linker" && has cmake; then
-    by_cmake package "find_package(goblin_c ${version%.*} REQUIRED)" 'target_link_libraries(listing goblin_c::goblin_c)'
+    by_cmake package 'find_package(goblin_c 99 QUIET)' 'if(goblin_c_FOUND)' 'message(FATAL_ERROR "version 99 is found")' 'endif()' \
+        "find_package(goblin_c ${version%.*} REQUIRED)" 'target_link_libraries(listing goblin_c::goblin_c)'
     grep -q ' T [0-9]* main$' "$folder/output" || fail "nm.c, built by CMake, lists no main of itself"
     if grep -q ' goblin_note$' "$folder/output"; then fail "nm.c, linked by the package for CMake, has a call that it doesn't use"; fi
     if has pkg-config; then
@@ -159,10 +151,6 @@ if has "$linker" && has cmake; then
     if [ -z "$runner" ] && [ -e "$libdir/libgoblin_c.so" ]; then
         by_cmake shared 'find_package(goblin_c REQUIRED)' 'target_link_libraries(listing goblin_c::shared)'
     fi
-    mkdir "$folder/other"
-    printf '%s\n' 'cmake_minimum_required(VERSION 3.10)' 'project(listing C)' 'find_package(goblin_c 99 QUIET)' \
-        'if(goblin_c_FOUND)' 'message(FATAL_ERROR "version 99 is found")' 'endif()' > "$folder/other/CMakeLists.txt"
-    quietly bare CC="$compiler" CMAKE_PREFIX_PATH="$there" cmake -S "$folder/other" -B "$folder/other/built"
     tried="$tried, CMake"
 fi
 # (if Rust's own library for the target is there)

@@ -92,23 +92,17 @@ def wanted_of(path):
         return text_of(listing.read())
 
 
-def runs(input, arguments=()):
-    """The exit status and the output of each build for an input."""
+def differing(status, wanted, input, arguments=()):
+    """Runs each build over an input. Prints where one ends or writes otherwise, and returns how many do."""
+    wrong = 0
     for program in PROGRAMS:
         file = os.open(input, os.O_RDONLY)
         ran = subprocess.run([program, *arguments], stdin=file, stdout=subprocess.PIPE)
         os.close(file)
-        yield program, ran.returncode, ran.stdout
-
-
-def differing(status, wanted, input, arguments=()):
-    """Prints where a run ends or writes otherwise, and returns how many do."""
-    wrong = 0
-    for program, ended, written in runs(input, arguments):
-        if (ended, written) != (status, wanted):
+        if (ran.returncode, ran.stdout) != (status, wanted):
             wrong += 1
-            print(f'program: {program} {" ".join(arguments)} < {input}: exit status {ended} (expected {status}). Its output:\n{written.decode()}\n'
-                  f'Expected:\n{wanted.decode()}')
+            print(f'program: {program} {" ".join(arguments)} < {input}: exit status {ran.returncode} (expected {status}). Its output:\n'
+                  f'{ran.stdout.decode()}\nExpected:\n{wanted.decode()}')
     return wrong
 
 

@@ -1,7 +1,8 @@
 #!/bin/sh
 # Whether the library can be installed and used without the toolchain: sh checks/faces/archive.sh FOLDER, after library.sh
 # The archive has the same bytes whatever the umask, and all users can read what is installed. Another LIBDIR and a shared library can be
-# used too. A new installation leaves no old file, and an uninstallation neither a file nor a folder that was made.
+# used too. A new installation leaves no old file, and an uninstallation neither a file nor a folder that was made. What others
+# made stays.
 . checks/faces/shared.sh
 root=$folder/above/other/root
 export LIBRARY="$folder/libgoblin_c.a" TARGET='' CPU=''
@@ -17,10 +18,7 @@ install_as() {
 # Fails if find finds a file or a folder.
 none_of() {
     found=$(find "$@")
-    if [ "$found" ]; then
-        printf 'this should not be there after an installation: %s\n' "$found"
-        exit 1
-    fi
+    [ -z "$found" ] || fail "this should not be there after an installation: $found"
 }
 
 for mask in 077 022; do
@@ -28,7 +26,7 @@ for mask in 077 022; do
 done
 quietly cmp "$folder/goblin_c.077.tar.gz" "$folder/goblin_c.022.tar.gz"
 tar -tzf "$folder/goblin_c.022.tar.gz" > "$folder/output"
-grep -qx 'goblin_c-[^/]*/README\.md' "$folder/output" || { echo "the archive has no README.md"; exit 1; }
+grep -qx 'goblin_c-[^/]*/README\.md' "$folder/output" || fail "the archive has no README.md"
 sh checks/installed.sh "$folder/goblin_c.022.tar.gz"
 
 # With another LIBDIR, a shared library where there is a compiler, and a program in place of goblin_show.
@@ -39,7 +37,7 @@ if has cc; then shared=1; fi
 install_as 077 $multiarch SHARED=$shared PROGRAM="$folder/program"
 none_of "$root" -mindepth 1 '(' -type f ! -perm 644 ! -path '*/bin/*' -o -path '*/bin/*' ! -perm 755 -o -type d ! -perm 755 ')'
 mkdir "$folder/packed"
-cp -R "$root" "$folder/packed/goblin_c-$(awk -F '"' '/^version = / { print $2; exit }' faces/rust/Cargo.toml)-x86_64-unknown-linux-gnu"
+cp -R "$root" "$folder/packed/goblin_c-$version-x86_64-unknown-linux-gnu"
 tar -C "$folder/packed" -czf "$folder/multiarch.tar.gz" .
 sh checks/installed.sh "$folder/multiarch.tar.gz"
 
@@ -52,7 +50,8 @@ quietly sh faces/install.sh --uninstall "$root"
 [ ! -e "$folder/above" ] || none_of "$folder/above"
 mkdir -p "$root/share/man"
 install_as 022 lib
+touch "$root/include/own.h"
 quietly sh faces/install.sh --uninstall "$root"
-[ -d "$root/share/man" ] || { echo "an uninstallation removes a folder that the installation didn't make"; exit 1; }
-none_of "$root/share/man" "$root" -mindepth 1 ! -path "$root/share" ! -path "$root/share/man"
+for own in share/man include/own.h; do [ -e "$root/$own" ] || fail "an uninstallation removes $own, which the installation didn't make"; done
+none_of "$root" -mindepth 1 ! -path "$root/share" ! -path "$root/share/man" ! -path "$root/include" ! -path "$root/include/own.h"
 echo "all users can read what is installed, and it can be removed"

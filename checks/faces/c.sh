@@ -26,14 +26,8 @@ c V 2 weak_data
 16 i 1 indirect
 18 T 1 été'
 
-fail() {
-    echo "$1"
-    exit 1
-}
-
 # Compiles goblin.h by each standard, and compares its structs with the library's layout.
 check_header() {
-    version=$(awk -F '"' '/^version = / { print $2; exit }' faces/rust/Cargo.toml)
     grep -qxF "#define GOBLIN_VERSION_STRING \"$version\"" faces/c/goblin.h \
         || fail "goblin.h and faces/rust/Cargo.toml have different versions: GOBLIN_VERSION_STRING is to be \"$version\""
     awk -f checks/fields.awk faces/c/goblin.h > "$folder/fields.h"
@@ -134,7 +128,7 @@ check_places() {
     case $1 in *64) size=64 symbols=504 ;; *) size=40 symbols=336 ;; esac
     [ "$("$folder/flag" "$1" .text)" = '.text: flags 0x6, now 0x7' ] || fail "flag.c does not set the flag of .text of $1"
     [ "$("$folder/flag" "$1" .data)" = '.data: flags 0x3, now 0x2' ] || fail "flag.c does not clear the flag of .data of $1"
-    [ "$("$folder/flag" "$1" .no 2>&1)" = 'flag: there is no section .no' ] || fail "flag.c finds a section that $1 doesn't have"
+    refuses 'flag: there is no section .no' "$folder/flag" "$1" .no
     "$folder/truncated" "$1" > "$folder/listed"
     printf '%s\n' "all headers: type is too big ($size) for $((size / 2))" '10 of 11 headers are whole' '0 SHT_NULL: no bytes' \
         '1 SHT_PROGBITS: 64 of 64 bytes' '2 SHT_PROGBITS: 64 of 64 bytes' '3 SHT_NOBITS: no bytes' '4 SHT_PROGBITS: 64 of 64 bytes' \
@@ -163,8 +157,7 @@ check_execstack() {
     "$folder/execstack" -s "$folder/stack" > "$folder/output"
     [ "$(cmp -l "$folder/nm" "$folder/stack" | wc -l)" -eq 1 ] || fail "execstack.c changes more than one byte"
     quietly "$folder/stack" "$folder/nm"
-    said=$("$folder/execstack" -c "$1" 2>&1) && fail "execstack.c changes a file without program headers"
-    [ "$said" = "execstack: $1: there is no program header of type PT_GNU_STACK" ] || fail "execstack.c prints this of an object file: $said"
+    refuses "execstack: $1: there is no program header of type PT_GNU_STACK" "$folder/execstack" -c "$1"
     [ "$("$folder/execstack" "$1")" = "? $1" ] || fail "execstack.c does not print that $1 has no such program header"
     echo "execstack.c changes one flag"
 }
@@ -217,31 +210,24 @@ check_programs() {
     fi
     short=$folder/short
     head -c 15 "$file" > "$short"
-    [ "$("$folder/nm" "$short" 2>&1)" = 'nm: header: Malformed entity: Too small' ] || fail "nm.c does not refuse a short file as it should"
-    [ "$("$folder/values" "$short" 2>&1)" = 'values: Malformed entity: Too small' ] || fail "values.c does not refuse a short file as it should"
-    for program in needed truncated; do
-        [ "$("$folder/$program" "$short" 2>&1)" = "$program: Malformed entity: Too small" ] \
-            || fail "$program.c does not refuse a short file as it should"
-    done
-    [ "$("$folder/execstack" "$short" 2>&1)" = "execstack: $short: Malformed entity: Too small" ] || fail "execstack.c does not refuse a short file as it should"
-    for program in execstack nm needed size symbolize truncated values; do
-        "$folder/$program" "$folder/none" > "$folder/output" 2>&1 && fail "$program.c reads a file that isn't there"
+    refuses 'nm: header: Malformed entity: Too small' "$folder/nm" "$short"
+    for program in values needed truncated; do refuses "$program: Malformed entity: Too small" "$folder/$program" "$short"; done
+    refuses "execstack: $short: Malformed entity: Too small" "$folder/execstack" "$short"
+    refuses 'flag: Malformed entity: Too small' "$folder/flag" "$short" .text
+    refuses 'strings: Malformed entity: Too small, at offset 0' "$folder/strings" "$short" .names
+    [ "$("$folder/size" "$short" 2>&1 > "$folder/output")" = "size: $short: Malformed entity: Too small" ] || fail "size.c does not refuse a short file as it should"
+    for program in execstack flag nm needed size strings symbolize truncated values; do
+        case $program in flag | strings) section=.text ;; *) section= ;; esac
+        "$folder/$program" "$folder/none" ${section:+"$section"} > "$folder/output" 2>&1 && fail "$program.c reads a file that isn't there"
         grep -q 'No such file or directory$' "$folder/output" || fail "$program.c does not print why it can't read a file"
         "$folder/$program" > "$folder/output" 2>&1 && fail "$program.c runs without a file"
         grep -q "^usage: $program " "$folder/output" || fail "$program.c does not print how it is used"
     done
-    for program in flag strings; do
-        "$folder/$program" "$folder/none" .text > "$folder/output" 2>&1 && fail "$program.c reads a file that isn't there"
-        grep -q 'No such file or directory$' "$folder/output" || fail "$program.c does not print why it can't read a file"
-    done
-    [ "$("$folder/strings" "$file" .no 2>&1)" = 'strings: there is no section .no' ] || fail "strings.c finds a section that $file doesn't have"
-    [ "$("$folder/strings" "$file" .bss 2>&1)" = 'strings: the section .bss has no bytes in the file' ] || fail "strings.c finds bytes of .bss"
+    refuses 'strings: there is no section .no' "$folder/strings" "$file" .no
+    refuses 'strings: the section .bss has no bytes in the file' "$folder/strings" "$file" .bss
     "$folder/strings" "$file" .note 2>&1 | grep -qx 'strings: no zero byte closes the last string' || fail "strings.c does not say that a string is not closed"
     check_execstack "$file"
     check_without_sections
-    [ "$("$folder/flag" "$short" .text 2>&1)" = 'flag: Malformed entity: Too small' ] || fail "flag.c does not refuse a short file as it should"
-    [ "$("$folder/size" "$short" 2>&1 > "$folder/output")" = "size: $short: Malformed entity: Too small" ] || fail "size.c does not refuse a short file as it should"
-    [ "$("$folder/strings" "$short" .names 2>&1)" = 'strings: Malformed entity: Too small, at offset 0' ] || fail "strings.c does not refuse a short file as it should"
     echo "nm.c lists $(echo "$symbols_made" | wc -l) symbols in each class and byte order"
 }
 

@@ -9,15 +9,12 @@ check_needs() {
     readelf -SW "$folder/libgoblin_c.a" > "$folder/sections"
     if [ "$(cat "$folder/needs")" != memcpy ] || ! grep -q '\.text\.goblin_header ' "$folder/sections" \
         || grep -e '\.eh_frame' -e '\.note\.gnu\.property' "$folder/sections"; then
-        echo "the library needs more than memcpy, or has unwind tables or notes; it needs:"
-        cat "$folder/needs"
-        exit 1
+        fail "the library needs more than memcpy, or has unwind tables or notes; it needs: $(cat "$folder/needs")"
     fi
     echo "the library needs only memcpy"
     pointers=$(readelf -rW "$folder/libgoblin_c.a" | awk '$3 == "R_X86_64_64" { n++ } END { print n + 0 }')
     if [ "$pointers" -eq 0 ] || [ "$pointers" -gt 100 ]; then
-        echo "of the library's pointers, $pointers are relocated when a program is loaded, and not 1 to 100: names of numbers need none"
-        exit 1
+        fail "of the library's pointers, $pointers are relocated when a program is loaded, and not 1 to 100: names of numbers need none"
     fi
     echo "of the library's pointers, $pointers are relocated when a program is loaded"
 }

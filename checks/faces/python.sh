@@ -43,9 +43,9 @@ try_wheel() {
     # shellcheck disable=SC2016 # (the signs are markdown's)
     sed -n '/^```python$/,/^```$/ { /^```/d; p }' faces/python/README.md > "$folder/lines.py"
     (cd "$folder/venv" && quietly bin/python ../lines.py)
-    grep -q '^0x[0-9a-f]* .' "$folder/output" || { echo "the first lines of the page list no symbols"; exit 1; }
+    grep -q '^0x[0-9a-f]* .' "$folder/output" || fail "the first lines of the page list no symbols"
     quietly "$folder/venv/bin/python" "$folder/venv/share/goblin_elf/scan.py" "$folder/libgoblin_c.a" --workers 0 -o "$folder/report.csv"
-    grep -q "^$folder/libgoblin_c.a,.*,ELF64,little,REL," "$folder/report.csv" || { echo "the wheel's scan.py finds no member"; exit 1; }
+    grep -q "^$folder/libgoblin_c.a,.*,ELF64,little,REL," "$folder/report.csv" || fail "the wheel's scan.py finds no member"
     echo "the Python package: its wheel can be installed, and the page's $(wc -l < "$folder/lines.py") lines list symbols"
 }
 

@@ -1,7 +1,8 @@
 #!/bin/sh
 # Tests the crate of faces/rust: sh checks/faces/rust.sh FOLDER, after c.sh
 # It runs the crate's tests, its examples over the files that made.c makes, cargo package and cargo doc, and clippy if the machine has it.
-# The examples truncated and flag must print what those in C print.
+# The tests also run by the oldest Rust that the crate names, if the system has that. The examples truncated and flag must print what those
+# in C print.
 . checks/faces/shared.sh
 export GOBLIN_C_LIB="$folder" CARGO_TARGET_DIR="$folder/target"
 crate=faces/rust/Cargo.toml
@@ -15,7 +16,7 @@ awk '/^test result: ok\. / { tests += $4 } END { print "the Rust crate passes " 
 # (cargo has built the examples with the tests)
 for file in "$files"/*; do
     "$examples/symbols" "$file" > "$folder/listed"
-    [ "$(grep -c -x -e '12 function' -e '18 été' "$folder/listed")" -eq 2 ] || { echo "symbols.rs does not list the symbols of $file"; exit 1; }
+    [ "$(grep -c -x -e '12 function' -e '18 été' "$folder/listed")" -eq 2 ] || fail "symbols.rs does not list the symbols of $file"
     "$folder/truncated" "$file" > "$folder/wanted"
     "$examples/truncated" "$file" > "$folder/listed"
     quietly diff "$folder/wanted" "$folder/listed"
@@ -24,13 +25,18 @@ for file in "$files"/*; do
         "$examples/flag" "$file" $section > "$folder/listed"
         quietly diff "$folder/wanted" "$folder/listed"
     done
-    said=$("$examples/flag" "$file" .no 2>&1) && { echo "flag.rs finds a section that $file doesn't have"; exit 1; }
-    [ "$said" = "flag: $file: there is no section .no" ] || { echo "flag.rs prints this of a missing section: $said"; exit 1; }
+    refuses "flag: $file: there is no section .no" "$examples/flag" "$file" .no
 done
 for example in symbols relocations needed segments truncated flag; do
-    said=$("$examples/$example" "$folder/short" .text 2>&1) && { echo "$example.rs does not refuse a short file"; exit 1; }
-    [ "$said" = "$example: $folder/short: Malformed entity: Too small" ] || { echo "$example.rs prints this of a short file: $said"; exit 1; }
+    refuses "$example: $folder/short: Malformed entity: Too small" "$examples/$example" "$folder/short" .text
 done
+oldest=$(awk -F '"' '/^rust-version = / { print $2 }' $crate)
+if /usr/bin/rustc --version 2> "$folder/output" | grep -qF "rustc $oldest."; then
+    quietly env PATH=/usr/bin:/bin CARGO_TARGET_DIR="$folder/oldest" /usr/bin/cargo test --offline --manifest-path $crate
+    echo "the Rust crate passes its tests by Rust $oldest"
+else
+    echo "rust: Rust $oldest is not tried, because /usr/bin/rustc is another one or missing"
+fi
 quietly cargo package --offline --allow-dirty --manifest-path $crate
 quietly env RUSTDOCFLAGS='-D warnings' cargo doc --offline --manifest-path $crate
 if cargo clippy --version > "$folder/output" 2>&1; then

@@ -7,16 +7,26 @@ folder=$1
 # The folders of the files that faces/c/made.c makes, and of the examples that cargo builds.
 # shellcheck disable=SC2034
 files=$folder/files examples=$folder/target/debug/examples
+# The version of all that is installed.
+# shellcheck disable=SC2034
+version=$(awk -F '"' '/^version = / { print $2; exit }' faces/rust/Cargo.toml)
 
 has() { command -v "$1" > /dev/null 2>&1; }
 
+fail() {
+    echo "$1"
+    exit 1
+}
+
 # Runs a command, and prints its output only if it fails.
-quietly() {
-    if ! "$@" > "$folder/output" 2>&1; then
-        echo "failed: $*"
-        cat "$folder/output"
-        exit 1
-    fi
+quietly() { "$@" > "$folder/output" 2>&1 || { cat "$folder/output"; fail "failed: $*"; }; }
+
+# Fails unless a command fails and prints just this text: refuses TEXT COMMAND ..
+refuses() {
+    text=$1
+    shift
+    said=$("$@" 2>&1) && fail "it should fail, and does not: $*"
+    [ "$said" = "$text" ] || fail "it should print '$text', and prints '$said': $*"
 }
 
 # Runs a compiler with warnings as errors.
@@ -41,9 +51,7 @@ make_library() {
 check_axioms() {
     if ! awk '/^axioms / { all++; if ($0 !~ /: none reached of /) reached++ } /^logic=proved / { proved++; if (/ axioms=/) reached++ }
         END { exit proved == 0 || all == 0 || reached > 0 }' "$folder/output"; then
-        echo "the library reaches functions that the toolchain takes as axioms:"
-        grep -e '^axioms ' -e '^logic=' "$folder/output"
-        exit 1
+        fail "the library reaches functions that the toolchain takes as axioms: $(grep -e '^axioms ' -e '^logic=' "$folder/output")"
     fi
     echo "the library reaches no function that the toolchain takes as an axiom"
 }

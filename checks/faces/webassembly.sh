@@ -28,10 +28,10 @@ if [ -e "$folder/node" ]; then
     call faces/web/test.mjs "$web" "$dump" "$files"/* "$dump"
     call faces/web/calls.mjs "$web" "$files"/* "$dump"
     for script in test calls; do
-        said=$(call faces/web/$script.mjs "$folder" 2>&1) && { echo "$script.mjs accepts a folder without goblin.js"; exit 1; }
+        said=$(call faces/web/$script.mjs "$folder" 2>&1) && fail "$script.mjs accepts a folder without goblin.js"
         case $said in
         "$folder has no goblin.js and no constants.js and no goblin_c.wasm"*'python3 faces/constants.py'*) ;;
-        *) echo "$script.mjs prints this of a folder without goblin.js: $said"; exit 1 ;;
+        *) fail "$script.mjs prints this of a folder without goblin.js: $said" ;;
         esac
     done
     for file in "$files"/*; do
@@ -39,14 +39,12 @@ if [ -e "$folder/node" ]; then
         call "$web/examples/truncated.mjs" "$file" > "$folder/listed"
         "$folder/flag" "$file" .text >> "$folder/wanted"
         call "$web/examples/flag.mjs" "$file" .text >> "$folder/listed"
-        diff "$folder/wanted" "$folder/listed" || { echo "truncated.mjs or flag.mjs prints something else of $file than in C"; exit 1; }
+        diff "$folder/wanted" "$folder/listed" || fail "truncated.mjs or flag.mjs prints something else of $file than in C"
     done
-    said=$(call "$web/examples/flag.mjs" "$first" .no 2>&1) && { echo "flag.mjs finds a section that $first doesn't have"; exit 1; }
-    [ "$said" = "flag: $first: there is no section .no" ] || { echo "flag.mjs prints this of a missing section: $said"; exit 1; }
+    refuses "flag: $first: there is no section .no" call "$web/examples/flag.mjs" "$first" .no
     for example in needed segments truncated flag; do
         if [ $example = flag ]; then section=.text; else section=; fi
-        said=$(call "$web/examples/$example.mjs" "$folder/short" ${section:+"$section"} 2>&1) && { echo "$example.mjs does not refuse a short file"; exit 1; }
-        [ "$said" = "$example: $folder/short: Malformed entity: Too small" ] || { echo "$example.mjs prints this of a short file: $said"; exit 1; }
+        refuses "$example: $folder/short: Malformed entity: Too small" call "$web/examples/$example.mjs" "$folder/short" ${section:+"$section"}
     done
     # A program with the package in its node_modules imports it by name.
     mkdir -p "$folder/app/node_modules"
@@ -55,11 +53,14 @@ if [ -e "$folder/node" ]; then
         'console.log(Elf.parse(readFileSync(process.argv[2])).section_headers().length);' > "$folder/app/app.mjs"
     wanted=$(readelf -hW "$dump" 2> "$folder/output" | awk '/Number of section headers/ { print $5 }')
     counted=$(call "$folder/app/app.mjs" "$dump")
-    [ "$counted" = "${wanted:-$counted}" ] || { echo "imported by the package's name, goblin.js reads $counted sections, not $wanted"; exit 1; }
+    [ "$counted" = "${wanted:-$counted}" ] || fail "imported by the package's name, goblin.js reads $counted sections, not $wanted"
     if has tsc; then
-        cp faces/web/use.ts "$folder/app/"
-        tsc --noEmit --strict --target es2020 --module es2022 --moduleResolution node --lib es2020 "$folder/app/use.ts"
-        echo "TypeScript accepts a program over goblin.d.ts"
+        cp faces/web/use.ts "$folder/app/use.mts"
+        # (of package.json `node` reads `types`, and `nodenext` reads `exports`)
+        for modules in es2022:node nodenext:nodenext; do
+            tsc --noEmit --strict --target es2020 --lib es2020 --module ${modules%:*} --moduleResolution ${modules#*:} "$folder/app/use.mts"
+        done
+        echo "TypeScript accepts a program over goblin.d.ts, without the types of a browser"
     else
         echo "tsc is not installed, so goblin.d.ts is not compiled: install TypeScript"
     fi
@@ -69,7 +70,7 @@ fi
 
 # The page, which headless browsers open as a file.
 size=$(wc -c < "$web/index.html")
-if [ "$size" -gt 450000 ]; then echo "the page is too large: it has $size bytes, and may have at most 450,000"; exit 1; fi
+[ "$size" -le 450000 ] || fail "the page is too large: it has $size bytes, and may have at most 450,000"
 
 # Opens the page in a browser, by the first of some commands that the machine has: open_page NAME COMMAND ..
 open_page() {
