@@ -230,27 +230,20 @@ pub extern "C" fn goblin_section_names(
     store(section_names(bytes, header), section, why)
 }
 
-/// Returns a copy of a header that counts only the headers that lie whole in the file.
-pub fn whole_header(bytes: &[u8], header: &GoblinHeader) -> GoblinHeader
-    ensures { result ≡ whole_header bytes.now header.now }
-{
-    let ctx = ctx_of(header);
-    let (start, offset) = (header.e_shoff as usize, header.e_phoff as usize);
-    let sections = SectionHeader::whole_part(bytes, start, header.e_shnum, ctx);
-    GoblinHeader {
-        e_shoff: sections.offset as u64,
-        e_shnum: sections.count,
-        e_phnum: ProgramHeader::whole_part(bytes, header.e_phnum, offset, start, ctx),
-        ..*header
-    }
-}
-
 /// Stores a copy of a header that counts only the section headers and program headers that lie whole in the file.
 #[unsafe(no_mangle)]
 pub extern "C" fn goblin_whole_header(bytes: &[u8], header: &GoblinHeader, whole: &mut GoblinHeader)
     ensures { whole.new ≡ whole_header bytes.now header.now }
 {
-    *whole = whole_header(bytes, header);
+    let ctx = ctx_of(header);
+    let (start, offset) = (header.e_shoff as usize, header.e_phoff as usize);
+    let sections = SectionHeader::whole_part(bytes, start, header.e_shnum, ctx);
+    *whole = GoblinHeader {
+        e_shoff: sections.offset as u64,
+        e_shnum: sections.count,
+        e_phnum: ProgramHeader::whole_part(bytes, header.e_phnum, offset, start, ctx),
+        ..*header
+    };
 }
 
 /// Returns the program headers.

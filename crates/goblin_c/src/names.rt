@@ -1,12 +1,11 @@
 //! The names of numbers, written for C.
-ghost use Rattle.std.specs.Prelude.{◌≡◌, length};
 ghost use Rattle.goblin.specs.HeaderNames.{class_name, type_name as file_type_name};
 ghost use Rattle.goblin.specs.Machines.{machine_name};
 ghost use Rattle.goblin.specs.NoteType.{note_type_name};
 ghost use Rattle.goblin.specs.SectionNames.{section_flag_name, section_name};
 ghost use Rattle.goblin.specs.SegmentNames.{segment_name};
 ghost use Rattle.goblin.specs.SymParts.{bind_name, type_name, visibility_name};
-ghost use Rattle.goblin_c.specs.FilledBuffer.{closed, laid};
+ghost use Rattle.goblin_c.specs.FilledBuffer.{WritesText};
 
 use crate::notes::note_type;
 use crate::writer::write_text;
@@ -18,8 +17,7 @@ use goblin::elf::sym::{bind_to_str, type_to_str, visibility_to_str};
 /// Writes the name of a class.
 #[unsafe(no_mangle)]
 pub extern "C" fn goblin_class_to_str(ei_class: u8, text: &mut [u8]) -> u64
-    ensures written { text.new ≡ laid (closed (class_name ei_class)) text.old }
-    ensures value { result ≡ length (class_name ei_class) }
+    ensures { WritesText (class_name ei_class) text.old result text.new }
 {
     write_text(class_to_str(ei_class), text)
 }
@@ -27,8 +25,7 @@ pub extern "C" fn goblin_class_to_str(ei_class: u8, text: &mut [u8]) -> u64
 /// Writes the name of a file's type.
 #[unsafe(no_mangle)]
 pub extern "C" fn goblin_et_to_str(e_type: u16, text: &mut [u8]) -> u64
-    ensures written { text.new ≡ laid (closed (file_type_name e_type)) text.old }
-    ensures value { result ≡ length (file_type_name e_type) }
+    ensures { WritesText (file_type_name e_type) text.old result text.new }
 {
     write_text(et_to_str(e_type), text)
 }
@@ -36,8 +33,7 @@ pub extern "C" fn goblin_et_to_str(e_type: u16, text: &mut [u8]) -> u64
 /// Writes the name of a machine.
 #[unsafe(no_mangle)]
 pub extern "C" fn goblin_machine_to_str(e_machine: u16, text: &mut [u8]) -> u64
-    ensures written { text.new ≡ laid (closed (machine_name e_machine)) text.old }
-    ensures value { result ≡ length (machine_name e_machine) }
+    ensures { WritesText (machine_name e_machine) text.old result text.new }
 {
     write_text(machine_to_str(e_machine), text)
 }
@@ -45,8 +41,7 @@ pub extern "C" fn goblin_machine_to_str(e_machine: u16, text: &mut [u8]) -> u64
 /// Writes the name of a segment's type.
 #[unsafe(no_mangle)]
 pub extern "C" fn goblin_pt_to_str(p_type: u32, text: &mut [u8]) -> u64
-    ensures written { text.new ≡ laid (closed (segment_name p_type)) text.old }
-    ensures value { result ≡ length (segment_name p_type) }
+    ensures { WritesText (segment_name p_type) text.old result text.new }
 {
     write_text(pt_to_str(p_type), text)
 }
@@ -54,8 +49,7 @@ pub extern "C" fn goblin_pt_to_str(p_type: u32, text: &mut [u8]) -> u64
 /// Writes the name of a section's type.
 #[unsafe(no_mangle)]
 pub extern "C" fn goblin_sht_to_str(sh_type: u32, text: &mut [u8]) -> u64
-    ensures written { text.new ≡ laid (closed (section_name sh_type)) text.old }
-    ensures value { result ≡ length (section_name sh_type) }
+    ensures { WritesText (section_name sh_type) text.old result text.new }
 {
     write_text(sht_to_str(sh_type), text)
 }
@@ -63,8 +57,7 @@ pub extern "C" fn goblin_sht_to_str(sh_type: u32, text: &mut [u8]) -> u64
 /// Writes the name of one flag of a section.
 #[unsafe(no_mangle)]
 pub extern "C" fn goblin_shf_to_str(flag: u32, text: &mut [u8]) -> u64
-    ensures written { text.new ≡ laid (closed (section_flag_name flag)) text.old }
-    ensures value { result ≡ length (section_flag_name flag) }
+    ensures { WritesText (section_flag_name flag) text.old result text.new }
 {
     write_text(shf_to_str(flag), text)
 }
@@ -72,8 +65,7 @@ pub extern "C" fn goblin_shf_to_str(flag: u32, text: &mut [u8]) -> u64
 /// Writes the name of a symbol's binding.
 #[unsafe(no_mangle)]
 pub extern "C" fn goblin_bind_to_str(binding: u8, text: &mut [u8]) -> u64
-    ensures written { text.new ≡ laid (closed (bind_name binding)) text.old }
-    ensures value { result ≡ length (bind_name binding) }
+    ensures { WritesText (bind_name binding) text.old result text.new }
 {
     write_text(bind_to_str(binding), text)
 }
@@ -81,8 +73,7 @@ pub extern "C" fn goblin_bind_to_str(binding: u8, text: &mut [u8]) -> u64
 /// Writes the name of a symbol's type.
 #[unsafe(no_mangle)]
 pub extern "C" fn goblin_type_to_str(typ: u8, text: &mut [u8]) -> u64
-    ensures written { text.new ≡ laid (closed (type_name typ)) text.old }
-    ensures value { result ≡ length (type_name typ) }
+    ensures { WritesText (type_name typ) text.old result text.new }
 {
     write_text(type_to_str(typ), text)
 }
@@ -90,8 +81,7 @@ pub extern "C" fn goblin_type_to_str(typ: u8, text: &mut [u8]) -> u64
 /// Writes the name of a symbol's visibility.
 #[unsafe(no_mangle)]
 pub extern "C" fn goblin_visibility_to_str(visibility: u8, text: &mut [u8]) -> u64
-    ensures written { text.new ≡ laid (closed (visibility_name visibility)) text.old }
-    ensures value { result ≡ length (visibility_name visibility) }
+    ensures { WritesText (visibility_name visibility) text.old result text.new }
 {
     write_text(visibility_to_str(visibility), text)
 }
@@ -99,8 +89,7 @@ pub extern "C" fn goblin_visibility_to_str(visibility: u8, text: &mut [u8]) -> u
 /// Writes the name of a note's type, whose meaning depends on the note's name.
 #[unsafe(no_mangle)]
 pub extern "C" fn goblin_note_type_to_str(name: &[u8], n_type: u32, text: &mut [u8]) -> u64
-    ensures written { text.new ≡ laid (closed (note_type_name name.now n_type)) text.old }
-    ensures value { result ≡ length (note_type_name name.now n_type) }
+    ensures { WritesText (note_type_name name.now n_type) text.old result text.new }
 {
     write_text(note_type(name, n_type), text)
 }

@@ -2,7 +2,7 @@
 ghost use Rattle.std.specs.Prelude.{◌≡◌, ◌+◌, ◌≤◌, ◌<◌, ◌^◌, ◌++◌, IsTrue, false, drop, length, take};
 ghost use Rattle.std.specs.Fmt.{digit_glyph, digits};
 ghost use Rattle.goblin_base.specs.Texts.{facts_of, is_short, facts_text, part_text, word_of};
-ghost use Rattle.goblin_c.specs.FilledBuffer.{closed, laid};
+ghost use Rattle.goblin_c.specs.FilledBuffer.{WritesText, laid};
 ghost use Rattle.goblin_c.specs.Texts.{converted_text, facts_from, item_text, TextIsSame};
 
 use crate::kinds;
@@ -114,8 +114,7 @@ fn write_parts(report: &Report, buffer: &mut [u8]) -> u64
 // the text.
 fn write_report(report: &Report, buffer: &mut [u8]) -> u64
     requires item { length report.now.item.now ≤ 15 }
-    ensures written { buffer.new ≡ laid (closed (facts_text (facts_of report.now))) buffer.old }
-    ensures value { result ≡ length (facts_text (facts_of report.now)) }
+    ensures { WritesText (facts_text (facts_of report.now)) buffer.old result buffer.new }
 {
     let len = write_parts(report, buffer);
     write_after(b"\0", len, buffer);
@@ -140,8 +139,7 @@ fn report_from(why: &GoblinRefusal, kind: Kind) -> Report
 /// Writes the text of a refusal.
 #[unsafe(no_mangle)]
 pub extern "C" fn goblin_refusal_text(why: &GoblinRefusal, text: &mut [u8]) -> u64
-    ensures written { text.new ≡ laid (closed (converted_text why.now)) text.old }
-    ensures value { result ≡ length (converted_text why.now) }
+    ensures { WritesText (converted_text why.now) text.old result text.new }
 {
     match Kind::with_number(why.kind) {
         Some(kind) => write_report(&report_from(why, kind), text),

@@ -1,11 +1,10 @@
 //! Bytes and texts, written into a buffer of the caller's and cut at its end.
 ghost use Rattle.std.specs.Prelude.{◌≡◌, ◌+◌, ◌<◌, ◌^◌, ◌++◌, drop, length, take};
-ghost use Rattle.goblin_c.specs.FilledBuffer.{closed, laid};
+ghost use Rattle.goblin_c.specs.FilledBuffer.{WritesText, laid};
 
 /// Writes a text with a zero byte after it, or as much of them as the buffer holds. Returns the length of the text.
 pub fn write_text(text: &str, buffer: &mut [u8]) -> u64
-    ensures written { buffer.new ≡ laid (closed text.now) buffer.old }
-    ensures value { result ≡ length text.now }
+    ensures { WritesText text.now buffer.old result buffer.new }
 {
     write_closed(text.as_bytes(), buffer)
 }
@@ -13,8 +12,7 @@ pub fn write_text(text: &str, buffer: &mut [u8]) -> u64
 // Writes bytes with a zero byte after them, or as much of them as the buffer holds. Returns the number of the bytes
 // without the last one.
 fn write_closed(bytes: &[u8], buffer: &mut [u8]) -> u64
-    ensures written { buffer.new ≡ laid (closed bytes.now) buffer.old }
-    ensures value { result ≡ length bytes.now }
+    ensures { WritesText bytes.now buffer.old result buffer.new }
 {
     let len = write_bytes(bytes, buffer);
     write_after(b"\0", len, buffer);
