@@ -9,7 +9,8 @@ use Rattle.goblin_base.specs.declared.container.Ctx.{Ctx}
 use Rattle.goblin_base.specs.declared.container.Endian.{Endian}
 use Rattle.goblin_base.specs.declared.scroll.Error.{Error as Misplaced}
 use Rattle.goblin_base.specs.Record.{read_within, unless_fault}
-use Rattle.goblin_base.specs.RecordLaws.{fits-room_of}
+use Rattle.goblin_base.proofs.StepLemmas.{step}
+use Rattle.goblin_base.specs.RecordLaws.{fits-room_of, room_of_fits}
 use Rattle.goblin_base.specs.Refusal.{Refusal, refusal_of, misplaced, bad_offset}
 use Rattle.goblin_base.specs.Room.{room_of}
 use Rattle.goblin_base.specs.Steps.{◌>>=◌, refuse_as, refuse_if}
@@ -38,12 +39,6 @@ if_ok_more (Err e) P Q h more = tt
 align_range : (alignment align : ℕ) → note_align alignment ≡ Ok align → (4 ≤ align) × (align ≤ 8)
 align_range alignment align is = grind (arith, nat_tests)
 
--- steps that return a value had a value of the first step
-first_of : {A B E : Type 0} (first : Result A E) (next : A → Result B E) (y : B)
-    → (first >>= next) ≡ Ok y → (x : A) × (first ≡ Ok x)
-first_of (Ok x) next y is = (x, refl)
-first_of (Err e) next y is = absurd (cc)
-
 -- bytes that were read were there
 had_room : (room : Result (Unit {0}) Misplaced) (part other : List ℕ)
     → (refuse_as misplaced room >>= λ _. Ok other) ≡ Ok part → room ≡ Ok tt
@@ -66,8 +61,8 @@ multiple_range place align h = (omega arith, omega arith)
 text_at-fits : (bytes : List ℕ) (place size : ℕ) (text : List ℕ)
     → text_at bytes place size ≡ Ok text → place + size ≤ length bytes
 text_at-fits bytes place size text is =
-    let part = first_of (bytes_at bytes place size) (λ part. text_or_fault part (length bytes - place)) text is in
-    bytes_at-fits bytes place size part.0 part.1
+    let part = step (bytes_at bytes place size) (λ part. text_or_fault part (length bytes - place)) text is in
+    bytes_at-fits bytes place size part.value part.is
 
 -- places of parts that lie inside the bytes
 places_fit : (available align : ℕ) (header : Nhdr32)
@@ -118,10 +113,6 @@ read_steps (Ok a) (Ok u) header bytes places is =
 read_steps (Ok a) (Err e) header bytes places is = absurd (cc)
 read_steps (Err e) room header bytes places is = absurd (cc)
 
-room_of-fits : (len offset size : ℕ) → offset + size ≤ len → room_of len offset size ≡ Ok tt
-unfolding room_of
-room_of-fits len offset size fits = grind (arith, nat_tests)
-
 -- the header of some bytes is that of the first of them
 header_first : (order : Endian) (bytes : List ℕ) (size : ℕ)
     → nhdr32_size ≤ length (take size bytes) → nhdr32_of order (take size bytes) ≡ nhdr32_of order bytes
@@ -140,9 +131,9 @@ whole_there alignment align order bytes aligned begins name desc =
     let p = whole_places_of align (nhdr32_of order bytes) in
     rw (
       aligned,
-      room_of-fits (length bytes) 0 nhdr32_size begins,
-      room_of-fits (length bytes) p.name p.name_size name,
-      room_of-fits (length bytes) p.desc p.desc_size desc,
+      room_of_fits (length bytes) 0 nhdr32_size begins,
+      room_of_fits (length bytes) p.name p.name_size name,
+      room_of_fits (length bytes) p.desc p.desc_size desc,
     ) refl
 
 pub whole_is_note : WholeIsNote

@@ -1,7 +1,6 @@
 -- What the proofs of this crate cite most, passed on from one place. Declares nothing.
 pub use Rattle.goblin_base.specs.Ascii.{ends_run, lowest_set}
-pub use Rattle.goblin_base.specs.Entries.{AreTexts, CountsAtLeast, IsText, entries_between, next_of, place_of}
-pub use Rattle.goblin_base.specs.Entries.{places_of, text_of}
+pub use Rattle.goblin_base.specs.Entries.{CountsAtLeast, place_of, places_of, text_of}
 pub use Rattle.goblin_base.specs.Marks.{AreAscii, AreMarks, HaveMarks, marks_before}
 pub use Rattle.goblin_base.specs.Pieces.{entries}
 unfoldable pub use Rattle.goblin_base.specs.Pieces.{entries_from, entry_text, first_bad, is_bad_start, is_entry_place}
@@ -9,7 +8,7 @@ unfoldable pub use Rattle.goblin_base.specs.Pieces.{is_readable, piece, piece_en
 pub use Rattle.goblin_base.specs.Record.{unless_fault}
 unfoldable pub use Rattle.goblin_base.specs.Record.{read_within}
 pub use Rattle.goblin_base.specs.Refusal.{Refusal, malformed}
-pub use Rattle.goblin_base.specs.Scan.{IsDamaged, IsScan, IsWalkedTo, scan_end}
+pub use Rattle.goblin_base.specs.Scan.{IsDamaged, IsScan, scan_end}
 pub use Rattle.goblin_base.specs.Search.{IsLastUpTo, IsRising, digits_within}
 pub use Rattle.goblin_base.specs.Steps.{refuse_as, ◌>>=◌}
 pub use Rattle.goblin_base.specs.Strtab.{StringTable, look_up, plain, table_of}

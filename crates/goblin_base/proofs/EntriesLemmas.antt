@@ -7,14 +7,13 @@ use Rattle.std.proofs.Common.{◌≡◌, ℕ, zero, suc, ◌+◌, ◌-◌, ◌<�
 use Rattle.std.proofs.Common.{length, get_or, refl, sym, ap, subst, ◌∙◌, arith}
 use Rattle.std.specs.List.{slice_range}
 use Rattle.std.specs.Str.{is_utf8}
-use Rattle.goblin_base.specs.Entries.{places_of, text_of}
+use Rattle.goblin_base.specs.Entries.{places_of, text_of, next_of, entries_between, IsText, AreTexts}
 use Rattle.goblin_base.specs.Search.{IsRising}
 use Rattle.std.proofs.lemmas.Str.{is_utf8-from_IsUtf8, IsUtf8-nil}
 use Rattle.goblin_base.specs.Pieces.{piece_end, is_readable, entries_from}
 use Rattle.goblin_base.proofs.WalkLemmas.{entries_more_bad}
 use Rattle.goblin_base.proofs.WalkProgressLemmas.{found_more, text_from_readable, entry_of_text}
 use Rattle.goblin_base.specs.Scan.{IsWalkedTo}
-use Rattle.goblin_base.specs.Entries.{next_of, entries_between, IsText, AreTexts}
 
 module _ (bytes : List ℕ) where
   pub places_between : (ps : List ℕ) (c : ℕ) → places_of (entries_between bytes ps c) ≡ ps

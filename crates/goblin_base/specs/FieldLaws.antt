@@ -187,3 +187,11 @@ with_fields-image order bytes place (f ∷ fields) room =
     (append_assoc (take place bytes) text (image_of_fields order fields ++ drop (place + (f.width + size)) bytes)
     ∙ ap (λ (t : List ℕ). take place bytes ++ t)
     (sym (append_assoc text (image_of_fields order fields) (drop (place + (f.width + size)) bytes))))
+
+-- fields that were written from the start of a buffer on are its beginning
+pub puts_fields : (order : Endian) (fields : List Field) (old new : List ℕ)
+    → size_of_fields fields ≤ length old → new ≡ with_fields order old 0 fields
+    → new ≡ image_of_fields order fields ++ drop (size_of_fields fields) old
+puts_fields order fields old new room is =
+    let same : 0 + size_of_fields fields ≡ size_of_fields fields = omega arith in
+    cc (with_fields-image order old 0 fields (omega arith), same)

@@ -103,11 +103,9 @@ module _ {R : Type 0} {l : Layout R} (laws : IsRecord l) where
   pub obeys : Obeys (l.size) (l.read) (l.image) (l.Fits) (λ x. Writes (l.size) (l.image x))
   obeys = record { low = l.low; is_record = laws; writes_image = λ x old new answer so. so }
 
-  take_is_whole : (bytes : List ℕ) → length bytes ≡ l.size → take (l.size) bytes ≡ bytes
-  take_is_whole bytes long = take_all (l.size) bytes (omega arith)
-
   image-of_read : (bytes : List ℕ) → IsBytes bytes → length bytes ≡ l.size → bytes ≡ l.image (l.read bytes)
-  image-of_read bytes are long = sym (take_is_whole bytes long) ∙ sym (laws.writes_back bytes are (omega arith))
+  image-of_read bytes are long =
+      sym (take_all (l.size) bytes (omega arith)) ∙ sym (laws.writes_back bytes are (omega arith))
 
   -- writing the low bits only writes the same image
   pub image-low : (x : R) → l.image (l.low x) ≡ l.image x

@@ -38,7 +38,7 @@ impl Digits {
     fn by_base(base: u64, number: u64) -> Self
         requires short { 2 ^ 64 ≤ base ^ 20 }
         requires some { 0 < base }
-        requires most { base ≤ 16 }
+        requires bound { base ≤ 16 }
         ensures value { digits_text result ≡ digits base false number }
         ensures ascii { IsAscii (digits_text result) }
         ensures bound { result.start < 20 }

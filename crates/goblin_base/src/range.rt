@@ -29,7 +29,7 @@ pub fn range_of(
         Returns (λ range. slice_range file range.0 range.1) result expected }
     ensures range { (file : List ℕ) → length file ≡ file_len → IfErr (range_in mode file offset len)
         (λ fault. result ≡ Err (Error.Malformed fault)) }
-    ensures places { (file : List ℕ) → length file ≡ file_len →
+    ensures ok { (file : List ℕ) → length file ≡ file_len →
         IfOk result (λ range. IsRange mode file offset len range.0 range.1) }
 {
     let (end, overflow) = offset.overflowing_add(len);

@@ -33,8 +33,8 @@ impl<'a> CountedBytes<'a> {
         requires within { to ≤ length self.old.bytes }
         ensures value { let range = slice_range self.old.bytes from to in
             result ≡ from + position_or_len (λ b. b == byte) range }
-        ensures from { from ≤ result }
-        ensures to { result ≤ to }
+        ensures ordered { from ≤ result }
+        ensures bound { result ≤ to }
         ensures counted { let looks = min (result + 1) to - from in
             self.new ≡ record self.old { count = min (self.old.count + looks) u128.MAX } }
         ensures unchanged { self.new.bytes ≡ self.old.bytes }
@@ -59,8 +59,8 @@ impl<'a> CountedBytes<'a> {
         requires within { to ≤ length self.old.bytes }
         ensures value { let range = slice_range self.old.bytes from to in
             result ≡ from + piece_start range byte (to - from) }
-        ensures from { from ≤ result }
-        ensures to { result ≤ to }
+        ensures ordered { from ≤ result }
+        ensures bound { result ≤ to }
         ensures counted { let looks = min (16 * ((to - result) / 16 + 1)) (to - from) in
             self.new ≡ record self.old { count = min (self.old.count + looks) u128.MAX } }
         ensures unchanged { self.new.bytes ≡ self.old.bytes }

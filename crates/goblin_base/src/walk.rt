@@ -105,7 +105,7 @@ fn walk_damaged(
     requires ordered { from ≤ end }
     requires bound { end < usize.MAX }
     requires before { IsWalkedTo view.old.bytes delim places.old.items from }
-    ensures walked { IfOk result (IsWalkedTo view.old.bytes delim places.new.items) }
+    ensures ok { IfOk result (IsWalkedTo view.old.bytes delim places.new.items) }
     ensures ordered { IfOk result (λ next. end ≤ next) }
     ensures within { IfOk result (λ next. next ≤ end + 1) }
     ensures unchanged { view.new.bytes ≡ view.old.bytes }

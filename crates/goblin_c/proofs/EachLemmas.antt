@@ -8,9 +8,8 @@ use Rattle.goblin_c.proofs.Common.{slice_get, Option, Some, None, Result, Ok, mi
 use Rattle.goblin_c.proofs.Common.{set, drop-drop, drop-set-lt, get_or-take, length-map, length-take, map-append}
 use Rattle.goblin_c.proofs.Common.{take_more, take_more_set, get_or_from_slice_get, slice_get-get_or, slice_get-map}
 use Rattle.goblin_c.proofs.Common.{slice_get_past, slice_get_within, option_map, RefusalAt, FillsEach, StopsAt}
-use Rattle.goblin_c.proofs.Common.{GoblinRefusal}
+use Rattle.goblin_c.proofs.Common.{GoblinRefusal, Stores}
 use Rattle.std.proofs.Common.{Err}
-use Rattle.goblin_c.specs.Status.{Stores}
 use Rattle.goblin_c.proofs.TextLemmas.{kinds-are-answers}
 
 -- one item more

@@ -20,10 +20,8 @@ use goblin::elf::program_header::ProgramHeader;
 use goblin::elf::reloc::{Reloc, RelocCtx};
 use goblin::elf::section_header::SectionHeader;
 use goblin::elf::sym::Sym;
+use goblin::elf::whole_part::PN_XNUM;
 use goblin_base::laid_out::LaidOut;
-
-// The number of program headers that stands for the number in section 0.
-const PN_XNUM: u16 = 0xffff;
 
 // Returns the record at an index of those that lie one after another in `size` bytes of the file from an offset on, if
 // the file has these bytes and they hold it.

@@ -210,7 +210,7 @@ fn number_fits(width: u64, value: u64) -> bool
 // Writes a number of a width at an offset.
 fn put_width(bytes: &mut [u8], place: usize, width: u64, value: u64, order: Endian)
     requires width { IsTrue (is_width width) }
-    requires room { place + width ≤ length bytes.old }
+    requires within { place + width ≤ length bytes.old }
     requires fits { NumberFits width value }
     ensures { bytes.new ≡ with_number order bytes.old place width value }
 {

@@ -12,7 +12,6 @@ use Rattle.std.specs.List.{starts_with}
 use Rattle.std.proofs.lemmas.List.{append_assoc, append-nil, length-append, length-take-le, take-append-drop}
 use Rattle.std.proofs.lemmas.List.{take-append-le}
 use Rattle.std.proofs.lemmas.Slice.Eq.{bytes_eq-Decides}
-use Rattle.goblin_base.specs.declared.error.Fault.TheVariants.{DataType, TooSmall, ElfClass}
 use Rattle.goblin_base.specs.declared.container.Container.TheVariants as class
 use Rattle.goblin_base.specs.declared.container.Endian.TheVariants as endian
 use Rattle.goblin_headers.specs.Header.{header_size, Identifies, new_header, magic, class_byte, data_byte, class_named}
@@ -22,7 +21,7 @@ use Rattle.goblin_headers.specs.ReadHeader.{read_header, read_in_order}
 use Rattle.goblin_headers.proofs.HeaderLemmas.{header_laws, one_header_image}
 use Rattle.goblin_headers.proofs.RawTrips.{WasReadInOrder, front_byte, ident_byte, raw_reads_back, raw_writes_back}
 use Rattle.goblin_headers.proofs.RawTrips.{was_read_in_order, writes_in_order, reads_in_order}
-use Rattle.goblin_base.specs.declared.error.Error.TheVariants.{Malformed, BadMagic}
+use Rattle.goblin_headers.specs.Common.{BadMagic, DataType, ElfClass, Malformed, TooSmall}
 use Rattle.goblin_base.proofs.StepLemmas.{step, passed, found}
 
 -- ---- reading a header of either class is reading a raw one, after the tests of its magic number and its class byte

@@ -178,13 +178,9 @@ impl ProgramHeader {
     pub fn loaded_from(segments: &Table<'_, ProgramHeader, Ctx>, address: u64) -> Option<usize>
         ensures { result ≡ loaded_from address segments.now }
     {
-        match ProgramHeader::find_loaded(segments, address) {
-            Some(segment) => {
-                let place = address.saturating_sub(segment.p_vaddr);
-                Some(segment.p_offset.saturating_add(place) as usize)
-            }
-            None => None,
-        }
+        let segment = ProgramHeader::find_loaded(segments, address)?;
+        let place = address.saturating_sub(segment.p_vaddr);
+        Some(segment.p_offset.saturating_add(place) as usize)
     }
 }
 

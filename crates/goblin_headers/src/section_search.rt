@@ -119,9 +119,7 @@ impl SectionHeader {
         ensures { result ≡ option_map (λ place. first + place) (position (λ section.
             has_name strings.now delim section.sh_name name.now) (drop first sections.now)) }
     {
-        match SectionHeader::position_from(sections, first, strings, delim, name) {
-            Some(place) => Some(first + place),
-            None => None,
-        }
+        let place = SectionHeader::position_from(sections, first, strings, delim, name)?;
+        Some(first + place)
     }
 }

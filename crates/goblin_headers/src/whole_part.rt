@@ -9,8 +9,9 @@ use goblin_base::container::Ctx;
 use goblin_base::error::Result;
 use goblin_base::table::{read_at, whole_records};
 
-// The `e_phnum` of a file whose number of segments is in the `sh_info` of section 0 (PN_XNUM).
-const NUMBER_IN_SECTION_0: u16 = 0xffff;
+/// The `e_phnum` of a file whose number of segments is the `sh_info` of section 0: System V gABI,
+/// "ELF Header", `PN_XNUM`.
+pub const PN_XNUM: u16 = 0xffff;
 
 /// Where the section headers of a file begin, and the number of them that its header states.
 #[derive(Debug, Drop)]
@@ -65,7 +66,7 @@ impl ProgramHeader {
     pub fn count_in(bytes: &[u8], number: u16, sections: usize, ctx: Ctx) -> Result<usize>
         ensures { result ≡ segment_count bytes.now number sections ctx }
     {
-        if number != NUMBER_IN_SECTION_0 || sections == 0 {
+        if number != PN_XNUM || sections == 0 {
             return Ok(usize::from(number));
         }
         let first: SectionHeader = read_at(bytes, sections, ctx)?;
@@ -81,7 +82,7 @@ impl ProgramHeader {
     pub fn whole_part(bytes: &[u8], number: u16, offset: usize, sections: usize, ctx: Ctx) -> u16
         ensures { result ≡ segments_part bytes.now number offset sections ctx }
     {
-        let most = usize::from(NUMBER_IN_SECTION_0);
+        let most = usize::from(PN_XNUM);
         let (stated, known) = match ProgramHeader::count_in(bytes, number, sections, ctx) {
             Ok(stated) => (stated, true),
             Err(_) => (most, false),
@@ -137,4 +138,9 @@ pub fn laws()
     ensures sections { SectionsOfWhole }
     ensures segments { SegmentsOfWhole }
     ensures headers { WholeIsListed }
+{}
+
+/// A law: the number of this module's constant. A call does nothing.
+pub fn constants()
+    ensures { PN_XNUM ≡ 0xffff }
 {}

@@ -125,6 +125,8 @@ fn makes_headers_of_the_whole_part(rt: HostRuntime) {
     assert!(rt; returns(rt, stated().whole(&[0; 47]), whole));
     assert!(rt; returns(rt, Header::new(BIG64).whole(&[]), Header::new(BIG64)));
     whole_part::laws();
+    whole_part::constants();
+    assert!(rt; whole_part::PN_XNUM == 0xffff);
 }
 
 #[test]

@@ -34,9 +34,9 @@ pub use Rattle.std.proofs.Math.Seq.{drop-append_seam, take-add, take-append-add,
 pub use Rattle.std.proofs.lemmas.Bool.{both_ways, cases_eq, cases_lt, eq-eqb, false_from_ne_true}
 pub use Rattle.std.proofs.lemmas.Bool.Decides.{nat_tests}
 pub use Rattle.std.proofs.lemmas.Grind.{common_steps}
-pub use Rattle.std.proofs.lemmas.List.{drop-drop, drop-take, drop_more, flat_map_more, get_or-drop, get_or-replicate}
-pub use Rattle.std.proofs.lemmas.List.{get_or-take, get_or_past, length-drop, length-map, length-replicate, length-take}
-pub use Rattle.std.proofs.lemmas.List.{length-take-le, take-append-le, take-take, take_all}
+pub use Rattle.std.proofs.lemmas.List.{drop-drop, drop-take, drop_more, flat_map_more, get_or-replicate, get_or-take}
+pub use Rattle.std.proofs.lemmas.List.{get_or_past, length-map, length-replicate, length-take, length-take-le}
+pub use Rattle.std.proofs.lemmas.List.{take-append-le, take-take, take_all}
 pub use Rattle.std.proofs.lemmas.Str.{IsCharBoundary-start, IsUtf8-drop, IsUtf8-from_is_utf8, IsUtf8-take}
 pub use Rattle.std.proofs.lemmas.Str.{is_utf8-from_IsUtf8}
 pub use Rattle.std.specs.Io.KnownBytes.{Appends, Consumes, Keeps, append_known}

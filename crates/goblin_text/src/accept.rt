@@ -252,7 +252,7 @@ pub fn accept<'a>(
     file: &mut FileBytes<'a>,
     opts: &ParseOptions,
 ) -> Result<Accepted<'a>>
-    ensures text { let expected = shown opts.now.parse_mode file.old.bytes in
+    ensures given { let expected = shown opts.now.parse_mode file.old.bytes in
         Gives (accepted_text file.old.bytes) result expected }
 
     // Out of memory masks no refusal of the header, and none of the section headers' first tests.

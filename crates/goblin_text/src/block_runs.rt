@@ -76,9 +76,9 @@ fn find_run_end(
     requires first { first ≤ blocks view.old.bytes }
     requires known { AreRunEnds kind view.old.bytes ends.now }
     ensures end { IsRunEnd kind view.old.bytes first result.end }
-    ensures from { first ≤ result.read }
+    ensures ordered { first ≤ result.read }
     ensures within { result.read ≤ blocks view.old.bytes }
-    ensures to { result.read ≤ result.end + 1 }
+    ensures bound { result.read ≤ result.end + 1 }
     ensures unknown { (k : ℕ) → first ≤ k → k < result.read → slice_index ends.now k ≡ 0 }
     ensures reading { Reads view.old view.new 0 (block_looks * (result.read - first)) }
 {

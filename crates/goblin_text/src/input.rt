@@ -43,11 +43,11 @@ pub enum Input {
 
 // Makes the bytes longer, if all of them are filled.
 fn make_room(bytes: &mut Vec<u8>, filled: usize) -> Result<(), AllocError>
-    requires short { filled ≤ INPUT_LIMIT }
+    requires bound { filled ≤ INPUT_LIMIT }
     requires fits { vec_len bytes.old ≤ INPUT_LIMIT + 1 }
-    requires filled { filled ≤ vec_len bytes.old }
+    requires within { filled ≤ vec_len bytes.old }
     ensures unchanged { OnOk result (take filled bytes.new.items ≡ take filled bytes.old.items) }
-    ensures room { OnOk result (filled < vec_len bytes.new) }
+    ensures ok { OnOk result (filled < vec_len bytes.new) }
     ensures fits { OnOk result (vec_len bytes.new ≤ INPUT_LIMIT + 1) }
 {
     if filled < bytes.len() {
@@ -68,7 +68,7 @@ fn make_room(bytes: &mut Vec<u8>, filled: usize) -> Result<(), AllocError>
 fn read_into<R: Source>(reader: &mut R, bytes: &mut Vec<u8>, filled: usize) -> io::Result<usize>
     requires { filled < vec_len bytes.old }
     ensures len { vec_len bytes.new ≡ vec_len bytes.old }
-    ensures front { take filled bytes.new.items ≡ take filled bytes.old.items }
+    ensures unchanged { take filled bytes.new.items ≡ take filled bytes.old.items }
     ensures bound { ReadsAtMost result (drop filled bytes.new.items) }
     ensures bytes { ReadConsumes (R.remaining reader.old) (R.remaining reader.new) result
         (drop filled bytes.new.items) }

@@ -20,8 +20,8 @@ pub fn after_continuation(view: &mut CountedBytes<'_>, from: usize) -> usize
     requires { from ≤ length view.old.bytes }
     ensures value { result ≡ after_continuation view.old.bytes from }
     ensures within { result ≤ length view.old.bytes }
-    ensures from { from ≤ result }
-    ensures to { result ≤ from + 1 }
+    ensures ordered { from ≤ result }
+    ensures bound { result ≤ from + 1 }
     ensures reading { Reads view.old view.new 1 1 }
 {
     let b = view.get(from).unwrap_or(0);
@@ -39,8 +39,8 @@ pub fn char_start(view: &mut CountedBytes<'_>, place: usize) -> usize
     requires { place ≤ length view.old.bytes }
     ensures value { result ≡ char_start view.old.bytes place }
     ensures within { result ≤ length view.old.bytes }
-    ensures from { place ≤ result }
-    ensures to { result ≤ place + 3 }
+    ensures ordered { place ≤ result }
+    ensures bound { result ≤ place + 3 }
     ensures reading { Reads view.old view.new 3 3 }
 {
     let second = after_continuation(view, place);
@@ -55,8 +55,8 @@ pub fn end_of_string(view: &mut CountedBytes<'_>, from: usize, to: usize) -> usi
     requires within { to ≤ length view.old.bytes }
     ensures value { slice_range view.old.bytes from result
         ≡ up_to_zero (slice_range view.old.bytes from to) }
-    ensures from { from ≤ result }
-    ensures to { result ≤ to }
+    ensures ordered { from ≤ result }
+    ensures bound { result ≤ to }
     ensures reading { let looks = min (result + 1) to - from in
         Reads view.old view.new looks looks }
 {
@@ -96,7 +96,7 @@ pub fn refuse_unless_text(view: &mut CountedBytes<'_>, from: usize, to: usize) -
     requires within { to ≤ length view.old.bytes }
     ensures given { let bytes = slice_range view.old.bytes from to in
         Returns (λ _. text_table bytes) result (table_of ParseMode.Strict bytes 0) }
-    ensures text { OnOk result (IsUtf8 (slice_range view.old.bytes from to)) }
+    ensures ok { OnOk result (IsUtf8 (slice_range view.old.bytes from to)) }
     ensures reading { Reads view.old view.new (to - from) (2 * (to - from)) }
     ensures looks_least_refused { let bytes = slice_range view.old.bytes from to in
         let searched = utf8_valid_len bytes - first_bad bytes 0 in
@@ -134,8 +134,8 @@ fn start_of_last_string(view: &mut CountedBytes<'_>, from: usize, to: usize) -> 
     requires within { to ≤ length view.old.bytes }
     ensures value { let bytes = slice_range view.old.bytes from to in
         result ≡ from + piece_start bytes 0 (to - from) }
-    ensures from { from ≤ result }
-    ensures to { result ≤ to }
+    ensures ordered { from ≤ result }
+    ensures bound { result ≤ to }
     ensures reading { Reads view.old view.new (to - result) (to - from) }
 {
     view.rfind(0, from, to)

@@ -164,7 +164,7 @@ impl<'a> Names<'a> {
 
     /// Returns the string at an offset of a file's strings, or an empty one if there is none.
     pub fn name(&mut self, strings: Strings, offset: usize) -> &'a str
-        ensures name { result.now ≡ name_at (strings_in self.old.bytes strings) offset }
+        ensures value { result.now ≡ name_at (strings_in self.old.bytes strings) offset }
         ensures cached { IsCached self.new self.old.text_start self.old.text_end }
         ensures reading { let len = length result.now in
             ReadsNames self.old self.new len (name_looks + len) }
@@ -177,7 +177,7 @@ impl<'a> Names<'a> {
     fn name_within(&mut self, start: usize, end: usize, offset: usize) -> &'a str
         requires ordered { start ≤ end }
         requires within { end ≤ length self.old.bytes }
-        ensures name { let table = text_table (slice_range self.old.bytes start end) in
+        ensures value { let table = text_table (slice_range self.old.bytes start end) in
             result.now ≡ name_at table offset }
         ensures cached { IsCached self.new self.old.text_start self.old.text_end }
         ensures reading { let len = length result.now in

@@ -41,7 +41,7 @@ impl<'a, W: Sink> Buffered<'a, W> {
     #[tactic(auto, using(crate::proofs::TargetLemmas::emptied))]
     pub fn new(writer: &'a mut W) -> Self
         ensures same_writer { result.writer.ghost_name ≡ writer.entry.ghost_name }
-        ensures writer { result.writer.now ≡ writer.old }
+        ensures unchanged { result.writer.now ≡ writer.old }
         ensures empty { held (W.contents result.writer.now) result.room result.filled
             ≡ W.contents writer.old }
     {
@@ -55,7 +55,7 @@ impl<'a, W: Sink> Buffered<'a, W> {
     // Writes the buffer's bytes, and empties it.
     fn pass_on(&mut self) -> io::Result<()>
         ensures same_writer { self.new.writer.ghost_name ≡ self.old.writer.ghost_name }
-        ensures filled { OnOk result (self.new.filled ≡ 0) }
+        ensures ok { OnOk result (self.new.filled ≡ 0) }
         ensures bytes { OnOk result (Keeps
             (held (W.contents self.old.writer.now) self.old.room self.old.filled)
             (W.contents self.new.writer.now)) }
@@ -79,8 +79,8 @@ impl<'a, W: Sink> Buffered<'a, W> {
     fn add(&mut self, bytes: &[u8])
         requires { self.old.filled + length bytes.now ≤ ROOM }
         ensures same_writer { self.new.writer.ghost_name ≡ self.old.writer.ghost_name }
-        ensures writer { self.new.writer.now ≡ self.old.writer.now }
-        ensures added { take self.new.filled self.new.room
+        ensures unchanged { self.new.writer.now ≡ self.old.writer.now }
+        ensures written { take self.new.filled self.new.room
             ≡ take self.old.filled self.old.room ++ bytes.now }
     {
         let end = self.filled + bytes.len();

@@ -197,7 +197,7 @@ pub fn write_text<W: Sink>(
 ///
 /// The first error of `accept` that applies, or out of memory.
 pub fn text_of(alloc: Global, bytes: &[u8], opts: &ParseOptions) -> error::Result<String>
-    ensures text { Gives string_bytes result (shown opts.now.parse_mode bytes.now) }
+    ensures given { Gives string_bytes result (shown opts.now.parse_mode bytes.now) }
 
     // Out of memory masks no refusal of the header, and none of the section headers' first tests.
     ensures tested { IfErr (tested bytes.now) (λ refusal. Refuses result refusal) }

@@ -34,7 +34,7 @@ pub fn rows(
     header: &Header,
     ctx: Ctx,
 ) -> Result<Vec<Row>>
-    ensures rows { IfOk (relocations_of bytes.now section.now header.now ctx)
+    ensures ok { IfOk (relocations_of bytes.now section.now header.now ctx)
         (λ relocations. IfOk result (λ rows. rows.items ≡ map (λ r. record {
           offset = r.r_offset;
           symbol = r.r_sym;

@@ -282,7 +282,7 @@ impl<'a> Note<'a> {
     #[tactic(auto, unfolding(crate::specs::Note::read_places))]
     fn with_places(bytes: &'a [u8], ctx: (usize, Ctx)) -> Result<(Self, NotePlaces)>
         ensures places { Returns (λ found. found.1) result (read_places ctx.0 ctx.1.le bytes.now) }
-        ensures there { IfOk result (λ found. parts_of found.0 ≡ note_there bytes.now found.1) }
+        ensures ok { IfOk result (λ found. parts_of found.0 ≡ note_there bytes.now found.1) }
     {
         let (alignment, ctx) = ctx;
         let alignment = alignment.max(4);
@@ -350,7 +350,7 @@ fn aligned(offset: usize, alignment: usize) -> usize
 // Returns `size` bytes from an offset on, or the fault of `room`.
 fn bytes_at(bytes: &[u8], place: usize, size: usize) -> Result<&[u8]>
     ensures given { Returns (λ part. part.now) result (bytes_at bytes.now place size) }
-    ensures there { IfOk result (λ part. part.now ≡ take size (drop place bytes.now)) }
+    ensures ok { IfOk result (λ part. part.now ≡ take size (drop place bytes.now)) }
     ensures fits { IfOk result (λ _. place + size ≤ length bytes.now) }
 {
     room(bytes.len(), place, size)?;
@@ -360,7 +360,7 @@ fn bytes_at(bytes: &[u8], place: usize, size: usize) -> Result<&[u8]>
 // Returns `size` bytes from an offset on as UTF-8, or the fault of `room`, or `BadInput`.
 fn text_at(bytes: &[u8], place: usize, size: usize) -> Result<&str>
     ensures given { Returns (λ text. text.now) result (text_at bytes.now place size) }
-    ensures there { IfOk result (λ text. text.now ≡ take size (drop place bytes.now)) }
+    ensures ok { IfOk result (λ text. text.now ≡ take size (drop place bytes.now)) }
 {
     let part = bytes_at(bytes, place, size)?;
     read_text(part, bytes.len() - place)

@@ -143,7 +143,7 @@ impl<'a> Symtab<'a> {
 
     // Returns the table of `count` symbols, which the bytes from the offset on must hold.
     fn of(bytes: &'a [u8], offset: usize, count: usize, ctx: Ctx) -> Symtab<'a>
-        requires start { offset ≤ length bytes.now }
+        requires within { offset ≤ length bytes.now }
         requires room { count * sym_size ctx.container ≤ length bytes.now - offset }
         ensures { result ≡ symbols_at bytes.now offset count ctx }
     {

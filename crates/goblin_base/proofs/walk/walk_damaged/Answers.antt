@@ -8,8 +8,8 @@ use Rattle.goblin_base.proofs.EntriesLemmas.{walked_empty, walked_text}
 use Rattle.goblin_base.proofs.ScanLemmas.{attempt_fault}
 use Rattle.goblin_base.proofs.walk.walk_damaged.Goals as goal
 
-pub returns-in-Whole-clause-walked : goal.returns-in-Whole-clause-walked
-returns-in-Whole-clause-walked c =
+pub returns-in-Whole-clause-ok : goal.returns-in-Whole-clause-ok
+returns-in-Whole-clause-ok c =
     let s = c.loop-i.invariant in
     let found = c.in-Whole.ensures.value in
     let end : c.in-Whole.end ≡ piece_end c.args.view.now.bytes c.args.delim c.loop-i.i =

@@ -14,8 +14,8 @@ returns-then-known-gt0-clause-end c =
     (end_after c.args.kind c.args.view.now.bytes c.args.first k _ c.loop-block.invariant.from c.loop-block.invariant.run
     known)
 
-pub returns-then-known-gt0-clause-to : goal.returns-then-known-gt0-clause-to
-returns-then-known-gt0-clause-to c =
+pub returns-then-known-gt0-clause-bound : goal.returns-then-known-gt0-clause-bound
+returns-then-known-gt0-clause-bound c =
     let k = c.loop-block.block in
     let kept : c.from-known.result ≡ get_or c.args.ends.now k 0 = grind (arith, common_steps) in
     let there : k < length c.args.ends.now = grind (arith, common_steps) in

@@ -14,9 +14,9 @@ loop-block-preserved c =
     let there : k < length ends = grind (arith, common_steps) in
     let among : k < blocks bytes = omega (arith, here, found.ensures.within) in
     let some : 0 < found.result.end =
-    omega (arith, here, found.ensures.to, c.requires.some, c.loop-block.invariant.from) in
+    omega (arith, here, found.ensures.bound, c.requires.some, c.loop-block.invariant.from) in
     let is = end_later c.args.kind bytes c.args.first k found.result.end c.loop-block.invariant.from
-    (omega (arith, here, found.ensures.to)) found.ensures.end in
+    (omega (arith, here, found.ensures.bound)) found.ensures.end in
     let less = unknown_less (blocks bytes) ends k found.result.end among there
     (c.loop-block.invariant.rest k (omega arith) here) some in
     record {

@@ -58,4 +58,4 @@ returns-clause-value c = text c
 
 pub returns-clause-ascii : goal.returns-clause-ascii
 returns-clause-ascii c =
-    subst IsAscii (sym (text c)) (digits-ascii c.args.base c.args.number c.requires.some c.requires.most)
+    subst IsAscii (sym (text c)) (digits-ascii c.args.base c.args.number c.requires.some c.requires.bound)

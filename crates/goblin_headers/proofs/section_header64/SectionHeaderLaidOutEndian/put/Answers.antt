@@ -1,6 +1,5 @@
-use Rattle.goblin_base.specs.FieldLaws.{with_fields-image}
-use Rattle.goblin_headers.specs.SectionHeader.{section_header64}
+use Rattle.goblin_base.specs.FieldLaws.{puts_fields}
 use Rattle.goblin_headers.proofs.section_header64.SectionHeaderLaidOutEndian.put.Goals as goal
 
 pub returns : goal.returns
-returns c = cc (with_fields-image c.args.order c.args.bytes.now 0 (section_header64.fields c.args.self) c.requires)
+returns c = puts_fields _ _ _ _ c.requires (cc)

@@ -14,10 +14,10 @@ returns-then-stop-near-clause-stop c =
     let to : near ≤ c.args.end = grind (arith, common_steps) in
     let short : near ≤ length bytes = omega (arith, to, c.requires.within) in
     record {
-      order = stop.ensures.from;
+      order = stop.ensures.ordered;
       within = omega (arith, c.if-stop-near.true, to);
-      is = string-within bytes c.args.place stop.result near c.args.end stop.ensures.from c.if-stop-near.true to short
-          is;
+      is = string-within bytes c.args.place stop.result near c.args.end stop.ensures.ordered c.if-stop-near.true to
+          short is;
     }
 
 pub returns-then-place-last_block-clause-stop : goal.returns-then-place-last_block-clause-stop
@@ -27,14 +27,14 @@ returns-then-place-last_block-clause-stop c =
     let stop = c.end_of_string in
     let from : c.args.place ≤ near = grind (arith, common_steps) in
     let whole : c.end_of_string-stop.result ≡ near =
-    omega (arith, c.if-stop-near.false, c.end_of_string-stop.ensures.to) in
+    omega (arith, c.if-stop-near.false, c.end_of_string-stop.ensures.bound) in
     let front : up_to_zero (slice_range bytes c.args.place near) ≡ slice_range bytes c.args.place near =
     grind (arith, common_steps) in
     let rest : slice_range bytes near stop.result ≡ up_to_zero (slice_range bytes near c.args.end) =
     grind (arith, common_steps) in
     record {
-      order = omega (arith, from, stop.ensures.from);
-      within = stop.ensures.to;
-      is = string-after bytes c.args.place near stop.result c.args.end from stop.ensures.from stop.ensures.to front
-          rest;
+      order = omega (arith, from, stop.ensures.ordered);
+      within = stop.ensures.bound;
+      is = string-after bytes c.args.place near stop.result c.args.end from stop.ensures.ordered stop.ensures.bound
+          front rest;
     }

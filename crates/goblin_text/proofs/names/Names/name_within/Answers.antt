@@ -6,24 +6,24 @@ use Rattle.goblin_text.proofs.FoundNames.{text_or_nothing}
 use Rattle.goblin_text.proofs.names.Names.name_within.Goals as goal
 use Rattle.goblin_base.proofs.FirstLemmas.{length_of_range}
 
-pub returns-then-offset-end-clause-name : goal.returns-then-offset-end-clause-name
-returns-then-offset-end-clause-name c =
+pub returns-then-offset-end-clause-value : goal.returns-then-offset-end-clause-value
+returns-then-offset-end-clause-value c =
     let size = length_of_range c.args.self.now.bytes c.args.start c.args.end c.requires.within in
     name_past_end (slice_range c.args.self.now.bytes c.args.start c.args.end) c.args.offset (omega arith)
 
-pub returns-then-after_continuation-place-clause-name : goal.returns-then-after_continuation-place-clause-name
-returns-then-after_continuation-place-clause-name c =
+pub returns-then-after_continuation-place-clause-value : goal.returns-then-after_continuation-place-clause-value
+returns-then-after_continuation-place-clause-value c =
     name_later c.args.self.now.bytes c.args.start c.args.end c.args.offset c.requires.ordered c.requires.within
     c.if-offset-end.false (grind (arith, common_steps))
 
-pub returns-in-Some-clause-name : goal.returns-in-Some-clause-name
-returns-in-Some-clause-name c =
+pub returns-in-Some-clause-value : goal.returns-in-Some-clause-value
+returns-in-Some-clause-value c =
     grind (arith, common_steps, ap text_or_nothing c.in-Some.ensures.stop.is)
     ∙ name_in_range c.args.self.now.bytes c.args.start c.args.end c.args.offset c.requires.ordered c.requires.within
     c.if-offset-end.false
 
-pub returns-in-None-clause-name : goal.returns-in-None-clause-name
-returns-in-None-clause-name c =
+pub returns-in-None-clause-value : goal.returns-in-None-clause-value
+returns-in-None-clause-value c =
     nothing _ (grind (arith, common_steps))
     ∙ name_in_range c.args.self.now.bytes c.args.start c.args.end c.args.offset c.requires.ordered c.requires.within
     c.if-offset-end.false

@@ -19,7 +19,7 @@ returns-in_err-refuse_unless_text-clause-given c =
     sym (c.len.ensures.value ∙ ap (λ names. length names.bytes) c.self.view_is) in
     let stands : IsRange c.args.opts.now.parse_mode bytes c.args.offset c.args.size c.in_ok-start.start
     c.in_ok-start.end =
-    grind (arith, common_steps, c.in_ok-start.ensures.places bytes size) in
+    grind (arith, common_steps, c.in_ok-start.ensures.ok bytes size) in
     let is = table_is _ _ _ _ _ _ stands in
     let strict = is_strict _ (λ p. both_ways _ c.if-not-is_permissive.true (c.is_permissive.ensures.1 p)) in
     subst (Returns (strings_in bytes) c.from_residual-in_err-refuse_unless_text.result)
@@ -34,7 +34,7 @@ returns-clause-given c =
     sym (c.len.ensures.value ∙ ap (λ names. length names.bytes) c.self.view_is) in
     let stands : IsRange c.args.opts.now.parse_mode bytes c.args.offset c.args.size c.in_ok-start.start
     c.in_ok-start.end =
-    grind (arith, common_steps, c.in_ok-start.ensures.places bytes size) in
+    grind (arith, common_steps, c.in_ok-start.ensures.ok bytes size) in
     table_is _ _ _ _ _ _ stands
     ∙ elim c.if-not-is_permissive.branch [
       | then-not-is_permissive+in_ok-refuse_unless_text w ↦

@@ -14,7 +14,7 @@ returns-then-bytes-gt-ROOM-clause-bytes g c =
     let appends : Appends before after c.args.bytes.now =
     appends_kept before between after c.args.bytes.now c.in_ok-pass_on.ensures.bytes c.in_ok-write_all.ensures.bytes in
     subst (λ k. Appends before k c.args.bytes.now)
-    (sym (emptied after room filled c.in_ok-pass_on.ensures.filled)) appends
+    (sym (emptied after room filled c.in_ok-pass_on.ensures.ok)) appends
 
 pub returns-clause-bytes : goal.returns-clause-bytes
 returns-clause-bytes g c =
@@ -25,7 +25,7 @@ returns-clause-bytes g c =
     let after = g.W.Sink.contents c.add.new.self.writer.now in
     let emptied_first : Keeps before (held between room filled) =
     subst (Keeps before)
-    (sym (emptied between room filled c.in_ok-pass_on.ensures.filled)) c.in_ok-pass_on.ensures.bytes in
+    (sym (emptied between room filled c.in_ok-pass_on.ensures.ok)) c.in_ok-pass_on.ensures.bytes in
     let kept : Keeps before (held after room filled) =
-    subst (λ w. Keeps before (held (g.W.Sink.contents w) room filled)) (sym c.add.ensures.writer) emptied_first in
-    added before after room c.add.new.self.room filled c.add.new.self.filled c.args.bytes.now kept c.add.ensures.added
+    subst (λ w. Keeps before (held (g.W.Sink.contents w) room filled)) (sym c.add.ensures.unchanged) emptied_first in
+    added before after room c.add.new.self.room filled c.add.new.self.filled c.args.bytes.now kept c.add.ensures.written

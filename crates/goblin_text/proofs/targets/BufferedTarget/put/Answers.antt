@@ -10,10 +10,10 @@ returns-then-has_room-clause-put g c =
     let filled = c.args.self.now.filled in
     let after = g.W.Sink.contents c.add.new.self.writer.now in
     let kept : Keeps before (held after room filled) =
-    subst (λ w. Keeps before (held (g.W.Sink.contents w) room filled)) (sym c.add.ensures.writer)
+    subst (λ w. Keeps before (held (g.W.Sink.contents w) room filled)) (sym c.add.ensures.unchanged)
     (Keeps-refl before) in (
       subst (Appends before (held after c.add.new.self.room c.add.new.self.filled)) c.as_bytes-bytes.ensures.value
           (added before after room c.add.new.self.room filled c.add.new.self.filled c.as_bytes-bytes.result.now kept
-          c.add.ensures.added),
+          c.add.ensures.written),
       grind (arith, common_steps),
     )

@@ -18,7 +18,7 @@ returns-clause-places c =
 pub returns-clause-note : goal.returns-clause-note
 returns-clause-note c =
     note_at-read c.with_places.result c.args.bytes.now c.args.offset c.args.ctx
-    (record { places = returns-clause-places c; there = c.with_places.ensures.there })
+    (record { places = returns-clause-places c; there = c.with_places.ensures.ok })
 
 pub returns-clause-within : goal.returns-clause-within
 returns-clause-within c =
