@@ -15,7 +15,7 @@ ghost use Rattle.goblin_base.specs.StrtabLaws.{ClosedForm, DependsOnRange, Digit
 ghost use Rattle.goblin_base.specs.StrtabLaws.{PermissiveAccepts, StrictIsPermissive, StrictLookUpIsPlain, TextIsUtf8};
 ghost use Rattle.goblin_base.specs.StrtabLaws.{NamesArePlain, TextIsTaken};
 
-use crate::ascii::{ascii_piece, len_before};
+use crate::ascii::{SHORT, ascii_piece, len_before, short_piece};
 use crate::entries::{Entries, Looked, Probes};
 use crate::error::{Error, Result};
 use crate::find::find;
@@ -65,6 +65,19 @@ fn get_str(offset: usize, bytes: &[u8], delim: u8) -> Result<&str>
     }
     let len = piece_len(bytes, offset, delim);
     read_text(&rest[..len], rest.len())
+}
+
+// Returns the piece at an offset if it is short. In a table whose strings are long on average it doesn't look.
+#[tactic(auto, using(crate::proofs::StrtabLemmas::rests), unfolding(crate::specs::Pieces::piece))]
+fn short_str(offset: usize, bytes: &[u8], delim: u8, strings: usize) -> Option<&str>
+    requires { offset ≤ length bytes.now }
+    ensures { IfSome result (λ text. plain bytes.now delim offset ≡ Ok text.now) }
+{
+    if bytes.len() / SHORT < strings {
+        short_piece(&bytes[offset..], delim)
+    } else {
+        None
+    }
 }
 
 /// Returns the length of the piece at an offset: the number of bytes before the next delimiter, or
@@ -268,6 +281,9 @@ impl<'a> Strtab<'a> {
             return None;
         }
         let entries = self.entries.as_ref()?;
+        if let Some(text) = short_str(offset, self.bytes, self.delim, entries.len()) {
+            return Some(text);
+        }
         let (k, place) = last_entry(entries, offset)?;
         rest_of(entries.text(k), offset - place)
     }

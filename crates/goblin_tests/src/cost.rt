@@ -1,5 +1,5 @@
 //! Calls over large tables of zero bytes, which are empty strings, and records whose fields are 0, and over long strings of
-//! two bytes a character. Each takes a time in proportion to its table: one that read for each item all that lies before it,
+//! one or two bytes a character. Each takes a time in proportion to its table: one that read for each item all that lies before it,
 //! or all of its string, would take longer than the 60 seconds that a test has.
 use crate::compare::{differs, is};
 use crate::container::LITTLE32;
@@ -45,22 +45,36 @@ fn lists_a_million_strings(rt: HostRuntime) {
     assert!(rt; lists_zeros(rt, 1000000));
 }
 
-// So many characters of two bytes, and a last byte.
-fn two_bytes(alloc: Global, count: usize, last: u8) -> Result<Vec<u8>, AllocError> {
-    let mut bytes = Vec::new(alloc);
+const TWO_BYTES: &[u8] = b"\xc3\xa9";
+
+// After a long string come so many empty ones, so that strings are short on average.
+const EMPTY: usize = 100000;
+
+// A character as often as this, and then a byte as often as that.
+fn repeated(
+    alloc: Global,
+    character: &[u8],
+    count: usize,
+    byte: u8,
+    bytes: usize,
+) -> Result<Vec<u8>, AllocError> {
+    let mut all = Vec::new(alloc);
     for _ in 0..count {
-        bytes.extend_from_slice(b"\xc3\xa9")?;
+        all.extend_from_slice(character)?;
     }
-    bytes.push(last)?;
-    Ok(bytes)
+    for _ in 0..bytes {
+        all.push(byte)?;
+    }
+    Ok(all)
 }
 
-// Whether looking up each place of a string of so many bytes returns the rest of it, or nothing inside a character.
-fn gets_rests(rt: HostRuntime, table: &Strtab<'_>, len: usize) -> bool {
+// Whether looking up each place of a string of so many bytes returns the rest of it, or nothing inside a character of two.
+fn gets_rests(rt: HostRuntime, table: &Strtab<'_>, len: usize, has_two: bool) -> bool {
     for place in 0..len {
-        let expected = match place % 2 {
-            0 => Some(len - place),
-            _ => None,
+        let expected = if has_two && place % 2 == 1 {
+            None
+        } else {
+            Some(len - place)
         };
         let found = table.get_at(place).map(|text| text.len());
         if found != expected {
@@ -71,34 +85,36 @@ fn gets_rests(rt: HostRuntime, table: &Strtab<'_>, len: usize) -> bool {
 }
 
 // Whether the same holds of a table of this string that is parsed by these options.
-fn looks_up(rt: HostRuntime, bytes: &[u8], opts: &ParseOptions) -> bool {
+fn looks_up(rt: HostRuntime, bytes: &[u8], has_two: bool, opts: &ParseOptions) -> bool {
     match Strtab::parse_with_opts(rt.alloc(), bytes, 0, bytes.len(), 0, opts) {
-        Ok(table) => gets_rests(rt, &table, bytes.len().saturating_sub(1)),
+        Ok(table) => gets_rests(rt, &table, bytes.len().saturating_sub(EMPTY), has_two),
         Err(e) => differs(rt, &e, &bytes.len()),
     }
 }
 
 // Whether a string of so many characters is looked up, and below whether one with a bad last byte is listed byte by byte.
-fn reads_a_long_string(rt: HostRuntime, count: usize) -> bool {
-    match two_bytes(rt.alloc(), count, 0) {
+fn reads_a_long_string(rt: HostRuntime, character: &[u8], count: usize) -> bool {
+    match repeated(rt.alloc(), character, count, 0, EMPTY) {
         Ok(bytes) => {
-            looks_up(rt, &bytes, &ParseOptions::strict())
-                && looks_up(rt, &bytes, &ParseOptions::permissive())
+            let has_two = character.len() == 2;
+            looks_up(rt, &bytes, has_two, &ParseOptions::strict())
+                && looks_up(rt, &bytes, has_two, &ParseOptions::permissive())
         }
         Err(e) => differs(rt, &e, &count),
     }
 }
 
 fn lists_a_damaged_string(rt: HostRuntime, count: usize) -> bool {
-    match two_bytes(rt.alloc(), count, 0xff) {
+    match repeated(rt.alloc(), TWO_BYTES, count, 0xff, 1) {
         Ok(bytes) => parses(rt, &bytes, &ParseOptions::permissive()),
         Err(e) => differs(rt, &e, &count),
     }
 }
 
 #[test]
-fn reads_a_string_of_a_megabyte(rt: HostRuntime) {
-    assert!(rt; reads_a_long_string(rt, 500000));
+fn reads_long_strings(rt: HostRuntime) {
+    assert!(rt; reads_a_long_string(rt, TWO_BYTES, 500000));
+    assert!(rt; reads_a_long_string(rt, b"a", 500000));
     assert!(rt; lists_a_damaged_string(rt, 500000));
 }
 

@@ -183,12 +183,12 @@ fn finds_within_the_digits(rt: HostRuntime) {
     assert!(rt; finds_none(rt));
 }
 
-// Whether each offset of so many zero bytes looks up the empty text.
-fn looks_up_each(rt: HostRuntime, count: usize) -> bool {
-    let Ok(bytes) = vec![in rt.alloc(); 0u8; count] else {
+// Whether each offset of so many bytes looks up the empty text, in the table that they are by these options.
+fn looks_up_each(rt: HostRuntime, byte: u8, count: usize, opts: &ParseOptions) -> bool {
+    let Ok(bytes) = vec![in rt.alloc(); byte; count] else {
         return differs(rt, &"no memory", &count);
     };
-    let Ok(table) = Strtab::new_preparsed(rt.alloc(), &bytes, 0) else {
+    let Ok(table) = Strtab::parse_with_opts(rt.alloc(), &bytes, 0, bytes.len(), 0, opts) else {
         return differs(rt, &"no table", &count);
     };
     for offset in 0..count {
@@ -201,7 +201,8 @@ fn looks_up_each(rt: HostRuntime, count: usize) -> bool {
 
 #[test]
 fn looks_up_a_million_offsets(rt: HostRuntime) {
-    assert!(rt; looks_up_each(rt, 1000000));
+    assert!(rt; looks_up_each(rt, 0, 1000000, &ParseOptions::strict()));
+    assert!(rt; looks_up_each(rt, 0x80, 1000000, &ParseOptions::permissive()));
 }
 
 // ---- A plain model: each question is answered from the whole bytes.
