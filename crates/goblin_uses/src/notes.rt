@@ -1,9 +1,10 @@
 //! The notes of a file.
-ghost use Rattle.std.specs.Prelude.{◌≡◌, ◌++◌, Err, IfErr, IfOk, OnOk, codes, decimal, length, string_bytes};
+ghost use Rattle.std.specs.Prelude.{◌≡◌, ◌++◌, ◌-◌, Err, IfErr, IfOk, IfSome, MatchOption, OnOk, codes, decimal, length, slice_get, slice_index_or, string_bytes};
 ghost use Rattle.goblin.specs.Note.{note_items};
 ghost use Rattle.goblin.specs.NoteType.{note_type_name};
-ghost use Rattle.goblin.specs.Notes.{items_left};
+ghost use Rattle.goblin.specs.Notes.{item_of, items_left};
 ghost use Rattle.goblin.specs.Ranges.{span};
+ghost use Rattle.goblin.specs.Refusal.{Refuses};
 ghost use Rattle.goblin.specs.Texts.{◌&◌};
 
 use goblin::container::Ctx;
@@ -35,6 +36,26 @@ pub fn count_notes(notes: NoteDataIterator) -> usize
     notes.count()
 }
 
+// Returns the last item of a range, or `None` if it has none.
+#[tactic(auto, using(goblin::specs::NoteRuns::notes_run))]
+fn last_note(notes: NoteDataIterator) -> Option<Result<Note>>
+    ensures { let items = items_left notes.entry in
+        MatchOption result (length items ≡ 0) (λ item.
+        item_of item ≡ slice_index_or items (length items - 1) (item_of item)) }
+{
+    notes.last()
+}
+
+// Refuses a last item that can't be read.
+fn refuse_unreadable(last: Option<Result<Note>>) -> Result<()>
+    ensures { IfSome last.entry (λ item. IfErr (item_of item) (λ e. Refuses result e)) }
+{
+    match last {
+        Some(Err(e)) => Err(e),
+        _ => Ok(()),
+    }
+}
+
 // Adds the line with the number of notes.
 fn push_count(text: &mut String, notes: NoteDataIterator) -> std::result::Result<(), AllocError>
     ensures { OnOk result (string_bytes text.new ≡ string_bytes text.old
@@ -63,13 +84,14 @@ fn push_line(text: &mut String, note: Result<Note>) -> Result<()>
 ///
 /// # Errors
 ///
-/// The error of the first note that can't be read, else out of memory.
-pub fn push_notes(
-    text: &mut String,
-    bytes: &[u8],
-    section: &SectionHeader,
-    ctx: Ctx,
-) -> Result<()> {
+/// The error of the first note that can't be read, before a line is added, else out of memory.
+pub fn push_notes(text: &mut String, bytes: &[u8], section: &SectionHeader, ctx: Ctx) -> Result<()>
+    ensures first { let s = section.now in
+        let end = (span s.sh_offset s.sh_size).1 in
+        let items = note_items bytes.now end s.sh_offset (s.sh_addralign, ctx) in
+        IfSome (slice_get items (length items - 1)) (λ last. IfErr last (λ e. Refuses result e)) }
+{
+    refuse_unreadable(last_note(notes_of(bytes, section, ctx)))?;
     push_count(text, notes_of(bytes, section, ctx))?;
     let notes = notes_of(bytes, section, ctx);
     for note in notes {
