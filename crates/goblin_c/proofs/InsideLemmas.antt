@@ -9,6 +9,7 @@ use Rattle.goblin_base.specs.declared.scroll.Error.{Error as Misplaced}
 use Rattle.goblin_base.proofs.Eager.{all_fit}
 use Rattle.goblin.specs.SectionHeaders.{count_asked, section_headers_from, section_headers_from_tested}
 use Rattle.goblin.specs.Symtab.{symbols_at, symtab_of}
+use Rattle.goblin.specs.declared.elf.reloc.RelocCtx.{RelocCtx}
 use Rattle.goblin_c.specs.Expected.{section_expected}
 use Rattle.goblin_c.specs.Write.{reloc_ctx}
 use Rattle.goblin_c.proofs.Common.{◌≡◌, ◌≤◌, ◌<◌, ◌+◌, ◌-◌, ◌*◌, ◌/◌, ◌^◌, ◌==◌, ℕ, Bool, true, false, nat_le, nat_lt}
@@ -88,6 +89,25 @@ symbol_is bytes h range index x bound file inside is =
     listed_item symbol_converted own (sym_of (ctx_of h).container (ctx_of h).le) bytes range.offset count index
     (symbols_expected bytes h range) x
     (ap (λ r. refused_at range.offset (refuse_as refusal_of r) >>= λ table. Ok table.symbols) table) inside is
+
+-- an index whose record ends in a range is below the number of its records
+near_inside : (size own index : ℕ) → 0 < own → (index + 1) * own ≤ size → index < size / own
+near_inside size own index some ends =
+    let most : index + 1 ≤ size / own = (le-div_iff_mul-le some).1 ends in omega (arith, most)
+
+-- the symbol whose end was found, of a class and byte order that are those of the file
+pub near_symbol_is : (bytes : List ℕ) (h : GoblinHeader) (ctx : Ctx) (range : GoblinRange) (index : ℕ) (x : Sym)
+    → ctx_of h ≡ ctx → range.size < 2 ^ 64 → range.offset + range.size ≤ length bytes
+    → (index + 1) * sym_size ctx.container ≤ range.size
+    → x ≡ sym_of ctx.container ctx.le
+    (take (sym_size ctx.container) (drop (range.offset + index * sym_size ctx.container) bytes))
+    → symbol_expected bytes h range index ≡ Ok (Some (symbol_converted x))
+near_symbol_is bytes h ctx range index x same bound file ends is =
+    symbol_is bytes h range index x bound file
+    (subst (λ (c : Ctx). index < range.size / sym_size c.container) (sym same)
+    (near_inside range.size (sym_size ctx.container) index (sym_size-positive ctx.container) ends))
+    (subst (λ (c : Ctx). x ≡ sym_of c.container c.le
+    (take (sym_size c.container) (drop (range.offset + index * sym_size c.container) bytes))) (sym same) is)
 
 -- a test that passes
 passes : {A B E : Type 0} (test : Result A E) (rest : A → Result B E) (x : A) → test ≡ Ok x → (test >>= rest) ≡ rest x
@@ -274,3 +294,20 @@ plain_reloc_is bytes h range is_rela index x other file inside is =
     reloc_is bytes h range is_rela index x file inside
     (is ∙ ap (λ (m : Bool). reloc_in (record { is_rela = is_rela; ctx = ctx_of h; is_mips64el = m }) part)
     (sym (not_mips64el h other)))
+
+-- the relocation whose end was found, of a layout that is the file's
+pub near_reloc_is : (bytes : List ℕ) (h : GoblinHeader) (layout : RelocCtx) (range : GoblinRange) (is_rela : Bool)
+    (index : ℕ) (x : Reloc)
+    → (h.e_machine ≡ 8 → ⊥) → record { is_rela = is_rela; ctx = ctx_of h; is_mips64el = false } ≡ layout
+    → range.offset + range.size ≤ length bytes
+    → (index + 1) * reloc_size layout.is_rela layout.ctx.container ≤ range.size
+    → x ≡ reloc_in layout (take (reloc_size layout.is_rela layout.ctx.container)
+    (drop (range.offset + index * reloc_size layout.is_rela layout.ctx.container) bytes))
+    → reloc_expected bytes h range is_rela index ≡ Ok (Some (reloc_converted x))
+near_reloc_is bytes h layout range is_rela index x other same file ends is =
+    plain_reloc_is bytes h range is_rela index x other file
+    (subst (λ (l : RelocCtx). index < range.size / reloc_size l.is_rela l.ctx.container) (sym same)
+    (near_inside range.size (reloc_size layout.is_rela layout.ctx.container) index
+    (reloc_size-positive layout.is_rela layout.ctx.container) ends))
+    (subst (λ (l : RelocCtx). x ≡ reloc_in l (take (reloc_size l.is_rela l.ctx.container)
+    (drop (range.offset + index * reloc_size l.is_rela l.ctx.container) bytes))) (sym same) is)

@@ -3,7 +3,10 @@
 ghost use Rattle.std.specs.Prelude.{◌≡◌, ◌≤◌, ◌<◌, ◌+◌, ◌*◌, ◌/◌, ◌^◌, IfSome, IsTrue, drop, false, length, take};
 ghost use Rattle.goblin_c.specs.Expected.{ctx_of, reloc_expected, section_expected, segment_expected, symbol_expected};
 ghost use Rattle.goblin_c.specs.Status.{Stores};
+ghost use Rattle.goblin_c.specs.Types.{symbol_converted};
 ghost use Rattle.goblin.specs.Reloc.{reloc_in, reloc_size};
+ghost use Rattle.goblin_base.specs.declared.container.Container.TheVariants as class;
+ghost use Rattle.goblin_base.specs.declared.container.Endian.TheVariants as endian;
 
 use crate::headers::{ctx_of, sections_of, segments_of};
 use crate::kinds::OK;
@@ -15,8 +18,9 @@ use crate::types::{
     GoblinSymbol, convert_reloc, convert_section, convert_segment, convert_symbol,
 };
 use goblin::container::{Container, Ctx, Endian};
-use goblin::elf::header::EM_MIPS;
+use goblin::elf::header::{ELFCLASS64, ELFDATA2MSB, EM_MIPS};
 use goblin::elf::program_header::ProgramHeader;
+use goblin::elf::reloc::reloc64::Rela;
 use goblin::elf::reloc::{Reloc, RelocCtx};
 use goblin::elf::section_header::SectionHeader;
 use goblin::elf::sym::Sym;
@@ -24,6 +28,9 @@ use goblin_base::laid_out::LaidOut;
 
 // The number of program headers that stands for the number in section 0.
 const PN_XNUM: u16 = 0xffff;
+
+// The greatest index that is found without a division.
+const NEAR: u64 = 0xffff_ffff;
 
 // Returns the record at an index of those that lie one after another in `size` bytes of the file from an offset on, if
 // the file has these bytes and they hold it.
@@ -77,6 +84,95 @@ fn record_by_class<R: LaidOut<Ctx>>(
     }
 }
 
+// Does the same for a size that is known when the library is compiled, and for an index below 2^32. A division, which the
+// greatest index asks for, takes as long as all else.
+#[inline(always)]
+fn near_record_in<R: LaidOut<C>, C: Copy>(
+    bytes: &[u8],
+    offset: u64,
+    size: u64,
+    index: u64,
+    ctx: C,
+) -> Option<R>
+    requires { (R.layout ctx).size < 2 ^ 16 }
+    ensures file { IfSome result (λ _. offset + size ≤ length bytes.now) }
+    ensures bound { IfSome result (λ _. size < 2 ^ 64) }
+    ensures index { IfSome result (λ _. (index + 1) * (R.layout ctx).size ≤ size) }
+    ensures value { let own = (R.layout ctx).size in IfSome result (λ found.
+        found ≡ (R.layout ctx).read (take own (drop (offset + index * own) bytes.now))) }
+{
+    let own = R::size_in(ctx) as u64;
+    let end = offset.checked_add(size)?;
+    if end > bytes.len() as u64 || end < own || index > NEAR {
+        return None;
+    }
+    // (compared with the last place at which a record may begin, the place is all that is computed)
+    let place = offset + index * own;
+    if place > end - own {
+        return None;
+    }
+    let start = place as usize;
+    Some(R::get(&bytes[start..start + own as usize], ctx))
+}
+
+// Reports whether a file is of the 64-bit class and in little endian, as most are.
+#[inline(always)]
+fn is_usual(header: &GoblinHeader) -> bool
+    ensures { IsTrue result → ctx_of header.now ≡ record { container = class.Big; le = endian.Little } }
+{
+    header.ei_class == ELFCLASS64 && header.ei_data != ELFDATA2MSB
+}
+
+// What a call is asked for that takes any range. The function that refuses gets one pointer to it: if it took the parts, the
+// compiler would hand it the fields that it reads, and each call would read and keep them before it is known to fail.
+#[derive(Clone, Copy)]
+struct Asked<'a> {
+    bytes: &'a [u8],
+    header: &'a GoblinHeader,
+    range: &'a GoblinRange,
+    index: u64,
+}
+
+// Stores a symbol for C field by field. The bytes that pad it are not written.
+#[inline(always)]
+fn store_fields(s: &Sym, symbol: &mut GoblinSymbol)
+    ensures { symbol.new ≡ symbol_converted s.now }
+{
+    symbol.st_name = s.st_name as u64;
+    symbol.st_value = s.st_value;
+    symbol.st_size = s.st_size;
+    symbol.st_shndx = s.st_shndx as u64;
+    symbol.st_info = s.st_info;
+    symbol.st_other = s.st_other;
+}
+
+// Stores the symbol of a usual file at an index of a range that lies in it. Returns whether there is one.
+#[inline(always)]
+fn store_usual_symbol(
+    bytes: &[u8],
+    header: &GoblinHeader,
+    range: &GoblinRange,
+    index: u64,
+    symbol: &mut GoblinSymbol,
+) -> bool
+    ensures found { IsTrue result
+        → symbol_expected bytes.now header.now range.now index ≡ Ok (Some symbol.new) }
+    ensures unchanged { (result ≡ false) → symbol.new ≡ symbol.old }
+{
+    if !is_usual(header) {
+        return false;
+    }
+    let ctx = Ctx::new(Container::Big, Endian::Little);
+    let found: Option<Sym> = near_record_in(bytes, range.offset, range.size, index, ctx);
+    match found {
+        Some(record) => {
+            store_fields(&record, symbol);
+            true
+        }
+        None => false,
+    }
+}
+
 // Stores the symbol at an index of a range that lies in the file. Returns whether there is one.
 #[inline(always)]
 fn store_symbol_inside(
@@ -114,16 +210,15 @@ pub extern "C" fn goblin_symbol(
     ensures { Stores (symbol_expected bytes.now header.now range.now index)
         symbol.old why.old result symbol.new why.new }
 {
-    if store_symbol_inside(bytes, header, range, index, symbol) {
+    if store_usual_symbol(bytes, header, range, index, symbol) {
         return OK;
     }
-    store_any_symbol(bytes, header, range, index, symbol, why)
+    store_other_symbol(bytes, header, range, index, symbol, why)
 }
 
-// Does the same for any range.
-#[cold]
+// Does the same for files of each class and byte order.
 #[inline(never)]
-fn store_any_symbol(
+fn store_other_symbol(
     bytes: &[u8],
     header: &GoblinHeader,
     range: &GoblinRange,
@@ -134,8 +229,27 @@ fn store_any_symbol(
     ensures { Stores (symbol_expected bytes.now header.now range.now index)
         symbol.old why.old result symbol.new why.new }
 {
-    let found = item_of(symbols_of(bytes, header, range), index);
-    store(found, symbol, why)
+    if store_symbol_inside(bytes, header, range, index, symbol) {
+        return OK;
+    }
+    let asked = Asked {
+        bytes,
+        header,
+        range,
+        index,
+    };
+    store_any_symbol(&asked, symbol, why)
+}
+
+// Does the same for any range.
+#[cold]
+#[inline(never)]
+fn store_any_symbol(asked: &Asked<'_>, symbol: &mut GoblinSymbol, why: &mut GoblinRefusal) -> u32
+    ensures { let a = asked.now in Stores (symbol_expected a.bytes.now a.header.now a.range.now a.index)
+        symbol.old why.old result symbol.new why.new }
+{
+    let list = symbols_of(asked.bytes, asked.header, asked.range);
+    store(item_of(list, asked.index), symbol, why)
 }
 
 // Stores the section header at an index of a list that lies in the file and whose number the header states. Returns
@@ -345,6 +459,35 @@ fn store_reloc_inside(
     }
 }
 
+// Stores the relocation with an addend of a usual file at an index of a range that lies in it, for other machines than
+// MIPS. Returns whether there is one.
+#[inline(always)]
+fn store_usual_reloc(
+    bytes: &[u8],
+    header: &GoblinHeader,
+    range: &GoblinRange,
+    is_rela: bool,
+    index: u64,
+    reloc: &mut GoblinReloc,
+) -> bool
+    ensures found { IsTrue result
+        → reloc_expected bytes.now header.now range.now is_rela index ≡ Ok (Some reloc.new) }
+    ensures unchanged { (result ≡ false) → reloc.new ≡ reloc.old }
+{
+    if !is_rela || header.e_machine == EM_MIPS || !is_usual(header) {
+        return false;
+    }
+    let order = Endian::Little;
+    let found: Option<Rela> = near_record_in(bytes, range.offset, range.size, index, order);
+    match found {
+        Some(record) => {
+            *reloc = convert_reloc(&Reloc::from(record));
+            true
+        }
+        None => false,
+    }
+}
+
 /// Stores the relocation at an index of those that lie in a range, with addends or without.
 #[unsafe(no_mangle)]
 pub extern "C" fn goblin_reloc(
@@ -359,16 +502,15 @@ pub extern "C" fn goblin_reloc(
     ensures { Stores (reloc_expected bytes.now header.now range.now is_rela index)
         reloc.old why.old result reloc.new why.new }
 {
-    if store_reloc_inside(bytes, header, range, is_rela, index, reloc) {
+    if store_usual_reloc(bytes, header, range, is_rela, index, reloc) {
         return OK;
     }
-    store_any_reloc(bytes, header, range, is_rela, index, reloc, why)
+    store_other_reloc(bytes, header, range, is_rela, index, reloc, why)
 }
 
-// Does the same for any range.
-#[cold]
+// Does the same for files of each class and byte order.
 #[inline(never)]
-fn store_any_reloc(
+fn store_other_reloc(
     bytes: &[u8],
     header: &GoblinHeader,
     range: &GoblinRange,
@@ -380,6 +522,31 @@ fn store_any_reloc(
     ensures { Stores (reloc_expected bytes.now header.now range.now is_rela index)
         reloc.old why.old result reloc.new why.new }
 {
-    let found = item_of(relocs_of(bytes, header, range, is_rela), index);
-    store(found, reloc, why)
+    if store_reloc_inside(bytes, header, range, is_rela, index, reloc) {
+        return OK;
+    }
+    let asked = Asked {
+        bytes,
+        header,
+        range,
+        index,
+    };
+    store_any_reloc(&asked, is_rela, reloc, why)
+}
+
+// Does the same for any range.
+#[cold]
+#[inline(never)]
+fn store_any_reloc(
+    asked: &Asked<'_>,
+    is_rela: bool,
+    reloc: &mut GoblinReloc,
+    why: &mut GoblinRefusal,
+) -> u32
+    ensures { let a = asked.now in
+        Stores (reloc_expected a.bytes.now a.header.now a.range.now is_rela a.index)
+        reloc.old why.old result reloc.new why.new }
+{
+    let list = relocs_of(asked.bytes, asked.header, asked.range, is_rela);
+    store(item_of(list, asked.index), reloc, why)
 }
