@@ -9,7 +9,6 @@ use Rattle.goblin_base.specs.declared.scroll.Error.{Error as Misplaced}
 use Rattle.goblin_base.proofs.Eager.{all_fit}
 use Rattle.goblin.specs.SectionHeaders.{count_asked, section_headers_from, section_headers_from_tested}
 use Rattle.goblin.specs.Symtab.{symbols_at, symtab_of}
-use Rattle.goblin.specs.declared.elf.reloc.RelocCtx.{RelocCtx}
 use Rattle.goblin_c.specs.Expected.{section_expected}
 use Rattle.goblin_c.specs.Write.{reloc_ctx}
 use Rattle.goblin_c.proofs.Common.{◌≡◌, ◌≤◌, ◌<◌, ◌+◌, ◌-◌, ◌*◌, ◌/◌, ◌^◌, ◌==◌, ℕ, Bool, true, false, nat_le, nat_lt}
@@ -71,15 +70,21 @@ own-le size own index inside =
     let one : 1 * own ≤ size / own * own = mul-le-mul_right own (omega (arith, inside)) in
     omega (arith, one, div-mul-le_self size own)
 
+-- an index whose record ends in a range is below the number of its records
+index_inside : (size own index : ℕ) → 0 < own → (index + 1) * own ≤ size → index < size / own
+index_inside size own index some ends =
+    let most : index + 1 ≤ size / own = (le-div_iff_mul-le some).1 ends in omega (arith, most)
+
 pub symbol_is : (bytes : List ℕ) (h : GoblinHeader) (range : GoblinRange) (index : ℕ) (x : Sym)
     → range.size < 2 ^ 64 → range.offset + range.size ≤ length bytes
-    → index < range.size / sym_size (ctx_of h).container
+    → (index + 1) * sym_size (ctx_of h).container ≤ range.size
     → x ≡ sym_of (ctx_of h).container (ctx_of h).le
     (take (sym_size (ctx_of h).container) (drop (range.offset + index * sym_size (ctx_of h).container) bytes))
     → symbol_expected bytes h range index ≡ Ok (Some (symbol_converted x))
-symbol_is bytes h range index x bound file inside is =
+symbol_is bytes h range index x bound file ends is =
     let own = sym_size (ctx_of h).container in
     let some : 0 < own = sym_size-positive (ctx_of h).container in
+    let inside = index_inside range.size own index some ends in
     let count = range.size / own in
     let most : count * own ≤ range.size = div-mul-le_self range.size own in
     let not_empty : own ≤ range.size = own-le range.size own index inside in
@@ -89,25 +94,6 @@ symbol_is bytes h range index x bound file inside is =
     listed_item symbol_converted own (sym_of (ctx_of h).container (ctx_of h).le) bytes range.offset count index
     (symbols_expected bytes h range) x
     (ap (λ r. refused_at range.offset (refuse_as refusal_of r) >>= λ table. Ok table.symbols) table) inside is
-
--- an index whose record ends in a range is below the number of its records
-near_inside : (size own index : ℕ) → 0 < own → (index + 1) * own ≤ size → index < size / own
-near_inside size own index some ends =
-    let most : index + 1 ≤ size / own = (le-div_iff_mul-le some).1 ends in omega (arith, most)
-
--- the symbol whose end was found, of a class and byte order that are those of the file
-pub near_symbol_is : (bytes : List ℕ) (h : GoblinHeader) (ctx : Ctx) (range : GoblinRange) (index : ℕ) (x : Sym)
-    → ctx_of h ≡ ctx → range.size < 2 ^ 64 → range.offset + range.size ≤ length bytes
-    → (index + 1) * sym_size ctx.container ≤ range.size
-    → x ≡ sym_of ctx.container ctx.le
-    (take (sym_size ctx.container) (drop (range.offset + index * sym_size ctx.container) bytes))
-    → symbol_expected bytes h range index ≡ Ok (Some (symbol_converted x))
-near_symbol_is bytes h ctx range index x same bound file ends is =
-    symbol_is bytes h range index x bound file
-    (subst (λ (c : Ctx). index < range.size / sym_size c.container) (sym same)
-    (near_inside range.size (sym_size ctx.container) index (sym_size-positive ctx.container) ends))
-    (subst (λ (c : Ctx). x ≡ sym_of c.container c.le
-    (take (sym_size c.container) (drop (range.offset + index * sym_size c.container) bytes))) (sym same) is)
 
 -- a test that passes
 passes : {A B E : Type 0} (test : Result A E) (rest : A → Result B E) (x : A) → test ≡ Ok x → (test >>= rest) ≡ rest x
@@ -174,16 +160,16 @@ module _ (bytes : List ℕ) (start count : ℕ) (ctx : Ctx) where
 
 pub section_is : (bytes : List ℕ) (h : GoblinHeader) (index : ℕ) (x : SectionHeader)
     → (h.e_shoff ≡ 0 → ⊥) → h.e_shoff + h.e_shnum * section_header_size (ctx_of h).container ≤ length bytes
-    → index < h.e_shnum * section_header_size (ctx_of h).container / section_header_size (ctx_of h).container
+    → (index + 1) * section_header_size (ctx_of h).container ≤ h.e_shnum * section_header_size (ctx_of h).container
     → x ≡ section_header_of (ctx_of h).container (ctx_of h).le
     (take (section_header_size (ctx_of h).container)
     (drop (h.e_shoff + index * section_header_size (ctx_of h).container) bytes))
     → section_expected bytes h index ≡ Ok (Some (section_converted x))
-section_is bytes h index x there file fits is =
+section_is bytes h index x there file ends is =
     let own = section_header_size (ctx_of h).container in
-    let same : h.e_shnum * own / own ≡ h.e_shnum =
-    mul-div_left h.e_shnum (section_size-positive (ctx_of h).container) in
-    let inside : index < h.e_shnum = omega (arith, fits, same) in
+    let some = section_size-positive (ctx_of h).container in
+    let same : h.e_shnum * own / own ≡ h.e_shnum = mul-div_left h.e_shnum some in
+    let inside : index < h.e_shnum = omega (arith, index_inside (h.e_shnum * own) own index some ends, same) in
     let list = sections_inside bytes h.e_shoff h.e_shnum (ctx_of h) there (omega (arith, inside)) file in
     listed_item section_converted own (section_header_of (ctx_of h).container (ctx_of h).le) bytes h.e_shoff h.e_shnum
     index (sections_expected bytes h) x (ap (refused_at h.e_shoff) list) inside is
@@ -215,16 +201,16 @@ segments_inside bytes start count ctx fits =
 
 pub segment_is : (bytes : List ℕ) (h : GoblinHeader) (index : ℕ) (x : ProgramHeader)
     → (h.e_phnum ≡ 0xffff → ⊥) → h.e_phoff + h.e_phnum * program_header_size (ctx_of h).container ≤ length bytes
-    → index < h.e_phnum * program_header_size (ctx_of h).container / program_header_size (ctx_of h).container
+    → (index + 1) * program_header_size (ctx_of h).container ≤ h.e_phnum * program_header_size (ctx_of h).container
     → x ≡ program_header_of (ctx_of h).container (ctx_of h).le
     (take (program_header_size (ctx_of h).container)
     (drop (h.e_phoff + index * program_header_size (ctx_of h).container) bytes))
     → segment_expected bytes h index ≡ Ok (Some (segment_converted x))
-segment_is bytes h index x plain file fits is =
+segment_is bytes h index x plain file ends is =
     let own = program_header_size (ctx_of h).container in
-    let same : h.e_phnum * own / own ≡ h.e_phnum =
-    mul-div_left h.e_phnum (segment_size-positive (ctx_of h).container) in
-    let inside : index < h.e_phnum = omega (arith, fits, same) in
+    let some = segment_size-positive (ctx_of h).container in
+    let same : h.e_phnum * own / own ≡ h.e_phnum = mul-div_left h.e_phnum some in
+    let inside : index < h.e_phnum = omega (arith, index_inside (h.e_phnum * own) own index some ends, same) in
     let list = λ (n : ℕ). refused_at h.e_phoff (program_headers_from bytes h.e_phoff n (ctx_of h)) in
     let test : (h.e_phnum == 0xffff) ≡ false = grind (arith, nat_tests) in
     let counted : segment_count bytes h.e_phnum h.e_shoff (ctx_of h) ≡ Ok h.e_phnum = rw test refl in
@@ -263,14 +249,15 @@ relocs_inside bytes start size is_rela ctx is_mips64el some fits =
 
 reloc_is : (bytes : List ℕ) (h : GoblinHeader) (range : GoblinRange) (is_rela : Bool) (index : ℕ) (x : Reloc)
     → range.offset + range.size ≤ length bytes
-    → index < range.size / reloc_size is_rela (ctx_of h).container
+    → (index + 1) * reloc_size is_rela (ctx_of h).container ≤ range.size
     → x ≡ reloc_in (reloc_ctx h is_rela)
     (take (reloc_size is_rela (ctx_of h).container)
     (drop (range.offset + index * reloc_size is_rela (ctx_of h).container) bytes))
     → reloc_expected bytes h range is_rela index ≡ Ok (Some (reloc_converted x))
-reloc_is bytes h range is_rela index x file inside is =
+reloc_is bytes h range is_rela index x file ends is =
     let own = reloc_size is_rela (ctx_of h).container in
     let positive = reloc_size-positive is_rela (ctx_of h).container in
+    let inside = index_inside range.size own index positive ends in
     let some : 0 < range.size = omega (arith, positive, own-le range.size own index inside) in
     let list = relocs_inside bytes range.offset range.size is_rela (ctx_of h) (is_mips64el h) some file in
     listed_item reloc_converted own (reloc_in (reloc_ctx h is_rela)) bytes range.offset (range.size / own) index
@@ -283,31 +270,14 @@ not_mips64el h other = let test : (h.e_machine == 8) ≡ false = grind (arith, n
 
 pub plain_reloc_is : (bytes : List ℕ) (h : GoblinHeader) (range : GoblinRange) (is_rela : Bool) (index : ℕ) (x : Reloc)
     → (h.e_machine ≡ 8 → ⊥) → range.offset + range.size ≤ length bytes
-    → index < range.size / reloc_size is_rela (ctx_of h).container
+    → (index + 1) * reloc_size is_rela (ctx_of h).container ≤ range.size
     → x ≡ reloc_in (record { is_rela = is_rela; ctx = ctx_of h; is_mips64el = false })
     (take (reloc_size is_rela (ctx_of h).container)
     (drop (range.offset + index * reloc_size is_rela (ctx_of h).container) bytes))
     → reloc_expected bytes h range is_rela index ≡ Ok (Some (reloc_converted x))
-plain_reloc_is bytes h range is_rela index x other file inside is =
+plain_reloc_is bytes h range is_rela index x other file ends is =
     let own = reloc_size is_rela (ctx_of h).container in
     let part = take own (drop (range.offset + index * own) bytes) in
-    reloc_is bytes h range is_rela index x file inside
+    reloc_is bytes h range is_rela index x file ends
     (is ∙ ap (λ (m : Bool). reloc_in (record { is_rela = is_rela; ctx = ctx_of h; is_mips64el = m }) part)
     (sym (not_mips64el h other)))
-
--- the relocation whose end was found, of a layout that is the file's
-pub near_reloc_is : (bytes : List ℕ) (h : GoblinHeader) (layout : RelocCtx) (range : GoblinRange) (is_rela : Bool)
-    (index : ℕ) (x : Reloc)
-    → (h.e_machine ≡ 8 → ⊥) → record { is_rela = is_rela; ctx = ctx_of h; is_mips64el = false } ≡ layout
-    → range.offset + range.size ≤ length bytes
-    → (index + 1) * reloc_size layout.is_rela layout.ctx.container ≤ range.size
-    → x ≡ reloc_in layout (take (reloc_size layout.is_rela layout.ctx.container)
-    (drop (range.offset + index * reloc_size layout.is_rela layout.ctx.container) bytes))
-    → reloc_expected bytes h range is_rela index ≡ Ok (Some (reloc_converted x))
-near_reloc_is bytes h layout range is_rela index x other same file ends is =
-    plain_reloc_is bytes h range is_rela index x other file
-    (subst (λ (l : RelocCtx). index < range.size / reloc_size l.is_rela l.ctx.container) (sym same)
-    (near_inside range.size (reloc_size layout.is_rela layout.ctx.container) index
-    (reloc_size-positive layout.is_rela layout.ctx.container) ends))
-    (subst (λ (l : RelocCtx). x ≡ reloc_in l (take (reloc_size l.is_rela l.ctx.container)
-    (drop (range.offset + index * reloc_size l.is_rela l.ctx.container) bytes))) (sym same) is)
