@@ -84,8 +84,8 @@ fn record_by_class<R: LaidOut<Ctx>>(
     }
 }
 
-// Does the same for a size that is known when the library is compiled, and for an index below 2^32. A division, which the
-// greatest index asks for, takes as long as all else.
+// Does the same for an index below 2^32. The place of the record is compared, and not the index with a number of records,
+// since a division takes as long as all else.
 #[inline(always)]
 fn near_record_in<R: LaidOut<C>, C: Copy>(
     bytes: &[u8],
@@ -123,14 +123,18 @@ fn is_usual(header: &GoblinHeader) -> bool
     header.ei_class == ELFCLASS64 && header.ei_data != ELFDATA2MSB
 }
 
-// What a call is asked for that takes any range. The function that refuses gets one pointer to it: if it took the parts, the
-// compiler would hand it the fields that it reads, and each call would read and keep them before it is known to fail.
+/// What a call is asked for. The functions that prepare refusals get one pointer to it. If they took its parts, the
+/// compiler would pass the fields that they read, and each call would load and keep these before it needs them.
 #[derive(Clone, Copy)]
-struct Asked<'a> {
-    bytes: &'a [u8],
-    header: &'a GoblinHeader,
-    range: &'a GoblinRange,
-    index: u64,
+pub(crate) struct Asked<'a> {
+    /// The file.
+    pub bytes: &'a [u8],
+    /// Its header.
+    pub header: &'a GoblinHeader,
+    /// The range of the items.
+    pub range: &'a GoblinRange,
+    /// The index of an item, or the offset of a note.
+    pub index: u64,
 }
 
 // Stores a symbol for C field by field. The bytes that pad it are not written.
