@@ -11,6 +11,7 @@ use crate::kinds::{END, NOTE_DESC, NOTE_HEADER, NOTE_NAME, OK};
 use crate::refused::{Refused, Result, refused_at};
 use crate::status::{refuse, store};
 use crate::types::{GoblinHeader, GoblinNote, GoblinRange, GoblinRefusal, convert_note};
+use crate::usual_note::usual_note;
 use goblin::elf::note::{Note, NotePart, NotePlaces, NoteRefusal};
 
 /// Returns the note at an offset, among those of a range.
@@ -47,7 +48,40 @@ pub extern "C" fn goblin_note(
     ensures { Stores (note_expected bytes.now header.now notes.now alignment offset)
         note.old why.old result note.new why.new }
 {
-    let found = note_from(bytes, header, notes, alignment, offset);
+    if let Some(found) = usual_note(bytes, header, notes, alignment, offset) {
+        *note = found;
+        return OK;
+    }
+    let asked = Asked {
+        bytes,
+        header,
+        range: notes,
+        alignment,
+        offset,
+    };
+    store_any_note(&asked, note, why)
+}
+
+// What a call for a note is asked for. The steps that refuse get one pointer to it. If they took its parts, the compiler
+// would pass them the fields that they read, and each call would load these first.
+#[derive(Clone, Copy)]
+struct Asked<'a> {
+    bytes: &'a [u8],
+    header: &'a GoblinHeader,
+    range: &'a GoblinRange,
+    alignment: u64,
+    offset: u64,
+}
+
+// Does the same for any note.
+#[inline(never)]
+fn store_any_note(asked: &Asked<'_>, note: &mut GoblinNote, why: &mut GoblinRefusal) -> u32
+    ensures { let a = asked.now in
+        Stores (note_expected a.bytes.now a.header.now a.range.now a.alignment a.offset)
+        note.old why.old result note.new why.new }
+{
+    let (header, range) = (asked.header, asked.range);
+    let found = note_from(asked.bytes, header, range, asked.alignment, asked.offset);
     store(found, note, why)
 }
 
