@@ -1,6 +1,6 @@
 //! Items of lists that lie in the file. Most calls for one item find it in such a list. They read it at once, without
 //! the steps that prepare a refusal.
-ghost use Rattle.std.specs.Prelude.{◌≡◌, ◌≤◌, ◌<◌, ◌+◌, ◌*◌, ◌^◌, IfSome, IsTrue, Ok, Some, drop, length, take};
+ghost use Rattle.std.specs.Prelude.{◌≡◌, ◌≤◌, ◌<◌, ◌+◌, ◌*◌, ◌^◌, IfSome, IsTrue, Ok, Some, drop, length, take, true};
 ghost use Rattle.goblin_c.specs.Expected.{ctx_of, reloc_expected, section_expected, segment_expected, symbol_expected};
 ghost use Rattle.goblin_c.specs.Status.{Stores};
 ghost use Rattle.goblin_base.specs.declared.container.Container.TheVariants as class;
@@ -18,6 +18,7 @@ use crate::types::{
 use goblin::container::{Container, Ctx, Endian};
 use goblin::elf::header::{ELFCLASS64, ELFDATA2MSB, EM_MIPS};
 use goblin::elf::program_header::ProgramHeader;
+use goblin::elf::reloc::reloc64::Rela;
 use goblin::elf::reloc::{Reloc, RelocCtx};
 use goblin::elf::section_header::SectionHeader;
 use goblin::elf::sym::Sym;
@@ -28,6 +29,7 @@ const PN_XNUM: u16 = 0xffff;
 
 // The greatest index and the greatest size of a record that are found here. No place wraps with them.
 const MOST_INDEX: u64 = 0xffff_ffff;
+
 const MOST_SIZE: u64 = 0xffff;
 
 // Returns the record at an index of those that lie one after another in `size` bytes of the file from an offset on, if
@@ -60,8 +62,22 @@ fn record_in<R: LaidOut<C>, C: Copy>(
     Some(R::get(&bytes[start..start + own as usize], ctx))
 }
 
-// Reports whether a file is of the 64-bit class and in little endian, as most are. The ways for such files have no branches
-// for others.
+/// What a call for one item is asked for. The steps that may refuse get one pointer to it. If they took its parts, the
+/// compiler would pass them the fields that they read, and each call would load these before it needs them.
+#[derive(Clone, Copy)]
+pub struct Asked<'a> {
+    /// The file.
+    pub bytes: &'a [u8],
+    /// Its header.
+    pub header: &'a GoblinHeader,
+    /// The range of the items.
+    pub range: &'a GoblinRange,
+    /// The index of the item, or the offset of a note.
+    pub index: u64,
+}
+
+// Reports whether a file is of the 64-bit class and in little endian, as most are. What is read of such a file at once asks
+// for neither again.
 #[inline(always)]
 fn is_usual(header: &GoblinHeader) -> bool
     ensures { IsTrue result → ctx_of header.now ≡ record { container = class.Big; le = endian.Little } }
@@ -106,27 +122,28 @@ pub extern "C" fn goblin_symbol(
             return OK;
         }
     }
-    store_any_symbol(bytes, header, range, index, symbol, why)
+    let asked = Asked {
+        bytes,
+        header,
+        range,
+        index,
+    };
+    store_any_symbol(&asked, symbol, why)
 }
 
 // Does the same for any file and range.
 #[inline(never)]
-fn store_any_symbol(
-    bytes: &[u8],
-    header: &GoblinHeader,
-    range: &GoblinRange,
-    index: u64,
-    symbol: &mut GoblinSymbol,
-    why: &mut GoblinRefusal,
-) -> u32
-    ensures { Stores (symbol_expected bytes.now header.now range.now index)
+fn store_any_symbol(asked: &Asked<'_>, symbol: &mut GoblinSymbol, why: &mut GoblinRefusal) -> u32
+    ensures { let a = asked.now in
+        Stores (symbol_expected a.bytes.now a.header.now a.range.now a.index)
         symbol.old why.old result symbol.new why.new }
 {
-    if let Some(found) = symbol_inside(bytes, header, range, index, ctx_of(header)) {
+    let (bytes, header, range) = (asked.bytes, asked.header, asked.range);
+    if let Some(found) = symbol_inside(bytes, header, range, asked.index, ctx_of(header)) {
         *symbol = found;
         return OK;
     }
-    let found = item_of(symbols_of(bytes, header, range), index);
+    let found = item_of(symbols_of(bytes, header, range), asked.index);
     store(found, symbol, why)
 }
 
@@ -255,6 +272,26 @@ fn reloc_inside(
     Some(convert_reloc(&found))
 }
 
+// Returns the relocation with an addend at an index of a range that lies in the file, which is a usual one. For MIPS it
+// returns `None`.
+#[inline(always)]
+fn usual_reloc(
+    bytes: &[u8],
+    header: &GoblinHeader,
+    range: &GoblinRange,
+    index: u64,
+) -> Option<GoblinReloc>
+    requires { ctx_of header.now ≡ record { container = class.Big; le = endian.Little } }
+    ensures { IfSome result (λ found.
+        reloc_expected bytes.now header.now range.now true index ≡ Ok (Some found)) }
+{
+    if header.e_machine == EM_MIPS {
+        return None;
+    }
+    let found: Rela = record_in(bytes, range.offset, range.size, index, Endian::Little)?;
+    Some(convert_reloc(&Reloc::from(found)))
+}
+
 /// Stores the relocation at an index of those that lie in a range, with addends or without.
 #[unsafe(no_mangle)]
 pub extern "C" fn goblin_reloc(
@@ -270,29 +307,34 @@ pub extern "C" fn goblin_reloc(
         reloc.old why.old result reloc.new why.new }
 {
     if is_rela && is_usual(header) {
-        let usual = Ctx::new(Container::Big, Endian::Little);
-        if let Some(found) = reloc_inside(bytes, header, range, true, index, usual) {
+        if let Some(found) = usual_reloc(bytes, header, range, index) {
             *reloc = found;
             return OK;
         }
     }
-    store_any_reloc(bytes, header, range, is_rela, index, reloc, why)
+    let asked = Asked {
+        bytes,
+        header,
+        range,
+        index,
+    };
+    store_any_reloc(&asked, is_rela, reloc, why)
 }
 
 // Does the same for any file and range.
 #[inline(never)]
 fn store_any_reloc(
-    bytes: &[u8],
-    header: &GoblinHeader,
-    range: &GoblinRange,
+    asked: &Asked<'_>,
     is_rela: bool,
-    index: u64,
     reloc: &mut GoblinReloc,
     why: &mut GoblinRefusal,
 ) -> u32
-    ensures { Stores (reloc_expected bytes.now header.now range.now is_rela index)
+    ensures { let a = asked.now in
+        Stores (reloc_expected a.bytes.now a.header.now a.range.now is_rela a.index)
         reloc.old why.old result reloc.new why.new }
 {
+    let (bytes, header, range) = (asked.bytes, asked.header, asked.range);
+    let index = asked.index;
     if let Some(found) = reloc_inside(bytes, header, range, is_rela, index, ctx_of(header)) {
         *reloc = found;
         return OK;

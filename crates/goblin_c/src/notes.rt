@@ -7,6 +7,7 @@ ghost use Rattle.goblin_c.specs.Notes.{StoresNote, bytes_from, note_bytes_expect
 ghost use Rattle.goblin_c.specs.Status.{Stores};
 
 use crate::headers::ctx_of;
+use crate::inside::Asked;
 use crate::kinds::{END, NOTE_DESC, NOTE_HEADER, NOTE_NAME, OK};
 use crate::refused::{Refused, Result, refused_at};
 use crate::status::{refuse, store};
@@ -56,32 +57,25 @@ pub extern "C" fn goblin_note(
         bytes,
         header,
         range: notes,
-        alignment,
-        offset,
+        index: offset,
     };
-    store_any_note(&asked, note, why)
-}
-
-// What a call for a note is asked for. The steps that refuse get one pointer to it. If they took its parts, the compiler
-// would pass them the fields that they read, and each call would load these first.
-#[derive(Clone, Copy)]
-struct Asked<'a> {
-    bytes: &'a [u8],
-    header: &'a GoblinHeader,
-    range: &'a GoblinRange,
-    alignment: u64,
-    offset: u64,
+    store_any_note(&asked, alignment, note, why)
 }
 
 // Does the same for any note.
 #[inline(never)]
-fn store_any_note(asked: &Asked<'_>, note: &mut GoblinNote, why: &mut GoblinRefusal) -> u32
+fn store_any_note(
+    asked: &Asked<'_>,
+    alignment: u64,
+    note: &mut GoblinNote,
+    why: &mut GoblinRefusal,
+) -> u32
     ensures { let a = asked.now in
-        Stores (note_expected a.bytes.now a.header.now a.range.now a.alignment a.offset)
+        Stores (note_expected a.bytes.now a.header.now a.range.now alignment a.index)
         note.old why.old result note.new why.new }
 {
-    let (header, range) = (asked.header, asked.range);
-    let found = note_from(asked.bytes, header, range, asked.alignment, asked.offset);
+    let (bytes, header, range) = (asked.bytes, asked.header, asked.range);
+    let found = note_from(bytes, header, range, alignment, asked.index);
     store(found, note, why)
 }
 
