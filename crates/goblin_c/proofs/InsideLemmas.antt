@@ -70,15 +70,21 @@ own-le size own index inside =
     let one : 1 * own ≤ size / own * own = mul-le-mul_right own (omega (arith, inside)) in
     omega (arith, one, div-mul-le_self size own)
 
+-- an index whose record ends in a range is below the number of its records
+index_inside : (size own index : ℕ) → 0 < own → (index + 1) * own ≤ size → index < size / own
+index_inside size own index some ends =
+    let most : index + 1 ≤ size / own = (le-div_iff_mul-le some).1 ends in omega (arith, most)
+
 pub symbol_is : (bytes : List ℕ) (h : GoblinHeader) (range : GoblinRange) (index : ℕ) (x : Sym)
     → range.size < 2 ^ 64 → range.offset + range.size ≤ length bytes
-    → index < range.size / sym_size (ctx_of h).container
+    → (index + 1) * sym_size (ctx_of h).container ≤ range.size
     → x ≡ sym_of (ctx_of h).container (ctx_of h).le
     (take (sym_size (ctx_of h).container) (drop (range.offset + index * sym_size (ctx_of h).container) bytes))
     → symbol_expected bytes h range index ≡ Ok (Some (symbol_converted x))
-symbol_is bytes h range index x bound file inside is =
+symbol_is bytes h range index x bound file ends is =
     let own = sym_size (ctx_of h).container in
     let some : 0 < own = sym_size-positive (ctx_of h).container in
+    let inside = index_inside range.size own index some ends in
     let count = range.size / own in
     let most : count * own ≤ range.size = div-mul-le_self range.size own in
     let not_empty : own ≤ range.size = own-le range.size own index inside in
@@ -154,16 +160,16 @@ module _ (bytes : List ℕ) (start count : ℕ) (ctx : Ctx) where
 
 pub section_is : (bytes : List ℕ) (h : GoblinHeader) (index : ℕ) (x : SectionHeader)
     → (h.e_shoff ≡ 0 → ⊥) → h.e_shoff + h.e_shnum * section_header_size (ctx_of h).container ≤ length bytes
-    → index < h.e_shnum * section_header_size (ctx_of h).container / section_header_size (ctx_of h).container
+    → (index + 1) * section_header_size (ctx_of h).container ≤ h.e_shnum * section_header_size (ctx_of h).container
     → x ≡ section_header_of (ctx_of h).container (ctx_of h).le
     (take (section_header_size (ctx_of h).container)
     (drop (h.e_shoff + index * section_header_size (ctx_of h).container) bytes))
     → section_expected bytes h index ≡ Ok (Some (section_converted x))
-section_is bytes h index x there file fits is =
+section_is bytes h index x there file ends is =
     let own = section_header_size (ctx_of h).container in
-    let same : h.e_shnum * own / own ≡ h.e_shnum =
-    mul-div_left h.e_shnum (section_size-positive (ctx_of h).container) in
-    let inside : index < h.e_shnum = omega (arith, fits, same) in
+    let some = section_size-positive (ctx_of h).container in
+    let same : h.e_shnum * own / own ≡ h.e_shnum = mul-div_left h.e_shnum some in
+    let inside : index < h.e_shnum = omega (arith, index_inside (h.e_shnum * own) own index some ends, same) in
     let list = sections_inside bytes h.e_shoff h.e_shnum (ctx_of h) there (omega (arith, inside)) file in
     listed_item section_converted own (section_header_of (ctx_of h).container (ctx_of h).le) bytes h.e_shoff h.e_shnum
     index (sections_expected bytes h) x (ap (refused_at h.e_shoff) list) inside is
@@ -195,16 +201,16 @@ segments_inside bytes start count ctx fits =
 
 pub segment_is : (bytes : List ℕ) (h : GoblinHeader) (index : ℕ) (x : ProgramHeader)
     → (h.e_phnum ≡ 0xffff → ⊥) → h.e_phoff + h.e_phnum * program_header_size (ctx_of h).container ≤ length bytes
-    → index < h.e_phnum * program_header_size (ctx_of h).container / program_header_size (ctx_of h).container
+    → (index + 1) * program_header_size (ctx_of h).container ≤ h.e_phnum * program_header_size (ctx_of h).container
     → x ≡ program_header_of (ctx_of h).container (ctx_of h).le
     (take (program_header_size (ctx_of h).container)
     (drop (h.e_phoff + index * program_header_size (ctx_of h).container) bytes))
     → segment_expected bytes h index ≡ Ok (Some (segment_converted x))
-segment_is bytes h index x plain file fits is =
+segment_is bytes h index x plain file ends is =
     let own = program_header_size (ctx_of h).container in
-    let same : h.e_phnum * own / own ≡ h.e_phnum =
-    mul-div_left h.e_phnum (segment_size-positive (ctx_of h).container) in
-    let inside : index < h.e_phnum = omega (arith, fits, same) in
+    let some = segment_size-positive (ctx_of h).container in
+    let same : h.e_phnum * own / own ≡ h.e_phnum = mul-div_left h.e_phnum some in
+    let inside : index < h.e_phnum = omega (arith, index_inside (h.e_phnum * own) own index some ends, same) in
     let list = λ (n : ℕ). refused_at h.e_phoff (program_headers_from bytes h.e_phoff n (ctx_of h)) in
     let test : (h.e_phnum == 0xffff) ≡ false = grind (arith, nat_tests) in
     let counted : segment_count bytes h.e_phnum h.e_shoff (ctx_of h) ≡ Ok h.e_phnum = rw test refl in
@@ -243,14 +249,15 @@ relocs_inside bytes start size is_rela ctx is_mips64el some fits =
 
 reloc_is : (bytes : List ℕ) (h : GoblinHeader) (range : GoblinRange) (is_rela : Bool) (index : ℕ) (x : Reloc)
     → range.offset + range.size ≤ length bytes
-    → index < range.size / reloc_size is_rela (ctx_of h).container
+    → (index + 1) * reloc_size is_rela (ctx_of h).container ≤ range.size
     → x ≡ reloc_in (reloc_ctx h is_rela)
     (take (reloc_size is_rela (ctx_of h).container)
     (drop (range.offset + index * reloc_size is_rela (ctx_of h).container) bytes))
     → reloc_expected bytes h range is_rela index ≡ Ok (Some (reloc_converted x))
-reloc_is bytes h range is_rela index x file inside is =
+reloc_is bytes h range is_rela index x file ends is =
     let own = reloc_size is_rela (ctx_of h).container in
     let positive = reloc_size-positive is_rela (ctx_of h).container in
+    let inside = index_inside range.size own index positive ends in
     let some : 0 < range.size = omega (arith, positive, own-le range.size own index inside) in
     let list = relocs_inside bytes range.offset range.size is_rela (ctx_of h) (is_mips64el h) some file in
     listed_item reloc_converted own (reloc_in (reloc_ctx h is_rela)) bytes range.offset (range.size / own) index
@@ -263,14 +270,24 @@ not_mips64el h other = let test : (h.e_machine == 8) ≡ false = grind (arith, n
 
 pub plain_reloc_is : (bytes : List ℕ) (h : GoblinHeader) (range : GoblinRange) (is_rela : Bool) (index : ℕ) (x : Reloc)
     → (h.e_machine ≡ 8 → ⊥) → range.offset + range.size ≤ length bytes
-    → index < range.size / reloc_size is_rela (ctx_of h).container
+    → (index + 1) * reloc_size is_rela (ctx_of h).container ≤ range.size
     → x ≡ reloc_in (record { is_rela = is_rela; ctx = ctx_of h; is_mips64el = false })
     (take (reloc_size is_rela (ctx_of h).container)
     (drop (range.offset + index * reloc_size is_rela (ctx_of h).container) bytes))
     → reloc_expected bytes h range is_rela index ≡ Ok (Some (reloc_converted x))
-plain_reloc_is bytes h range is_rela index x other file inside is =
+plain_reloc_is bytes h range is_rela index x other file ends is =
     let own = reloc_size is_rela (ctx_of h).container in
     let part = take own (drop (range.offset + index * own) bytes) in
-    reloc_is bytes h range is_rela index x file inside
+    reloc_is bytes h range is_rela index x file ends
     (is ∙ ap (λ (m : Bool). reloc_in (record { is_rela = is_rela; ctx = ctx_of h; is_mips64el = m }) part)
     (sym (not_mips64el h other)))
+
+-- the relocation of a file whose layout is known
+pub usual_reloc_is : (bytes : List ℕ) (h : GoblinHeader) (ctx : Ctx) (range : GoblinRange) (index : ℕ) (x : Reloc)
+    → (h.e_machine ≡ 8 → ⊥) → ctx_of h ≡ ctx → range.offset + range.size ≤ length bytes
+    → (index + 1) * reloc_size true ctx.container ≤ range.size
+    → x ≡ reloc_in (record { is_rela = true; ctx = ctx; is_mips64el = false })
+    (take (reloc_size true ctx.container) (drop (range.offset + index * reloc_size true ctx.container) bytes))
+    → reloc_expected bytes h range true index ≡ Ok (Some (reloc_converted x))
+usual_reloc_is bytes h ctx range index x other same file ends is =
+    plain_reloc_is bytes h range true index x other file (rw (← same) at ends) (rw (← same) at is)

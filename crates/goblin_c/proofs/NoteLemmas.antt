@@ -7,11 +7,14 @@ use Rattle.goblin_c.proofs.Common.{◌≡◌, ◌+◌, ◌-◌, ◌<◌, ◌≤�
 use Rattle.goblin_c.proofs.Common.{List, [], ◌∷◌, length, take, drop, Option, Some, None, Result, Ok, Err, refl, sym}
 use Rattle.goblin_c.proofs.Common.{ap, subst, ◌∙◌, arith, leb-false, drop-take, take-nil, Ctx, Refusal, bad_offset}
 use Rattle.goblin_c.proofs.Common.{◌>>=◌, refuse_if, RefusalAt, refused_at, GoblinHeader, GoblinRange, ctx_of}
-use Rattle.goblin_c.proofs.Common.{note_converted}
+use Rattle.goblin_c.proofs.Common.{note_converted, Endian, nat_tests, ◌==◌}
 use Rattle.std.proofs.Math.Seq.{drop-drop}
 use Rattle.goblin.specs.declared.elf.note.NotePlaces.{NotePlaces}
 use Rattle.goblin.specs.Nhdr.{nhdr32_of, nhdr32_size}
 use Rattle.goblin.specs.Note.{NoteParts, note_there, places_at, note_at, note_items, item_and_rest, read_places}
+use Rattle.goblin.proofs.NoteLemmas.{places_at-before}
+use Rattle.goblin_base.specs.declared.container.Endian.TheVariants as endian
+use Rattle.std.proofs.lemmas.Bool.{lt-leb}
 use Rattle.goblin.specs.NoteLaws.{at_ok, note_by_note, places_lie_within, whole_is_note}
 use Rattle.goblin_c.specs.declared.types.GoblinNote.{GoblinNote}
 use Rattle.goblin_c.specs.Notes.{bytes_from, note_expected}
@@ -123,3 +126,18 @@ whole_notes_are_notes bytes h range alignment offset note is within =
           (ap (λ (n : GoblinNote).
           Ok (Some (record n { name = record { offset = n.name.offset; size = size } }))) (sym steps.3)),
     )
+
+-- the note of a little-endian file whose places were read before the end of the bytes and of its range
+pub usual_note_is : (bytes : List ℕ) (h : GoblinHeader) (range : GoblinRange) (alignment offset : ℕ)
+    (places : NotePlaces) → (h.ei_data ≡ 2 → ⊥) → offset < length bytes → offset < range.offset + range.size
+    → read_places alignment endian.Little (take (length bytes - offset) (drop offset bytes)) ≡ Ok places
+    → note_expected bytes h range alignment offset ≡ Ok (Some (note_converted offset places))
+usual_note_is bytes h range alignment offset places other there before is =
+    let part = take (length bytes - offset) (drop offset bytes) in
+    let test : (h.ei_data == 2) ≡ false = grind (arith, nat_tests) in
+    let order : (ctx_of h).le ≡ endian.Little = rw test refl in
+    let read : places_at bytes offset (alignment, ctx_of h) ≡ Ok places =
+    places_at-before bytes offset (alignment, ctx_of h) there
+    ∙ ap (λ (o : Endian). read_places alignment o part) order ∙ is in
+    let past : nat_le (range.offset + range.size) offset ≡ false = lt-leb (range.offset + range.size) offset before in
+    rw (past, read) refl

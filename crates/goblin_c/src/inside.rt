@@ -1,9 +1,10 @@
 //! Items of lists that lie in the file. Most calls for one item find it in such a list. They read it at once, without
 //! the steps that prepare a refusal.
-ghost use Rattle.std.specs.Prelude.{◌≡◌, ◌≤◌, ◌<◌, ◌+◌, ◌*◌, ◌/◌, ◌^◌, IfSome, IsTrue, drop, false, length, take};
+ghost use Rattle.std.specs.Prelude.{◌≡◌, ◌≤◌, ◌<◌, ◌+◌, ◌*◌, ◌^◌, IfSome, IsTrue, Ok, Some, drop, length, take, true};
 ghost use Rattle.goblin_c.specs.Expected.{ctx_of, reloc_expected, section_expected, segment_expected, symbol_expected};
 ghost use Rattle.goblin_c.specs.Status.{Stores};
-ghost use Rattle.goblin.specs.Reloc.{reloc_in, reloc_size};
+ghost use Rattle.goblin_base.specs.declared.container.Container.TheVariants as class;
+ghost use Rattle.goblin_base.specs.declared.container.Endian.TheVariants as endian;
 
 use crate::headers::{ctx_of, sections_of, segments_of};
 use crate::kinds::OK;
@@ -15,16 +16,22 @@ use crate::types::{
     GoblinSymbol, convert_reloc, convert_section, convert_segment, convert_symbol,
 };
 use goblin::container::{Container, Ctx, Endian};
-use goblin::elf::header::EM_MIPS;
+use goblin::elf::header::{ELFCLASS64, ELFDATA2MSB, EM_MIPS};
 use goblin::elf::program_header::ProgramHeader;
+use goblin::elf::reloc::reloc64::Rela;
 use goblin::elf::reloc::{Reloc, RelocCtx};
 use goblin::elf::section_header::SectionHeader;
 use goblin::elf::sym::Sym;
 use goblin::elf::whole_part::PN_XNUM;
 use goblin_base::laid_out::LaidOut;
 
+// The greatest index and the greatest size of a record that are found here. No place wraps with them.
+const MOST_INDEX: u64 = 0xffff_ffff;
+const MOST_SIZE: u64 = 0xffff;
+
 // Returns the record at an index of those that lie one after another in `size` bytes of the file from an offset on, if
-// the file has these bytes and they hold it.
+// the file has these bytes and they hold it. Its end is compared, because the number of records asks for a division,
+// which takes as long as all else.
 #[inline(always)]
 fn record_in<R: LaidOut<C>, C: Copy>(
     bytes: &[u8],
@@ -35,68 +42,61 @@ fn record_in<R: LaidOut<C>, C: Copy>(
 ) -> Option<R>
     ensures file { IfSome result (λ _. offset + size ≤ length bytes.now) }
     ensures bound { IfSome result (λ _. size < 2 ^ 64) }
-    ensures index { IfSome result (λ _. index < size / (R.layout ctx).size) }
+    ensures index { IfSome result (λ _. (index + 1) * (R.layout ctx).size ≤ size) }
     ensures value { let own = (R.layout ctx).size in IfSome result (λ found.
         found ≡ (R.layout ctx).read (take own (drop (offset + index * own) bytes.now))) }
 {
-    let own = R::size_in(ctx);
-    let len = bytes.len() as u64;
-    if index >= size / own as u64 || offset > len || size > len - offset {
+    let own = R::size_in(ctx) as u64;
+    let end = offset.checked_add(size)?;
+    if end > bytes.len() as u64 || end < own || index > MOST_INDEX || own > MOST_SIZE {
         return None;
     }
-    let place = offset as usize + index as usize * own;
-    Some(R::get(&bytes[place..place + own], ctx))
-}
-
-// Does the same. The class is asked here, and not for the size and again for the fields.
-#[inline(always)]
-fn record_by_class<R: LaidOut<Ctx>>(
-    bytes: &[u8],
-    offset: u64,
-    size: u64,
-    index: u64,
-    ctx: Ctx,
-) -> Option<R>
-    ensures file { IfSome result (λ _. offset + size ≤ length bytes.now) }
-    ensures bound { IfSome result (λ _. size < 2 ^ 64) }
-    ensures index { IfSome result (λ _. index < size / (R.layout ctx).size) }
-    ensures value { let own = (R.layout ctx).size in IfSome result (λ found.
-        found ≡ (R.layout ctx).read (take own (drop (offset + index * own) bytes.now))) }
-{
-    match ctx.container {
-        Container::Little => {
-            let ctx = Ctx::new(Container::Little, ctx.le);
-            record_in(bytes, offset, size, index, ctx)
-        }
-        Container::Big => {
-            let ctx = Ctx::new(Container::Big, ctx.le);
-            record_in(bytes, offset, size, index, ctx)
-        }
+    let place = offset + index * own;
+    if place > end - own {
+        return None;
     }
+    let start = place as usize;
+    Some(R::get(&bytes[start..start + own as usize], ctx))
 }
 
-// Stores the symbol at an index of a range that lies in the file. Returns whether there is one.
+/// What a call for one item is asked for. The steps that may refuse get one pointer to it. If they took its parts, the
+/// compiler would pass them the fields that they read, and each call would load these before it needs them.
+#[derive(Clone, Copy)]
+pub struct Asked<'a> {
+    /// The file.
+    pub bytes: &'a [u8],
+    /// Its header.
+    pub header: &'a GoblinHeader,
+    /// The range of the items.
+    pub range: &'a GoblinRange,
+    /// The index of the item, or the offset of a note.
+    pub index: u64,
+}
+
+// Reports whether a file is of the 64-bit class and in little endian, as most are. What is read of such a file at once asks
+// for neither again.
 #[inline(always)]
-fn store_symbol_inside(
+fn is_usual(header: &GoblinHeader) -> bool
+    ensures { IsTrue result → ctx_of header.now ≡ record { container = class.Big; le = endian.Little } }
+{
+    header.ei_class == ELFCLASS64 && header.ei_data != ELFDATA2MSB
+}
+
+// Returns the symbol at an index of a range that lies in the file, which has this class and byte order.
+#[inline(always)]
+fn symbol_inside(
     bytes: &[u8],
     header: &GoblinHeader,
     range: &GoblinRange,
     index: u64,
-    symbol: &mut GoblinSymbol,
-) -> bool
-    ensures found { IsTrue result
-        → symbol_expected bytes.now header.now range.now index ≡ Ok (Some symbol.new) }
-    ensures unchanged { (result ≡ false) → symbol.new ≡ symbol.old }
+    ctx: Ctx,
+) -> Option<GoblinSymbol>
+    requires { ctx_of header.now ≡ ctx }
+    ensures { IfSome result (λ found.
+        symbol_expected bytes.now header.now range.now index ≡ Ok (Some found)) }
 {
-    let ctx = ctx_of(header);
-    let found: Option<Sym> = record_by_class(bytes, range.offset, range.size, index, ctx);
-    match found {
-        Some(record) => {
-            *symbol = convert_symbol(&record);
-            true
-        }
-        None => false,
-    }
+    let found: Sym = record_in(bytes, range.offset, range.size, index, ctx)?;
+    Some(convert_symbol(&found))
 }
 
 /// Stores the symbol at an index of the table that lies in a range.
@@ -112,56 +112,50 @@ pub extern "C" fn goblin_symbol(
     ensures { Stores (symbol_expected bytes.now header.now range.now index)
         symbol.old why.old result symbol.new why.new }
 {
-    if store_symbol_inside(bytes, header, range, index, symbol) {
-        return OK;
+    if is_usual(header) {
+        let usual = Ctx::new(Container::Big, Endian::Little);
+        if let Some(found) = symbol_inside(bytes, header, range, index, usual) {
+            *symbol = found;
+            return OK;
+        }
     }
-    store_any_symbol(bytes, header, range, index, symbol, why)
+    let asked = Asked {
+        bytes,
+        header,
+        range,
+        index,
+    };
+    store_any_symbol(&asked, symbol, why)
 }
 
-// Does the same for any range.
-#[cold]
+// Does the same for any file and range.
 #[inline(never)]
-fn store_any_symbol(
-    bytes: &[u8],
-    header: &GoblinHeader,
-    range: &GoblinRange,
-    index: u64,
-    symbol: &mut GoblinSymbol,
-    why: &mut GoblinRefusal,
-) -> u32
-    ensures { Stores (symbol_expected bytes.now header.now range.now index)
+fn store_any_symbol(asked: &Asked<'_>, symbol: &mut GoblinSymbol, why: &mut GoblinRefusal) -> u32
+    ensures { let a = asked.now in
+        Stores (symbol_expected a.bytes.now a.header.now a.range.now a.index)
         symbol.old why.old result symbol.new why.new }
 {
-    let found = item_of(symbols_of(bytes, header, range), index);
+    let (bytes, header, range) = (asked.bytes, asked.header, asked.range);
+    if let Some(found) = symbol_inside(bytes, header, range, asked.index, ctx_of(header)) {
+        *symbol = found;
+        return OK;
+    }
+    let found = item_of(symbols_of(bytes, header, range), asked.index);
     store(found, symbol, why)
 }
 
-// Stores the section header at an index of a list that lies in the file and whose number the header states. Returns
-// whether there is one.
+// Returns the section header at an index of a list that lies in the file and whose number the header states.
 #[inline(always)]
-fn store_section_inside(
-    bytes: &[u8],
-    header: &GoblinHeader,
-    index: u64,
-    section: &mut GoblinSection,
-) -> bool
-    ensures found { IsTrue result
-        → section_expected bytes.now header.now index ≡ Ok (Some section.new) }
-    ensures unchanged { (result ≡ false) → section.new ≡ section.old }
+fn section_inside(bytes: &[u8], header: &GoblinHeader, index: u64) -> Option<GoblinSection>
+    ensures { IfSome result (λ found. section_expected bytes.now header.now index ≡ Ok (Some found)) }
 {
     if header.e_shoff == 0 {
-        return false;
+        return None;
     }
     let ctx = ctx_of(header);
     let size = u64::from(header.e_shnum) * SectionHeader::size(ctx) as u64;
-    let found: Option<SectionHeader> = record_by_class(bytes, header.e_shoff, size, index, ctx);
-    match found {
-        Some(record) => {
-            *section = convert_section(&record);
-            true
-        }
-        None => false,
-    }
+    let found: SectionHeader = record_in(bytes, header.e_shoff, size, index, ctx)?;
+    Some(convert_section(&found))
 }
 
 /// Stores the section header at an index.
@@ -176,7 +170,8 @@ pub extern "C" fn goblin_section(
     ensures { Stores (section_expected bytes.now header.now index)
         section.old why.old result section.new why.new }
 {
-    if store_section_inside(bytes, header, index, section) {
+    if let Some(found) = section_inside(bytes, header, index) {
+        *section = found;
         return OK;
     }
     store_any_section(bytes, header, index, section, why)
@@ -198,32 +193,18 @@ fn store_any_section(
     store(item_of(sections_of(bytes, header), index), section, why)
 }
 
-// Stores the program header at an index of a list that lies in the file and whose number the header states. Returns
-// whether there is one.
+// Returns the program header at an index of a list that lies in the file and whose number the header states.
 #[inline(always)]
-fn store_segment_inside(
-    bytes: &[u8],
-    header: &GoblinHeader,
-    index: u64,
-    segment: &mut GoblinSegment,
-) -> bool
-    ensures found { IsTrue result
-        → segment_expected bytes.now header.now index ≡ Ok (Some segment.new) }
-    ensures unchanged { (result ≡ false) → segment.new ≡ segment.old }
+fn segment_inside(bytes: &[u8], header: &GoblinHeader, index: u64) -> Option<GoblinSegment>
+    ensures { IfSome result (λ found. segment_expected bytes.now header.now index ≡ Ok (Some found)) }
 {
     if header.e_phnum == PN_XNUM {
-        return false;
+        return None;
     }
     let ctx = ctx_of(header);
     let size = u64::from(header.e_phnum) * ProgramHeader::size(ctx) as u64;
-    let found: Option<ProgramHeader> = record_by_class(bytes, header.e_phoff, size, index, ctx);
-    match found {
-        Some(record) => {
-            *segment = convert_segment(&record);
-            true
-        }
-        None => false,
-    }
+    let found: ProgramHeader = record_in(bytes, header.e_phoff, size, index, ctx)?;
+    Some(convert_segment(&found))
 }
 
 /// Stores the program header at an index.
@@ -238,7 +219,8 @@ pub extern "C" fn goblin_segment(
     ensures { Stores (segment_expected bytes.now header.now index)
         segment.old why.old result segment.new why.new }
 {
-    if store_segment_inside(bytes, header, index, segment) {
+    if let Some(found) = segment_inside(bytes, header, index) {
+        *segment = found;
         return OK;
     }
     store_any_segment(bytes, header, index, segment, why)
@@ -260,87 +242,51 @@ fn store_any_segment(
     store(item_of(segments_of(bytes, header), index), segment, why)
 }
 
-// Returns the layout of relocations that are not of MIPS64.
+// Returns the relocation at an index of a range that lies in the file, which has this class and byte order. For MIPS it
+// returns `None`.
 #[inline(always)]
-fn plain_layout(is_rela: bool, class: Container, order: Endian) -> RelocCtx
-    ensures { result ≡ record {
-      is_rela = is_rela;
-      ctx = record { container = class; le = order };
-      is_mips64el = false;
-    } }
-{
-    RelocCtx {
-        is_rela,
-        ctx: Ctx::new(class, order),
-        is_mips64el: false,
-    }
-}
-
-// Returns the relocation at an index of a range that lies in the file. The class is asked here, and whether there are
-// addends, as in `record_by_class`.
-#[inline(always)]
-fn plain_reloc(bytes: &[u8], range: &GoblinRange, index: u64, layout: RelocCtx) -> Option<Reloc>
-    requires { layout.is_mips64el ≡ false }
-    ensures file { IfSome result (λ _. range.now.offset + range.now.size ≤ length bytes.now) }
-    ensures index { let own = reloc_size layout.is_rela layout.ctx.container in
-        IfSome result (λ _. index < range.now.size / own) }
-    ensures value { let own = reloc_size layout.is_rela layout.ctx.container in
-        IfSome result (λ found. found
-        ≡ reloc_in layout (take own (drop (range.now.offset + index * own) bytes.now))) }
-{
-    let (offset, size) = (range.offset, range.size);
-    let order = layout.ctx.le;
-    match (layout.ctx.container, layout.is_rela) {
-        (Container::Little, false) => {
-            let layout = plain_layout(false, Container::Little, order);
-            record_in(bytes, offset, size, index, layout)
-        }
-        (Container::Little, true) => {
-            let layout = plain_layout(true, Container::Little, order);
-            record_in(bytes, offset, size, index, layout)
-        }
-        (Container::Big, false) => {
-            let layout = plain_layout(false, Container::Big, order);
-            record_in(bytes, offset, size, index, layout)
-        }
-        (Container::Big, true) => {
-            let layout = plain_layout(true, Container::Big, order);
-            record_in(bytes, offset, size, index, layout)
-        }
-    }
-}
-
-// Stores the relocation at an index of a range that lies in the file, for other machines than MIPS. Returns whether
-// there is one.
-#[inline(always)]
-fn store_reloc_inside(
+fn reloc_inside(
     bytes: &[u8],
     header: &GoblinHeader,
     range: &GoblinRange,
     is_rela: bool,
     index: u64,
-    reloc: &mut GoblinReloc,
-) -> bool
-    ensures found { IsTrue result
-        → reloc_expected bytes.now header.now range.now is_rela index ≡ Ok (Some reloc.new) }
-    ensures unchanged { (result ≡ false) → reloc.new ≡ reloc.old }
+    ctx: Ctx,
+) -> Option<GoblinReloc>
+    requires { ctx_of header.now ≡ ctx }
+    ensures { IfSome result (λ found.
+        reloc_expected bytes.now header.now range.now is_rela index ≡ Ok (Some found)) }
 {
     if header.e_machine == EM_MIPS {
-        return false;
+        return None;
     }
     let layout = RelocCtx {
         is_rela,
-        ctx: ctx_of(header),
+        ctx,
         is_mips64el: false,
     };
-    let found = plain_reloc(bytes, range, index, layout);
-    match found {
-        Some(record) => {
-            *reloc = convert_reloc(&record);
-            true
-        }
-        None => false,
+    let found: Reloc = record_in(bytes, range.offset, range.size, index, layout)?;
+    Some(convert_reloc(&found))
+}
+
+// Returns the relocation with an addend at an index of a range that lies in the file, which is a usual one. For MIPS it
+// returns `None`.
+#[inline(always)]
+fn usual_reloc(
+    bytes: &[u8],
+    header: &GoblinHeader,
+    range: &GoblinRange,
+    index: u64,
+) -> Option<GoblinReloc>
+    requires { ctx_of header.now ≡ record { container = class.Big; le = endian.Little } }
+    ensures { IfSome result (λ found.
+        reloc_expected bytes.now header.now range.now true index ≡ Ok (Some found)) }
+{
+    if header.e_machine == EM_MIPS {
+        return None;
     }
+    let found: Rela = record_in(bytes, range.offset, range.size, index, Endian::Little)?;
+    Some(convert_reloc(&Reloc::from(found)))
 }
 
 /// Stores the relocation at an index of those that lie in a range, with addends or without.
@@ -357,27 +303,39 @@ pub extern "C" fn goblin_reloc(
     ensures { Stores (reloc_expected bytes.now header.now range.now is_rela index)
         reloc.old why.old result reloc.new why.new }
 {
-    if store_reloc_inside(bytes, header, range, is_rela, index, reloc) {
-        return OK;
+    if is_rela && is_usual(header) {
+        if let Some(found) = usual_reloc(bytes, header, range, index) {
+            *reloc = found;
+            return OK;
+        }
     }
-    store_any_reloc(bytes, header, range, is_rela, index, reloc, why)
+    let asked = Asked {
+        bytes,
+        header,
+        range,
+        index,
+    };
+    store_any_reloc(&asked, is_rela, reloc, why)
 }
 
-// Does the same for any range.
-#[cold]
+// Does the same for any file and range.
 #[inline(never)]
 fn store_any_reloc(
-    bytes: &[u8],
-    header: &GoblinHeader,
-    range: &GoblinRange,
+    asked: &Asked<'_>,
     is_rela: bool,
-    index: u64,
     reloc: &mut GoblinReloc,
     why: &mut GoblinRefusal,
 ) -> u32
-    ensures { Stores (reloc_expected bytes.now header.now range.now is_rela index)
+    ensures { let a = asked.now in
+        Stores (reloc_expected a.bytes.now a.header.now a.range.now is_rela a.index)
         reloc.old why.old result reloc.new why.new }
 {
+    let (bytes, header, range) = (asked.bytes, asked.header, asked.range);
+    let index = asked.index;
+    if let Some(found) = reloc_inside(bytes, header, range, is_rela, index, ctx_of(header)) {
+        *reloc = found;
+        return OK;
+    }
     let found = item_of(relocs_of(bytes, header, range, is_rela), index);
     store(found, reloc, why)
 }

@@ -27,6 +27,7 @@ mod tables;
 mod tests;
 mod texts;
 pub mod types;
+mod usual_note;
 mod write;
 mod write_laws;
 #[cfg(test)]

@@ -7,10 +7,12 @@ ghost use Rattle.goblin_c.specs.Notes.{StoresNote, bytes_from, note_bytes_expect
 ghost use Rattle.goblin_c.specs.Status.{Stores};
 
 use crate::headers::ctx_of;
+use crate::inside::Asked;
 use crate::kinds::{END, NOTE_DESC, NOTE_HEADER, NOTE_NAME, OK};
 use crate::refused::{Refused, Result, refused_at};
 use crate::status::{refuse, store};
 use crate::types::{GoblinHeader, GoblinNote, GoblinRange, GoblinRefusal, convert_note};
+use crate::usual_note::usual_note;
 use goblin::elf::note::{Note, NotePart, NotePlaces, NoteRefusal};
 
 /// Returns the note at an offset, among those of a range.
@@ -47,7 +49,33 @@ pub extern "C" fn goblin_note(
     ensures { Stores (note_expected bytes.now header.now notes.now alignment offset)
         note.old why.old result note.new why.new }
 {
-    let found = note_from(bytes, header, notes, alignment, offset);
+    if let Some(found) = usual_note(bytes, header, notes, alignment, offset) {
+        *note = found;
+        return OK;
+    }
+    let asked = Asked {
+        bytes,
+        header,
+        range: notes,
+        index: offset,
+    };
+    store_any_note(&asked, alignment, note, why)
+}
+
+// Does the same for any note.
+#[inline(never)]
+fn store_any_note(
+    asked: &Asked<'_>,
+    alignment: u64,
+    note: &mut GoblinNote,
+    why: &mut GoblinRefusal,
+) -> u32
+    ensures { let a = asked.now in
+        Stores (note_expected a.bytes.now a.header.now a.range.now alignment a.index)
+        note.old why.old result note.new why.new }
+{
+    let (bytes, header, range) = (asked.bytes, asked.header, asked.range);
+    let found = note_from(bytes, header, range, alignment, asked.index);
     store(found, note, why)
 }
 
