@@ -281,13 +281,3 @@ plain_reloc_is bytes h range is_rela index x other file ends is =
     reloc_is bytes h range is_rela index x file ends
     (is ∙ ap (λ (m : Bool). reloc_in (record { is_rela = is_rela; ctx = ctx_of h; is_mips64el = m }) part)
     (sym (not_mips64el h other)))
-
--- the relocation of a file whose layout is known
-pub usual_reloc_is : (bytes : List ℕ) (h : GoblinHeader) (ctx : Ctx) (range : GoblinRange) (index : ℕ) (x : Reloc)
-    → (h.e_machine ≡ 8 → ⊥) → ctx_of h ≡ ctx → range.offset + range.size ≤ length bytes
-    → (index + 1) * reloc_size true ctx.container ≤ range.size
-    → x ≡ reloc_in (record { is_rela = true; ctx = ctx; is_mips64el = false })
-    (take (reloc_size true ctx.container) (drop (range.offset + index * reloc_size true ctx.container) bytes))
-    → reloc_expected bytes h range true index ≡ Ok (Some (reloc_converted x))
-usual_reloc_is bytes h ctx range index x other same file ends is =
-    plain_reloc_is bytes h range true index x other file (rw (← same) at ends) (rw (← same) at is)

@@ -1,6 +1,6 @@
 //! Items of lists that lie in the file. Most calls for one item find it in such a list. They read it at once, without
 //! the steps that prepare a refusal.
-ghost use Rattle.std.specs.Prelude.{◌≡◌, ◌≤◌, ◌<◌, ◌+◌, ◌*◌, ◌^◌, IfSome, IsTrue, Ok, Some, drop, length, take, true};
+ghost use Rattle.std.specs.Prelude.{◌≡◌, ◌≤◌, ◌<◌, ◌+◌, ◌*◌, ◌^◌, IfSome, IsTrue, Ok, Some, drop, length, take};
 ghost use Rattle.goblin_c.specs.Expected.{ctx_of, reloc_expected, section_expected, segment_expected, symbol_expected};
 ghost use Rattle.goblin_c.specs.Status.{Stores};
 ghost use Rattle.goblin_base.specs.declared.container.Container.TheVariants as class;
@@ -18,7 +18,6 @@ use crate::types::{
 use goblin::container::{Container, Ctx, Endian};
 use goblin::elf::header::{ELFCLASS64, ELFDATA2MSB, EM_MIPS};
 use goblin::elf::program_header::ProgramHeader;
-use goblin::elf::reloc::reloc64::Rela;
 use goblin::elf::reloc::{Reloc, RelocCtx};
 use goblin::elf::section_header::SectionHeader;
 use goblin::elf::sym::Sym;
@@ -27,6 +26,7 @@ use goblin_base::laid_out::LaidOut;
 
 // The greatest index and the greatest size of a record that are found here. No place wraps with them.
 const MOST_INDEX: u64 = 0xffff_ffff;
+
 const MOST_SIZE: u64 = 0xffff;
 
 // Returns the record at an index of those that lie one after another in `size` bytes of the file from an offset on, if
@@ -119,6 +119,26 @@ pub extern "C" fn goblin_symbol(
             return OK;
         }
     }
+    store_other_symbol(bytes, header, range, index, symbol, why)
+}
+
+// Does the same for files of each class and byte order.
+#[inline(never)]
+fn store_other_symbol(
+    bytes: &[u8],
+    header: &GoblinHeader,
+    range: &GoblinRange,
+    index: u64,
+    symbol: &mut GoblinSymbol,
+    why: &mut GoblinRefusal,
+) -> u32
+    ensures { Stores (symbol_expected bytes.now header.now range.now index)
+        symbol.old why.old result symbol.new why.new }
+{
+    if let Some(found) = symbol_inside(bytes, header, range, index, ctx_of(header)) {
+        *symbol = found;
+        return OK;
+    }
     let asked = Asked {
         bytes,
         header,
@@ -128,20 +148,16 @@ pub extern "C" fn goblin_symbol(
     store_any_symbol(&asked, symbol, why)
 }
 
-// Does the same for any file and range.
+// Does the same for any range.
+#[cold]
 #[inline(never)]
 fn store_any_symbol(asked: &Asked<'_>, symbol: &mut GoblinSymbol, why: &mut GoblinRefusal) -> u32
     ensures { let a = asked.now in
         Stores (symbol_expected a.bytes.now a.header.now a.range.now a.index)
         symbol.old why.old result symbol.new why.new }
 {
-    let (bytes, header, range) = (asked.bytes, asked.header, asked.range);
-    if let Some(found) = symbol_inside(bytes, header, range, asked.index, ctx_of(header)) {
-        *symbol = found;
-        return OK;
-    }
-    let found = item_of(symbols_of(bytes, header, range), asked.index);
-    store(found, symbol, why)
+    let list = symbols_of(asked.bytes, asked.header, asked.range);
+    store(item_of(list, asked.index), symbol, why)
 }
 
 // Returns the section header at an index of a list that lies in the file and whose number the header states.
@@ -269,26 +285,6 @@ fn reloc_inside(
     Some(convert_reloc(&found))
 }
 
-// Returns the relocation with an addend at an index of a range that lies in the file, which is a usual one. For MIPS it
-// returns `None`.
-#[inline(always)]
-fn usual_reloc(
-    bytes: &[u8],
-    header: &GoblinHeader,
-    range: &GoblinRange,
-    index: u64,
-) -> Option<GoblinReloc>
-    requires { ctx_of header.now ≡ record { container = class.Big; le = endian.Little } }
-    ensures { IfSome result (λ found.
-        reloc_expected bytes.now header.now range.now true index ≡ Ok (Some found)) }
-{
-    if header.e_machine == EM_MIPS {
-        return None;
-    }
-    let found: Rela = record_in(bytes, range.offset, range.size, index, Endian::Little)?;
-    Some(convert_reloc(&Reloc::from(found)))
-}
-
 /// Stores the relocation at an index of those that lie in a range, with addends or without.
 #[unsafe(no_mangle)]
 pub extern "C" fn goblin_reloc(
@@ -304,10 +300,32 @@ pub extern "C" fn goblin_reloc(
         reloc.old why.old result reloc.new why.new }
 {
     if is_rela && is_usual(header) {
-        if let Some(found) = usual_reloc(bytes, header, range, index) {
+        let usual = Ctx::new(Container::Big, Endian::Little);
+        if let Some(found) = reloc_inside(bytes, header, range, true, index, usual) {
             *reloc = found;
             return OK;
         }
+    }
+    store_other_reloc(bytes, header, range, is_rela, index, reloc, why)
+}
+
+// Does the same for files of each class and byte order, and for relocations without addends.
+#[inline(never)]
+fn store_other_reloc(
+    bytes: &[u8],
+    header: &GoblinHeader,
+    range: &GoblinRange,
+    is_rela: bool,
+    index: u64,
+    reloc: &mut GoblinReloc,
+    why: &mut GoblinRefusal,
+) -> u32
+    ensures { Stores (reloc_expected bytes.now header.now range.now is_rela index)
+        reloc.old why.old result reloc.new why.new }
+{
+    if let Some(found) = reloc_inside(bytes, header, range, is_rela, index, ctx_of(header)) {
+        *reloc = found;
+        return OK;
     }
     let asked = Asked {
         bytes,
@@ -318,7 +336,8 @@ pub extern "C" fn goblin_reloc(
     store_any_reloc(&asked, is_rela, reloc, why)
 }
 
-// Does the same for any file and range.
+// Does the same for any range.
+#[cold]
 #[inline(never)]
 fn store_any_reloc(
     asked: &Asked<'_>,
@@ -330,12 +349,6 @@ fn store_any_reloc(
         Stores (reloc_expected a.bytes.now a.header.now a.range.now is_rela a.index)
         reloc.old why.old result reloc.new why.new }
 {
-    let (bytes, header, range) = (asked.bytes, asked.header, asked.range);
-    let index = asked.index;
-    if let Some(found) = reloc_inside(bytes, header, range, is_rela, index, ctx_of(header)) {
-        *reloc = found;
-        return OK;
-    }
-    let found = item_of(relocs_of(bytes, header, range, is_rela), index);
-    store(found, reloc, why)
+    let list = relocs_of(asked.bytes, asked.header, asked.range, is_rela);
+    store(item_of(list, asked.index), reloc, why)
 }

@@ -80,6 +80,21 @@ fn usual_places(bytes: &[u8], alignment: usize) -> Option<NotePlaces>
     })
 }
 
+// Does the same for any alignment, of which only 4 and 8 are usual.
+#[inline(always)]
+fn places_aligned(bytes: &[u8], alignment: u64) -> Option<NotePlaces>
+    ensures value { IfSome result (λ places. read_places alignment endian.Little bytes.now ≡ Ok places) }
+    ensures within { IfSome result (LieWithin (length bytes.now) 0) }
+{
+    if alignment == 4 {
+        return usual_places(bytes, 4);
+    }
+    if alignment == 8 {
+        return usual_places(bytes, 8);
+    }
+    None
+}
+
 /// Returns the note at an offset, among those of a range, if it is a usual one.
 #[inline(always)]
 pub fn usual_note(
@@ -92,15 +107,12 @@ pub fn usual_note(
     ensures { IfSome result (λ note.
         note_expected bytes.now header.now range.now alignment offset ≡ Ok (Some note)) }
 {
-    if header.ei_data == ELFDATA2MSB || alignment != 4 && alignment != 8 {
-        return None;
-    }
-    if offset >= bytes.len() as u64 {
+    if header.ei_data == ELFDATA2MSB || offset >= bytes.len() as u64 {
         return None;
     }
     if offset >= range.offset && offset - range.offset >= range.size {
         return None;
     }
-    let places = usual_places(&bytes[offset as usize..], alignment as usize)?;
+    let places = places_aligned(&bytes[offset as usize..], alignment)?;
     Some(convert_note(offset, &places))
 }

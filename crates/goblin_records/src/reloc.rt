@@ -125,7 +125,7 @@ impl LaidOut<(bool, Ctx)> for Reloc {
         Reloc::size(ctx.0, ctx.1)
     }
 
-    #[inline]
+    #[inline(always)]
     fn get(bytes: &[u8], ctx: (bool, Ctx)) -> Reloc {
         let (is_rela, ctx) = ctx;
         // (asked here, the byte order isn't asked at each field)
@@ -157,7 +157,7 @@ impl LaidOut<RelocCtx> for Reloc {
         Reloc::size(ctx.is_rela, ctx.ctx)
     }
 
-    #[inline]
+    #[inline(always)]
     fn get(bytes: &[u8], ctx: RelocCtx) -> Reloc {
         let stored = Reloc::get(bytes, (ctx.is_rela, ctx.ctx));
         stored.meant(ctx.is_mips64el)
