@@ -31,6 +31,8 @@ RECORDS = [
     ('reloc', 'goblin_records', 'relocations', 'The sizes of relocations'),
     ('note', 'goblin_records', 'notes', 'The constants of notes'),
 ]
+# What stands elsewhere.
+MORE = {'program_header': ['crates/goblin_headers/src/whole_part.rt']}
 CLASSES = (32, 64)
 MADE = "Made by faces/constants.py of the library's constants: do not edit."
 
@@ -91,8 +93,8 @@ def constants_in(name):
 
 def constants_of(record, crate):
     """The constants of a record for both classes."""
-    name = f'crates/{crate}/src/constants_{record}.rt'
-    return constants_in(name) if os.path.exists(path_of(name)) else []
+    names = [f'crates/{crate}/src/constants_{record}.rt', *MORE.get(record, [])]
+    return [constant for name in names if os.path.exists(path_of(name)) for constant in constants_in(name)]
 
 
 def constants_of_class(record, crate, bits):

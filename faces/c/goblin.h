@@ -908,6 +908,10 @@ uint64_t goblin_refusal_text(const goblin_refusal_t *why, void *text, size_t cap
 #define GOBLIN_PF_MASKOS 0x0ff00000u /* The OS-specific flags. */
 #define GOBLIN_PF_MASKPROC 0xf0000000u /* The processor-specific flags. */
 
+/* The e_phnum of a file whose number of segments is the sh_info of section 0: System V gABI, "ELF Header",
+   GOBLIN_PN_XNUM. */
+#define GOBLIN_PN_XNUM 0xffff
+
 /* What the 32-bit class has of its own. */
 #define GOBLIN_SIZEOF_PHDR32 32 /* The size of a program header in bytes. */
 

@@ -61,6 +61,10 @@ pub const PF_MASKOS: u32 = 0x0ff0_0000;
 /// The processor-specific flags.
 pub const PF_MASKPROC: u32 = 0xf000_0000;
 
+/// The `e_phnum` of a file whose number of segments is the `sh_info` of section 0: System V gABI,
+/// "ELF Header", `PN_XNUM`.
+pub const PN_XNUM: u16 = 0xffff;
+
 /// What the 32-bit class has of its own.
 pub mod program_header32 {
     /// The size of a program header in bytes.
