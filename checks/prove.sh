@@ -19,8 +19,10 @@ if [ -e src/main.rt ]; then
     done
 elif [ "${1%_tests}" != "$1" ]; then
     rt test --jobs 1 > out/said 2>&1 || fail "the tests of $1 are not proved, or do not pass"
+    passed=$(sed -n 's/^test result: ok[.] \([1-9][0-9]*\) passed; 0 failed;.*/\1/p' out/said)
+    [ "$passed" ] || fail "no test of $1 ran"
 else
     rt lib > out/said 2>&1 || fail "$1 is not proved"
 fi
 count=$(sed -n 's/^logic=proved functions=\([0-9]*\) .*/\1/p' out/said | tail -n 1)
-echo "$1: ${count:+$count functions are }proved"
+echo "$1: ${count:+$count functions are }proved${passed:+, and $passed tests pass}"
