@@ -103,7 +103,7 @@ check_instructions() {
     "$folder/single" "$folder/nm" > "$folder/calls" || fail "single.c reads nothing of $folder/nm"
     callgrind_annotate --inclusive=yes --threshold=100 "$folder/counts" > "$folder/listed"
     while read -r call times; do
-        case $call in *header) limit=84 ;; *section) limit=81 ;; *symbol) limit=47 ;; *reloc) limit=54 ;; *string) limit=73 ;; *) limit=100 ;; esac
+        case $call in *header) limit=84 ;; *section) limit=81 ;; *symbol) limit=45 ;; *reloc) limit=54 ;; *string) limit=73 ;; *) limit=100 ;; esac
         all=$(awk -v call="$call" '$0 ~ ":" call " " { gsub(/,/, "", $1); print $1; exit }' "$folder/listed")
         each=$((${all:-0} / times))
         if [ "$each" -eq 0 ] || [ "$each" -gt "$limit" ]; then fail "$call takes $each instructions, and its limit is $limit"; fi

@@ -3,6 +3,7 @@
 ghost use Rattle.std.specs.Prelude.{◌≡◌, ◌≤◌, ◌<◌, ◌+◌, ◌*◌, ◌^◌, IfSome, IsTrue, Ok, Some, drop, length, take};
 ghost use Rattle.goblin_c.specs.Expected.{ctx_of, reloc_expected, section_expected, segment_expected, symbol_expected};
 ghost use Rattle.goblin_c.specs.Status.{Stores};
+ghost use Rattle.goblin_c.specs.Types.{symbol_converted};
 ghost use Rattle.goblin_base.specs.declared.container.Container.TheVariants as class;
 ghost use Rattle.goblin_base.specs.declared.container.Endian.TheVariants as endian;
 
@@ -13,7 +14,7 @@ use crate::status::store;
 use crate::tables::{relocs_of, symbols_of};
 use crate::types::{
     GoblinHeader, GoblinRange, GoblinRefusal, GoblinReloc, GoblinSection, GoblinSegment,
-    GoblinSymbol, convert_reloc, convert_section, convert_segment, convert_symbol,
+    GoblinSymbol, convert_reloc, convert_section, convert_segment,
 };
 use goblin::container::{Container, Ctx, Endian};
 use goblin::elf::header::{ELFCLASS64, ELFDATA2MSB, EM_MIPS};
@@ -90,13 +91,27 @@ fn symbol_inside(
     range: &GoblinRange,
     index: u64,
     ctx: Ctx,
-) -> Option<GoblinSymbol>
+) -> Option<Sym>
     requires { ctx_of header.now ≡ ctx }
     ensures { IfSome result (λ found.
-        symbol_expected bytes.now header.now range.now index ≡ Ok (Some found)) }
+        symbol_expected bytes.now header.now range.now index
+        ≡ Ok (Some (symbol_converted found))) }
 {
     let found: Sym = record_in(bytes, range.offset, range.size, index, ctx)?;
-    Some(convert_symbol(&found))
+    Some(found)
+}
+
+// Stores a symbol for C field by field. A struct would be stored with the bytes that pad it.
+#[inline(always)]
+fn store_fields(s: &Sym, symbol: &mut GoblinSymbol)
+    ensures { symbol.new ≡ symbol_converted s.now }
+{
+    symbol.st_name = s.st_name as u64;
+    symbol.st_value = s.st_value;
+    symbol.st_size = s.st_size;
+    symbol.st_shndx = s.st_shndx as u64;
+    symbol.st_info = s.st_info;
+    symbol.st_other = s.st_other;
 }
 
 /// Stores the symbol at an index of the table that lies in a range.
@@ -115,7 +130,7 @@ pub extern "C" fn goblin_symbol(
     if is_usual(header) {
         let usual = Ctx::new(Container::Big, Endian::Little);
         if let Some(found) = symbol_inside(bytes, header, range, index, usual) {
-            *symbol = found;
+            store_fields(&found, symbol);
             return OK;
         }
     }
@@ -136,7 +151,7 @@ fn store_other_symbol(
         symbol.old why.old result symbol.new why.new }
 {
     if let Some(found) = symbol_inside(bytes, header, range, index, ctx_of(header)) {
-        *symbol = found;
+        store_fields(&found, symbol);
         return OK;
     }
     let asked = Asked {
