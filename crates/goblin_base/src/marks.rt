@@ -14,7 +14,7 @@ use std::simd::prelude::*;
 pub(crate) const LANES: usize = 16;
 
 /// Which of the sixteen bytes before an offset are the delimiter, and which aren't ASCII: a bit for each.
-#[derive(Clone, Copy)]
+#[derive(Clone, Copy, Default)]
 pub(crate) struct Marks {
     until: usize,
     delims: u64,
@@ -22,17 +22,6 @@ pub(crate) struct Marks {
 }
 
 impl Marks {
-    /// Returns marks of no bytes.
-    pub(crate) fn none() -> Marks
-        ensures { result.until ≡ 0 }
-    {
-        Marks {
-            until: 0,
-            delims: 0,
-            highs: 0,
-        }
-    }
-
     /// Reads the marks of sixteen bytes, which end at an offset.
     #[inline(always)]
     pub(crate) fn of(bytes: &[u8], until: usize, delim: u8) -> Marks

@@ -67,7 +67,7 @@ pub fn walk<'a>(
     ensures none { (view.old.bytes ≡ []) → IsOk result }
 {
     let mut places = Vec::new(alloc);
-    let mut marks = Marks::none();
+    let mut marks = Marks::default();
     let mut i = 0;
     while i < view.len() {
         let (end, is_ascii) = next_end(view, &mut marks, delim, i);

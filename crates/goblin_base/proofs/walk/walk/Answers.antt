@@ -36,17 +36,17 @@ no_fault bytes seen then i e same unchanged bad low =
     false≢true (bad (subst (λ bs. IsUtf8 (slice_range bs i e)) (sym (unchanged ∙ same)) text))
 
 pub loop-i-init : goal.loop-i-init
-loop-i-init c = record {
+loop-i-init c = let unread = c.default-marks.ensures.0 in record {
   same = refl;
   within = omega arith;
   walked = rw c.new-places.ensures.items (walked_none c.args.view.now.bytes c.args.delim);
   strict = λ _. text_so_far_none c.args.view.now.bytes c.args.delim;
-  near = omega (arith, c.none-marks.ensures);
-  marked = λ h. absurd (omega (arith, h, c.none-marks.ensures));
-  looks = omega (arith, c.none-marks.ensures);
-  ascii = λ _. omega (arith, c.none-marks.ensures);
+  near = omega (arith, unread);
+  marked = λ h. absurd (omega (arith, h, unread));
+  looks = omega (arith, unread);
+  ascii = λ _. omega (arith, unread);
   rising = omega arith;
-  least = omega (arith, c.none-marks.ensures);
+  least = omega (arith, unread);
 }
 
 pub returns-in_err-push-clause-first : goal.returns-in_err-push-clause-first
