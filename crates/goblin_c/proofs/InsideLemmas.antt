@@ -7,14 +7,18 @@ use Rattle.std.proofs.lemmas.List.{take-take}
 use Rattle.goblin_base.specs.Eager.{records_from, records_in, room_of_each}
 use Rattle.goblin_base.specs.declared.scroll.Error.{Error as Misplaced}
 use Rattle.goblin_base.proofs.Eager.{all_fit}
+use Rattle.goblin_headers.specs.ProgramHeaderLaws.{program_header_laws}
+use Rattle.goblin_headers.specs.SectionHeaderLaws.{section_header_laws}
+use Rattle.goblin_records.specs.RelocLaws.{reloc_laws}
+use Rattle.goblin_records.specs.SymLaws.{sym_laws}
 use Rattle.goblin.specs.SectionHeaders.{count_asked, section_headers_from, section_headers_from_tested}
 use Rattle.goblin.specs.Symtab.{symbols_at, symtab_of}
 use Rattle.goblin_c.specs.Expected.{section_expected}
 use Rattle.goblin_c.specs.Write.{reloc_ctx}
-use Rattle.goblin_c.proofs.Common.{◌≡◌, ◌≤◌, ◌<◌, ◌+◌, ◌-◌, ◌*◌, ◌/◌, ◌^◌, ◌==◌, ℕ, Bool, true, false, nat_le, nat_lt}
+use Rattle.goblin_c.proofs.Common.{◌≡◌, ◌≤◌, ◌<◌, ◌+◌, ◌-◌, ◌*◌, ◌/◌, ◌^◌, ◌==◌, ℕ, Bool, false, nat_le, nat_lt}
 use Rattle.goblin_c.proofs.Common.{List, [], length, take, drop, max, codes, Option, Some, Result, Ok, Err}
 use Rattle.goblin_c.proofs.Common.{if◌then◌else◌, refl, sym, ap, subst, ◌∙◌, arith, div-mul-le_self, mul-le-mul_right}
-use Rattle.goblin_c.proofs.Common.{nat_tests, drop-drop, slice_get-map, option_map, Ctx, Container, Little, Big}
+use Rattle.goblin_c.proofs.Common.{nat_tests, drop-drop, slice_get-map, option_map, Ctx}
 use Rattle.goblin_c.proofs.Common.{unless_fault, room_of_fits, buffer_too_short, misplaced, refusal_of, room_of, ◌>>=◌}
 use Rattle.goblin_c.proofs.Common.{refuse_as, refuse_if, records, records-agree, get_records, ProgramHeader, Reloc}
 use Rattle.goblin_c.proofs.Common.{SectionHeader, Sym, program_header_of, program_header_size, program_headers_from}
@@ -60,15 +64,10 @@ symbols_inside bytes start count ctx there fits bound =
     accepted (nat_le (length bytes) start) (nat_le (2 ^ 64) all) (nat_lt (length bytes - start) all) _ _ _ _
     (grind (arith, nat_tests)) (grind (arith, nat_tests)) (grind (arith, nat_tests))
 
-sym_size-positive : (class : Container) → 0 < sym_size class
-sym_size-positive Little = omega arith
-sym_size-positive Big = omega arith
-
 -- some records in a range take their size
-own-le : (size own index : ℕ) → index < size / own → own ≤ size
-own-le size own index inside =
-    let one : 1 * own ≤ size / own * own = mul-le-mul_right own (omega (arith, inside)) in
-    omega (arith, one, div-mul-le_self size own)
+own-le : (size own index : ℕ) → (index + 1) * own ≤ size → own ≤ size
+own-le size own index ends =
+    let one : 1 * own ≤ (index + 1) * own = mul-le-mul_right own (omega arith) in omega (arith, one, ends)
 
 -- an index whose record ends in a range is below the number of its records
 index_inside : (size own index : ℕ) → 0 < own → (index + 1) * own ≤ size → index < size / own
@@ -83,11 +82,11 @@ pub symbol_is : (bytes : List ℕ) (h : GoblinHeader) (range : GoblinRange) (ind
     → symbol_expected bytes h range index ≡ Ok (Some (symbol_converted x))
 symbol_is bytes h range index x bound file ends is =
     let own = sym_size (ctx_of h).container in
-    let some : 0 < own = sym_size-positive (ctx_of h).container in
+    let some = (sym_laws (ctx_of h).container (ctx_of h).le).size_positive in
     let inside = index_inside range.size own index some ends in
     let count = range.size / own in
     let most : count * own ≤ range.size = div-mul-le_self range.size own in
-    let not_empty : own ≤ range.size = own-le range.size own index inside in
+    let not_empty : own ≤ range.size = own-le range.size own index ends in
     let table =
     symbols_inside bytes range.offset count (ctx_of h) (omega (arith, some, not_empty)) (omega (arith, most))
     (omega (arith, most)) in
@@ -110,10 +109,6 @@ records_inside size read bytes start count some fits =
     (λ _. Ok (records size read count (drop start bytes))) tt
     (ap (refuse_as misplaced) (all_fit (length bytes) start size count some (omega (arith, fits)) few))
 
-section_size-positive : (class : Container) → 0 < section_header_size class
-section_size-positive Little = omega arith
-section_size-positive Big = omega arith
-
 -- the section headers, whose number the header states
 module _ (bytes : List ℕ) (start count : ℕ) (ctx : Ctx) where
   asked_is : 0 < count → count_asked bytes start count ctx ≡ count
@@ -127,7 +122,7 @@ module _ (bytes : List ℕ) (start count : ℕ) (ctx : Ctx) where
   unfolding section_headers_from_tested
   sections_tested some fits =
       let own = section_header_size ctx.container in
-      let positive : 0 < own = section_size-positive ctx.container in
+      let positive = (section_header_laws ctx.container ctx.le).size_positive in
       let one : 1 * own ≤ count * own = mul-le-mul_right own (omega (arith, some)) in
       let room : room_of (length bytes) start own ≡ Ok tt =
       room_of_fits (length bytes) start own (omega (arith, one, fits)) in
@@ -156,7 +151,7 @@ module _ (bytes : List ℕ) (start count : ℕ) (ctx : Ctx) where
       (λ _. records_in own read bytes start (max 1 asked)) tt (sections_tested some fits)
       ∙ ap (λ (n : ℕ). records_in own read bytes start (max 1 n)) (asked_is some)
       ∙ ap (λ (n : ℕ). records_in own read bytes start n) most
-      ∙ records_inside own read bytes start count (section_size-positive ctx.container) fits
+      ∙ records_inside own read bytes start count (section_header_laws ctx.container ctx.le).size_positive fits
 
 pub section_is : (bytes : List ℕ) (h : GoblinHeader) (index : ℕ) (x : SectionHeader)
     → (h.e_shoff ≡ 0 → ⊥) → h.e_shoff + h.e_shnum * section_header_size (ctx_of h).container ≤ length bytes
@@ -167,16 +162,12 @@ pub section_is : (bytes : List ℕ) (h : GoblinHeader) (index : ℕ) (x : Sectio
     → section_expected bytes h index ≡ Ok (Some (section_converted x))
 section_is bytes h index x there file ends is =
     let own = section_header_size (ctx_of h).container in
-    let some = section_size-positive (ctx_of h).container in
+    let some = (section_header_laws (ctx_of h).container (ctx_of h).le).size_positive in
     let same : h.e_shnum * own / own ≡ h.e_shnum = mul-div_left h.e_shnum some in
     let inside : index < h.e_shnum = omega (arith, index_inside (h.e_shnum * own) own index some ends, same) in
     let list = sections_inside bytes h.e_shoff h.e_shnum (ctx_of h) there (omega (arith, inside)) file in
     listed_item section_converted own (section_header_of (ctx_of h).container (ctx_of h).le) bytes h.e_shoff h.e_shnum
     index (sections_expected bytes h) x (ap (refused_at h.e_shoff) list) inside is
-
-segment_size-positive : (class : Container) → 0 < program_header_size class
-segment_size-positive Little = omega arith
-segment_size-positive Big = omega arith
 
 -- the program headers, whose number the header states
 segments_inside : (bytes : List ℕ) (start count : ℕ) (ctx : Ctx)
@@ -187,7 +178,7 @@ segments_inside : (bytes : List ℕ) (start count : ℕ) (ctx : Ctx)
 unfolding records_from
 segments_inside bytes start count ctx fits =
     let own = program_header_size ctx.container in
-    let positive : 0 < own = segment_size-positive ctx.container in
+    let positive = (program_header_laws ctx.container ctx.le).size_positive in
     let all = records own (program_header_of ctx.container ctx.le) count (drop start bytes) in
     let name = codes "program headers" in
     let each = refuse_as misplaced (room_of_each (length bytes) start own count) in
@@ -208,7 +199,7 @@ pub segment_is : (bytes : List ℕ) (h : GoblinHeader) (index : ℕ) (x : Progra
     → segment_expected bytes h index ≡ Ok (Some (segment_converted x))
 segment_is bytes h index x plain file ends is =
     let own = program_header_size (ctx_of h).container in
-    let some = segment_size-positive (ctx_of h).container in
+    let some = (program_header_laws (ctx_of h).container (ctx_of h).le).size_positive in
     let same : h.e_phnum * own / own ≡ h.e_phnum = mul-div_left h.e_phnum some in
     let inside : index < h.e_phnum = omega (arith, index_inside (h.e_phnum * own) own index some ends, same) in
     let list = λ (n : ℕ). refused_at h.e_phoff (program_headers_from bytes h.e_phoff n (ctx_of h)) in
@@ -219,12 +210,6 @@ segment_is bytes h index x plain file ends is =
     ∙ ap (refused_at h.e_phoff) (segments_inside bytes h.e_phoff h.e_phnum (ctx_of h) file) in
     listed_item segment_converted own (program_header_of (ctx_of h).container (ctx_of h).le) bytes h.e_phoff h.e_phnum
     index (segments_expected bytes h) x all inside is
-
-reloc_size-positive : (is_rela : Bool) (class : Container) → 0 < reloc_size is_rela class
-reloc_size-positive true Little = omega arith
-reloc_size-positive true Big = omega arith
-reloc_size-positive false Little = omega arith
-reloc_size-positive false Big = omega arith
 
 -- the relocations of a range in the file
 relocs_inside : (bytes : List ℕ) (start size : ℕ) (is_rela : Bool) (ctx : Ctx) (is_mips64el : Bool)
@@ -256,9 +241,9 @@ reloc_is : (bytes : List ℕ) (h : GoblinHeader) (range : GoblinRange) (is_rela 
     → reloc_expected bytes h range is_rela index ≡ Ok (Some (reloc_converted x))
 reloc_is bytes h range is_rela index x file ends is =
     let own = reloc_size is_rela (ctx_of h).container in
-    let positive = reloc_size-positive is_rela (ctx_of h).container in
+    let positive = (reloc_laws is_rela (ctx_of h).container (ctx_of h).le).size_positive in
     let inside = index_inside range.size own index positive ends in
-    let some : 0 < range.size = omega (arith, positive, own-le range.size own index inside) in
+    let some : 0 < range.size = omega (arith, positive, own-le range.size own index ends) in
     let list = relocs_inside bytes range.offset range.size is_rela (ctx_of h) (is_mips64el h) some file in
     listed_item reloc_converted own (reloc_in (reloc_ctx h is_rela)) bytes range.offset (range.size / own) index
     (relocs_expected bytes h range is_rela) x (ap (λ r. refused_at range.offset (refuse_as refusal_of r)) list) inside
