@@ -8,6 +8,7 @@ ghost use Rattle.goblin_c.specs.Bytes.{is_width, number_expected, range_expected
 ghost use Rattle.goblin_c.specs.Status.{Stores};
 
 use crate::headers::ctx_of;
+use crate::kinds::END;
 use crate::refused::{Refused, Result};
 use crate::status::store;
 use crate::strings::string_table_bytes;
@@ -41,17 +42,6 @@ fn range_in(bytes: &[u8], range: &GoblinRange) -> Result<Option<GoblinRange>>
     Ok(Some(*range))
 }
 
-/// Returns the range of a section's bytes in the file.
-pub fn section_bytes(bytes: &[u8], section: &GoblinSection) -> Result<Option<GoblinRange>>
-    ensures { Returns (λ found. found) result (section_bytes_expected bytes.now section.now) }
-{
-    let sh_type = section.sh_type;
-    if sh_type == SHT_NULL || sh_type == SHT_NOBITS || section.file.size == 0 {
-        return Ok(None);
-    }
-    range_in(bytes, &section.file)
-}
-
 /// Stores the range of a section's bytes in the file.
 #[unsafe(no_mangle)]
 pub extern "C" fn goblin_section_bytes(
@@ -63,17 +53,11 @@ pub extern "C" fn goblin_section_bytes(
     ensures { Stores (section_bytes_expected bytes.now section.now)
         range.old why.old result range.new why.new }
 {
-    store(section_bytes(bytes, section), range, why)
-}
-
-/// Returns the range of a segment's bytes in the file.
-pub fn segment_bytes(bytes: &[u8], segment: &GoblinSegment) -> Result<Option<GoblinRange>>
-    ensures { Returns (λ found. found) result (segment_bytes_expected bytes.now segment.now) }
-{
-    if segment.p_type == PT_NULL || segment.file.size == 0 {
-        return Ok(None);
+    let sh_type = section.sh_type;
+    if sh_type == SHT_NULL || sh_type == SHT_NOBITS || section.file.size == 0 {
+        return END;
     }
-    range_in(bytes, &segment.file)
+    store(range_in(bytes, &section.file), range, why)
 }
 
 /// Stores the range of a segment's bytes in the file.
@@ -87,23 +71,10 @@ pub extern "C" fn goblin_segment_bytes(
     ensures { Stores (segment_bytes_expected bytes.now segment.now)
         range.old why.old result range.new why.new }
 {
-    store(segment_bytes(bytes, segment), range, why)
-}
-
-/// Returns the range in the file of the string at an offset of a string table, which need not be UTF-8.
-pub fn string_bytes(bytes: &[u8], range: &GoblinRange, offset: u64) -> Result<Option<GoblinRange>>
-    ensures { Returns (λ found. found) result
-        (string_bytes_expected bytes.now range.now offset) }
-{
-    let strings = string_table_bytes(bytes, range)?;
-    let start = offset as usize;
-    if start >= strings.len() {
-        return Ok(None);
+    if segment.p_type == PT_NULL || segment.file.size == 0 {
+        return END;
     }
-    Ok(Some(GoblinRange {
-        offset: range.offset + offset,
-        size: piece_len(strings, start, 0) as u64,
-    }))
+    store(range_in(bytes, &segment.file), range, why)
 }
 
 /// Stores the range in the file of the string at an offset of a string table, which need not be UTF-8.
@@ -118,7 +89,17 @@ pub extern "C" fn goblin_string_bytes(
     ensures { Stores (string_bytes_expected bytes.now strings.now offset)
         string.old why.old result string.new why.new }
 {
-    store(string_bytes(bytes, strings, offset), string, why)
+    let start = offset as usize;
+    let found = string_table_bytes(bytes, strings).map(|table| {
+        if start >= table.len() {
+            return None;
+        }
+        Some(GoblinRange {
+            offset: strings.offset + offset,
+            size: piece_len(table, start, 0) as u64,
+        })
+    });
+    store(found, string, why)
 }
 
 /// Reports whether numbers of the format have this width in bytes.
@@ -138,14 +119,11 @@ pub fn number(bytes: &[u8], header: &GoblinHeader, offset: u64, width: u64) -> R
     fits(bytes, offset, width)?;
     let place = offset as usize;
     let order = ctx_of(header).le;
-    Ok(Some(if width == 1 {
-        u64::from(get_u8(bytes, place))
-    } else if width == 2 {
-        u64::from(get_u16(bytes, place, order))
-    } else if width == 4 {
-        u64::from(get_u32(bytes, place, order))
-    } else {
-        get_u64(bytes, place, order)
+    Ok(Some(match width {
+        1 => u64::from(get_u8(bytes, place)),
+        2 => u64::from(get_u16(bytes, place, order)),
+        4 => u64::from(get_u32(bytes, place, order)),
+        _ => get_u64(bytes, place, order),
     }))
 }
 

@@ -138,22 +138,6 @@ pub fn section_at(
     Some((index as u64, convert_section(&section)))
 }
 
-/// Returns the first section of a type, from an index on, and its index.
-pub fn section_by_type(
-    bytes: &[u8],
-    header: &GoblinHeader,
-    sh_type: u32,
-    first: u64,
-) -> Result<Option<(u64, GoblinSection)>>
-    ensures { Returns (λ found. found) result
-        (section_by_type_expected bytes.now header.now sh_type first) }
-{
-    let sections = sections_of(bytes, header)?;
-    let first = first as usize;
-    let found = find_type(&sections, sh_type, first).map(|place| first + place);
-    Ok(section_at(&sections, found))
-}
-
 /// Stores the first section of a type, from an index on, and its index.
 #[unsafe(no_mangle)]
 pub extern "C" fn goblin_section_by_type(
@@ -168,7 +152,11 @@ pub extern "C" fn goblin_section_by_type(
     ensures { StoresBoth (section_by_type_expected bytes.now header.now sh_type first)
         index.old section.old why.old result index.new section.new why.new }
 {
-    let found = section_by_type(bytes, header, sh_type, first);
+    let first = first as usize;
+    let found = sections_of(bytes, header).map(|sections| {
+        let found = find_type(&sections, sh_type, first).map(|place| first + place);
+        section_at(&sections, found)
+    });
     store_both(found, index, section, why)
 }
 
@@ -177,17 +165,6 @@ fn converted_table(sections: &Table<'_, SectionHeader, Ctx>, index: usize) -> Op
     ensures { result ≡ table_at sections.now index }
 {
     Some(convert_section(&SectionHeader::linked_in(sections, index)?))
-}
-
-/// Returns the section at an index for C, if it is a table.
-pub fn table_section(
-    bytes: &[u8],
-    header: &GoblinHeader,
-    index: u64,
-) -> Result<Option<GoblinSection>>
-    ensures { Returns (λ found. found) result (table_expected bytes.now header.now index) }
-{
-    Ok(converted_table(&sections_of(bytes, header)?, index as usize))
 }
 
 /// Stores the section at an index if it can be a table that something names by this index: not index 0,
@@ -203,17 +180,9 @@ pub extern "C" fn goblin_linked_section(
     ensures { Stores (table_expected bytes.now header.now index)
         section.old why.old result section.new why.new }
 {
-    store(table_section(bytes, header, index), section, why)
-}
-
-/// Returns the section that holds the sections' names for C, if it is a table.
-pub fn section_names(bytes: &[u8], header: &GoblinHeader) -> Result<Option<GoblinSection>>
-    ensures { Returns (λ found. found) result (section_names_expected bytes.now header.now) }
-{
-    let sections = sections_of(bytes, header)?;
-    let first = sections.get(0);
-    let index = header.names_index(first.as_ref());
-    Ok(converted_table(&sections, index))
+    let sections = sections_of(bytes, header);
+    let found = sections.map(|sections| converted_table(&sections, index as usize));
+    store(found, section, why)
 }
 
 /// Stores the section that holds the sections' names, if it is such a table.
@@ -227,7 +196,11 @@ pub extern "C" fn goblin_section_names(
     ensures { Stores (section_names_expected bytes.now header.now)
         section.old why.old result section.new why.new }
 {
-    store(section_names(bytes, header), section, why)
+    let found = sections_of(bytes, header).map(|sections| {
+        let index = header.names_index(sections.get(0).as_ref());
+        converted_table(&sections, index)
+    });
+    store(found, section, why)
 }
 
 /// Stores a copy of a header that counts only the section headers and program headers that lie whole in the file.

@@ -2,37 +2,17 @@
 ghost use Rattle.std.specs.Prelude.{◌≡◌, ◌+◌, ◌-◌, ◌≤◌, length, take};
 ghost use Rattle.goblin.specs.Refusal.{refusal_of};
 ghost use Rattle.goblin.specs.NoteType.{note_type_name};
-ghost use Rattle.goblin_c.specs.Refused.{Returns};
 ghost use Rattle.goblin_c.specs.Notes.{StoresNote, bytes_from, note_bytes_expected, note_expected, part_converted, part_number};
 ghost use Rattle.goblin_c.specs.Status.{Stores};
 
 use crate::headers::ctx_of;
 use crate::inside::Asked;
 use crate::kinds::{END, NOTE_DESC, NOTE_HEADER, NOTE_NAME, OK};
-use crate::refused::{Refused, Result, refused_at};
+use crate::refused::{Refused, refused_at};
 use crate::status::{refuse, store};
 use crate::types::{GoblinHeader, GoblinNote, GoblinRange, GoblinRefusal, convert_note};
 use crate::usual_note::usual_note;
 use goblin::elf::note::{Note, NotePart, NotePlaces, NoteRefusal};
-
-/// Returns the note at an offset, among those of a range.
-pub fn note_from(
-    bytes: &[u8],
-    header: &GoblinHeader,
-    range: &GoblinRange,
-    alignment: u64,
-    offset: u64,
-) -> Result<Option<GoblinNote>>
-    ensures { Returns (λ found. found) result
-        (note_expected bytes.now header.now range.now alignment offset) }
-{
-    if offset >= range.offset && offset - range.offset >= range.size {
-        return Ok(None);
-    }
-    let ctx = (alignment as usize, ctx_of(header));
-    let (_, places) = refused_at(offset, Note::at(bytes, offset as usize, ctx))?;
-    Ok(Some(convert_note(offset, &places)))
-}
 
 /// Stores the note at an offset of the file, among those of a range. The first one is at the range's
 /// start, and each has the offset of the next one.
@@ -74,8 +54,13 @@ fn store_any_note(
         Stores (note_expected a.bytes.now a.header.now a.range.now alignment a.index)
         note.old why.old result note.new why.new }
 {
-    let (bytes, header, range) = (asked.bytes, asked.header, asked.range);
-    let found = note_from(bytes, header, range, alignment, asked.index);
+    let (range, offset) = (asked.range, asked.index);
+    if offset >= range.offset && offset - range.offset >= range.size {
+        return END;
+    }
+    let ctx = (alignment as usize, ctx_of(asked.header));
+    let found = refused_at(offset, Note::at(asked.bytes, offset as usize, ctx));
+    let found = found.map(|(_, places)| Some(convert_note(offset, &places)));
     store(found, note, why)
 }
 

@@ -98,19 +98,13 @@ pub extern "C" fn goblin_address_to_offset(
     store(address_to_offset(bytes, header, address), offset, why)
 }
 
-/// Returns the part of a range that lies in a file of so many bytes.
-pub fn cut_range(len: usize, range: &GoblinRange) -> GoblinRange
-    ensures { result ≡ cut_range len range.now }
-{
-    let offset = range.offset.min(len as u64);
-    let size = range.size.min(len as u64 - offset);
-    GoblinRange { offset, size }
-}
-
 /// Stores the part of a range that lies in the file.
 #[unsafe(no_mangle)]
 pub extern "C" fn goblin_range_in_file(bytes: &[u8], range: &GoblinRange, part: &mut GoblinRange)
     ensures { part.new ≡ cut_range (length bytes.now) range.now }
 {
-    *part = cut_range(bytes.len(), range);
+    let len = bytes.len() as u64;
+    let offset = range.offset.min(len);
+    let size = range.size.min(len - offset);
+    *part = GoblinRange { offset, size };
 }

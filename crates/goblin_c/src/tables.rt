@@ -224,20 +224,6 @@ pub extern "C" fn goblin_symbol_by_name(
     store(found, index, why)
 }
 
-/// Returns the index of the symbol of an address: one that contains it, or a label at or below it.
-pub fn symbol_by_address(
-    bytes: &[u8],
-    header: &GoblinHeader,
-    range: &GoblinRange,
-    address: u64,
-) -> Result<Option<u64>>
-    ensures { Returns (λ found. found) result
-        (symbol_by_address_expected bytes.now header.now range.now address) }
-{
-    let found = symbols_of(bytes, header, range)?.at(address);
-    Ok(found.map(|index| index as u64))
-}
-
 /// Stores the index of the symbol of an address: one that contains it, or a label at or below it.
 #[unsafe(no_mangle)]
 pub extern "C" fn goblin_symbol_by_address(
@@ -251,5 +237,7 @@ pub extern "C" fn goblin_symbol_by_address(
     ensures { Stores (symbol_by_address_expected bytes.now header.now table.now address)
         index.old why.old result index.new why.new }
 {
-    store(symbol_by_address(bytes, header, table, address), index, why)
+    let symbols = symbols_of(bytes, header, table);
+    let found = symbols.map(|symbols| symbols.at(address).map(|index| index as u64));
+    store(found, index, why)
 }

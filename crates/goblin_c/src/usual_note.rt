@@ -80,21 +80,6 @@ fn usual_places(bytes: &[u8], alignment: usize) -> Option<NotePlaces>
     })
 }
 
-// Does the same for any alignment, of which only 4 and 8 are usual.
-#[inline(always)]
-fn places_aligned(bytes: &[u8], alignment: u64) -> Option<NotePlaces>
-    ensures value { IfSome result (λ places. read_places alignment endian.Little bytes.now ≡ Ok places) }
-    ensures within { IfSome result (LieWithin (length bytes.now) 0) }
-{
-    if alignment == 4 {
-        return usual_places(bytes, 4);
-    }
-    if alignment == 8 {
-        return usual_places(bytes, 8);
-    }
-    None
-}
-
 /// Returns the note at an offset, among those of a range, if it is a usual one.
 #[inline(always)]
 pub fn usual_note(
@@ -113,6 +98,11 @@ pub fn usual_note(
     if offset >= range.offset && offset - range.offset >= range.size {
         return None;
     }
-    let places = places_aligned(&bytes[offset as usize..], alignment)?;
+    let part = &bytes[offset as usize..];
+    let places = match alignment {
+        4 => usual_places(part, 4)?,
+        8 => usual_places(part, 8)?,
+        _ => return None,
+    };
     Some(convert_note(offset, &places))
 }

@@ -39,32 +39,26 @@ fn put_record<R: LaidOut<C>, C: Copy>(bytes: &mut [u8], place: usize, own: R, ct
     own.put(&mut bytes[place..], ctx);
 }
 
-// The place of a record: the offset of the first of its list, and its index.
-#[derive(Clone, Copy)]
-struct Place {
-    start: u64,
-    index: u64,
-}
-
-// Puts a record at its place, if a call that reads found one there and the record fits. Returns the status.
+// Puts a record at its place, if a call that reads found one there and the record fits. Returns the status. The place is
+// the offset of the first record of a list, and an index.
 fn put_found<T: Drop, R: LaidOut<C>, C: Copy>(
     bytes: &mut [u8],
     found: Result<Option<T>>,
-    place: Place,
+    place: (u64, u64),
     own: R,
     ctx: C,
     fits: bool,
     why: &mut GoblinRefusal,
 ) -> u32
     requires { (x : T) → found ≡ Ok (Some x)
-        → place.start + place.index * (R.layout ctx).size + (R.layout ctx).size ≤ length bytes.old }
-    ensures { let put = put_at (R.layout ctx) bytes.old place.start place.index own fits in
+        → place.0 + place.1 * (R.layout ctx).size + (R.layout ctx).size ≤ length bytes.old }
+    ensures { let put = put_at (R.layout ctx) bytes.old place.0 place.1 own fits in
         Stores (put_if_there (refuse_as refusal_at found) put)
         bytes.old why.old result bytes.new why.new }
 {
     match found {
         Ok(Some(_)) => {
-            let start = place.start as usize + place.index as usize * R::size_in(ctx);
+            let start = place.0 as usize + place.1 as usize * R::size_in(ctx);
             if !fits {
                 return refuse(&unfit(start as u64), why);
             }
@@ -92,10 +86,7 @@ pub extern "C" fn goblin_put_section(
     let found = item_of(sections_of(bytes, header), index);
     let (ctx, record) = (ctx_of(header), section_of(section));
     let fits = record.fits(ctx);
-    let place = Place {
-        start: header.e_shoff,
-        index,
-    };
+    let place = (header.e_shoff, index);
     put_found(bytes, found, place, record, ctx, fits, why)
 }
 
@@ -115,10 +106,7 @@ pub extern "C" fn goblin_put_segment(
     let found = item_of(segments_of(bytes, header), index);
     let (ctx, record) = (ctx_of(header), segment_of(segment));
     let fits = record.fits(ctx);
-    let place = Place {
-        start: header.e_phoff,
-        index,
-    };
+    let place = (header.e_phoff, index);
     put_found(bytes, found, place, record, ctx, fits, why)
 }
 
@@ -139,10 +127,7 @@ pub extern "C" fn goblin_put_symbol(
     let found = item_of(symbols_of(bytes, header, table), index);
     let (ctx, record) = (ctx_of(header), symbol_of(symbol));
     let fits = record.fits(ctx);
-    let place = Place {
-        start: table.offset,
-        index,
-    };
+    let place = (table.offset, index);
     put_found(bytes, found, place, record, ctx, fits, why)
 }
 
@@ -184,10 +169,7 @@ pub extern "C" fn goblin_put_reloc(
     let found = item_of(relocs_of(bytes, header, table, is_rela), index);
     let (ctx, record) = (reloc_ctx(header, is_rela), reloc_of(reloc));
     let fits = record.fits(ctx) && is_exact(reloc);
-    let place = Place {
-        start: table.offset,
-        index,
-    };
+    let place = (table.offset, index);
     put_found(bytes, found, place, record, ctx, fits, why)
 }
 
@@ -196,14 +178,11 @@ fn number_fits(width: u64, value: u64) -> bool
     requires { IsTrue (is_width width) }
     ensures { IsTrue result ↔ NumberFits width value }
 {
-    if width == 1 {
-        value < 1 << 8
-    } else if width == 2 {
-        value < 1 << 16
-    } else if width == 4 {
-        value < 1 << 32
-    } else {
-        true
+    match width {
+        1 => value < 1 << 8,
+        2 => value < 1 << 16,
+        4 => value < 1 << 32,
+        _ => true,
     }
 }
 
@@ -214,14 +193,11 @@ fn put_width(bytes: &mut [u8], place: usize, width: u64, value: u64, order: Endi
     requires fits { NumberFits width value }
     ensures { bytes.new ≡ with_number order bytes.old place width value }
 {
-    if width == 1 {
-        put_u8(bytes, place, value as u8);
-    } else if width == 2 {
-        put_u16(bytes, place, value as u16, order);
-    } else if width == 4 {
-        put_u32(bytes, place, value as u32, order);
-    } else {
-        put_u64(bytes, place, value, order);
+    match width {
+        1 => put_u8(bytes, place, value as u8),
+        2 => put_u16(bytes, place, value as u16, order),
+        4 => put_u32(bytes, place, value as u32, order),
+        _ => put_u64(bytes, place, value, order),
     }
 }
 

@@ -6,15 +6,7 @@ ghost use Rattle.goblin_c.specs.FilledBuffer.{WritesText, laid};
 pub fn write_text(text: &str, buffer: &mut [u8]) -> u64
     ensures { WritesText text.now buffer.old result buffer.new }
 {
-    write_closed(text.as_bytes(), buffer)
-}
-
-// Writes bytes with a zero byte after them, or as much of them as the buffer holds. Returns the number of the bytes
-// without the last one.
-fn write_closed(bytes: &[u8], buffer: &mut [u8]) -> u64
-    ensures { WritesText bytes.now buffer.old result buffer.new }
-{
-    let len = write_bytes(bytes, buffer);
+    let len = write_bytes(text.as_bytes(), buffer);
     write_after(b"\0", len, buffer);
     len
 }

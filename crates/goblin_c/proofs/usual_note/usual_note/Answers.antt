@@ -4,6 +4,7 @@ use Rattle.goblin_c.proofs.NoteLemmas.{usual_note_is}
 use Rattle.goblin_c.proofs.usual_note.usual_note.Goals as goal
 use Rattle.goblin_c.proofs.usual_note.usual_note.Goals.{else-offset-range-via-then-offset-range+else-offset-range-2}
 use Rattle.goblin_c.proofs.usual_note.usual_note.Goals.{else-offset-range-via-else-offset-range}
+use Rattle.goblin_c.proofs.usual_note.usual_note.Goals.{in-4+in_ok-places-in-4, in-8+in_ok-places-in-8}
 
 pub returns : goal.returns
 returns c =
@@ -13,6 +14,8 @@ returns c =
       | else-offset-range-via-else-offset-range w ↦ omega arith
     ] in
     usual_note_is c.args.bytes.now c.args.header.now c.args.range.now c.args.alignment c.args.offset
-    c.in_ok-places.places
-    c.if-header-eq-ELFDATA2MSB.false (omega arith) before c.in_ok-places.ensures.value
+    c.match-alignment.places c.if-header-eq-ELFDATA2MSB.false (omega arith) before (elim c.match-alignment.branch [
+      | in-4+in_ok-places-in-4 w ↦ rw (w.in-4.is, w.places-is) w.in_ok-places-in-4.ensures.value
+      | in-8+in_ok-places-in-8 w ↦ rw (w.in-8.is, w.places-is) w.in_ok-places-in-8.ensures.value
+    ])
     ∙ ap (λ n. Ok (Some n)) (sym c.convert_note.ensures)
