@@ -88,6 +88,7 @@ async function bytes_shown() {
 }
 
 async function search(text, shown) {
+    await until_there('#panel output');
     await evaluate(`(() => {
         const box = document.querySelector('#panel input');
         document.querySelector('#panel output').textContent = '';
