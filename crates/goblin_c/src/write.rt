@@ -39,30 +39,31 @@ fn put_record<R: LaidOut<C>, C: Copy>(bytes: &mut [u8], place: usize, own: R, ct
     own.put(&mut bytes[place..], ctx);
 }
 
-// Puts a record at its place, if a call that reads found one there and the record fits. Returns the status. The place is
-// the offset of the first record of a list, and an index.
+// Puts a record at an index of a list that starts at an offset, if a call that reads found one there and the record fits.
+// Returns the status.
 fn put_found<T: Drop, R: LaidOut<C>, C: Copy>(
     bytes: &mut [u8],
     found: Result<Option<T>>,
-    place: (u64, u64),
+    start: u64,
+    index: u64,
     own: R,
     ctx: C,
     fits: bool,
     why: &mut GoblinRefusal,
 ) -> u32
     requires { (x : T) → found ≡ Ok (Some x)
-        → place.0 + place.1 * (R.layout ctx).size + (R.layout ctx).size ≤ length bytes.old }
-    ensures { let put = put_at (R.layout ctx) bytes.old place.0 place.1 own fits in
+        → start + index * (R.layout ctx).size + (R.layout ctx).size ≤ length bytes.old }
+    ensures { let put = put_at (R.layout ctx) bytes.old start index own fits in
         Stores (put_if_there (refuse_as refusal_at found) put)
         bytes.old why.old result bytes.new why.new }
 {
     match found {
         Ok(Some(_)) => {
-            let start = place.0 as usize + place.1 as usize * R::size_in(ctx);
+            let place = start as usize + index as usize * R::size_in(ctx);
             if !fits {
-                return refuse(&unfit(start as u64), why);
+                return refuse(&unfit(place as u64), why);
             }
-            put_record(bytes, start, own, ctx);
+            put_record(bytes, place, own, ctx);
             OK
         }
         Ok(None) => END,
@@ -86,8 +87,7 @@ pub extern "C" fn goblin_put_section(
     let found = item_of(sections_of(bytes, header), index);
     let (ctx, record) = (ctx_of(header), section_of(section));
     let fits = record.fits(ctx);
-    let place = (header.e_shoff, index);
-    put_found(bytes, found, place, record, ctx, fits, why)
+    put_found(bytes, found, header.e_shoff, index, record, ctx, fits, why)
 }
 
 /// Puts the program header at an index.
@@ -106,8 +106,7 @@ pub extern "C" fn goblin_put_segment(
     let found = item_of(segments_of(bytes, header), index);
     let (ctx, record) = (ctx_of(header), segment_of(segment));
     let fits = record.fits(ctx);
-    let place = (header.e_phoff, index);
-    put_found(bytes, found, place, record, ctx, fits, why)
+    put_found(bytes, found, header.e_phoff, index, record, ctx, fits, why)
 }
 
 /// Puts the symbol at an index of the table that lies in a range.
@@ -127,8 +126,7 @@ pub extern "C" fn goblin_put_symbol(
     let found = item_of(symbols_of(bytes, header, table), index);
     let (ctx, record) = (ctx_of(header), symbol_of(symbol));
     let fits = record.fits(ctx);
-    let place = (table.offset, index);
-    put_found(bytes, found, place, record, ctx, fits, why)
+    put_found(bytes, found, table.offset, index, record, ctx, fits, why)
 }
 
 // Returns the layout of the relocations of a file.
@@ -169,8 +167,7 @@ pub extern "C" fn goblin_put_reloc(
     let found = item_of(relocs_of(bytes, header, table, is_rela), index);
     let (ctx, record) = (reloc_ctx(header, is_rela), reloc_of(reloc));
     let fits = record.fits(ctx) && is_exact(reloc);
-    let place = (table.offset, index);
-    put_found(bytes, found, place, record, ctx, fits, why)
+    put_found(bytes, found, table.offset, index, record, ctx, fits, why)
 }
 
 // Reports whether a number fits into so many bytes.
