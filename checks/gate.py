@@ -24,7 +24,6 @@ sys.dont_write_bytecode = True
 from crates import crates_listed
 
 LOGS = 'out/log'
-PROCESSORS = len(os.sched_getaffinity(0))
 PYTHON = sys.executable or 'python3'
 
 
@@ -140,9 +139,9 @@ def test(room, whole):
     if not whole:
         parts += [here(f'tests of {crate}', f'sh checks/tests.sh {crate}') for crate in crates_listed() if has_tests(crate) and crate != LONG_TESTS]
     parts += [Part('calls from other languages', ['sh', 'checks/faces.sh'], ('proof of goblin_c',), copy, True, weight=3)]
-    # (all kinds together take fewer checks, and each by itself ends sooner where there are processors for both)
-    for some in [','.join(kinds)] if whole or PROCESSORS < 3 else kinds:
-        parts += edits(crates_with(some.split(',')), copy, '--kinds', some, what='edits' if ',' in some else some)
+    # (all kinds together take fewer checks, and each by itself ends sooner)
+    for some in [','.join(kinds)] if whole else kinds:
+        parts += edits(crates_with(some.split(',')), copy, '--kinds', some, what='edits' if whole else some)
     parts += [here('refused allocations', 'sh checks/refused.sh'), here('the program', f'{PYTHON} checks/program.py', 'proof of goblin_show'),
               here('hostile files', f'{PYTHON} checks/limits.py', 'proof of goblin_show', 'proof of goblin_refused')]
     return parts + [here("the edits' own test", f'{PYTHON} checks/edits/self_test.py')] * whole
@@ -262,7 +261,7 @@ def main():
         parts = parts_of(options, room)
         if not parts:
             sys.exit('gate: no edit was found')
-        status = Run(parts).all(PROCESSORS)
+        status = Run(parts).all(len(os.sched_getaffinity(0)))
         if not status and options.goal != 'edits':
             subprocess.run(['sh', 'commands/show.sh', 'built'], cwd=f'{room}/proved', check=True)
             leave(f'{room}/proved')
