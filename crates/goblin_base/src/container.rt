@@ -136,7 +136,7 @@ pub fn derived_endian(order: &Endian, other: &Endian) -> (bool, Result<Endian, A
     ensures clone { result.1 ≡ Ok order.now }
     ensures default { result.2 ≡ Endian.Little }
 {
-    (*order == *other, order.clone(), Endian::default())
+    (*order == *other, Clone::clone(order), Default::default())
 }
 
 /// Laws of classes: `==` is true exactly if both are the same. `clone` returns the class, and never
@@ -149,7 +149,7 @@ pub fn derived_container(
     ensures clone { result.1 ≡ Ok class.now }
     ensures default { result.2 ≡ Container.Big }
 {
-    (*class == *other, class.clone(), Container::default())
+    (*class == *other, Clone::clone(class), Default::default())
 }
 
 /// Laws of contexts: `==` is true exactly if both are the same. `clone` returns the context, and
@@ -159,5 +159,5 @@ pub fn derived_ctx(ctx: &Ctx, other: &Ctx) -> (bool, Result<Ctx, AllocError>, Ct
     ensures clone { result.1 ≡ Ok ctx.now }
     ensures default { result.2 ≡ record { container = Container.Big; le = Endian.Little } }
 {
-    (*ctx == *other, ctx.clone(), Ctx::default())
+    (*ctx == *other, Clone::clone(ctx), Default::default())
 }

@@ -70,7 +70,7 @@ pub fn derived_mode(
     ensures clone { result.1 ≡ Ok mode.now }
     ensures default { result.2 ≡ ParseMode.Strict }
 {
-    (*mode == *other, mode.clone(), ParseMode::default())
+    (*mode == *other, Clone::clone(mode), Default::default())
 }
 
 /// Laws of options: `==` is true exactly if both are the same. `clone` returns the options, and
@@ -83,5 +83,9 @@ pub fn derived_options(
     ensures clone { result.1 ≡ Ok options.now }
     ensures default { result.2 ≡ record { parse_mode = ParseMode.Strict } }
 {
-    (*options == *other, options.clone(), ParseOptions::default())
+    (
+        *options == *other,
+        Clone::clone(options),
+        Default::default(),
+    )
 }

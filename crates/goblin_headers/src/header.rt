@@ -260,6 +260,13 @@ pub fn derived(header: &Header, other: &Header) -> (bool, Cloned<Header>)
     (*header == *other, header.clone())
 }
 
+/// Law: the trait's `clone` returns the header, whatever method of this name the type has.
+pub fn derived_clone(header: &Header) -> Cloned<Header>
+    ensures { result ≡ Ok header.now }
+{
+    Clone::clone(header)
+}
+
 // The identification.
 pub use crate::constants_header::{
     EI_ABIVERSION, EI_CLASS, EI_DATA, EI_OSABI, EI_VERSION, ELFCLASS32, ELFCLASS64, ELFCLASSNONE,

@@ -254,7 +254,7 @@ pub fn default_is_zeros() -> Header
     ensures ident { result.e_ident ≡ replicate 16 0 }
     ensures fields { values_of (header64.fields result) ≡ replicate 13 0 }
 {
-    Header::default()
+    Default::default()
 }
 
 // The identification.
@@ -361,4 +361,11 @@ pub fn derived(header: &Header, other: &Header) -> (bool, Cloned<Header>)
     ensures clone { result.1 ≡ Ok header.now }
 {
     (*header == *other, header.clone())
+}
+
+/// Law: the trait's `clone` returns the header, whatever method of this name the type has.
+pub fn derived_clone(header: &Header) -> Cloned<Header>
+    ensures { result ≡ Ok header.now }
+{
+    Clone::clone(header)
 }

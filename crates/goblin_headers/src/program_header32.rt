@@ -157,7 +157,7 @@ impl LaidOut<Endian> for ProgramHeader {
 pub fn default_is_zeros() -> ProgramHeader
     ensures { values_of (program_header32.fields result) ≡ replicate 8 0 }
 {
-    ProgramHeader::default()
+    Default::default()
 }
 
 // Segment types.
@@ -188,5 +188,5 @@ pub fn derived(header: &ProgramHeader, other: &ProgramHeader) -> (bool, Cloned<P
     ensures equal { IsTrue result.0 ↔ (header.now ≡ other.now) }
     ensures clone { result.1 ≡ Ok header.now }
 {
-    (*header == *other, header.clone())
+    (*header == *other, Clone::clone(header))
 }

@@ -146,7 +146,7 @@ impl LaidOut<Endian> for SectionHeader {
 pub fn default_is_zeros() -> SectionHeader
     ensures { values_of (section_header32.fields result) ≡ replicate 10 0 }
 {
-    SectionHeader::default()
+    Default::default()
 }
 
 // Special section indices.
@@ -201,5 +201,5 @@ pub fn derived(header: &SectionHeader, other: &SectionHeader) -> (bool, Cloned<S
     ensures equal { IsTrue result.0 ↔ (header.now ≡ other.now) }
     ensures clone { result.1 ≡ Ok header.now }
 {
-    (*header == *other, header.clone())
+    (*header == *other, Clone::clone(header))
 }

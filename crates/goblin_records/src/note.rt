@@ -94,14 +94,14 @@ pub fn laws()
 pub fn derived32(header: &Nhdr32) -> Cloned<Nhdr32>
     ensures { result ≡ Ok header.now }
 {
-    header.clone()
+    Clone::clone(header)
 }
 
 /// A law: `clone` returns the note header, and never fails. A call returns the clone.
 pub fn derived64(header: &Nhdr64) -> Cloned<Nhdr64>
     ensures { result ≡ Ok header.now }
 {
-    header.clone()
+    Clone::clone(header)
 }
 
 // The types of notes, and the numbers of systems.

@@ -187,7 +187,7 @@ pub fn derived(reloc: &Reloc, other: &Reloc) -> (bool, Cloned<Reloc>)
     ensures equal { IsTrue result.0 ↔ (reloc.now ≡ other.now) }
     ensures clone { result.1 ≡ Ok reloc.now }
 {
-    (*reloc == *other, reloc.clone())
+    (*reloc == *other, Clone::clone(reloc))
 }
 
 /// Laws: `==` is true exactly if all fields of two contexts of relocations are equal. `clone`
@@ -196,5 +196,5 @@ pub fn derived_ctx(ctx: &RelocCtx, other: &RelocCtx) -> (bool, Cloned<RelocCtx>)
     ensures equal { IsTrue result.0 ↔ (ctx.now ≡ other.now) }
     ensures clone { result.1 ≡ Ok ctx.now }
 {
-    (*ctx == *other, ctx.clone())
+    (*ctx == *other, Clone::clone(ctx))
 }

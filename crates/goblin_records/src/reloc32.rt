@@ -175,7 +175,7 @@ pub fn derived_rela(rela: &Rela, other: &Rela) -> (bool, Cloned<Rela>)
     ensures equal { IsTrue result.0 ↔ (rela.now ≡ other.now) }
     ensures clone { result.1 ≡ Ok rela.now }
 {
-    (*rela == *other, rela.clone())
+    (*rela == *other, Clone::clone(rela))
 }
 
 /// Laws: `==` is true exactly if all fields of two relocations without addends are equal. `clone`
@@ -184,5 +184,5 @@ pub fn derived_rel(rel: &Rel, other: &Rel) -> (bool, Cloned<Rel>)
     ensures equal { IsTrue result.0 ↔ (rel.now ≡ other.now) }
     ensures clone { result.1 ≡ Ok rel.now }
 {
-    (*rel == *other, rel.clone())
+    (*rel == *other, Clone::clone(rel))
 }

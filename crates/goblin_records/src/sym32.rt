@@ -124,7 +124,7 @@ pub fn derived(sym: &Sym, other: &Sym) -> (bool, Cloned<Sym>)
     ensures equal { IsTrue result.0 ↔ (sym.now ≡ other.now) }
     ensures clone { result.1 ≡ Ok sym.now }
 {
-    (*sym == *other, sym.clone())
+    (*sym == *other, Clone::clone(sym))
 }
 
 // The constants of symbols and their names.

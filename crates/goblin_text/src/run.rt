@@ -183,5 +183,5 @@ pub fn derived(outcome: &Outcome, other: &Outcome) -> (bool, Result<Outcome, All
     ensures equal { IsTrue result.0 ↔ (outcome.now ≡ other.now) }
     ensures clone { result.1 ≡ Ok outcome.now }
 {
-    (*outcome == *other, outcome.clone())
+    (*outcome == *other, Clone::clone(outcome))
 }

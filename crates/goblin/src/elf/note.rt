@@ -421,7 +421,7 @@ pub fn derived_places(
     ensures equal { IsTrue result.0 ↔ (places.now ≡ other.now) }
     ensures clone { result.1 ≡ Ok places.now }
 {
-    (*places == *other, places.clone())
+    (*places == *other, Clone::clone(places))
 }
 
 /// Laws: `==` is true exactly if two parts are the same. `clone` returns the part, and never fails.
@@ -433,5 +433,5 @@ pub fn derived_part(
     ensures equal { IsTrue result.0 ↔ (part.now ≡ other.now) }
     ensures clone { result.1 ≡ Ok part.now }
 {
-    (*part == *other, part.clone())
+    (*part == *other, Clone::clone(part))
 }
