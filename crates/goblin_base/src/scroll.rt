@@ -5,6 +5,11 @@ ghost use Rattle.goblin_base.specs.declared.error.Error.{Error as Refusing};
 
 pub use crate::container::{BE, Endian, LE};
 
+/// A law: the values of the constants that this module passes on.
+pub fn constants()
+    ensures { (LE ≡ Endian.Little) × (BE ≡ Endian.Big) }
+{}
+
 /// What is wrong with an offset, a size or some bytes. All numbers count bytes.
 #[derive(Debug, Drop, thiserror::Error)]
 pub enum Error {

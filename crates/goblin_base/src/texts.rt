@@ -1,9 +1,10 @@
 //! An error as its kind, its numbers and its item, and the text of each kind, in parts.
-ghost use Rattle.std.specs.Prelude.{◌≡◌, IsTrue, Some};
+ghost use Rattle.std.specs.Prelude.{◌≡◌, ◌↔◌, IsTrue, Some, length};
 ghost use Rattle.std.specs.Fmt.{WritesOnOk};
 ghost use Rattle.std.specs.List.{find};
 ghost use Rattle.goblin_base.specs.Texts.{Facts, KindsAreFound, are_short, facts_of, facts_text, is_kind, joined, kind_number, kind_text, kind_with, part_text, prefix};
 
+use crate::error::Cloned;
 use Part::{First, Hexadecimal, Item, Overflow, Second, Text, Third};
 use std::fmt;
 
@@ -56,7 +57,7 @@ pub enum Kind {
 }
 
 /// A part of the text of an error.
-#[derive(Clone, Copy, Debug)]
+#[derive(Debug, Drop)]
 pub enum Part {
     /// The same text in each error of the kind.
     Text(&'static str),
@@ -75,7 +76,7 @@ pub enum Part {
 }
 
 /// An error as its kind, its numbers and its item.
-#[derive(Clone, Copy, Debug)]
+#[derive(Debug, Drop)]
 pub struct Report {
     /// The kind of the error.
     pub kind: Kind,
@@ -295,7 +296,17 @@ impl fmt::Display for Report {
     }
 }
 
-/// Law: each kind is found by its number.
+/// Laws: each kind is found by its number, and is listed once.
 pub fn laws()
-    ensures { KindsAreFound }
+    ensures found { KindsAreFound }
+    ensures once { length KINDS.now ≡ 21 }
 {}
+
+/// Laws of kinds: `==` is true exactly if both are the same. `clone` returns the kind, and never fails. A call
+/// returns both.
+pub fn derived(kind: &Kind, other: &Kind) -> (bool, Cloned<Kind>)
+    ensures equal { IsTrue result.0 ↔ (kind.now ≡ other.now) }
+    ensures clone { result.1 ≡ Ok kind.now }
+{
+    (*kind == *other, Clone::clone(kind))
+}
