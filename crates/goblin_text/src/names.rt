@@ -14,7 +14,7 @@ use crate::block_runs::{BLOCK, BLOCKS, Kind, none_known, run_end};
 use crate::looks::{
     after_continuation, char_start, end_of_string, end_of_text, is_text, refuse_unless_text, text,
 };
-use goblin::error::Result;
+use goblin::error::{Cloned, Result};
 use goblin::options::ParseOptions;
 use goblin::strtab::range_of;
 use goblin_base::counted_bytes::CountedBytes;
@@ -25,6 +25,13 @@ use std::marker::Model;
 pub struct Strings {
     pub start: usize,
     pub end: usize,
+}
+
+/// Law: `clone` returns the strings, and never fails.
+pub fn derived(strings: &Strings) -> Cloned<Strings>
+    ensures { result ≡ Ok strings.now }
+{
+    Clone::clone(strings)
 }
 
 /// The bytes of a file, and what is known of its blocks: where the run of text from each one on ends, and where the run
