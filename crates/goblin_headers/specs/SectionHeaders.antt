@@ -4,7 +4,6 @@ use Rattle.std.specs.Prelude.{length, max, Bool, true, Option, Some, None, Resul
 use Rattle.goblin_headers.specs.Common.{Ctx, Error, Malformed, records_in, unless_fault, Refusal, buffer_too_short}
 use Rattle.goblin_headers.specs.Common.{misplaced, room_of, refuse_if, refuse_as, SectionHeader, ◌>>=◌}
 use Rattle.goblin_base.specs.declared.error.Fault.TheVariants.{SectionOffset, SectionAddr}
-use Rattle.goblin_headers.specs.declared.constants_section_header.TheConstants.{SHT_NOBITS}
 use Rattle.goblin_headers.specs.SectionHeader.{section_header_size, section_header_of, section_header_of_values}
 
 -- a header of type 1 (data of the program) with flag 2 (allocated), aligned to 512 bytes, with all other fields 0
@@ -59,9 +58,9 @@ link_of None = 0
 abbrev pub names_index : ℕ → Option SectionHeader → ℕ
 names_index index first = if index == 0xffff then link_of first else index
 
--- sections of this type have no bytes in the file
+-- sections of type 8 (SHT_NOBITS) have no bytes in the file
 abbrev pub is_nobits : ℕ → Bool
-is_nobits sh_type = sh_type == SHT_NOBITS
+is_nobits sh_type = sh_type == 8
 
 -- others may name a section of this type by its index as a table: index 0 is no section, and a table has bytes in the
 -- file
