@@ -112,8 +112,8 @@ pub record HasRun (mode : ParseMode) (outcome : Outcome) (old new : Option (List
   -- one line with the reason was written
   pub refused : outcome ≡ outcomes.Refused
       → (line : List ℕ) × IsReason mode old new after line × WritesRefusal held holds line
-  -- the reader failed, or the writer reported an error
-  pub failed : outcome ≡ outcomes.Failed → FailsToRead before after ⊎ IsTrue last.reported_error
+  -- the reader failed, and nothing was written, or the writer reported an error
+  pub failed : outcome ≡ outcomes.Failed → (FailsToRead before after × (holds ≡ held)) ⊎ IsTrue last.reported_error
   -- else the reader reported no error but interruptions, and the writer none
   pub heeds_reader : outcome ≢ outcomes.Failed → after.reported_failure ≡ before.reported_failure
   pub heeds_writer : outcome ≢ outcomes.Failed → last.reported_error ≡ first.reported_error
