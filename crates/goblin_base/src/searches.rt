@@ -1,8 +1,9 @@
 //! Searches in counted bytes. Each reads only the bytes that it is charged for.
-ghost use Rattle.std.specs.Prelude.{◌≡◌, ◌+◌, ◌-◌, ◌*◌, ◌/◌, ◌<◌, ◌≤◌, ◌==◌, length, min, MatchResult, slice_range};
+ghost use Rattle.std.specs.Prelude.{◌≡◌, ◌+◌, ◌-◌, ◌*◌, ◌/◌, ◌<◌, ◌≤◌, ◌==◌, IfErr, drop, length, min, MatchResult, slice_range};
 ghost use Rattle.std.specs.Int.{leading_zeros, w64};
 ghost use Rattle.std.specs.List.{position_or_len};
-ghost use Rattle.std.specs.Str.{IsUtf8, IsValidUpTo, valid_up_to};
+ghost use Rattle.std.specs.Str.{IsUtf8, IsValidUpTo, error_len, valid_up_to};
+ghost use Rattle.std.specs.Str.Lossy.{utf8_error_len};
 ghost use Rattle.goblin_base.specs.Pieces.{piece_start};
 
 use crate::counted_bytes::CountedBytes;
@@ -19,6 +20,8 @@ impl<'a> CountedBytes<'a> {
         ensures cases { let range = slice_range self.old.bytes from to in
             MatchResult result (λ text. (text.now ≡ range) × IsUtf8 range)
             (λ e. ¬ (IsUtf8 range) × IsValidUpTo range (valid_up_to e)) }
+        ensures fault { let range = slice_range self.old.bytes from to in
+            IfErr result (λ e. error_len e ≡ utf8_error_len (drop (valid_up_to e) range)) }
         ensures counted { self.new ≡ record self.old { count = min (self.old.count + (to - from)) u128.MAX } }
         ensures unchanged { self.new.bytes ≡ self.old.bytes }
         ensures rising { self.old.count ≤ self.new.count }
