@@ -41,6 +41,14 @@ class Part:
     seconds: float = 0
     status: int = None
 
+    def log(self, mode='r'):
+        return open(f'{LOGS}/{self.name.replace(" ", "-")}', mode, encoding='utf-8', errors='replace')
+
+    def doing(self):
+        """Its name, and of `rt ci`, which takes longest, what it reported last."""
+        lines = [line[len('rt: '):].strip() for line in self.log() if line.startswith('rt: ')] if self.name == 'rt ci' else []
+        return f'{self.name} ({lines[-1]})' if lines else self.name
+
 
 def link(path, to):
     """Gives a file another name, or where that can't be, as on another disk, copies it."""
@@ -142,7 +150,8 @@ def test(room, whole):
     # (all kinds together take fewer checks, and each by itself ends sooner)
     for some in [','.join(kinds)] if whole else kinds:
         parts += edits(crates_with(some.split(',')), copy, '--kinds', some, what='edits' if whole else some)
-    parts += [here('refused allocations', 'sh checks/refused.sh'), here('the program', f'{PYTHON} checks/program.py', 'proof of goblin_show'),
+    parts += [here('refused allocations', 'sh checks/refused.sh'), here("a reader of one's own", 'sh checks/reader.sh'),
+              here('the program', f'{PYTHON} checks/program.py', 'proof of goblin_show'),
               here('hostile files', f'{PYTHON} checks/limits.py', 'proof of goblin_show', 'proof of goblin_refused')]
     return parts + [here("the edits' own test", f'{PYTHON} checks/edits/self_test.py')] * whole
 
@@ -186,10 +195,9 @@ class Run:
 
     def begin(self, part):
         part.begun = time.time()
-        log = open(f'{LOGS}/{part.name.replace(" ", "-")}', 'w', encoding='utf-8')
         level = 15 if not part.is_first else 0 if self.chain[part.name] + part.weight > 3 else 8
         command = ['nice', '-n', str(level), *part.command]
-        with log:
+        with part.log('w') as log:
             ran = subprocess.Popen(command, cwd=part.where, stdin=subprocess.DEVNULL, stdout=log, stderr=subprocess.STDOUT)
         self.running[ran.pid] = (part, ran)
 
@@ -197,7 +205,7 @@ class Run:
         part, ran = self.running.pop(pid)
         ran.returncode = status
         part.ended, part.seconds, part.status = time.time(), used.ru_utime + used.ru_stime, status
-        with open(f'{LOGS}/{part.name.replace(" ", "-")}', encoding='utf-8', errors='replace') as log:
+        with part.log() as log:
             text = log.read().rstrip('\n')
         if status:
             self.say(f'{part.name} FAILED. It printed:\n{text}')
@@ -224,7 +232,7 @@ class Run:
             if pid in self.running:
                 self.end(pid, status, used)
             elif time.time() - self.said > 60:
-                self.say(f'running: {", ".join(part.name for part in now)}; {len(waiting)} other parts are left')
+                self.say(f'running: {", ".join(map(Part.doing, now))}; {len(waiting)} other parts are left')
             else:
                 time.sleep(0.2)
         self.table()

@@ -18,8 +18,6 @@ WIDE = '\U0001f600'.encode()
 BAD = b'\xff'
 
 
-# ---- records ----
-
 def header(sections, names):
     """The header of a program for x86-64, after which the headers of so many sections follow. One of these has their names."""
     magic = b'\x7fELF' + bytes([2, 1, 1])
@@ -34,8 +32,6 @@ def symbol(name, value):
     """A global function in section 1."""
     return struct.pack('<IBBHQQ', name, 18, 0, 1, value, 0)
 
-
-# ---- files ----
 
 def body_start(count):
     """Where the body begins of a file of so many sections, the null section not counted."""
@@ -80,8 +76,6 @@ def relocations():
     entries = b''.join(struct.pack('<QQq', i, i, i) for i in range(690_000))
     return elf([section(SHT_RELA, body_start(1), len(entries))], entries)
 
-
-# ---- bytes below 128 ----
 
 # The most sections whose number has two such bytes; where the body begins, after their headers; and a large size.
 TEXT_SECTIONS = 0x7f7f

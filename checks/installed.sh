@@ -35,7 +35,8 @@ says_where() {
     done
 }
 
-# Checks that the installed page lists each installed file, or a folder that has it, but for the licences, and that what it links to is there.
+# Checks that the installed page lists each installed file, or a folder that has it, but for the licences, and that what it and the page of
+# the Python package link to is there.
 # The archive's first page, if there is one, lists the same, with the size of each.
 check_page() {
     page=$there/share/goblin_c/README.md
@@ -47,10 +48,12 @@ check_page() {
         done < "$folder/listed"
         fail "the installed README.md doesn't list $file"
     done < "$there/share/goblin_c/library.files"
-    grep -o '](\([^)]*\))' "$page" | sed 's/](\(.*\))/\1/' > "$folder/linked"
-    while read -r file; do
-        [ -e "$there/share/goblin_c/$file" ] || fail "the installed README.md links to $file, which isn't there"
-    done < "$folder/linked"
+    for linking in "$page" "$there/share/goblin_c/python/README.md"; do
+        grep -o '](\([^)]*\))' "$linking" | sed 's/](\(.*\))/\1/' > "$folder/linked"
+        while read -r file; do
+            [ -e "$(dirname "$linking")/$file" ] || fail "the installed page $linking links to $file, which isn't there"
+        done < "$folder/linked"
+    done
     if grep -q '@[A-Z]*@' "$page" "$libdir"/cmake/goblin_c/*; then fail "an installed file has a name that is not replaced"; fi
     if [ ! -e "$there/README.md" ]; then return; fi
     # shellcheck disable=SC2016 # (they are markdown's)

@@ -56,8 +56,6 @@ def each(compare, paths):
         return sum(pool.map(compare, paths))
 
 
-# ---- files ----
-
 def pick(count, folder, name='*'):
     """ELF files of a folder, spread over all of it."""
     paths = sorted(f'{at}/{file}' for at, _, files in os.walk(folder) for file in fnmatch.filter(files, name))
@@ -88,8 +86,6 @@ def files():
     return (GIVEN or of_machine) + sorted(glob.glob(f'{FOLDER}/files/*')) + here + ([] if GIVEN else made('many.o', many, '-c'))
 
 
-# ---- symbols: in the same order, each with its value, letter, section index and name ----
-
 def unversioned(theirs, ours):
     """Names without the @ and the version that nm and readelf append to those of the dynamic table."""
     return [own if other.startswith(f'{own}@') else other for other, own in itertools.zip_longest(theirs, ours, fillvalue='')]
@@ -117,6 +113,7 @@ def symbols_by_nm(path, is_dynamic):
 
 
 def compare_symbols(path):
+    """Compares them in the same order, each with its value, letter, section index and name."""
     count = 0
     for is_dynamic in (False, True):
         ours = [(line.split(' ', 3) + ['', '', ''])[:4] for line in lines_of(f'{FOLDER}/nm', *['-D'] * is_dynamic, path)]
@@ -132,8 +129,6 @@ def compare_symbols(path):
         count += len(ours)
     return count
 
-
-# ---- sizes, addresses, relocations ----
 
 def compare_sizes(paths):
     """Compares the lines of the files that size knows, which are most."""
@@ -174,8 +169,6 @@ def compare_relocations(path):
     theirs = [relocation_by_readelf(line) for line in listed if re.match('[0-9a-f]+ +[0-9a-f]+ +R_', line)]
     return same(f'{path}: relocations', ours, theirs)
 
-
-# ---- what the dynamic linker needs, and the sections of segments ----
 
 def needed_by_readelf(path):
     interpreter = re.findall(r'\[Requesting program interpreter: (.*)\]', run('readelf', '-lW', path).stdout)
