@@ -143,17 +143,31 @@ static ERRORS: [(Error, &str); 24] = [
     (Error::Memory(AllocError), "Out of memory"),
 ];
 
-// Whether `Display` writes an error, or a part of one, as this text.
-fn shows<E: Display>(rt: HostRuntime, part: &E, text: &str) -> bool {
-    match format!(in rt.alloc(); "{part}") {
+// A text, as std formats it.
+type Formatted = Result<String, AllocError>;
+
+// Whether this was formatted.
+fn is_text(rt: HostRuntime, shown: Formatted, text: &str) -> bool {
+    match shown {
         Ok(shown) => is(rt, shown.as_str(), text),
         Err(e) => differs(rt, &e, &text),
     }
 }
 
-// Whether both `line` and `Display` write an error as this message, and `Display` writes its part without the prefix.
+// Whether `Display` writes an error, or a part of one, as this text, which neither the alternate form nor a width changes.
+fn shows<E: Display>(rt: HostRuntime, part: &E, text: &str) -> bool {
+    is_text(rt, format!(in rt.alloc(); "{part}"), text)
+        && is_text(rt, format!(in rt.alloc(); "{part:#}"), text)
+        && is_text(rt, format!(in rt.alloc(); "{part:1}"), text)
+        && is_text(rt, format!(in rt.alloc(); "{part:120}"), text)
+}
+
+// Whether `line` and `Display` of an error and of its report write this message, and `Display` writes its part without
+// the prefix.
 fn has_messages(rt: HostRuntime, error: &Error, text: &str) -> bool {
-    let is_shown = has_message(rt, error, text) && shows(rt, error, text);
+    let is_shown = has_message(rt, error, text)
+        && shows(rt, error, text)
+        && shows(rt, &error.report(), text);
     match error {
         Error::Malformed(fault) => {
             is_shown
@@ -199,9 +213,6 @@ fn makes_errors_of_others(rt: HostRuntime) {
         .map(Error::Malformed);
     assert!(rt; matches!(misfit, Some(error) if has_messages(rt, &error, text)));
 }
-
-// A text with numbers, as std formats them.
-type Formatted = Result<String, AllocError>;
 
 // Whether an error has the message.
 fn says(rt: HostRuntime, error: Error, text: Formatted) -> bool {
