@@ -3,7 +3,8 @@ use crate::compare::{differs, has_message, holds, is};
 use goblin_base::error::{Error, Fault};
 use goblin_base::scroll;
 use std::alloc::{AllocError, AllocFailed};
-use std::fmt::Display;
+use std::fmt;
+use std::fmt::{Display, Write};
 
 // What stands before the text of a fault.
 const MALFORMED: &str = "Malformed entity: ";
@@ -186,6 +187,55 @@ fn has_messages(rt: HostRuntime, error: &Error, text: &str) -> bool {
 fn returns_the_messages_of_errors(rt: HostRuntime) {
     for (error, text) in &ERRORS {
         assert!(rt; holds(rt, text, has_messages(rt, error, text)));
+    }
+}
+
+// A writer that takes some texts and refuses all after them.
+#[derive(Drop)]
+struct Refusing {
+    takes: usize,
+    calls: usize,
+}
+
+impl Write for Refusing {
+    fn write_str(&mut self, _text: &str) -> fmt::Result {
+        self.calls = self.calls.saturating_add(1);
+        if self.calls > self.takes {
+            Err(fmt::Error)
+        } else {
+            Ok(())
+        }
+    }
+}
+
+// Whether `Display` of an error, or of a part of one, fails at the first text that such a writer refuses, and writes no other.
+fn ends_refused<E: Display>(rt: HostRuntime, part: &E, takes: usize) -> bool {
+    let mut writer = Refusing { takes, calls: 0 };
+    let is_refused = write!(writer, "{part}").is_err();
+    let calls = if is_refused {
+        takes.saturating_add(1)
+    } else {
+        takes.min(writer.calls)
+    };
+    holds(rt, &takes, is(rt, writer.calls, calls))
+}
+
+// The same of the error, of its report and of its part.
+fn ends_where_refused(rt: HostRuntime, error: &Error, takes: usize) -> bool {
+    let is_so = ends_refused(rt, error, takes) && ends_refused(rt, &error.report(), takes);
+    match error {
+        Error::Malformed(fault) => is_so && ends_refused(rt, fault, takes),
+        Error::Scroll(e) => is_so && ends_refused(rt, e, takes),
+        _ => is_so,
+    }
+}
+
+#[test]
+fn writes_nothing_after_a_refusal(rt: HostRuntime) {
+    for (error, text) in &ERRORS {
+        for takes in 0..12 {
+            assert!(rt; holds(rt, text, ends_where_refused(rt, error, takes)));
+        }
     }
 }
 
