@@ -1,5 +1,6 @@
 //! The calls of counted bytes, each by itself, with the looks that it takes.
 use crate::compare::{differs, holds, is};
+use crate::entries::{Shown, shows};
 use goblin_base::counted_bytes::CountedBytes;
 
 // Zero bytes at 2 and 6, and a character of two bytes at 3.
@@ -131,17 +132,19 @@ fn reads_texts(rt: HostRuntime) {
     assert!(rt; reads_text_up_to(rt, 4, 8, 0));
 }
 
+const NUMBERS: Shown = (
+    "CountedBytes { len: 8, count: 1 }",
+    "CountedBytes {\n    len: 8,\n    count: 1,\n}",
+);
+
 // Reports whether a view shows numbers alone, after one look.
-fn shows_numbers(rt: HostRuntime, text: &str) -> bool {
+fn shows_numbers(rt: HostRuntime, text: Shown) -> bool {
     let mut view = CountedBytes::new(BYTES);
     let _ = view.get(0);
-    match format!(in rt.alloc(); "{view:?}") {
-        Ok(shown) => is(rt, shown.as_str(), text),
-        Err(e) => differs(rt, &e, &text),
-    }
+    shows(rt, &view, text)
 }
 
 #[test]
 fn shows_no_counted_bytes(rt: HostRuntime) {
-    assert!(rt; shows_numbers(rt, "CountedBytes { len: 8, count: 1 }"));
+    assert!(rt; shows_numbers(rt, NUMBERS));
 }

@@ -5,8 +5,11 @@ use goblin_base::options::ParseMode;
 use goblin_base::walk::walk;
 use std::fmt::Debug;
 
+// What a value shows of itself, and in the alternate form.
+pub(crate) type Shown = (&'static str, &'static str);
+
 // Whether the view of these bytes shows this once they are walked.
-fn shows_view(rt: HostRuntime, bytes: &[u8], text: &str) -> bool {
+fn shows_view(rt: HostRuntime, bytes: &[u8], text: Shown) -> bool {
     let mut view = Looked::new(bytes);
     match walk(rt.alloc(), &mut view, 0, ParseMode::Strict) {
         Ok(_) => shows(rt, &view, text),
@@ -15,15 +18,18 @@ fn shows_view(rt: HostRuntime, bytes: &[u8], text: &str) -> bool {
 }
 
 // Whether a value shows this.
-fn shows<T: Debug>(rt: HostRuntime, value: &T, text: &str) -> bool {
-    match format!(in rt.alloc(); "{value:?}") {
-        Ok(shown) => is(rt, shown.as_str(), text),
+pub(crate) fn shows<T: Debug>(rt: HostRuntime, value: &T, text: Shown) -> bool {
+    let Ok(shown) = format!(in rt.alloc(); "{value:?}") else {
+        return differs(rt, value, &text);
+    };
+    match format!(in rt.alloc(); "{value:#?}") {
+        Ok(lines) => is(rt, (shown.as_str(), lines.as_str()), text),
         Err(e) => differs(rt, &e, &text),
     }
 }
 
 // Whether entries show this, and their places that, once the first was read.
-fn shows_entries(rt: HostRuntime, entries: &Entries<'_>, text: &str, places: &str) -> bool {
+fn shows_entries(rt: HostRuntime, entries: &Entries<'_>, text: Shown, places: Shown) -> bool {
     let mut probes = Probes::of(&*entries);
     if probes.len() == 0 {
         return differs(rt, entries, &text);
@@ -32,18 +38,29 @@ fn shows_entries(rt: HostRuntime, entries: &Entries<'_>, text: &str, places: &st
 }
 
 // The same of the entries of these bytes.
-fn shows_walked(rt: HostRuntime, bytes: &[u8], text: &str, places: &str) -> bool {
+fn shows_walked(rt: HostRuntime, bytes: &[u8], text: Shown, places: Shown) -> bool {
     match walk(rt.alloc(), &mut Looked::new(bytes), 0, ParseMode::Strict) {
         Ok(entries) => shows_entries(rt, &entries, text, places),
         Err(e) => differs(rt, &e, &text),
     }
 }
 
+const VIEW: Shown = (
+    "Looked { len: 5, count: 5 }",
+    "Looked {\n    len: 5,\n    count: 5,\n}",
+);
+
+const ENTRIES: Shown = ("Entries { len: 2 }", "Entries {\n    len: 2,\n}");
+
+const PROBES: Shown = (
+    "Probes { len: 2, count: 1 }",
+    "Probes {\n    len: 2,\n    count: 1,\n}",
+);
+
 // Each byte is looked at once, since all are ASCII.
 #[test]
 fn views_show_no_bytes(rt: HostRuntime) {
     let bytes = b"a\0bc\0";
-    assert!(rt; shows_view(rt, bytes, "Looked { len: 5, count: 5 }"));
-    let places = "Probes { len: 2, count: 1 }";
-    assert!(rt; shows_walked(rt, bytes, "Entries { len: 2 }", places));
+    assert!(rt; shows_view(rt, bytes, VIEW));
+    assert!(rt; shows_walked(rt, bytes, ENTRIES, PROBES));
 }
