@@ -45,6 +45,8 @@ mod sym;
 #[cfg(test)]
 mod table;
 #[cfg(test)]
+mod texts;
+#[cfg(test)]
 mod traits;
 #[cfg(test)]
 mod walk;
