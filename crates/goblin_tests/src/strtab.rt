@@ -2,7 +2,9 @@
 use crate::compare::{differs, holds, is, reports, returns, returns_list};
 use goblin_base::error::Result;
 use goblin_base::options::{ParseMode, ParseOptions};
-use goblin_base::strtab::{Strtab, WantedName, bytes_in_range, laws, range_of, string_at};
+use goblin_base::strtab::{
+    Strtab, WantedName, bytes_in_range, is_piece, laws, range_of, starts_piece, string_at,
+};
 
 // "\nƒoo\nmemmove\n🅱️usta\n"
 const FOO: &[u8] = b"\n\xC6\x92oo\nmemmove\n\xF0\x9F\x85\xB1\xEF\xB8\x8Fusta\n";
@@ -225,6 +227,22 @@ const REFUSED: &[(usize, usize, &str)] = &[
         Overflowed: true",
     ),
 ];
+
+// Whether the piece at an offset is this text, and whether it begins with it.
+fn tests_piece(offset: usize, text: &[u8]) -> (bool, bool) {
+    (
+        is_piece(NAMES, 0, offset, text),
+        starts_piece(NAMES, 0, offset, text),
+    )
+}
+
+#[test]
+fn compares_pieces_with_texts(rt: HostRuntime) {
+    assert!(rt; is(rt, tests_piece(1, b".text"), (true, true)));
+    assert!(rt; is(rt, tests_piece(1, b".te"), (false, true)));
+    assert!(rt; is(rt, tests_piece(1, b".text\0"), (false, false)));
+    assert!(rt; is(rt, tests_piece(13, b""), (false, false)));
+}
 
 // Whether these bytes are refused as a table with this line.
 fn refuses_table(rt: HostRuntime, bytes: &[u8], offset: usize, len: usize, line: &str) -> bool {
