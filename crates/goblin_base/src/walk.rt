@@ -62,7 +62,9 @@ pub fn walk<'a>(
         IfErr result (λ e. refusal_of e ≢ out_of_memory
         → CountsAtLeast view.old.count least view.new.count) }
 
-    // The first piece is tested before anything is allocated.
+    // The first piece is looked at and tested before anything is allocated.
+    ensures looks_first { let least = piece_end view.old.bytes delim 0 in
+        CountsAtLeast view.old.count least view.new.count }
     ensures first { RefusesFirst mode view.old.bytes delim result }
     ensures none { (view.old.bytes ≡ []) → IsOk result }
 {

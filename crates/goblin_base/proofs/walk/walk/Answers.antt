@@ -3,7 +3,7 @@
 -- because all before it are text (`strict`, `walked_fault`). A piece of ASCII is text (`no_fault`), so ASCII bytes
 -- never reach these last two cases.
 use Rattle.std.proofs.Common.{rules, ◌≡◌, ◌+◌, ◌-◌, ◌<◌, ◌≤◌, ℕ, List, false, true, length, slice_index, refl, sym, ap}
-use Rattle.std.proofs.Common.{subst, ◌∙◌, Ok, Err, arith}
+use Rattle.std.proofs.Common.{subst, ◌∙◌, Ok, Err, arith, zero, suc}
 use Rattle.std.proofs.lemmas.Bool.{both_ways, false≢true}
 use Rattle.std.specs.Bool.{IsTrue}
 use Rattle.std.specs.Str.{IsAscii, IsUtf8}
@@ -18,6 +18,7 @@ use Rattle.goblin_base.proofs.MarksLemmas.{low_is_text}
 use Rattle.goblin_base.proofs.WalkProgressLemmas.{IsTextSoFar, readable_from_text, bad_from_fault, bad_here}
 use Rattle.goblin_base.proofs.WalkProgressLemmas.{text_so_far_none, text_so_far_more, nothing_passed, walked_fault}
 use Rattle.goblin_base.proofs.WalkProgressLemmas.{walked_all, strict_if_not_permissive, found_all}
+use Rattle.goblin_base.proofs.PiecesLemmas.{end_within}
 use Rattle.goblin_base.proofs.walk.walk.Goals as goal
 
 -- what the test of the piece at i says of the bytes, which it didn't change
@@ -35,6 +36,12 @@ no_fault bytes seen then i e same unchanged bad low =
     let text = low_is_text bytes i e (λ k l r. low k) in
     false≢true (bad (subst (λ bs. IsUtf8 (slice_range bs i e)) (sym (unchanged ∙ same)) text))
 
+-- no piece ends before the first one
+first_ends : (bytes : List ℕ) (d i e : ℕ)
+    → (0 < i → piece_end bytes d 0 ≤ i) → i ≤ e → e ≡ piece_end bytes d i → piece_end bytes d 0 ≤ e
+first_ends bytes d zero e passed ordered is = omega (arith, is)
+first_ends bytes d (suc i) e passed ordered is = omega (arith, passed (omega arith), ordered)
+
 pub loop-i-init : goal.loop-i-init
 loop-i-init c = let unread = c.default-marks.ensures.0 in record {
   same = refl;
@@ -47,6 +54,7 @@ loop-i-init c = let unread = c.default-marks.ensures.0 in record {
   ascii = λ _. omega (arith, unread);
   rising = omega arith;
   least = omega (arith, unread);
+  passed = λ h. absurd (omega (arith, h));
 }
 
 pub returns-in_err-push-clause-first : goal.returns-in_err-push-clause-first
@@ -85,6 +93,7 @@ loop-i-preserved-then-is_text c =
           omega (arith, t.looks_ascii seen, e.grows, e.looks, e.within, e.ordered, s.ascii low, size);
       rising = omega (arith, t.rising, e.rising, s.rising);
       least = omega (arith, t.looks, t.rising, e.grows, e.looks_least, e.within, e.ordered, s.least, size);
+      passed = λ _. omega (arith, first_ends bytes d i _ s.passed e.ordered here.0);
     }
 
 pub loop-i-preserved : goal.loop-i-preserved
@@ -104,6 +113,10 @@ loop-i-preserved c =
           c.if-is_text.ensures.value.1 low);
       rising = search rules;
       least = search rules;
+      passed = λ _.
+          let end = e.value ∙ ap (λ bs. piece_end bs c.args.delim c.loop-i.i) s.same in
+          omega (arith, first_ends c.args.view.now.bytes c.args.delim c.loop-i.i _ s.passed e.ordered end,
+          c.in_ok-i.ensures.ordered);
     }
 
 pub returns-in_err-i-clause-looks_ascii : goal.returns-in_err-i-clause-looks_ascii
@@ -142,6 +155,9 @@ returns-else-is_permissive c =
           absurd (no_fault bytes _ _ i c.next_end-end.result.0 s.same e.unchanged c.if-is_text.ensures.value.1 low);
       rising = search rules;
       looks_least = search rules;
+      looks_first =
+          omega (arith, first_ends bytes d i _ s.passed e.ordered end, t.looks, t.rising, e.grows, e.looks_least,
+          e.within, e.ordered, s.least, size);
       looks_least_refused = λ _.
           let here = ap (piece_end bytes d) (bad_here bytes d i in_range bad so_far) ∙ sym end in
           omega (arith, here, t.looks, t.rising, e.grows, e.looks_least, e.within, e.ordered, s.least, size);
@@ -169,3 +185,10 @@ returns-clause-first c = λ m r.
     omega (arith, ap length i.same, c.len.ensures.value, c.loop-i-test.false) in
     let none = nothing_passed c.args.view.now.bytes c.args.delim c.loop-i.i r (i.strict m) in
     absurd (omega (arith, none.0, none.1))
+
+pub returns-clause-looks_first : goal.returns-clause-looks_first
+returns-clause-looks_first c =
+    let i = c.loop-i.invariant in
+    let past : length c.args.view.now.bytes ≤ c.loop-i.i =
+    omega (arith, ap length i.same, c.len.ensures.value, c.loop-i-test.false) in
+    omega (arith, end_within c.args.view.now.bytes c.args.delim 0 (omega arith), past, i.least)

@@ -1,9 +1,10 @@
 -- The entries stored so far and those from i on are all entries (`walked`), and strict mode found only text before i
 -- (`strict`). The marks reach at most sixteen bytes past i, as `next_end` requires (`near`).
-use Rattle.std.proofs.Common.{◌≡◌, ◌+◌, ◌-◌, ◌*◌, ◌≤◌, length, max, min}
+use Rattle.std.proofs.Common.{◌≡◌, ◌+◌, ◌-◌, ◌*◌, ◌<◌, ◌≤◌, length, max, min}
 use Rattle.std.specs.Str.{IsAscii}
 use Rattle.goblin_base.specs.Entries.{CountsAtLeast}
 use Rattle.goblin_base.specs.Marks.{HaveMarks}
+use Rattle.goblin_base.specs.Pieces.{piece_end}
 use Rattle.goblin_base.specs.Scan.{IsWalkedTo}
 use Rattle.goblin_base.specs.declared.options.ParseMode.TheVariants.{Strict}
 use Rattle.goblin_base.proofs.WalkProgressLemmas.{IsTextSoFar}
@@ -26,6 +27,8 @@ invariant-loop-i l = record {
   rising : l.fn.view.count ≤ l.view.count;
   -- and as many at least as bytes were marked or passed
   least : CountsAtLeast l.fn.view.count (max l.marks.until (min l.i (length l.fn.view.bytes))) l.view.count;
+  -- after the first turn, the first piece is passed
+  passed : 0 < l.i → piece_end l.fn.view.bytes l.delim 0 ≤ l.i;
 }
 
 abbrev pub decreases-loop-i : goal.decreases-loop-i
