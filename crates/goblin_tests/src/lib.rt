@@ -19,7 +19,6 @@ mod error;
 #[cfg(test)]
 mod header;
 #[cfg(test)]
-#[cfg(test)]
 mod note;
 #[cfg(test)]
 mod number;

@@ -671,18 +671,20 @@ fn ends_with_a_status(rt: HostRuntime) {
     assert!(rt; answers_no_words(rt.alloc()));
 }
 
-// How many write calls and flushes the line on how the program is called takes.
-fn calls_for_usage(alloc: Global) -> Option<u32> {
+// How many write calls and flushes the line on how the program is called takes, if this call fails.
+fn calls_for_usage(alloc: Global, error_at: u32) -> Option<u32> {
     let words = words_of(alloc, &["strict"])?;
     let mut reader = Counted::new(Cursor::new(b""));
-    let mut writer = Counted::new(Slow::new(alloc, 1000, 0));
+    let mut writer = Counted::new(Slow::new(alloc, 1000, error_at));
     let _ = show(alloc, Ok(words), &mut reader, &mut writer);
     Some(writer.into_inner().calls)
 }
 
 #[test]
 fn flushes_how_it_is_called(rt: HostRuntime) {
-    assert!(rt; calls_for_usage(rt.alloc()) == Some(2));
+    assert!(rt; calls_for_usage(rt.alloc(), 0) == Some(2));
+    // (after a write that fails nothing is written or flushed)
+    assert!(rt; calls_for_usage(rt.alloc(), 1) == Some(1));
 }
 
 #[test]
