@@ -17,14 +17,15 @@ const LETTERS: [&[u8]; 4] = [
 // Letters of each width, without a zero byte. Strings of them go on through blocks.
 const LONG: [&[u8]; 4] = [b"a", b"\xC3\xA9", b"\xE2\x82\xAC", b"\xF0\x9F\x98\x80"];
 
-// Places round the ends of the first three blocks.
-const PLACES: [usize; 12] = [
-    0, 1, 4_094, 4_095, 4_096, 4_097, 4_099, 8_190, 8_192, 8_193, 8_195, 12_300,
+// Places round the ends of the first two blocks of 512 bytes, of the eighth one and of the sixteenth.
+const PLACES: [usize; 21] = [
+    0, 1, 510, 511, 512, 513, 514, 1_022, 1_024, 1_025, 1_026, 4_094, 4_095, 4_096, 4_097, 4_099,
+    8_190, 8_192, 8_193, 8_195, 12_300,
 ];
 
 // Offsets of names: at the begin of a table, and round where blocks end in it.
-const OFFSETS: [usize; 12] = [
-    0, 1, 2, 3, 4, 4_093, 4_094, 4_095, 4_096, 4_097, 8_191, 8_192,
+const OFFSETS: [usize; 16] = [
+    0, 1, 2, 3, 4, 511, 512, 513, 1_024, 4_093, 4_094, 4_095, 4_096, 4_097, 8_191, 8_192,
 ];
 
 // Returns some bytes `a` and letters after them, with a byte that is not UTF-8 if its place is among these.
