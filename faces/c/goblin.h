@@ -274,7 +274,7 @@ uint32_t goblin_header(const uint8_t *bytes, size_t len, goblin_header_t *header
    that is cut or damaged, searches too.
    If all section headers are inside the file, e_shoff and e_shnum stay. Else e_shnum is how many of them are, at most 0xffff; if none is,
    e_shoff and e_shnum are 0. If all program headers are inside the file, e_phnum stays. Else it is how many of them are, at most 0xfffe.
-   If their number can't be read (see goblin_segment_count), it counts as 0xffff. All other fields stay.
+   If their number can't be read (see goblin_segment_count), it is how many of 0xfffe are. All other fields stay.
    With the copy no list of headers is refused. Where one is not refused with `header`, the calls return and write the same with the copy.
    In most files the header of the section names is one of the last, so goblin_section_names returns GOBLIN_END if the end is cut.
    Cannot fail.
