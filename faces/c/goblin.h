@@ -224,7 +224,7 @@ typedef struct {
 
 /* A note. */
 typedef struct {
-    goblin_range_t name; /* its name, which is UTF-8, without the zero byte at its end; of goblin_note_bytes the whole name */
+    goblin_range_t name; /* its name, which is UTF-8, without its last byte, zero in most files; of goblin_note_bytes the whole name */
     goblin_range_t desc; /* its descriptor */
     uint64_t next;       /* the offset to read the next note at, which may lie past the end of the file */
     uint32_t n_type;     /* its type, whose meaning depends on the name */

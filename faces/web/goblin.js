@@ -162,7 +162,7 @@ export const Item = Object.freeze({
  * A note.
  * @typedef {object} Note
  * @property {number} n_type its type, whose meaning depends on the name: see `note_type_to_str`
- * @property {Range} name_range the range of its name, without the zero byte at its end
+ * @property {Range} name_range the range of its name, without its last byte, zero in most files
  * @property {Range} desc_range the range of its descriptor
  * @property {bigint} next the offset to read the next note at
  * @property {string} name its name, decoded at each access

@@ -471,7 +471,7 @@ pub(crate) fn marked_reloc() -> GoblinReloc
 #[repr(C)]
 #[derive(Clone, Copy, Debug)]
 pub struct GoblinNote {
-    /// Its name, without the zero byte at the end.
+    /// Its name, without its last byte, zero in most files.
     pub name: GoblinRange,
     /// Its descriptor.
     pub desc: GoblinRange,

@@ -162,7 +162,7 @@ class Note(NamedTuple):
     """A note."""
 
     n_type: int  # its type, whose meaning depends on the name
-    name: str  # its name, without the zero byte at its end
+    name: str  # its name, without its last byte, zero in most files
     desc: memoryview  # its descriptor, without a copy
 
     def __repr__(self) -> str:
