@@ -559,8 +559,8 @@ uint32_t goblin_put_symbol(uint8_t *bytes, size_t len, const goblin_header_t *he
 #endif
 
 /* Writes the relocation at an index of a relocation section. If `is_rela`, has_addend must be 1. If not, has_addend and r_addend must be 0.
-   Else GOBLIN_INTEGER_FIT. In a 32-bit file r_sym has 3 bytes and r_type has 1, else each has 4. In a little-endian MIPS64 file they are
-   written in the format of those files.
+   Else GOBLIN_INTEGER_FIT. In a 32-bit file r_sym has 3 bytes, r_type 1 and r_addend 4, else they have 4, 4 and 8. In a little-endian
+   MIPS64 file r_sym and r_type are written in the format of those files.
    Example: reloc.r_addend += 8; goblin_put_reloc(own, len, &header, &table.file, true, index, &reloc, &why); */
 uint32_t goblin_put_reloc(uint8_t *bytes, size_t len, const goblin_header_t *header, const goblin_range_t *table, bool is_rela,
                           uint64_t index, const goblin_reloc_t *reloc, goblin_refusal_t *why);
