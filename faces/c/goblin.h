@@ -510,7 +510,8 @@ uint32_t goblin_number(const uint8_t *bytes, size_t len, const goblin_header_t *
 /* Reads the number in `width` bytes at an offset in a range of the file, as goblin_number does. The offset counts from the range's
    start. GOBLIN_END as for goblin_number, before any refusal.
    GOBLIN_BAD_OFFSET or GOBLIN_TOO_BIG: the range is not inside the file, or then the number is not inside the range. The numbers of the
-   second refusal count from the range's start, with the range's end in place of the file's; `why->offset` is an offset of the file.
+   second refusal count from the range's start, with the range's end in place of the file's; `why->offset` is an offset of the file. One that
+   does not fit in 64 bits is reported as UINT64_MAX.
    Example: goblin_number_in(bytes, len, &header, &section.file, 8, 4, &value, &why); */
 uint32_t goblin_number_in(const uint8_t *bytes, size_t len, const goblin_header_t *header, const goblin_range_t *range,
                           uint64_t offset, uint64_t width, uint64_t *value, goblin_refusal_t *why);
