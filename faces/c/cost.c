@@ -75,7 +75,7 @@ static uint64_t offset_of_no_address(void) {
     }
 
 /* What the repeated calls are passed, and what they write. */
-static goblin_header_t named, many, part;
+static goblin_header_t named, many, other, part;
 static goblin_section_t section;
 static goblin_segment_t segment;
 static goblin_symbol_t symbol;
@@ -94,9 +94,11 @@ REPEATED(section_by_type, GOBLIN_OK, goblin_section_by_type(bytes, len, &header,
 REPEATED(section_bytes, GOBLIN_OK, goblin_section_bytes(bytes, len, &section, &range, &why))
 REPEATED(segments_counted, GOBLIN_OK, goblin_segment_count(bytes, len, &header, &number, &why))
 REPEATED(many_segments_counted, GOBLIN_OK, goblin_segment_count(bytes, len, &many, &number, &why))
+REPEATED(many_segments, GOBLIN_OK, goblin_segment(bytes, len, &many, i, &segment, &why))
 REPEATED(segment_bytes, GOBLIN_OK, goblin_segment_bytes(bytes, len, &segment, &range, &why))
 REPEATED(first_address, GOBLIN_OK, goblin_address_to_offset(bytes, len, &header, 0, &number, &why))
 REPEATED(symbols_counted, GOBLIN_OK, goblin_symbol_count(bytes, len, &header, &table, &number, &why))
+REPEATED(symbols_of_another_file, GOBLIN_OK, goblin_symbol(bytes, len, &other, &table, i, &symbol, &why))
 REPEATED(symbols_one_by_one, GOBLIN_OK, goblin_symbols(bytes, len, &header, &table, i, &symbol, 1, &number, &why))
 REPEATED(symbol_by_name, GOBLIN_OK, goblin_symbol_by_name(bytes, len, &header, &table, &table, "", 0, &number, &why))
 REPEATED(relocs_counted, GOBLIN_OK, goblin_reloc_count(bytes, len, &header, &table, true, &number, &why))
@@ -315,6 +317,7 @@ static int repeated_calls_take_little(void) {
     right &= takes_little("the number of sections", sections_counted, ITEMS);
     many = header, many.e_phnum = 0xffff;
     right &= takes_little("the whole headers of files that are cut", whole_headers, ITEMS);
+    right &= takes_little("each of the segments whose number the first section has", many_segments, ITEMS);
     right &= takes_little("sections one by one", sections_one_by_one, ITEMS);
     right &= takes_little("each linked section", linked_sections, ITEMS);
     right &= takes_little("the section names", section_names, ITEMS);
@@ -332,6 +335,10 @@ static int repeated_calls_take_little(void) {
     memset(bytes + 128, 0, sizeof load);
     right &= takes_little("the number of symbols", symbols_counted, ITEMS);
     right &= takes_little("symbols one by one", symbols_one_by_one, ITEMS);
+    other = header, other.ei_class = ELFCLASS32;
+    right &= takes_little("each symbol of a 32-bit file", symbols_of_another_file, ITEMS);
+    other = header, other.ei_data = ELFDATA2MSB;
+    right &= takes_little("each symbol of a big-endian file", symbols_of_another_file, ITEMS);
     right &= takes_little("the first symbol with a name", symbol_by_name, ITEMS);
     right &= takes_little("the number of relocations", relocs_counted, ITEMS);
     right &= takes_little("relocations one by one", relocs_one_by_one, ITEMS);
