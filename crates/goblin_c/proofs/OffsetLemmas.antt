@@ -200,7 +200,7 @@ module _ (bytes : List ℕ) (h : GoblinHeader) (address : ℕ) (short : IsSlice 
           omega (arith, fits),
         ),
       )
-  by_room s first (Err e) there = inr (first.0, (segment_converted s, loads_first s first, no_byte s e there))
+  by_room s first (Err e) there = inr (first.0, (segment_converted s, loads_first s first, no_byte s e there, refl))
 
   by_found : (found : Option ProgramHeader)
       → find (loads address) items ≡ found

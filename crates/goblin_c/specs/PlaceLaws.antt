@@ -1,5 +1,6 @@
 -- Laws of the calls for numbers in a range, for offsets of addresses, and for ranges that are cut to the file.
-use Rattle.std.specs.Prelude.{◌≡◌, ◌⊎◌, ◌+◌, ◌-◌, ◌^◌, ◌<◌, ◌≤◌, ℕ, List, length, Option, Some, None, Result, Ok, Err}
+use Rattle.std.specs.Prelude.{◌≡◌, ◌⊎◌, ◌+◌, ◌-◌, ◌^◌, ◌<◌, ◌≤◌, ℕ, min, List, length, Option, Some, None, Result, Ok}
+use Rattle.std.specs.Prelude.{Err}
 use Rattle.goblin_c.specs.Common.{GoblinHeader, GoblinRange, GoblinSegment}
 use Rattle.goblin_c.specs.Expected.{segment_expected}
 use Rattle.goblin_c.specs.Laws.{LiesIn, RefusesAll, bytes_in}
@@ -31,7 +32,8 @@ LoadsFirst bytes h address index s =
     → ¬ (LoadsByte address before))
 
 -- the offset of an address is that of its byte by the first segment that loads it, and the file has a byte there; there
--- is none if no segment does; or the segments are refused, or the file has no byte there
+-- is none if no segment does; or the segments are refused, or the file has no byte there, and the refusal has the same
+-- offset, at most 2 ^ 64 - 1
 abbrev pub IsOffsetOf : List ℕ → GoblinHeader → ℕ → Result (Option ℕ) RefusalAt → Type 0
 IsOffsetOf bytes h address (Ok (Some offset)) =
     (index : ℕ) × ((s : GoblinSegment) × (LoadsFirst bytes h address index s)
@@ -41,7 +43,8 @@ IsOffsetOf bytes h address (Ok None) =
 IsOffsetOf bytes h address (Err refusal) =
     RefusesAll (segment_expected bytes h) refusal
     ⊎ ((index : ℕ) × ((s : GoblinSegment) × (LoadsFirst bytes h address index s)
-    × (length bytes ≤ s.file.offset + (address - s.p_vaddr))))
+    × (length bytes ≤ s.file.offset + (address - s.p_vaddr))
+    × (refusal.offset ≡ min (s.file.offset + (address - s.p_vaddr)) (2 ^ 64 - 1))))
 
 abbrev pub AddressesAreLoaded : Type 0
 AddressesAreLoaded =

@@ -8,7 +8,8 @@ pub fn numbers()
 {}
 
 /// Law: the offset that `goblin_address_to_offset` stores is that of a byte of the file, by the first segment that loads
-/// the address. The call returns the end if no segment does.
+/// the address. The call returns the end if no segment does. If the file has no byte there, the refusal
+/// has the same offset, at most `u64::MAX`.
 pub fn addresses()
     ensures { AddressesAreLoaded }
 {}
