@@ -12,9 +12,12 @@ use Rattle.goblin_c.proofs.Common.{count_of, each_converted, item_of, RefusalAt,
 use Rattle.goblin_c.proofs.Common.{Sym, reloc_converted, section_converted, segment_converted, symbol_converted, ctx_of}
 use Rattle.goblin_c.proofs.Common.{relocs_expected, sections_expected, segments_expected, symbols_expected}
 use Rattle.std.proofs.Common.{length-drop}
+use Rattle.goblin_c.specs.Bytes.{number_expected}
+use Rattle.goblin_c.specs.Expected.{reloc_expected, section_expected, segment_expected, symbol_expected}
 use Rattle.goblin_c.specs.Write.{put_at, put_if, put_if_there, with_bytes, reloc_ctx, reloc_layout, reloc_of}
 use Rattle.goblin_c.specs.Write.{section_layout, section_of, segment_layout, segment_of, symbol_layout, symbol_of}
-use Rattle.goblin_c.specs.WriteLaws.{ChangesOnly, PutsAreRead, PutsChangeOne, ReadsArePut}
+use Rattle.goblin_c.specs.Write.{unfit}
+use Rattle.goblin_c.specs.WriteLaws.{ChangesOnly, IsUnfit, PutsAreRead, PutsChangeOne, ReadsArePut, UnfitAreRefused}
 use Rattle.goblin_c.proofs.FitLemmas.{section_fits, segment_fits, symbol_fits}
 use Rattle.std.specs.Prelude.{ℤ}
 use Rattle.goblin_c.specs.declared.types.GoblinReloc.{GoblinReloc}
@@ -263,4 +266,21 @@ puts_change_one = record {
       put_changes_one (reloc_layout h is_rela) (reloc_laws_in (reloc_ctx h is_rela)) reloc_converted table.offset index
       (λ xs. relocs_expected xs h table is_rela) (λ xs. lists_relocs xs h table is_rela) bytes new (reloc_of r) fits
       put;
+}
+
+-- what doesn't fit is refused where it would be put
+unfit_put : {X : Type 0} (found : Result (Option X) RefusalAt) (x : X) (place : ℕ)
+    → found ≡ Ok (Some x) → IsUnfit place (put_if_there found (Err (unfit place)))
+unfit_put (Ok (Some y)) x place is = (refl, refl)
+unfit_put (Ok None) x place is = absurd (cc)
+unfit_put (Err why) x place is = absurd (cc)
+
+pub unfit_are_refused : UnfitAreRefused
+unfit_are_refused = record {
+  section = λ bytes h index s found is. unfit_put (section_expected bytes h index) found _ is;
+  segment = λ bytes h index s found is. unfit_put (segment_expected bytes h index) found _ is;
+  symbol = λ bytes h table index s found is. unfit_put (symbol_expected bytes h table index) found _ is;
+  reloc = λ bytes h table is_rela index r found is.
+      unfit_put (reloc_expected bytes h table is_rela index) found _ is;
+  number = λ bytes h offset width value found is. unfit_put (number_expected bytes h offset width) found _ is;
 }

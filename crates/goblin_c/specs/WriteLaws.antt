@@ -1,11 +1,14 @@
--- Laws of the calls that put: what is put is read again, what was read is put without a change, and no other byte
--- changes.
-use Rattle.std.specs.Prelude.{◌≡◌, ◌+◌, ◌*◌, ℕ, true, Bool, List, length, take, drop, Some, Ok}
+-- Laws of the calls that put: what is put is read again, what was read is put without a change, no other byte changes,
+-- and what doesn't fit is refused.
+use Rattle.std.specs.Prelude.{◌≡◌, ◌+◌, ◌*◌, ℕ, true, false, Bool, List, length, take, drop, Option, Some, Result, Ok}
+use Rattle.std.specs.Prelude.{Err}
 use Rattle.goblin_base.specs.Number.{IsBytes}
 use Rattle.goblin_c.specs.Expected.{reloc_count_expected, reloc_expected, section_count_expected, section_expected}
 use Rattle.goblin_c.specs.Expected.{segment_count_expected, segment_expected, symbol_count_expected, symbol_expected}
 use Rattle.goblin_c.specs.Expected.{header_expected}
 use Rattle.goblin_c.specs.Bytes.{number_expected}
+use Rattle.goblin_c.specs.Refused.{RefusalAt}
+use Rattle.goblin_c.specs.Types.{refusal_converted}
 use Rattle.goblin_c.specs.Write.{FitsClass, NumberFits, header_put_expected, number_put_expected, RelocFits}
 use Rattle.goblin_c.specs.Write.{SectionFits, SegmentFits, SymbolFits, reloc_layout, reloc_put_expected, section_layout}
 use Rattle.goblin_c.specs.Write.{section_put_expected, segment_layout, segment_put_expected, symbol_layout}
@@ -111,3 +114,32 @@ abbrev pub HeadersAreRead : Type 0
 HeadersAreRead =
     (bytes new : List ℕ) (h : GoblinHeader)
     → FitsClass bytes h → header_put_expected bytes h true ≡ Ok (Some new) → header_expected new ≡ Ok (Some h)
+
+-- a result is a refusal of kind 24 at an offset
+abbrev pub IsUnfit : ℕ → Result (Option (List ℕ)) RefusalAt → Type 0
+IsUnfit place (Ok put) = ⊥
+IsUnfit place (Err why) = ((refusal_converted why).kind ≡ 24) × ((refusal_converted why).offset ≡ place)
+
+-- so is what doesn't fit, at its own offset, if the call that reads stores an item there
+pub record UnfitAreRefused : Type 0 where
+  pub section :
+      (bytes : List ℕ) (h : GoblinHeader) (index : ℕ) (s found : GoblinSection)
+      → section_expected bytes h index ≡ Ok (Some found)
+      → IsUnfit (h.e_shoff + index * (section_layout h).size) (section_put_expected bytes h index s false)
+  pub segment :
+      (bytes : List ℕ) (h : GoblinHeader) (index : ℕ) (s found : GoblinSegment)
+      → segment_expected bytes h index ≡ Ok (Some found)
+      → IsUnfit (h.e_phoff + index * (segment_layout h).size) (segment_put_expected bytes h index s false)
+  pub symbol :
+      (bytes : List ℕ) (h : GoblinHeader) (table : GoblinRange) (index : ℕ) (s found : GoblinSymbol)
+      → symbol_expected bytes h table index ≡ Ok (Some found)
+      → IsUnfit (table.offset + index * (symbol_layout h).size) (symbol_put_expected bytes h table index s false)
+  pub reloc :
+      (bytes : List ℕ) (h : GoblinHeader) (table : GoblinRange) (is_rela : Bool) (index : ℕ) (r found : GoblinReloc)
+      → reloc_expected bytes h table is_rela index ≡ Ok (Some found)
+      → let size = (reloc_layout h is_rela).size in
+      IsUnfit (table.offset + index * size) (reloc_put_expected bytes h table is_rela index r false)
+  pub number :
+      (bytes : List ℕ) (h : GoblinHeader) (offset width value found : ℕ)
+      → number_expected bytes h offset width ≡ Ok (Some found)
+      → IsUnfit offset (number_put_expected bytes h offset width value false)

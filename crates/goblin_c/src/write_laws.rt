@@ -1,5 +1,5 @@
 //! Laws of the calls that put records, numbers and the header.
-ghost use Rattle.goblin_c.specs.WriteLaws.{CountsStay, HeadersAreRead, NumbersArePut, PutsAreRead, PutsChangeOne, ReadsArePut};
+ghost use Rattle.goblin_c.specs.WriteLaws.{CountsStay, HeadersAreRead, NumbersArePut, PutsAreRead, PutsChangeOne, ReadsArePut, UnfitAreRefused};
 
 /// Laws: what `goblin_put_section`, `goblin_put_segment`, `goblin_put_symbol` or `goblin_put_reloc` puts at an index is
 /// what the call that reads stores at this index then, if the list has as many items as before: in a file of the same
@@ -21,4 +21,9 @@ pub fn numbers()
 /// Law: a header that `goblin_put_header` puts is what `goblin_header` stores then.
 pub fn headers()
     ensures { HeadersAreRead }
+{}
+
+/// Law: an item or a number that doesn't fit is refused with the kind 24 at the offset at which it would be put.
+pub fn refusals()
+    ensures { UnfitAreRefused }
 {}
