@@ -4,7 +4,7 @@
 -- offset, which is no longer than the strings from there on (`piece_short`).
 use Rattle.goblin_c.proofs.Common.{◌≡◌, ◌≤◌, ◌-◌, ◌==◌, ℕ, List, length, drop, Some, Ok, arith, nat_tests, length-drop}
 use Rattle.goblin_c.proofs.Common.{length-take, position_or_len, piece, fits-room_of, GoblinRange, range_expected}
-use Rattle.goblin_c.specs.Laws.{BytesLieInFile, LiesIn, StringsAreBytes, StringsLieInFile}
+use Rattle.goblin_c.specs.Laws.{BytesLieInFile, EmptyHaveNoBytes, LiesIn, StringsAreBytes, StringsLieInFile}
 use Rattle.goblin_c.proofs.StringLemmas.{in_range, plain_is}
 
 -- a range that is stored lies in the file
@@ -25,6 +25,12 @@ bytes_lie_in_file = record {
   segment = λ bytes s found is. grind (arith, range_lies bytes s.file found);
   string = λ bytes range offset found is.
       grind (arith, nat_tests, in_range bytes range, piece_short, length-take, length-drop);
+}
+
+pub empty_have_no_bytes : EmptyHaveNoBytes
+empty_have_no_bytes = record {
+  section = λ bytes s is. grind (arith, nat_tests, is);
+  segment = λ bytes s is. grind (arith, nat_tests, is);
 }
 
 -- a string that is text lies where its bytes do

@@ -324,6 +324,15 @@ pub record BytesLieInFile : Type 0 where
       (bytes : List ℕ) (range : GoblinRange) (offset : ℕ) (found : GoblinRange)
       → string_bytes_expected bytes range offset ≡ Ok (Some found) → LiesIn bytes found
 
+-- a section of type 0 or 8 or without a size has no bytes, nor has a segment of type 0 or without a size
+pub record EmptyHaveNoBytes : Type 0 where
+  pub section :
+      (bytes : List ℕ) (s : GoblinSection)
+      → (s.sh_type ≡ 0) ⊎ (s.sh_type ≡ 8) ⊎ (s.file.size ≡ 0) → section_bytes_expected bytes s ≡ Ok None
+  pub segment :
+      (bytes : List ℕ) (s : GoblinSegment)
+      → (s.p_type ≡ 0) ⊎ (s.file.size ≡ 0) → segment_bytes_expected bytes s ≡ Ok None
+
 -- the range that a call stores for a string is the one that is stored for it, UTF-8 or not
 abbrev pub StringsAreBytes : Type 0
 StringsAreBytes =

@@ -1,6 +1,6 @@
 //! Laws of the calls: the items that they store one by one are those that the library reads at once.
 ghost use Rattle.goblin_c.specs.TextLaws.{RefusalsHaveSameText};
-ghost use Rattle.goblin_c.specs.Laws.{WholeHeaderKeeps, WholeNotesAreNotes, TextIsClosed, NotesAreItems, NotesInARow, NotesLieInFile, ContextIsTheHeaders, SectionsByIndex, SegmentsByIndex, SymbolsByIndex, RelocsByIndex, FilledByIndex, BufferIsFilled, NamesByIndex, StringsAreThere, StringsLieInFile, SectionsByName, SymbolsByName, SectionsByType, BytesLieInFile, StringsAreBytes, TablesByIndex, KindsAreAnswers};
+ghost use Rattle.goblin_c.specs.Laws.{WholeHeaderKeeps, WholeNotesAreNotes, TextIsClosed, NotesAreItems, NotesInARow, NotesLieInFile, ContextIsTheHeaders, SectionsByIndex, SegmentsByIndex, SymbolsByIndex, RelocsByIndex, FilledByIndex, BufferIsFilled, NamesByIndex, StringsAreThere, StringsLieInFile, SectionsByName, SymbolsByName, SectionsByType, BytesLieInFile, StringsAreBytes, EmptyHaveNoBytes, TablesByIndex, KindsAreAnswers};
 
 /// Laws: calls of `goblin_note` at a range's start and then at each `next` store exactly the notes of the
 /// library's iterator over the range, in its order, up to the end or the first refusal. The ranges that
@@ -88,8 +88,10 @@ pub fn types()
 {}
 
 /// Laws: the ranges that `goblin_section_bytes`, `goblin_segment_bytes` and `goblin_string_bytes` store lie
-/// in the file. If `goblin_string` stores a range, `goblin_string_bytes` stores the same one.
+/// in the file. A section of type 0 or 8 or without a size has none, nor has a segment of type 0 or without a size. If
+/// `goblin_string` stores a range, `goblin_string_bytes` stores the same one.
 pub fn places()
     ensures within { BytesLieInFile }
+    ensures none { EmptyHaveNoBytes }
     ensures same { StringsAreBytes }
 {}
