@@ -7,6 +7,7 @@ use Rattle.goblin_c.specs.Common.{is_of_mips64el, relocs_of, is_table, section_h
 use Rattle.goblin_c.specs.Common.{segment_count, ProgramHeader, GoblinHeader, GoblinNote, GoblinRange, GoblinReloc}
 use Rattle.goblin_c.specs.Common.{GoblinSection, GoblinSegment, GoblinSymbol}
 use Rattle.goblin.specs.declared.elf.note.NoteDataIterator.{NoteDataIterator}
+use Rattle.goblin.specs.declared.elf.note.NotePart.TheVariants as part
 use Rattle.goblin.specs.Nhdr.{nhdr32_size}
 use Rattle.goblin.specs.Note.{NoteParts}
 use Rattle.goblin.specs.Notes.{items_left}
@@ -19,7 +20,7 @@ use Rattle.goblin_c.specs.Expected.{section_names_expected, section_by_name_expe
 use Rattle.goblin_c.specs.Expected.{strings_expected, table_expected, whole_header}
 use Rattle.goblin_c.specs.Bytes.{section_bytes_expected, segment_bytes_expected, string_bytes_expected}
 use Rattle.goblin_c.specs.FilledBuffer.{closed, laid}
-use Rattle.goblin_c.specs.Notes.{note_bytes_expected, note_expected}
+use Rattle.goblin_c.specs.Notes.{note_bytes_expected, note_expected, part_number}
 use Rattle.goblin_c.specs.Types.{header_converted, refusal_converted, reloc_converted, section_converted}
 use Rattle.goblin_c.specs.Types.{segment_converted, symbol_converted}
 
@@ -356,3 +357,9 @@ WholeNotesAreNotes =
     → (size : ℕ) × (note.name.size ≡ size - 1)
     × (note_bytes_expected bytes h range alignment offset
     ≡ Ok (Some (record note { name = record { offset = note.name.offset; size = size } })))
+
+-- the numbers of no part of a note, the header, the name and the descriptor
+abbrev pub PartsAreNumbered : Type 0
+PartsAreNumbered =
+    part_number None ∷ part_number (Some part.Header) ∷ part_number (Some part.Name) ∷ part_number (Some part.Desc) ∷ []
+    ≡ 0 ∷ 4 ∷ 5 ∷ 6 ∷ []

@@ -1,16 +1,18 @@
 //! Laws of the calls: the items that they store one by one are those that the library reads at once.
 ghost use Rattle.goblin_c.specs.TextLaws.{RefusalsHaveSameText};
-ghost use Rattle.goblin_c.specs.Laws.{WholeHeaderKeeps, WholeNotesAreNotes, TextIsClosed, NotesAreItems, NotesInARow, NotesLieInFile, ContextIsTheHeaders, SectionsByIndex, SegmentsByIndex, SymbolsByIndex, RelocsByIndex, FilledByIndex, BufferIsFilled, NamesByIndex, StringsAreThere, StringsLieInFile, SectionsByName, SymbolsByName, SectionsByType, BytesLieInFile, StringsAreBytes, EmptyHaveNoBytes, TablesByIndex, KindsAreAnswers};
+ghost use Rattle.goblin_c.specs.Laws.{WholeHeaderKeeps, WholeNotesAreNotes, TextIsClosed, NotesAreItems, NotesInARow, NotesLieInFile, ContextIsTheHeaders, SectionsByIndex, SegmentsByIndex, SymbolsByIndex, RelocsByIndex, FilledByIndex, BufferIsFilled, NamesByIndex, StringsAreThere, StringsLieInFile, SectionsByName, SymbolsByName, SectionsByType, BytesLieInFile, StringsAreBytes, EmptyHaveNoBytes, PartsAreNumbered, TablesByIndex, KindsAreAnswers};
 
 /// Laws: calls of `goblin_note` at a range's start and then at each `next` store exactly the notes of the
 /// library's iterator over the range, in its order, up to the end or the first refusal. The ranges that
 /// they store are the note's name and descriptor, and lie in the file. `next` is past the note's header. If such a note's
-/// descriptor lies in the range, `goblin_note_bytes` stores the same note with its whole name.
+/// descriptor lies in the range, `goblin_note_bytes` stores the same note with its whole name. The parts that it names
+/// have the numbers of `goblin.h`.
 pub fn notes()
     ensures first { NotesAreItems }
     ensures row { NotesInARow }
     ensures within { NotesLieInFile }
     ensures whole { WholeNotesAreNotes }
+    ensures numbers { PartsAreNumbered }
 {}
 
 /// Law: for each refusal that a call stores, `goblin_refusal_text` writes the text that the library's
