@@ -1,9 +1,19 @@
--- Texts that are written part by part.
+-- Texts that are written part by part, and those of refusals of whole notes.
 use Rattle.goblin_c.proofs.Common.{◌≡◌, ◌+◌, ◌<◌, ◌≤◌, ℕ, zero, suc, IsTrue, nat_le, List, [], ◌∷◌, ◌++◌, length}
 use Rattle.goblin_c.proofs.Common.{get_or, take, drop, sym, ap, ◌∙◌, length-append, arith, and_parts, leb-true}
 use Rattle.goblin_c.proofs.Common.{are_short, each_short, is_short, laid}
+use Rattle.goblin_c.proofs.Common.{Endian, Err, GoblinHeader, GoblinRange, Ok, Refusal, Result, bad_offset}
+use Rattle.goblin_c.proofs.Common.{buffer_too_short, ctx_of, misplaced, refuse_as, room_of}
 use Rattle.goblin_base.specs.declared.texts.Part.{Part}
+use Rattle.goblin_base.specs.Record.{read_within}
+use Rattle.goblin_base.specs.Refusal.{bad_input, bad_magic, malformed, out_of_memory, too_big}
+use Rattle.goblin.specs.Note.{PartRefusal, whole_places}
+use Rattle.goblin_c.specs.Common.{refusal_text}
 use Rattle.goblin_c.specs.Laws.{KindsAreAnswers}
+use Rattle.goblin_c.specs.Notes.{bytes_from, note_bytes_expected, part_converted}
+use Rattle.goblin_c.specs.TextLaws.{PartHasSameText, PartsHaveSameText}
+use Rattle.goblin_c.specs.Texts.{converted_text}
+use Rattle.std.specs.Bool.{⊤}
 use Rattle.goblin_c.proofs.FilledBufferLemmas.{laid-appended}
 
 short_at : (parts : List Part) (i : ℕ) (d : Part)
@@ -37,3 +47,39 @@ long-part text more part n len is long sum = omega (arith, ap length is, length-
 
 pub kinds-are-answers : KindsAreAnswers
 kinds-are-answers refusal = grind arith
+
+-- the text of a refusal has no item: for C the item of a whole note's refusal is the part
+abbrev Itemless : Refusal → Type 0
+Itemless (bad_input size msg) = ⊥
+Itemless (buffer_too_short count item) = ⊥
+Itemless (malformed f) = ⊤
+Itemless (bad_magic magic) = ⊤
+Itemless (too_big size len) = ⊤
+Itemless (bad_offset offset) = ⊤
+Itemless out_of_memory = ⊤
+
+abbrev IsItemless : {X : Type 0} → Result X Refusal → Type 0
+IsItemless (Ok x) = ⊤
+IsItemless (Err refusal) = Itemless refusal
+
+abbrev PartIsItemless : {X : Type 0} → Result X PartRefusal → Type 0
+PartIsItemless (Ok x) = ⊤
+PartIsItemless (Err e) = Itemless e.refusal
+
+itemless_room : (len offset size : ℕ) → IsItemless (refuse_as misplaced (room_of len offset size))
+unfolding room_of
+itemless_room len offset size = grind arith
+
+itemless_whole : (alignment : ℕ) (order : Endian) (bytes : List ℕ) → PartIsItemless (whole_places alignment order bytes)
+unfolding whole_places read_within
+itemless_whole alignment order bytes = grind (arith, itemless_room)
+
+same_text_of_part : {X : Type 0} (offset : ℕ) (answer : Result X PartRefusal)
+    → PartIsItemless answer → PartHasSameText offset answer
+same_text_of_part offset (Ok x) itemless = tt
+same_text_of_part offset (Err e) itemless = grind arith
+
+pub parts_have_same_text : PartsHaveSameText
+parts_have_same_text bytes h range alignment offset =
+    same_text_of_part offset (note_bytes_expected bytes h range alignment offset)
+    (grind (arith, itemless_whole alignment (ctx_of h).le (bytes_from bytes range offset)))

@@ -10,7 +10,7 @@ use Rattle.goblin_c.specs.Common.{GoblinRange, GoblinSection, GoblinSegment, Gob
 use Rattle.goblin_base.specs.declared.container.Endian.{Endian}
 use Rattle.goblin_base.specs.Eager.{records_from, records_in, room_of_each}
 use Rattle.goblin_base.specs.Record.{read_within}
-use Rattle.goblin.specs.Note.{places_at, read_places}
+use Rattle.goblin.specs.Note.{PartRefusal, places_at, read_places}
 use Rattle.goblin_c.specs.Refused.{RefusalAt}
 use Rattle.goblin_c.specs.Expected.{ctx_of, header_expected, reloc_count_expected, reloc_expected, relocs_from_expected}
 use Rattle.goblin_c.specs.Expected.{relocs_expected, section_by_name_expected, section_by_type_expected}
@@ -21,7 +21,7 @@ use Rattle.goblin_c.specs.Expected.{symbol_by_name_expected, symbol_count_expect
 use Rattle.goblin_c.specs.Expected.{symbols_from_expected, symbols_expected, count_of, each_converted, item_of}
 use Rattle.goblin_c.specs.Expected.{items_from, table_expected}
 use Rattle.goblin_c.specs.Bytes.{number_expected, section_bytes_expected, segment_bytes_expected, string_bytes_expected}
-use Rattle.goblin_c.specs.Notes.{note_expected}
+use Rattle.goblin_c.specs.Notes.{note_bytes_expected, note_expected, part_converted}
 use Rattle.goblin_c.specs.Places.{address_to_offset_expected, number_in_expected}
 use Rattle.goblin_c.specs.Types.{refusal_converted, reloc_converted, section_converted, segment_converted}
 use Rattle.goblin_c.specs.Types.{symbol_converted}
@@ -36,6 +36,16 @@ text-same why known = grind arith
 abbrev pub HasSameText : {X : Type 0} → Result X RefusalAt → Type 0
 HasSameText (Ok x) = ⊤
 HasSameText (Err why) = converted_text (refusal_converted why) ≡ refusal_text why.refusal
+
+-- so has the refusal of a whole note, whose item is the part
+abbrev pub PartHasSameText : {X : Type 0} → ℕ → Result X PartRefusal → Type 0
+PartHasSameText offset (Ok x) = ⊤
+PartHasSameText offset (Err e) = converted_text (part_converted offset e) ≡ refusal_text e.refusal
+
+abbrev pub PartsHaveSameText : Type 0
+PartsHaveSameText =
+    (bytes : List ℕ) (h : GoblinHeader) (range : GoblinRange) (alignment offset : ℕ)
+    → PartHasSameText offset (note_bytes_expected bytes h range alignment offset)
 
 -- the refusal of a result names no item, or one that has a number
 abbrev Known : {X : Type 0} → Result X Refusal → Type 0

@@ -1,5 +1,5 @@
 //! Laws of the calls: the items that they store one by one are those that the library reads at once.
-ghost use Rattle.goblin_c.specs.TextLaws.{RefusalsHaveSameText};
+ghost use Rattle.goblin_c.specs.TextLaws.{PartsHaveSameText, RefusalsHaveSameText};
 ghost use Rattle.goblin_c.specs.Laws.{WholeHeaderKeeps, WholeNotesAreNotes, TextIsClosed, NotesAreItems, NotesInARow, NotesLieInFile, ContextIsTheHeaders, SectionsByIndex, SegmentsByIndex, SymbolsByIndex, RelocsByIndex, FilledByIndex, BufferIsFilled, NamesByIndex, StringsAreThere, StringsLieInFile, SectionsByName, SymbolsByName, SectionsByType, BytesLieInFile, StringsAreBytes, EmptyHaveNoBytes, PartsAreNumbered, TablesByIndex, KindsAreAnswers};
 
 /// Laws: calls of `goblin_note` at a range's start and then at each `next` store exactly the notes of the
@@ -15,10 +15,11 @@ pub fn notes()
     ensures numbers { PartsAreNumbered }
 {}
 
-/// Law: for each refusal that a call stores, `goblin_refusal_text` writes the text that the library's
-/// own error prints.
+/// Laws: for each refusal that a call stores, `goblin_refusal_text` writes the text that the library's
+/// own error prints. So it does for those of `goblin_note_bytes`, whose item is the part.
 pub fn texts()
-    ensures { RefusalsHaveSameText }
+    ensures calls { RefusalsHaveSameText }
+    ensures notes { PartsHaveSameText }
 {}
 
 /// Law: the status of a call shows whether it stored an item, is past the end or is refused: the kind of

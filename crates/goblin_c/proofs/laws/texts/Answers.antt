@@ -1,5 +1,6 @@
+use Rattle.goblin_c.proofs.TextLemmas.{parts_have_same_text}
 use Rattle.goblin_c.specs.TextLaws.{refusals_have_same_text}
 use Rattle.goblin_c.proofs.laws.texts.Goals as goal
 
 pub returns : goal.returns
-returns c = refusals_have_same_text
+returns c = record { calls = refusals_have_same_text; notes = parts_have_same_text }
