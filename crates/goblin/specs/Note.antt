@@ -19,7 +19,7 @@ use Rattle.goblin.specs.declared.elf.note.NotePart.TheVariants.{Header, Name, De
 use Rattle.goblin.specs.declared.elf.note.NotePlaces.{NotePlaces}
 use Rattle.goblin.specs.declared.elf.note.NoteRefusal.{NoteRefusal}
 
--- the parts of a note: its type, its name without the closing zero byte, and its descriptor
+-- the parts of a note: its type, its name without the last byte, and its descriptor
 pub record NoteParts : Type 0 where
   pub n_type : ℕ
   pub name : List ℕ

@@ -160,7 +160,7 @@ pub struct NotePlaces {
     pub n_type: u32,
     /// The offset of the name.
     pub name: usize,
-    /// The size of the name, without its closing zero byte.
+    /// The size of the name, without its last byte, zero in most files.
     pub name_size: usize,
     /// The offset of the descriptor.
     pub desc: usize,
@@ -250,7 +250,7 @@ fn about<T>(part: NotePart, answer: Result<T>) -> result::Result<T, NoteRefusal>
 pub struct Note<'a> {
     /// The type, whose meaning depends on the name.
     pub n_type: u32,
-    /// The name, without its closing zero byte.
+    /// The name, without its last byte, zero in most files.
     pub name: &'a str,
     /// The descriptor, whose meaning depends on name and type.
     pub desc: &'a [u8],
