@@ -115,8 +115,11 @@ loop-i-preserved c =
       least = search rules;
       passed = λ _.
           let end = e.value ∙ ap (λ bs. piece_end bs c.args.delim c.loop-i.i) s.same in
-          omega (arith, first_ends c.args.view.now.bytes c.args.delim c.loop-i.i _ s.passed e.ordered end,
-          c.in_ok-i.ensures.ordered);
+          omega (
+            arith,
+            first_ends c.args.view.now.bytes c.args.delim c.loop-i.i _ s.passed e.ordered end,
+            c.in_ok-i.ensures.ordered,
+          );
     }
 
 pub returns-in_err-i-clause-looks_ascii : goal.returns-in_err-i-clause-looks_ascii
@@ -156,8 +159,18 @@ returns-else-is_permissive c =
       rising = search rules;
       looks_least = search rules;
       looks_first =
-          omega (arith, first_ends bytes d i _ s.passed e.ordered end, t.looks, t.rising, e.grows, e.looks_least,
-          e.within, e.ordered, s.least, size);
+          omega (
+            arith,
+            first_ends bytes d i _ s.passed e.ordered end,
+            t.looks,
+            t.rising,
+            e.grows,
+            e.looks_least,
+            e.within,
+            e.ordered,
+            s.least,
+            size,
+          );
       looks_least_refused = λ _.
           let here = ap (piece_end bytes d) (bad_here bytes d i in_range bad so_far) ∙ sym end in
           omega (arith, here, t.looks, t.rising, e.grows, e.looks_least, e.within, e.ordered, s.least, size);
