@@ -1,5 +1,6 @@
-//! The constants of the records, each in the module of its record. `faces/constants.py` makes these files from the library's
-//! constants, word for word. Only flags and indices of sections have other types: those of the fields that hold them.
+//! The constants of the records, each in the module of its record, word for word the library's. Only flags and indices of sections
+//! have other types: those of the fields that hold them.
+// (`faces/constants.py` of the repository makes these files.)
 pub mod header;
 pub mod note;
 pub mod program_header;
