@@ -4,7 +4,7 @@
 # Prints README's table of commands.
 help:
 	@command -v awk > /dev/null || { echo 'make help: the command awk was not found. The table is in README.md' >&2; exit 2; }
-	@awk -F '|' '/^\|`make / { gsub(/`/, ""); printf "%-38s %-22s %s\n", $$2, $$4, $$3 }' README.md
+	@awk -F '|' '/^\|`make / { gsub(/`/, ""); printf "%-38s %-40s %s\n", $$2, $$4, $$3 }' README.md
 
 # FILE is passed to the shell as an environment variable, so that its name may have any characters.
 export SHOWN := $(value FILE)
