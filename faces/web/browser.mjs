@@ -10,7 +10,7 @@ import { tmpdir } from 'node:os';
 import { basename, join } from 'node:path';
 import { setTimeout } from 'node:timers/promises';
 import { pathToFileURL } from 'node:url';
-import { Chromium, Firefox, waited } from './browsers.mjs';
+import { Chromium, Firefox, PATIENCE, waited } from './browsers.mjs';
 import { elf_file, note, packed, rela, symbols_file } from './elves.mjs';
 
 const [, , kind, program, page, dump, made_files, ...files] = process.argv;
@@ -633,15 +633,25 @@ const rows_of = (text) => text.trim().split('\r\n').slice(1).map((line) =>
     [...line.matchAll(/(?:^|,)(?:"((?:[^"]|"")*)"|([^,]*))/g)].map(([, inside, plain]) => inside?.replaceAll('""', '"') ?? plain));
 
 // Saves the open list, and returns the content of the file. (Until that is whole, it has another name, or there is one with its part.)
+// Chromium drops downloads beyond ten a second, so each waits for a tenth. If none is there after half of the time that the test waits, the
+// list is saved once more, and a line says so.
 async function saved(name) {
     const form = new RegExp(`\\.${name}(\\(\\d+\\))?( \\(\\d+\\))?\\.csv$`);
     const content_of = (file) => readFileSync(join(browser.downloads, file), 'utf8');
-    await press_button('Save CSV');
-    const content = await waited('a saved list', () => {
+    const clear = () => readdirSync(browser.downloads).forEach((file) => rmSync(join(browser.downloads, file), { force: true }));
+    let pressed = 0;
+    const content = await waited('a saved list', async () => {
+        if (Date.now() - pressed > PATIENCE / 2) {
+            if (pressed > 0) console.log(`saved: ${name} once more, after ${readdirSync(browser.downloads)}`);
+            clear();
+            await setTimeout(150);
+            pressed = Date.now();
+            await press_button('Save CSV');
+        }
         const [file, ...others] = readdirSync(browser.downloads);
         return others.length === 0 && form.test(file) && content_of(file);
     });
-    for (const file of readdirSync(browser.downloads)) rmSync(join(browser.downloads, file));
+    clear();
     return content;
 }
 const saved_rows = async (name) => rows_of(await saved(name));

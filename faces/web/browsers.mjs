@@ -8,7 +8,7 @@ import { join } from 'node:path';
 import { setTimeout } from 'node:timers/promises';
 
 // How many milliseconds the test waits for a result, on a machine that may be busy with proofs.
-const PATIENCE = 120_000;
+export const PATIENCE = 120_000;
 
 /** Waits until a function returns something, and returns that. */
 export async function waited(what, find) {
