@@ -4,8 +4,8 @@ pub use Rattle.goblin_base.specs.Eager.{room_of_each}
 unfoldable pub use Rattle.goblin_base.specs.Fields.{image_of_fields}
 pub use Rattle.goblin_base.specs.Fields.{Field, FieldsFit, field, fields_at, lows_of, size_of_fields, total, values_at}
 pub use Rattle.goblin_base.specs.Fields.{values_of, widths_of}
-pub use Rattle.goblin_base.specs.Layout.{IsRecord, IsSameInEachClass, Layout, Shape, converted, low_bits, shaped}
-pub use Rattle.goblin_base.specs.Layout.{widened, zero}
+pub use Rattle.goblin_base.specs.Layout.{HasPlaces, IsRecord, IsSameInEachClass, Layout, Shape, converted, low_bits}
+pub use Rattle.goblin_base.specs.Layout.{shaped, widened, zero}
 pub use Rattle.goblin_base.specs.Names.{name_in}
 unfoldable pub use Rattle.goblin_base.specs.Number.{number, spelled}
 pub use Rattle.goblin_base.specs.Number.{IsBytes, number_at}

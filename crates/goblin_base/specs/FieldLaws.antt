@@ -139,6 +139,15 @@ number_at-lt order bytes place w h room =
     let long : length part ≡ w = length-take-le w (drop place bytes) (omega (arith, length-drop place bytes)) in
     rw long at (number-lt order part (IsBytes-part bytes place w h))
 
+-- fields that were read are in range
+pub FieldsFit-fields_at : (order : Endian) (bytes : List ℕ) (place : ℕ) (widths : List ℕ)
+    → IsBytes bytes → place + total widths ≤ length bytes → FieldsFit (fields_at order bytes place widths)
+FieldsFit-fields_at order bytes place [] h room = tt
+FieldsFit-fields_at order bytes place (w ∷ widths) h room = (
+  number_at-lt order bytes place w h (omega arith),
+  FieldsFit-fields_at order bytes (place + w) widths h (omega arith),
+)
+
 -- the fields read from some bytes are written as the same bytes
 pub image-fields_at : (order : Endian) (bytes : List ℕ) (place : ℕ) (widths : List ℕ)
     → IsBytes bytes → place + total widths ≤ length bytes

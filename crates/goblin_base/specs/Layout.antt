@@ -6,7 +6,7 @@ use Rattle.goblin_base.specs.declared.container.Endian.{Endian}
 use Rattle.goblin_base.specs.declared.error.Error.{Error}
 use Rattle.goblin_base.specs.Fields.{Field, FieldsFit, image_of_fields, values_at, fields_at, total, widths_of}
 use Rattle.goblin_base.specs.Fields.{values_of, lows_of}
-use Rattle.goblin_base.specs.Number.{IsBytes}
+use Rattle.goblin_base.specs.Number.{IsBytes, number_at}
 use Rattle.goblin_base.specs.Record.{Writes}
 use Rattle.goblin_base.specs.Table.{records}
 
@@ -62,6 +62,10 @@ converted widen narrow BothFit l = record {
 abbrev pub widened : {A B : Type 0} → (A → B) → (B → A) → Layout A → Layout B
 widened widen narrow l = converted widen narrow (λ x. l.Fits (narrow x)) l
 
+-- each record that was read fits
+abbrev pub EachReadFits : {R : Type 0} → Layout R → Type 0
+EachReadFits l = (bytes : List ℕ) → IsBytes bytes → l.size ≤ length bytes → l.Fits (l.read bytes)
+
 -- what a shape must state; `low` keeps the low bits of each field, and `Fits` says that each is in the range of its
 -- width
 pub record IsShape {R : Type 0} (s : Shape R) (low : R → R) (Fits : R → Type 0) : Type 0 where
@@ -77,6 +81,8 @@ pub record IsShape {R : Type 0} (s : Shape R) (low : R → R) (Fits : R → Type
   pub fields_read : (order : Endian) (bytes : List ℕ)
       → IsBytes bytes → total (widths s) ≤ length bytes
       → s.fields ((shaped s order).read bytes) ≡ fields_at order bytes 0 (widths s)
+  -- a record that was read fits
+  pub reads_fit : (order : Endian) → EachReadFits (record (shaped s order) { Fits = Fits })
 
 -- the laws of records of a layout
 pub record IsRecord {R : Type 0} (l : Layout R) : Type 0 where
@@ -95,6 +101,8 @@ pub record IsRecord {R : Type 0} (l : Layout R) : Type 0 where
   -- bytes that were read are written back as they were
   pub writes_back : (bytes : List ℕ)
       → IsBytes bytes → l.size ≤ length bytes → l.image (l.read bytes) ≡ take l.size bytes
+  -- a record that was read fits
+  pub reads_fit : EachReadFits l
 
 -- what every type of records obeys: the laws of reading and writing, and what its writer does
 pub record Obeys {R : Type 0} (size : ℕ) (read : List ℕ → R) (image : R → List ℕ) (Fits : R → Type 0)
@@ -110,6 +118,14 @@ abbrev pub IsOneImage : {R : Type 0} → Layout R → Type 0
 IsOneImage {R = R} l =
     (x : R) (bytes : List ℕ)
     → (bytes ≡ l.image x) ↔ (IsBytes bytes × (length bytes ≡ l.size) × (l.read bytes ≡ l.low x))
+
+-- a record fits exactly if each field is its own low bits
+abbrev pub FitsExactly : {R : Type 0} → Layout R → Type 0
+FitsExactly {R = R} l = (x : R) → l.Fits x ↔ (l.low x ≡ x)
+
+-- the fields of a record are these numbers, each at its offset and of its width, in either byte order
+abbrev pub HasPlaces : {R : Type 0} → (Endian → Layout R) → ((ℕ → ℕ → ℕ) → R → Type 0) → Type 0
+HasPlaces layout Are = (order : Endian) (bytes : List ℕ) → Are (number_at order bytes) ((layout order).read bytes)
 
 -- records that fit both classes, written in either class and byte order, are read back in that class and order
 abbrev pub IsSameInEachClass : {R : Type 0} → (Container → Endian → Layout R) → Type 0

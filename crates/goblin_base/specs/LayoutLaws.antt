@@ -1,15 +1,16 @@
 -- The laws of records, from their layout; and of records that are read and written as other ones.
 use Rattle.std.proofs.Common.{◌≡◌, ◌≤◌, ◌<◌, ◌+◌, ℕ, List, [], ◌∷◌, ◌++◌, length, take, refl, sym, ap, ◌∙◌, arith}
+use Rattle.std.proofs.Common.{subst}
 use Rattle.std.proofs.lemmas.List.{take_all}
 use Rattle.goblin_base.specs.declared.container.Container.{Container}
 use Rattle.goblin_base.specs.declared.container.Container.TheVariants.{Little, Big}
 use Rattle.goblin_base.specs.declared.container.Endian.{Endian}
 use Rattle.goblin_base.specs.Fields.{Field, values_at, fields_at, total, widths_of, values_of, size_of_fields}
-use Rattle.goblin_base.specs.Fields.{image_of_fields}
+use Rattle.goblin_base.specs.Fields.{image_of_fields, FieldsFit}
 use Rattle.goblin_base.specs.FieldLaws.{values_at-append, values_at-image_low, lows_of-fits, image-fields_at}
-use Rattle.goblin_base.specs.FieldLaws.{length-image_of_fields, IsBytes-image_of_fields}
+use Rattle.goblin_base.specs.FieldLaws.{length-image_of_fields, IsBytes-image_of_fields, FieldsFit-fields_at}
 use Rattle.goblin_base.specs.Layout.{Shape, shaped, widths, IsShape, Layout, converted, widened, IsRecord, Obeys}
-use Rattle.goblin_base.specs.Layout.{IsOneImage, IsSameInEachClass}
+use Rattle.goblin_base.specs.Layout.{IsOneImage, IsSameInEachClass, FitsExactly}
 use Rattle.goblin_base.specs.Number.{IsBytes}
 use Rattle.goblin_base.specs.Record.{Writes}
 use Rattle.goblin_base.specs.TableLaws.{records-flat_map}
@@ -60,6 +61,7 @@ module _ {R : Type 0} {low : R → R} {Fits : R → Type 0} (s : Shape R) (is : 
     reads_back = read-image;
     reads_low = read-image_low;
     writes_back = image-read;
+    reads_fit = is.reads_fit order;
   }
 
 -- so do records of a shape whose fields are numbers that make the same record
@@ -74,12 +76,15 @@ plain_laws s positive same whole read = shape_laws s (record {
   lows = λ x. refl;
   fitting = λ x fits. (fits, whole x);
   fields_read = λ order bytes are room. read order bytes;
+  reads_fit =
+      λ order bytes are room.
+      subst FieldsFit (sym (read order bytes)) (FieldsFit-fields_at order bytes 0 (widths s) are (omega arith));
 })
 
--- records that are read and written as others obey the laws
+-- records that are read and written as others obey the laws, if those that fit are the same in either direction
 pub converted_laws : {A B : Type 0} {l : Layout A} (widen : A → B) (narrow : B → A) (BothFit : B → Type 0)
     → IsRecord l → ((x : B) → BothFit x → l.Fits (narrow x) × (widen (narrow x) ≡ x))
-    → ((bytes : List ℕ) → IsBytes bytes → l.size ≤ length bytes → narrow (widen (l.read bytes)) ≡ l.read bytes)
+    → ((raw : A) → l.Fits raw → BothFit (widen raw) × (narrow (widen raw) ≡ raw))
     → IsRecord (converted widen narrow BothFit l)
 converted_laws {l = l} widen narrow BothFit laws there back = record {
   size_positive = laws.size_positive;
@@ -88,7 +93,10 @@ converted_laws {l = l} widen narrow BothFit laws there back = record {
   reads_front = λ bytes more room. ap widen (laws.reads_front bytes more room);
   reads_back = λ x fits. let is = there x fits in ap widen (laws.reads_back (narrow x) is.0) ∙ is.1;
   reads_low = λ x. ap widen (laws.reads_low (narrow x));
-  writes_back = λ bytes are room. ap (l.image) (back bytes are room) ∙ laws.writes_back bytes are room;
+  writes_back =
+      λ bytes are room.
+      ap (l.image) (back (l.read bytes) (laws.reads_fit bytes are room)).1 ∙ laws.writes_back bytes are room;
+  reads_fit = λ bytes are room. (back (l.read bytes) (laws.reads_fit bytes are room)).0;
 }
 
 pub widened_laws : {A B : Type 0} {l : Layout A} (widen : A → B) (narrow : B → A)
@@ -96,12 +104,21 @@ pub widened_laws : {A B : Type 0} {l : Layout A} (widen : A → B) (narrow : B �
     → IsRecord (widened widen narrow l)
 widened_laws {l = l} widen narrow laws back there =
     converted_laws widen narrow (λ x. l.Fits (narrow x)) laws (λ x fits. (fits, back x))
-    (λ bytes are room. there (l.read bytes))
+    (λ raw fit. (subst (l.Fits) (sym (there raw)) fit, there raw))
 
 module _ {R : Type 0} {l : Layout R} (laws : IsRecord l) where
   -- records that are written as their image obey all laws
   pub obeys : Obeys (l.size) (l.read) (l.image) (l.Fits) (λ x. Writes (l.size) (l.image x))
   obeys = record { low = l.low; is_record = laws; writes_image = λ x old new answer so. so }
+
+  -- a record that is its own low bits was read from its image
+  pub fits_exactly : FitsExactly l
+  fits_exactly x = (
+    λ fits. sym (laws.reads_low x) ∙ laws.reads_back x fits,
+    λ is.
+        let enough = laws.length_image x in
+        subst (l.Fits) (laws.reads_low x ∙ is) (laws.reads_fit (l.image x) (laws.image_bytes x) (omega arith)),
+  )
 
   image-of_read : (bytes : List ℕ) → IsBytes bytes → length bytes ≡ l.size → bytes ≡ l.image (l.read bytes)
   image-of_read bytes are long =

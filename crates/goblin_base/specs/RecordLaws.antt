@@ -1,6 +1,7 @@
 -- Laws of reading and writing a record at the start of a byte slice.
 use Rattle.std.proofs.Common.{◌≡◌, ◌≤◌, ◌+◌, ℕ, List, ◌++◌, length, drop, Result, Ok, Err, refl, ap, arith}
 use Rattle.std.proofs.lemmas.Bool.Decides.{nat_tests}
+use Rattle.std.proofs.lemmas.List.{set-get_or, reverse-reverse}
 use Rattle.goblin_base.specs.declared.error.Error.{Error}
 use Rattle.goblin_base.specs.declared.error.Error.TheVariants.{Scroll}
 use Rattle.goblin_base.specs.declared.scroll.Error.{Error as Misplaced}
@@ -48,10 +49,10 @@ unfolding Writes
 Writes-ok size s image old new u same e h = rw (← same, ← e) (refl, rw same h)
 
 -- if it fails, nothing changes
-pub Writes-err : (size s : ℕ) (image old : List ℕ) (e : Misplaced)
-    → s ≡ size → Err e ≡ room_of (length old) 0 s → Writes size image old (Err (Scroll e)) old
+pub Writes-err : (size s : ℕ) (image old new : List ℕ) (e : Misplaced)
+    → s ≡ size → Err e ≡ room_of (length old) 0 s → new ≡ old → Writes size image old (Err (Scroll e)) new
 unfolding Writes
-Writes-err size s image old e same is = rw (← same, ← is) (refl, refl)
+Writes-err size s image old new e same is kept = rw (← same, ← is) (refl, kept)
 
 -- for the functions that read and write
-pub ruleset record_answers = (read_within-ok, read_within-err, Writes-ok, Writes-err)
+pub ruleset record_answers = (read_within-ok, read_within-err, Writes-ok, Writes-err, set-get_or, reverse-reverse)

@@ -32,16 +32,17 @@ complement-lt width (negsuc x) = omega (arith, one-le-pow width 256 (omega arith
 pub complement-mod : (width : ℕ) (z : ℤ) → complement width z % 256 ^ width ≡ complement width z
 complement-mod width z = mod-eq_of_lt (complement-lt width z)
 
--- a number, to its signed number and back
-pub complement-signed_of : (width x : ℕ) → x < 256 ^ width → complement width (signed_of width x) ≡ x
-complement-signed_of width x h =
+-- a number, to its signed number and back; and this fits
+pub signed_of-fits : (width x : ℕ)
+    → x < 256 ^ width → (complement width (signed_of width x) ≡ x) × FitsSigned width (signed_of width x)
+signed_of-fits width x h =
     elim (cases_lt (2 * x) (256 ^ width)) [
       | inl p ↦ let low : signed_of width x ≡ pos x = grind (arith, nat_tests) in
-          ap (complement width) low ∙ mod-eq_of_lt h
+          (ap (complement width) low ∙ mod-eq_of_lt h, rw low p)
       | inr p ↦
           let high : signed_of width x ≡ negsuc (256 ^ width - 1 - x) = grind (arith, nat_tests, ints) in
           let rest : (256 ^ width - 1 - x) % 256 ^ width ≡ 256 ^ width - 1 - x = mod-eq_of_lt (omega arith) in
-          ap (complement width) high ∙ rw rest (omega arith)
+          (ap (complement width) high ∙ rw rest (omega arith), rw high (omega arith))
     ]
 
 -- a signed number that fits is read back
@@ -56,7 +57,7 @@ signed_number-spelled order width z fits =
 pub spelled-signed_number : SpellsSigned
 spelled-signed_number order bytes are =
     ap (spelled order (length bytes))
-    (complement-signed_of (length bytes) (number order bytes) (number-lt order bytes are))
+    (signed_of-fits (length bytes) (number order bytes) (number-lt order bytes are)).0
     ∙ spelled-number order bytes are
 
 -- the signed number at an offset has the number at that offset
@@ -64,7 +65,7 @@ pub complement-signed_number_at : (order : Endian) (bytes : List ℕ) (place wid
     → IsBytes bytes → place + width ≤ length bytes
     → complement width (signed_number_at order bytes place width) ≡ number_at order bytes place width
 complement-signed_number_at order bytes place width are room =
-    complement-signed_of width (number_at order bytes place width) (number_at-lt order bytes place width are room)
+    (signed_of-fits width (number_at order bytes place width) (number_at-lt order bytes place width are room)).0
 
 -- the signed number at an offset is that of the slice there
 pub signed_number_at-is : IsSignedSlice

@@ -1,6 +1,6 @@
 //! What each type of records states of its layout. All else that is said of records follows from it, in this file.
 ghost use Rattle.std.specs.Prelude.{◌≡◌, ◌≤◌, ◌++◌, length, drop};
-ghost use Rattle.goblin_base.specs.Layout.{IsOneImage, IsRecord, Layout};
+ghost use Rattle.goblin_base.specs.Layout.{EachReadFits, FitsExactly, IsOneImage, IsRecord, Layout};
 ghost use Rattle.goblin_base.specs.LayoutLaws.{obeys};
 ghost use Rattle.goblin_base.specs.Record.{read_within, Writes};
 ghost use Rattle.goblin_base.specs.Steps.{with_size};
@@ -95,8 +95,10 @@ impl<R: LaidOut<C>, C: Copy> Record<C> for R {
     ghost laws = { λ ctx. obeys (R.layout_laws ctx) };
 }
 
-/// A law of every record that is laid out: its image is the only list of bytes that is read as the record with the low
-/// bits of its fields.
+/// Laws of every record that is laid out. Its image is the only list of bytes that is read as the record with the low
+/// bits of its fields. It fits exactly if its fields are their own low bits, and each record that was read fits.
 pub fn laws<R: LaidOut<C>, C: Copy>()
     ensures image { (ctx : C) → IsOneImage (R.layout ctx) }
+    ensures fits { (ctx : C) → FitsExactly (R.layout ctx) }
+    ensures read { (ctx : C) → EachReadFits (R.layout ctx) }
 {}

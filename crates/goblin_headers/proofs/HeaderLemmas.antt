@@ -7,16 +7,18 @@
 use Rattle.goblin_headers.proofs.Common.{◌≡◌, ◌≤◌, ℕ, List, [], ◌++◌, length, take, refl, sym, ap, ◌∙◌, arith}
 use Rattle.goblin_headers.proofs.Common.{Container, Endian, Field, image_of_fields, values_at, fields_at, total}
 use Rattle.goblin_headers.proofs.Common.{widths_of, values_of, lows_of, Layout, widened, IsBytes, headed, header32}
-use Rattle.goblin_headers.proofs.Common.{header64, header_layout, as32, as64, widened32, widened64}
+use Rattle.goblin_headers.proofs.Common.{header64, header_layout, as32, as64, widened32, widened64, subst}
 use Rattle.std.proofs.Math.Seq.{take-add}
 use Rattle.std.proofs.lemmas.List.{append_assoc, append-nil, length-append, take_all, take_at}
 use Rattle.goblin_base.specs.declared.container.Container.TheVariants as class
 use Rattle.goblin_base.specs.FieldLaws.{values_at-image, lows_of-fits, image-fields_at, length-image_of_fields}
-use Rattle.goblin_base.specs.FieldLaws.{IsBytes-image_of_fields}
+use Rattle.goblin_base.specs.FieldLaws.{IsBytes-image_of_fields, FieldsFit-fields_at}
+use Rattle.goblin_base.specs.Fields.{FieldsFit}
+use Rattle.goblin_base.specs.Layout.{EachReadFits}
 use Rattle.goblin_base.specs.LayoutLaws.{size_of_fields-is}
 use Rattle.goblin_base.specs.NumberLaws.{IsBytes-append}
 use Rattle.goblin_headers.specs.Header.{HeaderShape, field_widths}
-use Rattle.goblin_headers.specs.HeaderTrips.{IsOneHeaderImage}
+use Rattle.goblin_headers.specs.HeaderTrips.{HeadersFit, IsOneHeaderImage}
 
 -- headers that begin with an identification, and what holds of reading and writing them
 pub record IsHeader {R : Type 0} (ident : R → List ℕ) (l : Layout R) : Type 0 where
@@ -35,6 +37,8 @@ pub record IsHeader {R : Type 0} (ident : R → List ℕ) (l : Layout R) : Type 
   -- bytes that were read are written back
   pub writes_back : (bytes : List ℕ)
       → IsBytes bytes → l.size ≤ length bytes → l.image (l.read bytes) ≡ take l.size bytes
+  -- a header that was read fits
+  pub reads_fit : EachReadFits l
 
 -- a shape must state that the fields of all headers have the same widths and make the same header, with its
 -- identification, and that the fields that were read are the numbers in the bytes
@@ -96,6 +100,9 @@ module _ {R : Type 0} (s : HeaderShape R)
     reads_low = read-image;
     low_fits = λ h fits. ap (s.of_values (s.ident h)) (lows_of-fits (s.fields h) fits) ∙ whole h;
     writes_back = image-read;
+    reads_fit =
+        λ bytes are room.
+        subst FieldsFit (sym (fields_read order bytes)) (FieldsFit-fields_at order bytes 16 (field_widths s) are room);
   }
 
 -- the fields of the headers of each class
@@ -119,6 +126,7 @@ widened_laws {ident = ident} {l = l} widen narrow there back raw = record {
   reads_low = λ h rest long. ap widen (raw.reads_low (narrow h) rest long);
   low_fits = λ h fits. ap widen (raw.low_fits (narrow h) fits) ∙ back h;
   writes_back = λ bytes are room. ap (l.image) (there (l.read bytes)) ∙ raw.writes_back bytes are room;
+  reads_fit = λ bytes are room. subst (l.Fits) (sym (there (l.read bytes))) (raw.reads_fit bytes are room);
 }
 
 -- a header of either class is the raw one of its class, widened
@@ -135,6 +143,13 @@ module _ {R : Type 0} {ident : R → List ℕ} {l : Layout R} (laws : IsHeader i
   reads_alone : (h : R) → length (ident h) ≡ 16 → l.read (l.image h) ≡ l.low h
   reads_alone h long = ap (l.read) (sym (append-nil (l.image h))) ∙ laws.reads_low h [] long
 
+  -- a header that is its own low bits was read from its image
+  own_low_fits : (h : R) → length (ident h) ≡ 16 → IsBytes (ident h) → l.low h ≡ h → l.Fits h
+  own_low_fits h long are is =
+      let enough = laws.length_image h long in
+      let fit = laws.reads_fit (l.image h) (laws.image_bytes h are) (omega arith) in
+      subst (l.Fits) (reads_alone h long ∙ is) fit
+
   -- only the low bits are written
   pub image-low : (h : R) → length (ident h) ≡ 16 → IsBytes (ident h) → l.image (l.low h) ≡ l.image h
   image-low h long are =
@@ -150,3 +165,9 @@ one_header_image {layout = layout} all order h bytes long are =
       λ so.
           image_of_read laws bytes so.0 so.1 ∙ ap ((layout order).image) so.2 ∙ image-low laws h long are,
     )
+
+-- those that fit are those that are their own low bits
+pub headers_fit : {R : Type 0} {ident : R → List ℕ} {layout : Endian → Layout R}
+    → ((order : Endian) → IsHeader ident (layout order)) → HeadersFit ident layout
+headers_fit all order =
+    let laws = all order in (laws.reads_fit, λ h long are. (laws.low_fits h, own_low_fits laws h long are))

@@ -15,10 +15,10 @@ use Rattle.std.proofs.lemmas.Slice.Eq.{bytes_eq-Decides}
 use Rattle.goblin_base.specs.declared.container.Container.TheVariants as class
 use Rattle.goblin_base.specs.declared.container.Endian.TheVariants as endian
 use Rattle.goblin_headers.specs.Header.{header_size, Identifies, new_header, magic, class_byte, data_byte, class_named}
-use Rattle.goblin_headers.specs.HeaderTrips.{OneImage, ReadsBack, WrittenAndReadBack, ImageOfRead, WritesBack}
+use Rattle.goblin_headers.specs.HeaderTrips.{EachFits, OneImage, ReadsBack, WrittenAndReadBack, ImageOfRead, WritesBack}
 use Rattle.goblin_headers.specs.HeaderTrips.{NewIsOfContext, NewIsReadBack}
 use Rattle.goblin_headers.specs.ReadHeader.{read_header, read_in_order}
-use Rattle.goblin_headers.proofs.HeaderLemmas.{header_laws, one_header_image}
+use Rattle.goblin_headers.proofs.HeaderLemmas.{header_laws, headers_fit, one_header_image}
 use Rattle.goblin_headers.proofs.RawTrips.{WasReadInOrder, front_byte, ident_byte, raw_reads_back, raw_writes_back}
 use Rattle.goblin_headers.proofs.RawTrips.{was_read_in_order, writes_in_order, reads_in_order}
 use Rattle.goblin_headers.specs.Common.{BadMagic, DataType, ElfClass, Malformed, TooSmall}
@@ -131,6 +131,10 @@ was_read bytes h size is =
 -- ---- the laws
 pub one_image : OneImage
 one_image class = one_header_image (header_laws class)
+
+pub each_fits : EachFits
+each_fits class.Little = headers_fit (header_laws class.Little)
+each_fits class.Big = headers_fit (header_laws class.Big)
 
 -- bytes that begin with the magic number do so whatever bytes follow
 begins_so : (image ident after rest : List ℕ)

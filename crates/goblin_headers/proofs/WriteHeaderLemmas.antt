@@ -8,7 +8,7 @@ use Rattle.goblin_headers.proofs.Common.{ap, ◌∙◌, arith, slice_index, subs
 use Rattle.goblin_headers.proofs.Common.{size_of_fields, image_of_fields, Layout, Writes, Header, as32, as64, class_of}
 use Rattle.goblin_headers.proofs.Common.{headed, header32, header64, order_named, order_of, WritesBy, WritesInOrder}
 use Rattle.goblin_headers.proofs.Common.{WritesHeader, Writes-ok, Writes-err, room_of}
-use Rattle.std.proofs.lemmas.List.{append_assoc, take_at, drop_at, drop-drop, length-append, length-drop}
+use Rattle.std.proofs.lemmas.List.{append_assoc, take_at, drop_at, drop-drop, length-append, length-drop, set-get_or}
 use Rattle.goblin_base.specs.declared.container.Container.TheVariants as class
 use Rattle.goblin_base.specs.FieldLaws.{with_fields, with_fields-image, image-low_fields}
 use Rattle.goblin_headers.specs.declared.header32.Header.{Header as Raw32}
@@ -18,34 +18,31 @@ use Rattle.goblin_headers.specs.Common.{Data, InvalidClass, Malformed, Scroll}
 use Rattle.goblin_base.specs.declared.scroll.Error.{Error as Misplaced}
 
 -- ---- the result of writing a header in its byte order, case by case
-module _ {R : Type 0} (ident : List ℕ) (layout : Endian → Layout R) (h : R) (old : List ℕ) where
+module _ {R : Type 0} (ident : List ℕ) (layout : Endian → Layout R) (h : R) (old new : List ℕ) where
   -- without a byte order nothing changes
-  pub no_order : None ≡ order_named (slice_index ident 5)
-      → WritesInOrder ident layout h old (Err (Malformed (Data (slice_index ident 5)))) old
+  pub no_order : None ≡ order_named (slice_index ident 5) → new ≡ old
+      → WritesInOrder ident layout h old (Err (Malformed (Data (slice_index ident 5)))) new
   unfolding WritesInOrder
-  no_order none = rw (← none) (refl, refl)
+  no_order none kept = rw (← none) (refl, kept)
 
   -- in a buffer that is too small nothing changes
   pub no_room : (order : Endian) (size : ℕ) (e : Misplaced)
       → Some order ≡ order_named (slice_index ident 5) → size ≡ (layout order).size
-      → Err e ≡ room_of (length old) 0 size
-      → WritesInOrder ident layout h old (Err (Scroll e)) old
+      → Err e ≡ room_of (length old) 0 size → new ≡ old
+      → WritesInOrder ident layout h old (Err (Scroll e)) new
   unfolding WritesInOrder
-  no_room order size e some same none =
-      rw (← some) (Writes-err (layout order).size size ((layout order).image h) old e same none)
+  no_room order size e some same none kept =
+      rw (← some) (Writes-err (layout order).size size ((layout order).image h) old new e same none kept)
 
   -- else the image is written at the start, in the order that was found
-  pub in_order : (new : List ℕ) (order used : Endian) (size : ℕ) (u : Unit {0})
+  pub in_order : (order used : Endian) (size : ℕ) (u : Unit {0})
       → Some order ≡ order_named (slice_index ident 5) → size ≡ (layout order).size
       → Ok u ≡ room_of (length old) 0 size → new ≡ (layout used).image h ++ drop (layout used).size old → used ≡ order
       → WritesInOrder ident layout h old (Ok size) new
   unfolding WritesInOrder
-  in_order new order used size u some same room is found =
+  in_order order used size u some same room is found =
       let image = (layout order).image h in
       rw (← some) (Writes-ok (layout order).size size image old new u same room (rw found at is))
-
--- the three cases, for the goals of the functions that write
-pub ruleset header_answers = (no_order, no_room, in_order)
 
 -- ---- what is written
 -- the bytes after an identification and the fields that follow it were written
@@ -94,10 +91,13 @@ written_64 h raw old new answer known is so =
     rw (← known) (subst (λ (r : Raw64). WritesInOrder r.e_ident (headed header64) r old answer new) is so)
 
 -- without a class nothing changes
-pub no_class : (h : Header) (old : List ℕ) (e : Error)
-    → Err e ≡ class_of InvalidClass h.e_ident → WritesHeader h old (Err e) old
+pub no_class : (h : Header) (old new : List ℕ) (e : Error)
+    → Err e ≡ class_of InvalidClass h.e_ident → new ≡ old → WritesHeader h old (Err e) new
 unfolding WritesHeader
-no_class h old e unknown = rw (← unknown) (refl, refl)
+no_class h old new e unknown kept = rw (← unknown) (refl, kept)
+
+-- these cases, for the goals of the functions that write
+pub ruleset header_answers = (no_order, no_room, in_order, no_class, set-get_or)
 
 -- the order that was used is the one that was found, where the low bits alone are written
 pub low_in_used_order : (raw h : Raw32) (new rest : List ℕ) (order used : Endian)

@@ -2,7 +2,8 @@
 -- from.
 use Rattle.std.specs.Prelude.{◌≡◌, ◌↔◌, ◌≤◌, ℕ, List, ◌++◌, length, take, Result, Ok}
 use Rattle.goblin_headers.specs.Common.{Container, Ctx, Endian, Error, Fault, Layout, IsBytes, Header}
-use Rattle.goblin_headers.specs.Header.{header_size, header_layout, NamesOrder, Identifies, new_header}
+use Rattle.goblin_base.specs.Layout.{EachReadFits}
+use Rattle.goblin_headers.specs.Header.{header_size, header_layout, HeaderFits, NamesOrder, Identifies, new_header}
 use Rattle.goblin_headers.specs.ReadHeader.{read_in_order, read_header}
 use Rattle.goblin_headers.specs.WriteHeader.{WritesInOrder, WritesHeader}
 
@@ -14,6 +15,13 @@ IsOneHeaderImage {R = R} ident layout =
     → length (ident h) ≡ 16 → IsBytes (ident h)
     → let l = layout order in
     (bytes ≡ l.image h) ↔ (IsBytes bytes × (length bytes ≡ l.size) × (l.read bytes ≡ l.low h))
+
+-- each header that was read fits; and one fits exactly if each field after its identification is its own low bits
+abbrev pub HeadersFit : {R : Type 0} → (R → List ℕ) → (Endian → Layout R) → Type 0
+HeadersFit {R = R} ident layout =
+    (order : Endian)
+    → EachReadFits (layout order)
+    × ((h : R) → length (ident h) ≡ 16 → IsBytes (ident h) → (layout order).Fits h ↔ ((layout order).low h ≡ h))
 
 -- a header that fits is read back from its image in the byte order that it names, whatever bytes follow
 abbrev pub IsReadBack : {R : Type 0} → (R → List ℕ) → (Endian → Layout R) → Type 0
@@ -42,6 +50,12 @@ IsWrittenBack {R = R} size ident layout =
 -- the image of a header in a class is the only list of bytes that is read as it
 abbrev pub OneImage : Type 0
 OneImage = (class : Container) → IsOneHeaderImage (λ h. h.e_ident) (header_layout class)
+
+-- the same of the headers of each class
+abbrev pub EachFits : Type 0
+EachFits =
+    (class : Container)
+    → HeadersFit (λ h. h.e_ident) (λ order. record (header_layout class order) { Fits = HeaderFits class })
 
 -- a header that fits is read back from its image in the class and the byte order that it names, whatever bytes follow
 abbrev pub ReadsBack : Type 0

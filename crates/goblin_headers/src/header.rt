@@ -1,8 +1,10 @@
 //! The header of an ELF file: System V gABI, "ELF Header" and "ELF Identification".
-ghost use Rattle.std.specs.Prelude.{◌≡◌, ◌≤◌, ◌↔◌, ◌++◌, IsTrue, length, drop, [], ◌∷◌};
+ghost use Rattle.std.specs.Prelude.{◌≡◌, ◌≤◌, ◌↔◌, ◌++◌, IsTrue, length, drop, [], ◌∷◌, ℕ, List, take};
+ghost use Rattle.goblin_base.specs.Common.{HasPlaces};
+ghost use Rattle.goblin_base.specs.declared.container.Container.TheVariants as class;
 ghost use Rattle.goblin_headers.specs.Constants.{class_numbers, data_numbers, file_type_numbers, ident_place_numbers, ident_size_numbers, system_numbers, unnamed_machine_numbers};
-ghost use Rattle.goblin_headers.specs.Header.{header_size, magic, order_named};
-ghost use Rattle.goblin_headers.specs.HeaderTrips.{OneImage, ReadsBack, WrittenAndReadBack, ImageOfRead, WritesBack, NewIsOfContext, NewIsReadBack};
+ghost use Rattle.goblin_headers.specs.Header.{header_layout, header_size, magic, order_named};
+ghost use Rattle.goblin_headers.specs.HeaderTrips.{EachFits, OneImage, ReadsBack, WrittenAndReadBack, ImageOfRead, WritesBack, NewIsOfContext, NewIsReadBack};
 ghost use Rattle.goblin_headers.specs.Machines.{machine_numbers};
 
 use crate::ident::{new_ident, order_of};
@@ -198,6 +200,7 @@ impl TryIntoCtx<Endian> for Header {
 
     ghost try_into_gives = { λ header _ old answer new. WritesHeader header old answer new };
 
+    #[tactic(auto, using(crate::proofs::WriteHeaderLemmas::header_answers))]
     fn try_into_ctx(self, bytes: &mut [u8], ctx: Endian) -> Result<usize> {
         match self.container()? {
             Container::Little => header32::Header::from(self).try_into_ctx(bytes, ctx),
@@ -233,7 +236,10 @@ impl IntoCtx<Ctx> for Header {
 
 /// Laws of headers:
 ///
+/// - Each field of a header lies at its offset in its class.
 /// - The image of a header is the only list of bytes that is read as that header.
+/// - A header that was read fits. A header fits exactly if the fields after its identification are
+///   their own low bits.
 /// - A header that fits the class that it names is read back from its image in that class, whatever
 ///   bytes follow. So it is from the bytes that `try_into_ctx` or `into_ctx` wrote; `try_into_ctx`
 ///   succeeds wherever the buffer holds it.
@@ -242,7 +248,20 @@ impl IntoCtx<Ctx> for Header {
 /// - A new header names the class and the byte order of its context, and is read back from its
 ///   image.
 pub fn laws()
+    ensures ident { (class : Container) (order : Endian) (bytes : List ℕ)
+        → ((header_layout class order).read bytes).e_ident ≡ take 16 bytes }
+    ensures places32 { HasPlaces (header_layout class.Little) (λ n h.
+        h.e_type ∷ h.e_machine ∷ h.e_version ∷ h.e_entry ∷ h.e_phoff ∷ h.e_shoff ∷ h.e_flags ∷ h.e_ehsize
+        ∷ h.e_phentsize ∷ h.e_phnum ∷ h.e_shentsize ∷ h.e_shnum ∷ h.e_shstrndx ∷ []
+        ≡ n 16 2 ∷ n 18 2 ∷ n 20 4 ∷ n 24 4 ∷ n 28 4 ∷ n 32 4 ∷ n 36 4 ∷ n 40 2 ∷ n 42 2 ∷ n 44 2 ∷ n 46 2
+        ∷ n 48 2 ∷ n 50 2 ∷ []) }
+    ensures places64 { HasPlaces (header_layout class.Big) (λ n h.
+        h.e_type ∷ h.e_machine ∷ h.e_version ∷ h.e_entry ∷ h.e_phoff ∷ h.e_shoff ∷ h.e_flags ∷ h.e_ehsize
+        ∷ h.e_phentsize ∷ h.e_phnum ∷ h.e_shentsize ∷ h.e_shnum ∷ h.e_shstrndx ∷ []
+        ≡ n 16 2 ∷ n 18 2 ∷ n 20 4 ∷ n 24 8 ∷ n 32 8 ∷ n 40 8 ∷ n 48 4 ∷ n 52 2 ∷ n 54 2 ∷ n 56 2 ∷ n 58 2
+        ∷ n 60 2 ∷ n 62 2 ∷ []) }
     ensures image { OneImage }
+    ensures fits { EachFits }
     ensures reads_back { ReadsBack }
     ensures written { WrittenAndReadBack }
     ensures image_of_read { ImageOfRead }

@@ -1,9 +1,9 @@
 //! The header of a 32-bit ELF file: System V gABI, "ELF Header", `Elf32_Ehdr`.
-ghost use Rattle.std.specs.Prelude.{◌≡◌, ◌≤◌, ◌↔◌, ◌++◌, IsTrue, length, drop, replicate, [], ◌∷◌};
-ghost use Rattle.goblin_base.specs.Common.{values_of};
+ghost use Rattle.std.specs.Prelude.{◌≡◌, ◌≤◌, ◌↔◌, ◌++◌, IsTrue, length, drop, replicate, [], ◌∷◌, ℕ, List, take};
+ghost use Rattle.goblin_base.specs.Common.{HasPlaces, values_of};
 ghost use Rattle.goblin_headers.specs.Constants.{class_numbers, data_numbers, file_type_numbers, ident_place_numbers, ident_size_numbers, system_numbers, unnamed_machine_numbers};
 ghost use Rattle.goblin_headers.specs.Header.{magic, headed, header32, low_header, widened32, as32};
-ghost use Rattle.goblin_headers.specs.HeaderTrips.{IsOneHeaderImage, IsReadBack, IsWrittenAndReadBack, IsWrittenBack};
+ghost use Rattle.goblin_headers.specs.HeaderTrips.{HeadersFit, IsOneHeaderImage, IsReadBack, IsWrittenAndReadBack, IsWrittenBack};
 ghost use Rattle.goblin_headers.specs.Machines.{machine_numbers};
 ghost use Rattle.goblin_headers.specs.ReadHeader.{read_in_order};
 ghost use Rattle.goblin_headers.specs.WriteHeader.{WritesInOrder};
@@ -240,11 +240,19 @@ impl TryIntoCtx<Endian> for Header {
     }
 }
 
-/// Laws of headers: the image of a header is the only list of bytes that is read as that header. A
+/// Laws of headers: where each field lies. The image of a header is the only list of bytes that is read as that header. A
 /// header that fits is read back from its image, and from the bytes that it was written to. A
-/// header that was read is written back unchanged.
+/// header that was read is written back unchanged, and fits. A header fits exactly if the fields after its identification
+/// are their own low bits.
 pub fn laws()
+    ensures ident { (order : Endian) (bytes : List ℕ) → ((headed header32 order).read bytes).e_ident ≡ take 16 bytes }
+    ensures places { HasPlaces (headed header32) (λ n h.
+        h.e_type ∷ h.e_machine ∷ h.e_version ∷ h.e_entry ∷ h.e_phoff ∷ h.e_shoff ∷ h.e_flags ∷ h.e_ehsize
+        ∷ h.e_phentsize ∷ h.e_phnum ∷ h.e_shentsize ∷ h.e_shnum ∷ h.e_shstrndx ∷ []
+        ≡ n 16 2 ∷ n 18 2 ∷ n 20 4 ∷ n 24 4 ∷ n 28 4 ∷ n 32 4 ∷ n 36 4 ∷ n 40 2 ∷ n 42 2 ∷ n 44 2 ∷ n 46 2
+        ∷ n 48 2 ∷ n 50 2 ∷ []) }
     ensures image { IsOneHeaderImage (λ h. h.e_ident) (headed header32) }
+    ensures fits { HeadersFit (λ h. h.e_ident) (headed header32) }
     ensures reads_back { IsReadBack (λ h. h.e_ident) (headed header32) }
     ensures written { IsWrittenAndReadBack (λ h. h.e_ident) (headed header32) }
     ensures writes_back { IsWrittenBack 52 (λ h. h.e_ident) (headed header32) }

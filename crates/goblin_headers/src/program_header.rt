@@ -3,8 +3,9 @@ ghost use Rattle.std.specs.Int.{IsBitSet};
 ghost use Rattle.std.specs.Int.Bits.{bit_or};
 ghost use Rattle.std.specs.Prelude.{◌≡◌, ◌↔◌, IsTrue, IfErr, IsOk, find, replicate, [], ◌∷◌};
 ghost use Rattle.goblin_base.specs.Fields.{values_of};
-ghost use Rattle.goblin_base.specs.Layout.{IsSameInEachClass};
+ghost use Rattle.goblin_base.specs.Layout.{IsSameInEachClass, HasPlaces};
 ghost use Rattle.goblin_base.specs.Refusal.{Returns, Gives, Refuses};
+ghost use Rattle.goblin_base.specs.declared.container.Container.TheVariants as class;
 ghost use Rattle.goblin_headers.specs.Constants.{segment_flag_numbers, segment_type_numbers};
 ghost use Rattle.goblin_headers.specs.ProgramHeader.{as64, program_header64, program_header_layout, program_header_size};
 ghost use Rattle.goblin_headers.specs.ProgramHeaders.{loaded_from, loads, new_program_header, program_headers_from, program_headers_tested};
@@ -222,11 +223,25 @@ impl LaidOut<Ctx> for ProgramHeader {
     ghost layout_laws = { λ ctx. program_header_laws ctx.container ctx.le };
 }
 
-/// A law: a list of program headers that fit both classes is read back the same in each class and byte
-/// order.
+/// Laws: a list of program headers that fit both classes is read back the same in each class and byte
+/// order. Where each field of a program header lies, and of a raw one.
 #[tactic(auto, using(crate::specs::ProgramHeaderLaws::same_program_headers))]
 pub fn laws()
     ensures same { IsSameInEachClass program_header_layout }
+    ensures raw32 { HasPlaces ⟦<program_header32::ProgramHeader as LaidOut<Endian>>⟧.layout (λ n h.
+        h.p_type ∷ h.p_offset ∷ h.p_vaddr ∷ h.p_paddr ∷ h.p_filesz ∷ h.p_memsz ∷ h.p_flags ∷ h.p_align ∷ []
+        ≡ n 0 4 ∷ n 4 4 ∷ n 8 4 ∷ n 12 4 ∷ n 16 4 ∷ n 20 4 ∷ n 24 4 ∷ n 28 4 ∷ []) }
+    ensures raw64 { HasPlaces ⟦<program_header64::ProgramHeader as LaidOut<Endian>>⟧.layout (λ n h.
+        h.p_type ∷ h.p_flags ∷ h.p_offset ∷ h.p_vaddr ∷ h.p_paddr ∷ h.p_filesz ∷ h.p_memsz ∷ h.p_align ∷ []
+        ≡ n 0 4 ∷ n 4 4 ∷ n 8 8 ∷ n 16 8 ∷ n 24 8 ∷ n 32 8 ∷ n 40 8 ∷ n 48 8 ∷ []) }
+    ensures places32 { HasPlaces
+        (λ order. ⟦<ProgramHeader as LaidOut<Ctx>>⟧.layout (record { container = class.Little; le = order }))
+        (λ n h. h.p_type ∷ h.p_offset ∷ h.p_vaddr ∷ h.p_paddr ∷ h.p_filesz ∷ h.p_memsz ∷ h.p_flags ∷ h.p_align ∷ []
+        ≡ n 0 4 ∷ n 4 4 ∷ n 8 4 ∷ n 12 4 ∷ n 16 4 ∷ n 20 4 ∷ n 24 4 ∷ n 28 4 ∷ []) }
+    ensures places64 { HasPlaces
+        (λ order. ⟦<ProgramHeader as LaidOut<Ctx>>⟧.layout (record { container = class.Big; le = order }))
+        (λ n h. h.p_type ∷ h.p_flags ∷ h.p_offset ∷ h.p_vaddr ∷ h.p_paddr ∷ h.p_filesz ∷ h.p_memsz ∷ h.p_align ∷ []
+        ≡ n 0 4 ∷ n 4 4 ∷ n 8 8 ∷ n 16 8 ∷ n 24 8 ∷ n 32 8 ∷ n 40 8 ∷ n 48 8 ∷ []) }
 {}
 
 /// A law: every field of the default program header is 0. A call returns that program header.

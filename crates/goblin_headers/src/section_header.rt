@@ -2,8 +2,9 @@
 ghost use Rattle.std.specs.Int.{IsBitSet};
 ghost use Rattle.std.specs.Prelude.{◌≡◌, ◌↔◌, IsTrue, IfErr, IsNone, IsOk, IfSome, map, replicate, [], ◌∷◌};
 ghost use Rattle.goblin_base.specs.Fields.{values_of};
-ghost use Rattle.goblin_base.specs.Layout.{IsSameInEachClass};
+ghost use Rattle.goblin_base.specs.Layout.{IsSameInEachClass, HasPlaces};
 ghost use Rattle.goblin_base.specs.Refusal.{Returns, Gives, Refuses};
+ghost use Rattle.goblin_base.specs.declared.container.Container.TheVariants as class;
 ghost use Rattle.goblin_headers.specs.Constants.{section_flag_numbers, section_index_numbers, section_type_numbers};
 ghost use Rattle.goblin_headers.specs.Ranges.{span};
 ghost use Rattle.goblin_headers.specs.SectionHeader.{as64, section_header64, section_header_layout, section_header_size};
@@ -308,11 +309,29 @@ impl LaidOut<Ctx> for SectionHeader {
     ghost layout_laws = { λ ctx. section_header_laws ctx.container ctx.le };
 }
 
-/// A law: a list of section headers that fit both classes is read back the same in each class and byte
-/// order.
+/// Laws: a list of section headers that fit both classes is read back the same in each class and byte
+/// order. Where each field of a section header lies, and of a raw one.
 #[tactic(auto, using(crate::specs::SectionHeaderLaws::same_section_headers))]
 pub fn laws()
     ensures same { IsSameInEachClass section_header_layout }
+    ensures raw32 { HasPlaces ⟦<section_header32::SectionHeader as LaidOut<Endian>>⟧.layout (λ n h.
+        h.sh_name ∷ h.sh_type ∷ h.sh_flags ∷ h.sh_addr ∷ h.sh_offset ∷ h.sh_size ∷ h.sh_link ∷ h.sh_info
+        ∷ h.sh_addralign ∷ h.sh_entsize ∷ []
+        ≡ n 0 4 ∷ n 4 4 ∷ n 8 4 ∷ n 12 4 ∷ n 16 4 ∷ n 20 4 ∷ n 24 4 ∷ n 28 4 ∷ n 32 4 ∷ n 36 4 ∷ []) }
+    ensures raw64 { HasPlaces ⟦<section_header64::SectionHeader as LaidOut<Endian>>⟧.layout (λ n h.
+        h.sh_name ∷ h.sh_type ∷ h.sh_flags ∷ h.sh_addr ∷ h.sh_offset ∷ h.sh_size ∷ h.sh_link ∷ h.sh_info
+        ∷ h.sh_addralign ∷ h.sh_entsize ∷ []
+        ≡ n 0 4 ∷ n 4 4 ∷ n 8 8 ∷ n 16 8 ∷ n 24 8 ∷ n 32 8 ∷ n 40 4 ∷ n 44 4 ∷ n 48 8 ∷ n 56 8 ∷ []) }
+    ensures places32 { HasPlaces
+        (λ order. ⟦<SectionHeader as LaidOut<Ctx>>⟧.layout (record { container = class.Little; le = order }))
+        (λ n h. h.sh_name ∷ h.sh_type ∷ h.sh_flags ∷ h.sh_addr ∷ h.sh_offset ∷ h.sh_size ∷ h.sh_link ∷ h.sh_info
+        ∷ h.sh_addralign ∷ h.sh_entsize ∷ []
+        ≡ n 0 4 ∷ n 4 4 ∷ n 8 4 ∷ n 12 4 ∷ n 16 4 ∷ n 20 4 ∷ n 24 4 ∷ n 28 4 ∷ n 32 4 ∷ n 36 4 ∷ []) }
+    ensures places64 { HasPlaces
+        (λ order. ⟦<SectionHeader as LaidOut<Ctx>>⟧.layout (record { container = class.Big; le = order }))
+        (λ n h. h.sh_name ∷ h.sh_type ∷ h.sh_flags ∷ h.sh_addr ∷ h.sh_offset ∷ h.sh_size ∷ h.sh_link ∷ h.sh_info
+        ∷ h.sh_addralign ∷ h.sh_entsize ∷ []
+        ≡ n 0 4 ∷ n 4 4 ∷ n 8 8 ∷ n 16 8 ∷ n 24 8 ∷ n 32 8 ∷ n 40 4 ∷ n 44 4 ∷ n 48 8 ∷ n 56 8 ∷ []) }
 {}
 
 /// A law: every field of the default section header is 0. A call returns that section header.

@@ -1,6 +1,6 @@
 //! Note headers of both classes, and the types of notes: System V gABI, "Note Section".
 ghost use Rattle.std.specs.Prelude.{◌≡◌, [], ◌∷◌};
-ghost use Rattle.goblin_base.specs.Common.{shaped};
+ghost use Rattle.goblin_base.specs.Common.{HasPlaces, shaped};
 ghost use Rattle.goblin_records.specs.Nhdr.{nhdr32, nhdr64};
 ghost use Rattle.goblin_records.specs.NhdrLaws.{nhdr32_laws, nhdr64_laws};
 
@@ -85,9 +85,13 @@ impl LaidOut<Endian> for Nhdr64 {
     ghost layout_laws = { nhdr64_laws };
 }
 
-/// Laws of note headers: their sizes.
+/// Laws of note headers: their sizes, and where each field lies.
 pub fn laws()
     ensures sizes { (SIZEOF_NHDR32 ≡ 12) × (SIZEOF_NHDR64 ≡ 24) }
+    ensures places32 { HasPlaces ⟦<Nhdr32 as LaidOut<Endian>>⟧.layout (λ n h.
+        h.n_namesz ∷ h.n_descsz ∷ h.n_type ∷ [] ≡ n 0 4 ∷ n 4 4 ∷ n 8 4 ∷ []) }
+    ensures places64 { HasPlaces ⟦<Nhdr64 as LaidOut<Endian>>⟧.layout (λ n h.
+        h.n_namesz ∷ h.n_descsz ∷ h.n_type ∷ [] ≡ n 0 8 ∷ n 8 8 ∷ n 16 8 ∷ []) }
 {}
 
 /// A law: `clone` returns the note header, and never fails. A call returns the clone.

@@ -1,6 +1,8 @@
 //! Relocations of either class, with an addend or without: System V gABI, "Relocation".
-ghost use Rattle.std.specs.Prelude.{◌≡◌, ◌≤◌, ◌↔◌, IsTrue, length};
-ghost use Rattle.goblin_base.specs.Common.{Writes};
+ghost use Rattle.std.specs.Prelude.{◌≡◌, ◌≤◌, ◌↔◌, ◌/◌, ◌%◌, ◌^◌, IsTrue, Some, None, false, true, length};
+ghost use Rattle.goblin_base.specs.Common.{HasPlaces, Writes};
+ghost use Rattle.goblin_base.specs.Signed.{signed_of};
+ghost use Rattle.goblin_base.specs.declared.container.Container.TheVariants as class;
 ghost use Rattle.goblin_records.specs.Reloc.{as_meant, as_stored, reloc_ctx_default, reloc_image, reloc_layout, reloc_layout_in, reloc_of, reloc_size, reloc_zero, SameInEachClass};
 ghost use Rattle.goblin_records.specs.RelocLaws.{reloc_laws, reloc_laws_in};
 
@@ -55,6 +57,7 @@ impl Reloc {
     /// # Errors
     ///
     /// The fault of `room` if the buffer doesn't hold the relocation. No byte is written then.
+    #[tactic(auto, using(goblin_base::specs::RecordLaws::record_answers))]
     pub fn write_inner(self, bytes: &mut [u8], ctx: (bool, Ctx), is_mips64el: bool) -> Result<usize>
         ensures { let size = reloc_size ctx.0 ctx.1.container in
             let image = reloc_image ctx.0 ctx.1.container ctx.1.le (as_stored is_mips64el self) in
@@ -171,12 +174,26 @@ impl LaidOut<RelocCtx> for Reloc {
     ghost layout_laws = { reloc_laws_in };
 }
 
-/// Laws of relocations: a list of relocations that fit both classes is read back the same in each
+/// Laws of relocations: where each part of one lies. A list of relocations that fit both classes is read back the same in each
 /// class and byte order. The default relocation has all fields 0 and no addend. The default context has no addends, isn't
 /// MIPS64, and is of the default class and byte order.
 #[tactic(auto, using(crate::specs::RelocLaws::same_in_classes))]
 pub fn laws()
     ensures same { SameInEachClass }
+    ensures rel32 { HasPlaces
+        (λ order. ⟦<Reloc as LaidOut<(bool, Ctx)>>⟧.layout (false, record { container = class.Little; le = order }))
+        (λ n r. (r.r_offset ≡ n 0 4) × (r.r_sym ≡ n 4 4 / 2 ^ 8) × (r.r_type ≡ n 4 4 % 2 ^ 8) × (r.r_addend ≡ None)) }
+    ensures rela32 { HasPlaces
+        (λ order. ⟦<Reloc as LaidOut<(bool, Ctx)>>⟧.layout (true, record { container = class.Little; le = order }))
+        (λ n r. (r.r_offset ≡ n 0 4) × (r.r_sym ≡ n 4 4 / 2 ^ 8) × (r.r_type ≡ n 4 4 % 2 ^ 8)
+        × (r.r_addend ≡ Some (signed_of 4 (n 8 4)))) }
+    ensures rel64 { HasPlaces
+        (λ order. ⟦<Reloc as LaidOut<(bool, Ctx)>>⟧.layout (false, record { container = class.Big; le = order }))
+        (λ n r. (r.r_offset ≡ n 0 8) × (r.r_sym ≡ n 8 8 / 2 ^ 32) × (r.r_type ≡ n 8 8 % 2 ^ 32) × (r.r_addend ≡ None)) }
+    ensures rela64 { HasPlaces
+        (λ order. ⟦<Reloc as LaidOut<(bool, Ctx)>>⟧.layout (true, record { container = class.Big; le = order }))
+        (λ n r. (r.r_offset ≡ n 0 8) × (r.r_sym ≡ n 8 8 / 2 ^ 32) × (r.r_type ≡ n 8 8 % 2 ^ 32)
+        × (r.r_addend ≡ Some (signed_of 8 (n 16 8)))) }
     ensures zeros { (reloc : Reloc) → ⟦<Reloc as Default>⟧.is_default reloc → reloc ≡ reloc_zero }
     ensures context { (ctx : RelocCtx) → ⟦<RelocCtx as Default>⟧.is_default ctx → ctx ≡ reloc_ctx_default }
 {}

@@ -1,6 +1,7 @@
 //! Relocations of the 32-bit class: System V gABI, "Relocation" (`Elf32_Rel` and `Elf32_Rela`).
 ghost use Rattle.std.specs.Prelude.{◌≡◌, ◌↔◌, IsTrue};
-ghost use Rattle.goblin_base.specs.Common.{low_bits, shaped, zero};
+ghost use Rattle.goblin_base.specs.Common.{HasPlaces, low_bits, shaped, zero};
+ghost use Rattle.goblin_base.specs.Signed.{signed_of};
 ghost use Rattle.goblin_base.specs.declared.container.Container.TheVariants as class;
 ghost use Rattle.goblin_records.specs.Reloc.{rel32, rela32, rela32_layout, rela32_low, rela_widened32, rel_widened32, rela_as32, rel_as32};
 ghost use Rattle.goblin_records.specs.RelocInfo.{symbol_in, type_in, info_of, JoinsItsParts};
@@ -166,6 +167,10 @@ pub fn laws()
     ensures sizes { (SIZEOF_RELA ≡ 12) × (SIZEOF_REL ≡ 8) }
     ensures rela_zeros { (rela : Rela) → ⟦<Rela as Default>⟧.is_default rela → rela ≡ zero rela32 }
     ensures rel_zeros { (rel : Rel) → ⟦<Rel as Default>⟧.is_default rel → rel ≡ zero rel32 }
+    ensures rel_places { HasPlaces ⟦<Rel as LaidOut<Endian>>⟧.layout (λ n r.
+        (r.r_offset ≡ n 0 4) × (r.r_info ≡ n 4 4)) }
+    ensures rela_places { HasPlaces ⟦<Rela as LaidOut<Endian>>⟧.layout (λ n r.
+        (r.r_offset ≡ n 0 4) × (r.r_info ≡ n 4 4) × (r.r_addend ≡ signed_of 4 (n 8 4))) }
     ensures joins { JoinsItsParts class.Little }
 {}
 

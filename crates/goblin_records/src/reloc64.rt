@@ -1,6 +1,7 @@
 //! Relocations of the 64-bit class: System V gABI, "Relocation" (`Elf64_Rel` and `Elf64_Rela`).
 ghost use Rattle.std.specs.Prelude.{◌≡◌, ◌<◌, ◌^◌, ◌↔◌, IsTrue};
-ghost use Rattle.goblin_base.specs.Common.{low_bits, shaped, zero};
+ghost use Rattle.goblin_base.specs.Common.{HasPlaces, low_bits, shaped, zero};
+ghost use Rattle.goblin_base.specs.Signed.{signed_of};
 ghost use Rattle.goblin_base.specs.declared.container.Container.TheVariants as class;
 ghost use Rattle.goblin_records.specs.Reloc.{rel64, rela64, rela64_layout, rela64_low, rela_widened64, rel_widened64, rela_as64, rel_as64};
 ghost use Rattle.goblin_records.specs.RelocInfo.{symbol_in, type_in, info_of, JoinsItsParts, mips64el_info, mips64el_info_inverse, Mips64elInverse, Mips64elOneToOne, Mips64elFourTimes};
@@ -181,6 +182,10 @@ pub fn laws()
     ensures sizes { (SIZEOF_RELA ≡ 24) × (SIZEOF_REL ≡ 16) }
     ensures rela_zeros { (rela : Rela) → ⟦<Rela as Default>⟧.is_default rela → rela ≡ zero rela64 }
     ensures rel_zeros { (rel : Rel) → ⟦<Rel as Default>⟧.is_default rel → rel ≡ zero rel64 }
+    ensures rel_places { HasPlaces ⟦<Rel as LaidOut<Endian>>⟧.layout (λ n r.
+        (r.r_offset ≡ n 0 8) × (r.r_info ≡ n 8 8)) }
+    ensures rela_places { HasPlaces ⟦<Rela as LaidOut<Endian>>⟧.layout (λ n r.
+        (r.r_offset ≡ n 0 8) × (r.r_info ≡ n 8 8) × (r.r_addend ≡ signed_of 8 (n 16 8))) }
     ensures joins { JoinsItsParts class.Big }
     ensures inverse { Mips64elInverse }
     ensures one_to_one { Mips64elOneToOne }

@@ -1,6 +1,7 @@
 //! Symbols of either class: System V gABI, "Symbol Table".
 ghost use Rattle.std.specs.Prelude.{◌≡◌, ◌<◌, ◌/◌, ◌↔◌, IsTrue, length, codes, IsOk, [], ◌∷◌};
-ghost use Rattle.goblin_base.specs.Common.{IsSameInEachClass, buffer_too_short, Gives, Refuses};
+ghost use Rattle.goblin_base.specs.Common.{HasPlaces, IsSameInEachClass, buffer_too_short, Gives, Refuses};
+ghost use Rattle.goblin_base.specs.declared.container.Container.TheVariants as class;
 ghost use Rattle.goblin_records.specs.Constants.{bind_numbers, type_numbers, visibility_numbers};
 ghost use Rattle.goblin_records.specs.Sym.{is_in_section, sym_layout, sym_size, sym_zero, symbols_from};
 ghost use Rattle.goblin_records.specs.SymParts.{bind_of, type_of, visibility_of, IsGlobalImport, IsImport, type_name};
@@ -180,10 +181,18 @@ pub fn get_type(info: u8) -> &'static str
 }
 
 /// Laws of symbols: a list of symbols that fit both classes is read back the same in each class and
-/// byte order. All fields of the default symbol are 0.
+/// byte order. Where each field lies in each class. All fields of the default symbol are 0.
 #[tactic(auto, using(crate::specs::SymLaws::same_symbols))]
 pub fn laws()
     ensures same { IsSameInEachClass sym_layout }
+    ensures places32 { HasPlaces
+        (λ order. ⟦<Sym as LaidOut<Ctx>>⟧.layout (record { container = class.Little; le = order }))
+        (λ n s. s.st_name ∷ s.st_value ∷ s.st_size ∷ s.st_info ∷ s.st_other ∷ s.st_shndx ∷ []
+        ≡ n 0 4 ∷ n 4 4 ∷ n 8 4 ∷ n 12 1 ∷ n 13 1 ∷ n 14 2 ∷ []) }
+    ensures places64 { HasPlaces
+        (λ order. ⟦<Sym as LaidOut<Ctx>>⟧.layout (record { container = class.Big; le = order }))
+        (λ n s. s.st_name ∷ s.st_info ∷ s.st_other ∷ s.st_shndx ∷ s.st_value ∷ s.st_size ∷ []
+        ≡ n 0 4 ∷ n 4 1 ∷ n 5 1 ∷ n 6 2 ∷ n 8 8 ∷ n 16 8 ∷ []) }
     ensures zeros { (sym : Sym) → ⟦<Sym as Default>⟧.is_default sym → sym ≡ sym_zero }
 {}
 

@@ -1,6 +1,6 @@
 //! Symbols of the 32-bit class: System V gABI, "Symbol Table" (`Elf32_Sym`).
 ghost use Rattle.std.specs.Prelude.{◌≡◌, ◌↔◌, IsTrue, [], ◌∷◌};
-ghost use Rattle.goblin_base.specs.Common.{low_bits, shaped, zero};
+ghost use Rattle.goblin_base.specs.Common.{HasPlaces, low_bits, shaped, zero};
 ghost use Rattle.goblin_records.specs.Constants.{bind_numbers, type_numbers, visibility_numbers};
 ghost use Rattle.goblin_records.specs.Sym.{sym32, widened32, as32};
 ghost use Rattle.goblin_records.specs.SymParts.{type_of, IsImport};
@@ -113,8 +113,11 @@ impl LaidOut<Endian> for Sym {
     ghost layout_laws = { sym32_laws };
 }
 
-/// A law: all fields of the default symbol are 0.
+/// Laws: where each field lies. All fields of the default symbol are 0.
 pub fn laws()
+    ensures places { HasPlaces ⟦<Sym as LaidOut<Endian>>⟧.layout (λ n s.
+        s.st_name ∷ s.st_value ∷ s.st_size ∷ s.st_info ∷ s.st_other ∷ s.st_shndx ∷ []
+        ≡ n 0 4 ∷ n 4 4 ∷ n 8 4 ∷ n 12 1 ∷ n 13 1 ∷ n 14 2 ∷ []) }
     ensures zeros { (sym : Sym) → ⟦<Sym as Default>⟧.is_default sym → sym ≡ zero sym32 }
 {}
 

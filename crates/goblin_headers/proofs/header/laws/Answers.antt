@@ -1,10 +1,22 @@
-use Rattle.goblin_headers.proofs.WholeTrips.{one_image, reads_back, written_and_read_back, image_of_read, writes_back}
-use Rattle.goblin_headers.proofs.WholeTrips.{new_is_of_context, new_is_read_back}
+use Rattle.goblin_headers.proofs.Common.{◌≡◌, ℕ, List, take, refl}
+use Rattle.goblin_headers.specs.Common.{Container, Endian, Little, Big}
+use Rattle.goblin_headers.specs.Header.{header_layout}
+use Rattle.goblin_headers.proofs.WholeTrips.{each_fits, one_image, reads_back, written_and_read_back, image_of_read}
+use Rattle.goblin_headers.proofs.WholeTrips.{new_is_of_context, new_is_read_back, writes_back}
 use Rattle.goblin_headers.proofs.header.laws.Goals as goal
+
+ident : (class : Container) (order : Endian) (bytes : List ℕ)
+    → ((header_layout class order).read bytes).e_ident ≡ take 16 bytes
+ident Little order bytes = refl
+ident Big order bytes = refl
 
 pub returns : goal.returns
 returns c = record {
+  ident = ident;
+  places32 = λ order bytes. refl;
+  places64 = λ order bytes. refl;
   image = one_image;
+  fits = each_fits;
   reads_back = reads_back;
   written = written_and_read_back;
   image_of_read = image_of_read;

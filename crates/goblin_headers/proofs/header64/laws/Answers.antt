@@ -1,11 +1,14 @@
 use Rattle.goblin_headers.proofs.Common.{refl}
-use Rattle.goblin_headers.proofs.HeaderLemmas.{header64_laws, one_header_image}
+use Rattle.goblin_headers.proofs.HeaderLemmas.{header64_laws, headers_fit, one_header_image}
 use Rattle.goblin_headers.proofs.RawTrips.{raw_reads_back, raw_written_and_read_back, raw_writes_back}
 use Rattle.goblin_headers.proofs.header64.laws.Goals as goal
 
 pub returns : goal.returns
 returns c = record {
+  ident = λ order bytes. refl;
+  places = λ order bytes. refl;
   image = one_header_image header64_laws;
+  fits = headers_fit header64_laws;
   reads_back = raw_reads_back header64_laws;
   written = raw_written_and_read_back header64_laws;
   writes_back = raw_writes_back header64_laws 64 (λ order. refl);

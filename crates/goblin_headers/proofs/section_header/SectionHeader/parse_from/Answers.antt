@@ -1,7 +1,7 @@
 -- If the bytes don't hold the first header, the list and its tests are refused with that error (`first_refused`,
 -- `first_tested`). Otherwise the list is that of the records that were asked for (`from_is`), as `read_all` reads it,
 -- and the only test that is left is whether the bytes could hold so many (`all_tested`).
-use Rattle.goblin_headers.proofs.Common.{rules, sym, subst, Gives}
+use Rattle.goblin_headers.proofs.Common.{rules, sym, subst, ap, ◌∙◌, Ok, arith, Gives}
 use Rattle.goblin_headers.proofs.ReadSections.{first_refused, first_tested, from_is, all_tested}
 use Rattle.goblin_headers.proofs.section_header.SectionHeader.parse_from.Goals as goal
 
@@ -18,10 +18,11 @@ returns-in_err-asked c =
 pub returns-clause-given : goal.returns-clause-given
 returns-clause-given c =
     subst (Gives (λ v. v.items) c.read_all.result)
-    (sym (from_is c.args.bytes.now c.args.offset c.args.count c.args.ctx c.in_ok-asked.asked c.in_ok-asked.ensures))
+    (sym
+    (from_is c.args.bytes.now c.args.offset c.args.count c.args.ctx _ (ap Ok (omega arith) ∙ c.in_ok-asked.ensures)))
     c.read_all.ensures.given
 
 pub returns-clause-tested : goal.returns-clause-tested
 returns-clause-tested c =
-    all_tested c.args.bytes.now c.args.offset c.args.count c.args.ctx c.in_ok-asked.asked c.in_ok-asked.ensures
+    all_tested c.args.bytes.now c.args.offset c.args.count c.args.ctx _ (ap Ok (omega arith) ∙ c.in_ok-asked.ensures)
     c.read_all.result c.read_all.ensures.too_many
