@@ -10,8 +10,6 @@ use Rattle.goblin_base.proofs.Common.{take_rest, prefix_len-append, prefix_len-l
 use Rattle.goblin_base.proofs.Common.{position_or_len_is, map-map, mask_l-mod, first_set_mask_l, chunk-drop}
 use Rattle.goblin_base.proofs.Common.{length-chunk, is_utf8-from_IsUtf8, position_or_len, prefix_len, IsUtf8, is_utf8}
 use Rattle.goblin_base.proofs.Common.{ends_run, lowest_set, piece, plain, text_or_fault, ◌-◌, subst}
-use Rattle.goblin_base.proofs.Common.{length-take, get_or-take, take-append-drop, sym}
-use Rattle.std.proofs.Math.Seq.{take-take}
 use Rattle.std.proofs.lemmas.Bool.{ne_eqb}
 use lib.Lanes.{chunk, mask_l, top}
 use Rattle.goblin_base.proofs.StrtabLemmas.{first_or_length}
@@ -30,28 +28,27 @@ either false false = refl
 
 -- the mask of the lanes' top bits is that of the bytes that end the run
 mask_is : (d : ℕ) (v z : List ℕ)
-    → length v ≤ 64 → z ≡ map (lane d) v → mask_l (map (top 7) z) % 2 ^ 64 ≡ mask_l (map (ends_run d) v)
-mask_is d v z few lanes =
+    → length v ≡ 16 → z ≡ map (lane d) v → mask_l (map (top 7) z) % 2 ^ 64 ≡ mask_l (map (ends_run d) v)
+mask_is d v z long lanes =
     let top_of_lane : (λ b. top 7 (lane d b)) ≡ ends_run d = λ i b. either (eqb b d) (leb 128 b) i in
     let tops : map (top 7) z ≡ map (ends_run d) v =
     ap (map (top 7)) lanes
     ∙ map-map (top 7) (lane d) v
     ∙ ap (λ f. map f v) top_of_lane in
-    let fits : length (map (ends_run d) v) ≤ 64 = omega (arith, length-map v (ends_run d), few) in
+    let few : length (map (ends_run d) v) ≤ 64 = omega (arith, length-map v (ends_run d), long) in
     ap (λ l. mask_l l % 2 ^ 64) tops
-    ∙ mask_l-mod (map (ends_run d) v) 64 fits
+    ∙ mask_l-mod (map (ends_run d) v) 64 few
 
 -- so is the lowest bit of the vectors' mask
-pub run_is : (d n : ℕ) (v z : List ℕ) (r : ℕ)
-    → length v ≡ n → n ≤ 64 → z ≡ map (lane d) v → r ≡ lowest_set (mask_l (map (top 7) z) % 2 ^ 64) n
+pub run_is : (d : ℕ) (v z : List ℕ) (r : ℕ)
+    → length v ≡ 16 → z ≡ map (lane d) v → r ≡ lowest_set (mask_l (map (top 7) z) % 2 ^ 64) 16
     → r ≡ position_or_len (ends_run d) v
-run_is d n v z r long few lanes found =
-    let mask : mask_l (map (top 7) z) % 2 ^ 64 ≡ mask_l (map (ends_run d) v) =
-    mask_is d v z (omega (arith, long, few)) lanes in
-    let first : lowest_set (mask_l (map (ends_run d) v)) n ≡ position_or_len (ends_run d) v =
-    first_set_mask_l (ends_run d) v n long few in
+run_is d v z r long lanes found =
+    let mask : mask_l (map (top 7) z) % 2 ^ 64 ≡ mask_l (map (ends_run d) v) = mask_is d v z long lanes in
+    let first : lowest_set (mask_l (map (ends_run d) v)) 16 ≡ position_or_len (ends_run d) v =
+    first_set_mask_l (ends_run d) v 16 long (omega arith) in
     found
-    ∙ ap (λ m. lowest_set m n) mask
+    ∙ ap (λ m. lowest_set m 16) mask
     ∙ first
 
 -- what stands before the first byte of a kind, from an offset on: it ends in the next 16 bytes, or goes on after them
@@ -81,17 +78,6 @@ passes_on test bytes at room all =
     ∙ prefix_len-append p (chunk at 16 bytes) (drop (at + 16) bytes)
     ∙ cond-true _ _ _ (eq-eqb _ _ whole)
     ∙ ap (λ n. n + prefix_len p (drop (at + 16) bytes)) long
-
--- and if it ends in the first bytes, so it does in all of them
-pub stops_in_front : (test : ℕ → Bool) (n : ℕ) (bytes : List ℕ)
-    → position_or_len test (take n bytes) < length (take n bytes)
-    → position_or_len test bytes ≡ position_or_len test (take n bytes)
-stops_in_front test n bytes short =
-    let p : ℕ → Bool = λ b. not (test b) in
-    let not_all : ¬ (prefix_len p (take n bytes) ≡ length (take n bytes)) = λ e. absurd (omega (arith, e, short)) in
-    ap (prefix_len p) (sym (take-append-drop n bytes))
-    ∙ prefix_len-append p (take n bytes) (drop n bytes)
-    ∙ cond-false _ _ _ (ne_eqb _ _ not_all)
 
 -- so it is with a run
 pub ends_here : (d : ℕ) (bytes : List ℕ) (at : ℕ)
@@ -156,16 +142,3 @@ module _ (d n : ℕ) (bytes : List ℕ) (is : n ≡ position_or_len (ends_run d)
       let text : is_utf8 (take n bytes) ≡ true = is_utf8-from_IsUtf8 _ run_is_text in
       ap (λ p. text_or_fault p (length bytes - 0)) whole
       ∙ cond-true _ _ _ text
-
--- a run in the first bytes that the delimiter ends is the piece
-pub front_is_plain : (d n k : ℕ) (bytes : List ℕ)
-    → n ≡ position_or_len (ends_run d) (take k bytes) → n < length (take k bytes)
-    → eqb (get_or (take k bytes) n 0) d ≡ true
-    → plain bytes d 0 ≡ Ok (take n (take k bytes))
-front_is_plain d n k bytes is within ended =
-    let below : n < k = omega (arith, within, length-take k bytes) in
-    let all : n ≡ position_or_len (ends_run d) bytes =
-    is ∙ sym (stops_in_front (ends_run d) k bytes (omega (arith, is, within))) in
-    let at : eqb (get_or bytes n 0) d ≡ true =
-    ap (λ b. eqb b d) (sym (get_or-take k bytes n 0 below)) ∙ ended in
-    run_is_plain d n bytes all (λ l. at) ∙ ap Ok (sym (take-take n k bytes (omega (arith, below))))

@@ -9,9 +9,6 @@ use std::simd::prelude::*;
 
 const LANES: usize = 16;
 
-/// The number of bytes that are read at once to find a short piece.
-pub(crate) const SHORT: usize = 64;
-
 /// Returns the piece at the start of the bytes if all of it is ASCII.
 pub(crate) fn ascii_piece(bytes: &[u8], delim: u8) -> Option<&str>
     ensures { IfSome result (λ text. plain bytes.now delim 0 ≡ Ok text.now) }
@@ -21,34 +18,6 @@ pub(crate) fn ascii_piece(bytes: &[u8], delim: u8) -> Option<&str>
         return None;
     }
     Some(unsafe { std::str::from_utf8_unchecked(&bytes[..len]) })
-}
-
-/// Returns the piece at the start of the bytes if it is short: all of it is ASCII, and the delimiter is among the first 64
-/// bytes. It reads no others.
-pub(crate) fn short_piece(bytes: &[u8], delim: u8) -> Option<&str>
-    ensures { IfSome result (λ text. plain bytes.now delim 0 ≡ Ok text.now) }
-{
-    let front = &bytes[..bytes.len().min(SHORT)];
-    let len = front_len(front, delim);
-    if len == front.len() || front[len] != delim {
-        return None;
-    }
-    Some(unsafe { std::str::from_utf8_unchecked(&front[..len]) })
-}
-
-// Returns how many bytes come before the first one that ends the run. If there are 64, it reads them at once: no branch
-// depends on the length of a short piece.
-#[inline(always)]
-fn front_len(bytes: &[u8], delim: u8) -> usize
-    requires { length bytes.now ≤ SHORT }
-    ensures { result ≡ position_or_len (ends_run delim) bytes.now }
-{
-    if bytes.len() < SHORT {
-        return run_len(bytes, delim);
-    }
-    let lanes = u8x64::from_slice(bytes);
-    let ends = lanes.simd_eq(u8x64::splat(delim)) | lanes.simd_ge(u8x64::splat(0x80));
-    lowest_set(ends.to_bitmask(), SHORT)
 }
 
 // Returns how many bytes come before the first one that ends the run: the delimiter, or a byte of 128 or

@@ -1,13 +1,13 @@
 //! String tables, which are indexed by byte offsets: System V gABI, "String Table".
 ghost use Rattle.std.specs.Prelude.{◌≡◌, ◌+◌, ◌<◌, ◌≤◌, ◌↔◌, [], false, drop, length, map, nat_lt, position};
 ghost use Rattle.std.specs.Prelude.{◌==◌, if◌then◌else◌, Some, None, Ok, IfErr, IfOk, IfSome, IsNone, IsOk};
-ghost use Rattle.std.specs.Prelude.{MatchOption, EachIndex, alloc_error, slice_index, slice_range};
+ghost use Rattle.std.specs.Prelude.{MatchOption, EachIndex, alloc_error, min, slice_index, slice_range};
 ghost use Rattle.std.specs.Option.{option_map};
 ghost use Rattle.std.specs.Str.{IsCharBoundary};
-ghost use Rattle.goblin_base.specs.Entries.{places_of, text_of};
+ghost use Rattle.goblin_base.specs.Entries.{text_of};
 ghost use Rattle.goblin_base.specs.Pieces.{piece};
 ghost use Rattle.goblin_base.specs.Refusal.{Returns, Gives};
-ghost use Rattle.goblin_base.specs.Search.{IsLastUpTo};
+ghost use Rattle.goblin_base.specs.Search.{IsLastUpTo, digits};
 ghost use Rattle.goblin_base.specs.Strtab.{RefusesFirst, has_name, look_up, plain, range_in, strings_of, strtab_of};
 ghost use Rattle.goblin_base.specs.Strtab.{table_of};
 ghost use Rattle.goblin_base.specs.Wanted.{can_be_string, stands_at};
@@ -15,7 +15,7 @@ ghost use Rattle.goblin_base.specs.StrtabLaws.{ClosedForm, DependsOnRange, Digit
 ghost use Rattle.goblin_base.specs.StrtabLaws.{PermissiveAccepts, StrictIsPermissive, StrictLookUpIsPlain, TextIsUtf8};
 ghost use Rattle.goblin_base.specs.StrtabLaws.{NamesArePlain, TextIsTaken};
 
-use crate::ascii::{SHORT, ascii_piece, len_before, short_piece};
+use crate::ascii::{ascii_piece, len_before};
 use crate::entries::{Entries, Looked, Probes};
 use crate::error::{Error, Result};
 use crate::find::find;
@@ -65,19 +65,6 @@ fn get_str(offset: usize, bytes: &[u8], delim: u8) -> Result<&str>
     }
     let len = piece_len(bytes, offset, delim);
     read_text(&rest[..len], rest.len())
-}
-
-// Returns the piece at an offset if it is short. In a table whose strings are long on average it doesn't look.
-#[tactic(auto, using(crate::proofs::StrtabLemmas::rests), unfolding(crate::specs::Pieces::piece))]
-fn short_str(offset: usize, bytes: &[u8], delim: u8, strings: usize) -> Option<&str>
-    requires { offset ≤ length bytes.now }
-    ensures { IfSome result (λ text. plain bytes.now delim offset ≡ Ok text.now) }
-{
-    if bytes.len() / SHORT < strings {
-        short_piece(&bytes[offset..], delim)
-    } else {
-        None
-    }
 }
 
 /// Returns the length of the piece at an offset: the number of bytes before the next delimiter, or
@@ -270,7 +257,8 @@ impl<'a> Strtab<'a> {
         }
     }
 
-    /// Returns the rest of the last entry at or before an offset, from the offset on.
+    /// Returns the rest of the last entry at or before an offset, from the offset on. Each call is one search
+    /// (`find`) and reads one more place.
     ///
     /// Returns `None` from `len()` on, inside a character, and at every offset of a table that wasn't parsed.
     #[tactic(auto, using(crate::proofs::StrtabLemmas::look_up_past))]
@@ -281,10 +269,8 @@ impl<'a> Strtab<'a> {
             return None;
         }
         let entries = self.entries.as_ref()?;
-        if let Some(text) = short_str(offset, self.bytes, self.delim, entries.len()) {
-            return Some(text);
-        }
-        let (k, place) = last_entry(entries, offset)?;
+        let mut probes = Probes::of(&*entries);
+        let (k, place) = last_entry(&mut probes, offset)?;
         rest_of(entries.text(k), offset - place)
     }
 
@@ -414,16 +400,18 @@ fn texts<'a>(alloc: Global, entries: &Entries<'a>) -> Result<Vec<&'a str>>
     Ok(texts)
 }
 
-// Returns the index and the offset of the last entry at or before an offset.
-fn last_entry(entries: &Entries<'_>, offset: usize) -> Option<(usize, usize)>
-    ensures { let places = places_of entries.now in
+// Returns the index and the offset of the last entry at or before an offset. It reads one place more than `find`.
+fn last_entry(view: &mut Probes<'_>, offset: usize) -> Option<(usize, usize)>
+    ensures value { let places = view.old.places in
         MatchOption result
         (EachIndex places (λ k. offset < slice_index places k))
         (λ entry. IsLastUpTo places offset entry.0 × (entry.1 ≡ slice_index places entry.0)) }
+    ensures probes { view.new.count ≤ view.old.count + digits (length view.old.places) + 1 }
+    ensures probes_least { let least = view.old.count + digits (length view.old.places + 1) in
+        IfSome result (λ _. min least u64.MAX ≤ view.new.count) }
 {
-    let mut probes = Probes::of(&*entries);
-    let k = find(&mut probes, offset)?;
-    let place = probes.at(k);
+    let k = find(view, offset)?;
+    let place = view.at(k);
     Some((k, place))
 }
 

@@ -2,7 +2,7 @@
 -- exactly if its rest completes the state. At the delimiter or at the end the rest is empty, so the state decides
 -- (`scan_ends`). A byte that may not come there excludes each start up to it (`scan_faults`). A look changes the count
 -- only, so the view's bytes are those of the call (`same`).
-use Rattle.std.proofs.Common.{◌≡◌, length, get_or, slice_index, false, eqb, sym, ap, subst, ◌∙◌, refl, arith}
+use Rattle.std.proofs.Common.{◌≡◌, ◌+◌, max, length, get_or, slice_index, false, eqb, sym, ap, subst, ◌∙◌, refl, arith}
 use Rattle.std.proofs.lemmas.Bool.{eq-eqb, ne_eqb}
 use Rattle.goblin_base.specs.Utf8.{after_byte}
 use Rattle.goblin_base.specs.Scan.{IsScan}
@@ -34,7 +34,8 @@ returns-in-None-clause-value c =
     c.at-byte.ensures.value ∙ ap (λ bs. slice_index bs c.loop-at.at) i.same in
     let test : eqb (get_or c.args.view.now.bytes c.loop-at.at 0) c.args.delim ≡ false =
     ne_eqb _ _ (λ (e : get_or c.args.view.now.bytes c.loop-at.at 0 ≡ c.args.delim). c.if-byte-delim.false (byte ∙ e)) in
-    subst (λ k. IsScan c.args.view.now.bytes c.args.delim c.args.from (Fault k)) (sym c.max.ensures)
+    let next : max c.loop-at.at (c.args.from + 1) ≡ c.max.result = omega (arith, c.max.ensures) in
+    subst (λ k. IsScan c.args.view.now.bytes c.args.delim c.args.from (Fault k)) next
     (scan_faults (omega (arith, ap length i.same)) test
     (ap (after_byte c.loop-at.awaited) (sym byte) ∙ sym c.in-None.ensures) i.scanned)
 

@@ -5,12 +5,14 @@
 use Rattle.std.proofs.Common.{rules, ◌≡◌, ◌+◌, ◌-◌, ◌<◌, ◌≤◌, ℕ, List, false, true, length, slice_index, refl, sym, ap}
 use Rattle.std.proofs.Common.{subst, ◌∙◌, Ok, Err, arith, zero, suc}
 use Rattle.std.proofs.lemmas.Bool.{both_ways, false≢true}
+use Rattle.std.proofs.lemmas.List.{take_all}
 use Rattle.std.specs.Bool.{IsTrue}
 use Rattle.std.specs.Str.{IsAscii, IsUtf8}
 use Rattle.std.specs.List.{slice_range}
 use Rattle.goblin_base.specs.Entries.{entries_between}
 use Rattle.goblin_base.specs.Marks.{HaveMarks}
 use Rattle.goblin_base.specs.Pieces.{piece_end, is_readable}
+use Rattle.goblin_base.specs.Scan.{IsWalkedTo}
 use Rattle.goblin_base.specs.Strtab.{walked}
 use Rattle.goblin_base.specs.Utf8.{invalid_utf8}
 use Rattle.goblin_base.proofs.EntriesLemmas.{walked_none, walked_text}
@@ -35,6 +37,13 @@ no_fault : (bytes seen then : List ℕ) (i e : ℕ)
 no_fault bytes seen then i e same unchanged bad low =
     let text = low_is_text bytes i e (λ k l r. low k) in
     false≢true (bad (subst (λ bs. IsUtf8 (slice_range bs i e)) (sym (unchanged ∙ same)) text))
+
+-- the same places are walked to the same offset
+ruleset kept = (rules, take_all)
+
+of_same_places : {bytes places stored : List ℕ} {d i : ℕ}
+    → IsWalkedTo bytes d places i → stored ≡ places → IsWalkedTo bytes d stored i
+of_same_places {bytes = bytes} {d = d} {i = i} walked same = subst (λ p. IsWalkedTo bytes d p i) (sym same) walked
 
 -- no piece ends before the first one
 first_ends : (bytes : List ℕ) (d i e : ℕ)
@@ -100,10 +109,12 @@ pub loop-i-preserved : goal.loop-i-preserved
 loop-i-preserved c =
     let s = c.loop-i.invariant in
     let e = c.next_end-end.ensures in
+    let walked : IsWalkedTo c.args.view.now.bytes c.args.delim c.walk_damaged.new.places.items c.in_ok-i.i =
+    search rules in
     record {
       same = search rules;
       within = search rules;
-      walked = search rules;
+      walked = of_same_places walked (search kept);
       strict = search rules;
       near = search rules;
       marked = search rules;
