@@ -14,4 +14,5 @@ marks_of c =
       reported_error = c.reported_error;
       reported_failure = c.reported_failure;
       reported_end = c.reported_end;
+      went_on = c.went_on;
     }

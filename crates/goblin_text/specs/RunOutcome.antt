@@ -1,12 +1,11 @@
 -- How a run ends: what it reads and writes.
-use Rattle.std.specs.Prelude.{◌≡◌, ◌≢◌, ℕ, ◌+◌, ◌-◌, ◌^◌, ◌<◌, ◌≤◌, ◌⊎◌, min, IsTrue, List, length, codes, decimal}
-use Rattle.std.specs.Prelude.{Option, Ok, Err, vec_items}
-use Rattle.goblin_text.specs.Common.{Appends, Consumes, IsAtEnd, Refusal, out_of_memory, refusal_of, ◌&◌, refusal_text}
+use Rattle.std.specs.Prelude.{◌≡◌, ◌≢◌, ℕ, ◌+◌, ◌-◌, ◌^◌, ◌<◌, ◌≤◌, ◌⊎◌, min, IfErr, IsTrue, List, length}
+use Rattle.std.specs.Prelude.{Option, Ok, Err, codes, decimal, false, vec_items}
+use Rattle.goblin_text.specs.Common.{Appends, Consumes, IsAtEnd, Refusal, ◌&◌, refusal_text}
 use Rattle.goblin_text.specs.Common.{ParseMode}
-use Rattle.goblin.specs.declared.error.Error.{Error}
 use Rattle.goblin_text.specs.ShownLines.{newline}
 use Rattle.goblin_text.specs.StreamMarks.{StreamMarks}
-use Rattle.goblin_text.specs.Shown.{shown}
+use Rattle.goblin_text.specs.Shown.{shown, tested}
 use Rattle.goblin_text.specs.declared.input.Input.{Input}
 use Rattle.goblin_text.specs.declared.input.Input.TheVariants as inputs
 use Rattle.goblin_text.specs.declared.run.Outcome.{Outcome}
@@ -46,18 +45,24 @@ pub record FailsToRead (before after : StreamMarks) : Type 0 where
   pub error : IsTrue after.reported_error
   pub reason : IsTrue after.reported_failure ⊎ ReadsInVain read_limit before after
 
+-- The reader returned no more bytes than the program takes, and not its end, in fewer than so many calls.
+pub record StopsReading (limit : ℕ) (old new : Option (List ℕ)) (before after : StreamMarks) : Type 0 where
+  pub taken : (bytes : List ℕ) × Consumes old new bytes × (length bytes ≤ input_limit)
+  pub endless : after.reported_end ≡ before.reported_end
+  pub calls : after.read_calls < before.read_calls + limit
+
 -- what was read: memory runs out before a call that was still to be made
 abbrev pub IsInput : Input → Option (List ℕ) → Option (List ℕ) → StreamMarks → StreamMarks → Type 0
 IsInput (inputs.Whole v) old new before after = ReadsAll old new after (vec_items v)
 IsInput inputs.TooLong old new before after = (bytes : List ℕ) × ReadsTooMuch old new bytes
-IsInput inputs.OutOfMemory old new before after = after.read_calls < before.read_calls + read_limit
+IsInput inputs.OutOfMemory old new before after = StopsReading read_limit old new before after
 IsInput inputs.Failed old new before after = FailsToRead before after
 
 -- what was read in so many calls: in fewer than there may be bytes, the reader may report no error
 abbrev pub IsInputWithin : (limit : ℕ) → Input → Option (List ℕ) → Option (List ℕ) → StreamMarks → StreamMarks → Type 0
 IsInputWithin limit (inputs.Whole v) old new before after = ReadsAll old new after (vec_items v)
 IsInputWithin limit inputs.TooLong old new before after = (bytes : List ℕ) × ReadsTooMuch old new bytes
-IsInputWithin limit inputs.OutOfMemory old new before after = after.read_calls < before.read_calls + limit
+IsInputWithin limit inputs.OutOfMemory old new before after = StopsReading limit old new before after
 IsInputWithin limit inputs.Failed old new before after =
     (IsTrue after.reported_failure ⊎ ReadsInVain limit before after)
     × (input_limit < limit → IsTrue after.reported_error)
@@ -76,32 +81,31 @@ WritesRefusal held holds line = Appends held holds (codes "refused: " & line & n
 abbrev pub usage_line : List ℕ
 usage_line = codes "usage: goblin_show [permissive]" & newline
 
--- the writer holds the line on how the program is called more, and no other, or it reported an error
-abbrev pub WritesUsage : Option (List ℕ) → Option (List ℕ) → StreamMarks → Type 0
-WritesUsage held holds marks = Appends held holds usage_line ⊎ IsTrue marks.reported_error
-
--- a line for an error: its text, unless memory ran out
-abbrev pub IsErrorLine : Error → List ℕ → Type 0
-IsErrorLine e line =
-    ((refusal_of e ≢ out_of_memory) × (line ≡ refusal_text (refusal_of e))) ⊎ (line ≡ codes "Out of memory")
+-- the writer holds the line on how the program is called more, and no other, or it reported an error, and was not
+-- called after it
+abbrev pub WritesUsage : (held holds : Option (List ℕ)) → (first last : StreamMarks) → Type 0
+WritesUsage held holds first last =
+    Appends held holds usage_line
+    ⊎ (IsTrue last.reported_error × (first.reported_error ≡ false → last.went_on ≡ first.went_on))
 
 -- what is said of an input that is longer than the program takes
 abbrev pub too_long : List ℕ
 too_long = codes "input is longer than " & decimal input_limit & codes " bytes"
 
--- why a line is written in place of a text: all bytes were read and are refused, or they are too many, or memory ran
--- out
-abbrev pub IsReason : ParseMode → (old new : Option (List ℕ)) → StreamMarks → List ℕ → Type 0
-IsReason mode old new marks line =
-    ((bytes : List ℕ) × ReadsAll old new marks bytes × (r : Refusal) × (shown mode bytes ≡ Err r)
-    × (line ≡ refusal_text r))
-    ⊎ (((bytes : List ℕ) × ReadsTooMuch old new bytes × (line ≡ too_long))
-    ⊎ (line ≡ codes "Out of memory"))
-
--- why a line is written in place of the text of these bytes: they are refused, or memory ran out
+-- why a line is written in place of the text of these bytes: they are refused, or memory ran out, which masks no
+-- refusal that is tested before the first allocation
 abbrev pub IsReasonOf : ParseMode → List ℕ → List ℕ → Type 0
 IsReasonOf mode bytes line =
-    ((r : Refusal) × (shown mode bytes ≡ Err r) × (line ≡ refusal_text r)) ⊎ (line ≡ codes "Out of memory")
+    ((r : Refusal) × (shown mode bytes ≡ Err r) × (line ≡ refusal_text r))
+    ⊎ ((line ≡ codes "Out of memory") × IfErr (tested bytes) (λ r. line ≡ refusal_text r))
+
+-- why a line is written in place of a text: all bytes were read and are refused, or they are too many, or memory ran
+-- out
+abbrev pub IsReason : ParseMode → (old new : Option (List ℕ)) → (before after : StreamMarks) → List ℕ → Type 0
+IsReason mode old new before after line =
+    ((bytes : List ℕ) × ReadsAll old new after bytes × IsReasonOf mode bytes line)
+    ⊎ (((bytes : List ℕ) × ReadsTooMuch old new bytes × (line ≡ too_long))
+    ⊎ (StopsReading read_limit old new before after × (line ≡ codes "Out of memory")))
 
 -- How a run ended. Of the reader, what is left and the marks are given, before and after; of the writer, what it holds
 -- and the marks.
@@ -111,7 +115,7 @@ pub record HasRun (mode : ParseMode) (outcome : Outcome) (old new : Option (List
   pub shown : outcome ≡ outcomes.Shown → IsShown mode old new after held holds
   -- one line with the reason was written
   pub refused : outcome ≡ outcomes.Refused
-      → (line : List ℕ) × IsReason mode old new after line × WritesRefusal held holds line
+      → (line : List ℕ) × IsReason mode old new before after line × WritesRefusal held holds line
   -- the reader failed, and nothing was written, or the writer reported an error
   pub failed : outcome ≡ outcomes.Failed → (FailsToRead before after × (holds ≡ held)) ⊎ IsTrue last.reported_error
   -- else the reader reported no error but interruptions, and the writer none

@@ -6,17 +6,19 @@ use Rattle.std.specs.IoError.{error_kind}
 use Rattle.std.specs.declared.io.ErrorKind.{ErrorKind}
 use Rattle.std.specs.declared.io.ErrorKind.TheVariants.{Interrupted}
 
--- how many read calls there were, which stops at the greatest u64, and whether an error, a read error that is no
--- interruption, and the end were reported
+-- how many read calls there were, which stops at the greatest u64; whether an error, a read error that is no
+-- interruption, and the end were reported; and whether it was written or flushed after an error
 pub record StreamMarks : Type 0 where
   pub read_calls : ℕ
   pub reported_error : Bool
   pub reported_failure : Bool
   pub reported_end : Bool
+  pub went_on : Bool
 
 -- before any call
 abbrev pub no_marks : StreamMarks
-no_marks = record { read_calls = 0; reported_error = false; reported_failure = false; reported_end = false }
+no_marks =
+    record { read_calls = 0; reported_error = false; reported_failure = false; reported_end = false; went_on = false }
 
 -- the kind of an error after which a call is tried again
 unfoldable pub is_interruption : ErrorKind → Bool
@@ -40,8 +42,10 @@ after_read m answer buf = record {
   reported_error = m.reported_error || is_err answer;
   reported_failure = m.reported_failure || is_failure answer;
   reported_end = m.reported_end || is_end answer buf;
+  went_on = m.went_on;
 }
 
 -- the marks after `write_all` or `flush` returned this
 abbrev pub after_write : {T E : Type 0} → StreamMarks → Result T E → StreamMarks
-after_write m answer = record m { reported_error = m.reported_error || is_err answer }
+after_write m answer =
+    record m { reported_error = m.reported_error || is_err answer; went_on = m.went_on || m.reported_error }

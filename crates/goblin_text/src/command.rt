@@ -16,7 +16,8 @@ const USAGE: &[u8; 32] = b"usage: goblin_show [permissive]\n";
 
 // Writes how the program is called.
 fn write_usage<W: Sink>(writer: &mut W)
-    ensures { WritesUsage (W.contents writer.old) (W.contents writer.new) (W.marks writer.new) }
+    ensures { WritesUsage (W.contents writer.old) (W.contents writer.new) (W.marks writer.old)
+        (W.marks writer.new) }
 {
     if writer.write_all(USAGE).is_ok() {
         let _ = writer.flush();
@@ -43,7 +44,8 @@ pub fn show<R: Source, W: Sink>(
     // Nothing was read, and the line on how the program is called was written.
     ensures usage { OnOk words (wanted words ≡ None → (result ≡ 2)
         × (reader.new ≡ reader.old)
-        × WritesUsage (W.contents writer.old) (W.contents writer.new) (W.marks writer.new)) }
+        × WritesUsage (W.contents writer.old) (W.contents writer.new) (W.marks writer.old)
+        (W.marks writer.new)) }
 
     // By the options that the words ask for there was a run, and this is its exit status.
     ensures ran { (opts : ParseOptions) → wanted words ≡ Some opts → (outcome : Outcome)

@@ -8,7 +8,7 @@ use std::io;
 use std::io::{Read, Write};
 
 /// A reader or a writer of std that counts its read calls, and marks that it reported an error, a read error that
-/// is no interruption, or the end.
+/// is no interruption, or the end, and that it was written or flushed after an error.
 #[derive(Drop)]
 pub struct Counted<T> {
     inner: T,
@@ -16,6 +16,7 @@ pub struct Counted<T> {
     reported_error: bool,
     reported_failure: bool,
     reported_end: bool,
+    went_on: bool,
 }
 
 impl<T> Counted<T> {
@@ -30,6 +31,7 @@ impl<T> Counted<T> {
             reported_error: false,
             reported_failure: false,
             reported_end: false,
+            went_on: false,
         }
     }
 
@@ -107,6 +109,7 @@ impl<W: Write> Sink for Counted<W> {
     ghost marks = { marks_of };
 
     fn write_all(&mut self, bytes: &[u8]) -> io::Result<()> {
+        self.went_on = self.went_on || self.reported_error;
         let answer = self.inner.write_all(bytes);
         if answer.is_err() {
             self.reported_error = true;
@@ -115,6 +118,7 @@ impl<W: Write> Sink for Counted<W> {
     }
 
     fn flush(&mut self) -> io::Result<()> {
+        self.went_on = self.went_on || self.reported_error;
         let answer = self.inner.flush();
         if answer.is_err() {
             self.reported_error = true;

@@ -1,9 +1,11 @@
-//! The lines of the text that is shown of a file, put without an allocation.
+//! The lines of the text that is shown of a file, and the text of an error, put without an allocation.
 ghost use Rattle.std.specs.Prelude.{◌≡◌, Some, map};
 ghost use Rattle.std.specs.List.{concat};
 ghost use Rattle.goblin.specs.Texts.{◌&◌};
 ghost use Rattle.goblin_text.specs.ShownLines.{addend_text, header_line, is_control, newline, printable, printed, reloc_line, section_line, symbol_line};
 ghost use Rattle.goblin_text.specs.TargetState.{Puts};
+ghost use Rattle.goblin.specs.Refusal.{refusal_of};
+ghost use Rattle.goblin_base.specs.Texts.{facts_of, part_text, refusal_text};
 
 use crate::targets::Target;
 use goblin::elf::header::{
@@ -12,7 +14,9 @@ use goblin::elf::header::{
 use goblin::elf::reloc::Reloc;
 use goblin::elf::section_header::{SectionHeader, sht_to_str};
 use goblin::elf::sym::{Sym, bind_to_str, type_to_str, visibility_to_str};
+use goblin::error::Error;
 use goblin_base::digits::Digits;
+use goblin_base::texts::{Part, Report};
 
 // Puts texts one after another.
 fn put_all<T: Target>(target: &mut T, texts: &[&str]) -> Result<(), T::Error>
@@ -229,4 +233,35 @@ pub fn put_reloc<T: Target>(
         ],
     )?;
     put_addend(target, reloc.r_addend)
+}
+
+// Puts a part of the text of an error.
+fn put_part<T: Target>(target: &mut T, report: &Report, part: &Part) -> Result<(), T::Error>
+    ensures put { Puts (T.state target.old) (T.state target.new) result
+        (part_text (facts_of report.now) part.now) }
+    ensures same_writer { T.writer_name target.new ≡ T.writer_name target.old }
+{
+    match part {
+        Part::Text(text) => target.put(text),
+        Part::First => target.put(Digits::decimal(report.first).as_str()),
+        Part::Second => target.put(Digits::decimal(report.second).as_str()),
+        Part::Third => target.put(Digits::decimal(report.third).as_str()),
+        Part::Hexadecimal => target.put(Digits::hexadecimal(report.first).as_str()),
+        Part::Item => target.put(report.item),
+        Part::Overflow => target.put(if report.overflow { "true" } else { "false" }),
+    }
+}
+
+/// Puts the text of an error.
+pub fn put_error<T: Target>(target: &mut T, e: &Error) -> Result<(), T::Error>
+    ensures put { Puts (T.state target.old) (T.state target.new) result (refusal_text (refusal_of e.now)) }
+    ensures same_writer { T.writer_name target.new ≡ T.writer_name target.old }
+{
+    let report = e.report();
+    target.put(report.kind.prefix())?;
+    let parts = report.kind.parts();
+    for part in parts {
+        put_part(target, &report, part)?;
+    }
+    Ok(())
 }

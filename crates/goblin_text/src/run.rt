@@ -1,15 +1,18 @@
 //! A run: from the bytes that a reader gives to the text that a writer holds.
 ghost use Rattle.std.specs.Prelude.{◌≡◌, ◌≢◌, ℕ, ◌+◌, ◌*◌, ◌↔◌, ◌≤◌, List, IsTrue, OnOk, OnErr, length};
 ghost use Rattle.std.specs.Io.KnownBytes.{Appends};
+ghost use Rattle.goblin_text.specs.Common.{refusal_of, refusal_text};
 ghost use Rattle.goblin_text.specs.Looks.{IsShort, IsUnread, LooksAtMost, ReadsNames, line_looks, lines_in, section_count, shown_looks, table_looks, tables_looks};
-ghost use Rattle.goblin_text.specs.RunOutcome.{HasRun, IsErrorLine, IsReasonOf, WritesRefusal, input_limit, read_limit, status_of};
+ghost use Rattle.goblin_text.specs.RunOutcome.{HasRun, IsReasonOf, WritesRefusal, input_limit, read_limit, status_of};
 ghost use Rattle.goblin_text.specs.Shown.{shown};
 
 use crate::accept::accept;
 use crate::block_runs::{BLOCK, BLOCKS};
 use crate::file_bytes::FileBytes;
 use crate::input::{INPUT_LIMIT, Input, READ_LIMIT, TOO_LONG, input_of};
+use crate::lines::put_error;
 use crate::streams::{Sink, Source};
+use crate::targets::{Buffered, Target};
 use crate::text::write_text;
 use goblin::error::Error;
 use goblin::options::ParseOptions;
@@ -70,22 +73,19 @@ fn refuse<W: Sink>(writer: &mut W, line: &str) -> Outcome
     }
 }
 
-// Writes why the bytes are refused, or that memory ran out, and returns how that ended.
-fn refuse_for<W: Sink>(alloc: Global, writer: &mut W, e: &Error) -> Outcome
-    ensures shown { result ≢ Outcome.Shown }
-    ensures refused { result ≡ Outcome.Refused → (line : List ℕ) × IsErrorLine e.now line
-        × WritesRefusal (W.contents writer.old) (W.contents writer.new) line }
-    ensures heeded { result ≡ Outcome.Refused →
-        (W.marks writer.new).reported_error ≡ (W.marks writer.old).reported_error }
-    ensures failed { result ≡ Outcome.Failed → IsTrue (W.marks writer.new).reported_error }
+// Writes `refused: ` and the text of an error. It takes no memory.
+fn write_error<W: Sink>(writer: &mut W, e: &Error) -> io::Result<()>
+    ensures ok { OnOk result (WritesRefusal (W.contents writer.old) (W.contents writer.new)
+        (refusal_text (refusal_of e.now))) }
+    ensures heeded { OnOk result
+        ((W.marks writer.new).reported_error ≡ (W.marks writer.old).reported_error) }
+    ensures err { OnErr result (IsTrue (W.marks writer.new).reported_error) }
 {
-    if let Error::Memory(_) = e {
-        return refuse(writer, OUT_OF_MEMORY);
-    }
-    match e.line(alloc) {
-        Ok(line) => refuse(writer, line.as_str()),
-        Err(_) => refuse(writer, OUT_OF_MEMORY),
-    }
+    let mut target = Buffered::new(writer);
+    target.put("refused: ")?;
+    put_error(&mut target, e)?;
+    target.put("\n")?;
+    target.finish()
 }
 
 /// Writes the text of a file, or one line with the reason why there is none: the bytes are refused, or memory ran out.
@@ -134,7 +134,10 @@ pub fn show_file<W: Sink>(
             Ok(()) => Outcome::Shown,
             Err(_) => Outcome::Failed,
         },
-        Err(e) => refuse_for(alloc, writer, &e),
+        Err(e) => match write_error(writer, &e) {
+            Ok(()) => Outcome::Refused,
+            Err(_) => Outcome::Failed,
+        },
     }
 }
 

@@ -602,9 +602,9 @@ fn heeds(alloc: Global, file: &str, outcome: Outcome, calls: u32) -> bool {
 
 #[test]
 fn fails_where_a_write_or_the_flush_does(rt: HostRuntime) {
-    // A text is written by one call, a refusal by three, and a flush follows.
+    // A text or a refusal is written by one call, and a flush follows.
     assert!(rt; heeds(rt.alloc(), BIG, Outcome::Shown, 2));
-    assert!(rt; heeds(rt.alloc(), "", Outcome::Refused, 4));
+    assert!(rt; heeds(rt.alloc(), "", Outcome::Refused, 2));
 }
 
 #[test]

@@ -23,3 +23,10 @@ returns-in-Ok-eq0-clause-input g c = grind (arith, common_steps)
 
 pub loop-preserved : goal.loop-preserved
 loop-preserved g c = grind (arith, common_steps, Consumes-after, Consumes-kept)
+
+pub returns-then-is_err-clause-input : goal.returns-then-is_err-clause-input
+returns-then-is_err-clause-input g c = record {
+  taken = (_, c.loop.invariant.taken, grind (arith, common_steps));
+  endless = grind (arith, common_steps);
+  calls = grind (arith, common_steps);
+}

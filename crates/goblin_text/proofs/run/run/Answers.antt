@@ -1,6 +1,8 @@
 -- A run whose input is too long, or for which memory ran out, writes one line with that reason or fails, as `refuse`
--- says. Of the reader it says what `input_of` says.
-use Rattle.goblin_text.proofs.Common.{arith, inl, inr, refl, common_steps}
+-- says. Of the reader it says what `input_of` says. If all was read, `show_file` says how it ended.
+use Rattle.goblin_text.proofs.Common.{◌∙◌, arith, inl, inr, refl, subst, common_steps}
+use Rattle.goblin_text.specs.RunOutcome.{IsReasonOf}
+use Rattle.std.proofs.Common.{rules}
 use Rattle.std.specs.Fmt.{digits}
 use Rattle.goblin_text.proofs.run.run.Goals as goal
 
@@ -23,10 +25,25 @@ returns-in-TooLong g c = record {
 pub returns-in-OutOfMemory : goal.returns-in-OutOfMemory
 returns-in-OutOfMemory g c = record {
   shown = λ e. absurd (c.refuse-in-OutOfMemory.ensures.shown e);
-  refused = λ e. (_, inr (inr refl), c.refuse-in-OutOfMemory.ensures.refused e);
+  refused = λ e. (_, inr (inr (c.in-OutOfMemory.ensures.input, refl)), c.refuse-in-OutOfMemory.ensures.refused e);
   failed = λ e. inr (c.refuse-in-OutOfMemory.ensures.failed e);
   heeds_reader = grind (arith, common_steps);
   heeds_writer = grind (arith, common_steps);
   most = grind (arith, common_steps);
   calls = grind (arith, common_steps);
+}
+
+pub returns : goal.returns
+returns g c = record {
+  shown = search rules;
+  refused = λ e.
+      let said = c.show_file.ensures.refused e in
+      let is = c.new-file.ensures.bytes ∙ c.as_slice.ensures.value in
+      let reason = subst (λ bytes. IsReasonOf c.args.opts.now.parse_mode bytes said.0) is said.1 in
+      (said.0, inl (_, c.in-Whole.ensures.input, reason), said.2);
+  failed = search rules;
+  heeds_reader = search rules;
+  heeds_writer = search rules;
+  most = search rules;
+  calls = search rules;
 }

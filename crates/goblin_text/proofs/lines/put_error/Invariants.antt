@@ -1,0 +1,14 @@
+use Rattle.goblin_text.proofs.Common.{◌≡◌, take, Appends}
+use Rattle.goblin_base.specs.Texts.{facts_of, joined}
+use Rattle.goblin_text.proofs.lines.put_error.Given as goal
+
+-- the parts so far are put
+abbrev pub invariant-loop-part : goal.invariant-loop-part
+invariant-loop-part g l =
+    let target = g.T.Target in
+    record {
+      appends : Appends (target.state l.initial.target).contents (target.state l.target).contents
+          (joined (facts_of l.report) (take l.part-index l.parts));
+      heeded : (target.state l.target).reported_error ≡ (target.state l.initial.target).reported_error;
+      same_writer : target.writer_name l.target ≡ target.writer_name l.initial.target;
+    }
