@@ -4,7 +4,7 @@ use Rattle.std.specs.Prelude.{slice_index}
 use Rattle.goblin_base.specs.declared.container.Endian.{Endian}
 use Rattle.goblin_base.specs.Fields.{field}
 use Rattle.goblin_base.specs.Layout.{IsRecord, Shape, shaped}
-use Rattle.goblin_base.specs.LayoutLaws.{shape_laws}
+use Rattle.goblin_base.specs.LayoutLaws.{plain_laws}
 use Rattle.goblin_tests.specs.declared.own_record.Place.{Place}
 use Rattle.goblin_tests.specs.declared.own_record.Port.{Port}
 
@@ -23,19 +23,7 @@ place = record {
 
 -- their laws
 pub port_laws : (order : Endian) → IsRecord (shaped port order)
-port_laws = shape_laws port (record {
-  size_positive = lit< tt;
-  has_widths = λ p. refl;
-  lows = λ p. refl;
-  fitting = λ p fits. (fits, refl);
-  fields_read = λ order bytes are room. refl;
-})
+port_laws = plain_laws port (lit< tt) (λ p. refl) (λ p. refl) (λ order bytes. refl)
 
 pub place_laws : (order : Endian) → IsRecord (shaped place order)
-place_laws = shape_laws place (record {
-  size_positive = lit< tt;
-  has_widths = λ p. refl;
-  lows = λ p. refl;
-  fitting = λ p fits. (fits, refl);
-  fields_read = λ order bytes are room. refl;
-})
+place_laws = plain_laws place (lit< tt) (λ p. refl) (λ p. refl) (λ order bytes. refl)

@@ -21,11 +21,6 @@ pub(crate) fn holds<R: Debug>(rt: HostRuntime, row: &R, is_so: bool) -> bool {
     is_so
 }
 
-// Reports whether a number has the name of its row.
-pub(crate) fn is_named<N: Debug>(rt: HostRuntime, row: &(N, &str), name: &str) -> bool {
-    holds(rt, row, is(rt, name, row.1))
-}
-
 // Reports whether a call returned this value.
 pub(crate) fn returns<T: PartialEq + Debug + Drop>(
     rt: HostRuntime,

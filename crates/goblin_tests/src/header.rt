@@ -1,13 +1,10 @@
 //! Cases with their results: headers in their three forms, new headers, and names.
-use crate::compare::{are_unchanged, differs, has_written, holds, is, is_named, reports, returns};
+use crate::compare::{are_unchanged, differs, has_written, holds, is, reports, returns};
 use crate::container::{BIG64, LITTLE32};
 use crate::record::{is_apart, reads, with_each_default, writes};
 use goblin_base::container::{BE, Container, Ctx, Endian, LE};
 use goblin_base::scroll::{IntoCtx, SizeWith, TryFromCtx, TryIntoCtx};
-use goblin_headers::header::{
-    EM_386, EM_AARCH64, EM_CSKY, EM_INTELGT, EM_LOONGARCH, EM_M32, EM_NONE, EM_NUM, EM_X86_64,
-    Header, class_to_str, et_to_str, machine_to_str,
-};
+use goblin_headers::header::{Header, class_to_str, et_to_str, machine_to_str};
 use goblin_headers::section_header::SectionHeader;
 use goblin_headers::{header, header32, header64};
 
@@ -47,6 +44,15 @@ const NEW64: &[u8; 64] = b"\x7fELF\x02\x02\x01\0\0\0\0\0\0\0\0\0\
     \x00\x03\x00\x00\x00\x00\x00\x01\0\0\0\0\0\0\0\0\0\0\0\0\0\0\0\0\0\0\0\0\0\0\0\0\0\0\0\0\
     \x00\x40\x00\x38\x00\x00\x00\x40\x00\x00\x00\x00";
 
+// The first of these put as a 64-bit header, and the second as a 32-bit one: each keeps its identification and its numbers.
+const NEW32_IN_64: &[u8; 64] = b"\x7fELF\x01\x01\x01\0\0\0\0\0\0\0\0\0\
+    \x03\x00\x00\x00\x01\x00\x00\x00\0\0\0\0\0\0\0\0\0\0\0\0\0\0\0\0\0\0\0\0\0\0\0\0\0\0\0\0\
+    \x34\x00\x20\x00\x00\x00\x28\x00\x00\x00\x00\x00";
+
+const NEW64_IN_32: &[u8; 52] = b"\x7fELF\x02\x02\x01\0\0\0\0\0\0\0\0\0\
+    \x00\x03\x00\x00\x00\x00\x00\x01\x00\x00\x00\x00\x00\x00\x00\x00\x00\x00\x00\x00\x00\x00\x00\x00\
+    \x00\x40\x00\x38\x00\x00\x00\x40\x00\x00\x00\x00";
+
 // Whether a header has this form. Its own bytes name its class and its order: the order that is passed is ignored.
 fn has_either_form(rt: HostRuntime, header: Header, bytes: &'static [u8]) -> bool {
     reads(rt, bytes, LE, &header)
@@ -70,6 +76,17 @@ fn reads_and_writes_headers(rt: HostRuntime) {
     assert!(rt; has_either_form(rt, Header::new(BIG64), NEW64));
     assert!(rt; puts(rt, LITTLE32, NEW32));
     assert!(rt; puts(rt, BIG64, NEW64));
+}
+
+// The context's class, and the order of the data byte, whatever order the context has. The buffer is just large enough.
+#[test]
+fn puts_headers_in_the_class_of_a_context(rt: HostRuntime) {
+    let mut buffer = [0xaa; 64];
+    Header::new(LITTLE32).into_ctx(&mut buffer, BIG64);
+    assert!(rt; has_written(rt, &buffer, NEW32_IN_64));
+    let mut buffer = [0xaa; 52];
+    Header::new(BIG64).into_ctx(&mut buffer, LITTLE32);
+    assert!(rt; has_written(rt, &buffer, NEW64_IN_32));
 }
 
 #[test]
@@ -325,63 +342,6 @@ fn names_at(e_shstrndx: u16, link: Option<u32>) -> usize {
 fn finds_the_section_of_the_names(rt: HostRuntime) {
     for row in &NAMES_AT {
         assert!(rt; holds(rt, row, is(rt, names_at(row.0, row.1), row.2)));
-    }
-}
-
-static MACHINES: [(u16, &str); 14] = [
-    (62, "X86_64"),
-    (0, "EM_UNKNOWN"),
-    (258, "LOONGARCH"),
-    (205, "EM_UNKNOWN"),
-    (EM_M32, "M32"),
-    (EM_386, "386"),
-    (EM_AARCH64, "AARCH64"),
-    (EM_X86_64, "X86_64"),
-    (EM_LOONGARCH, "LOONGARCH"),
-    (EM_NONE, "EM_UNKNOWN"),
-    (EM_INTELGT, "EM_UNKNOWN"),
-    (EM_NUM, "EM_UNKNOWN"),
-    (EM_CSKY, "EM_UNKNOWN"),
-    (65535, "EM_UNKNOWN"),
-];
-
-static TYPES: [(u16, &str); 8] = [
-    (0, "NONE"),
-    (1, "REL"),
-    (2, "EXEC"),
-    (3, "DYN"),
-    (4, "CORE"),
-    (5, "NUM"),
-    (6, "UNKNOWN_ET"),
-    (0xfe00, "UNKNOWN_ET"),
-];
-
-static CLASSES: [(u8, &str); 5] = [
-    (0, "NONE"),
-    (1, "ELF32"),
-    (2, "ELF64"),
-    (3, "UNKNOWN_CLASS"),
-    (255, "UNKNOWN_CLASS"),
-];
-
-#[test]
-fn names_machines(rt: HostRuntime) {
-    for row in &MACHINES {
-        assert!(rt; is_named(rt, row, machine_to_str(row.0)));
-    }
-}
-
-#[test]
-fn names_file_types(rt: HostRuntime) {
-    for row in &TYPES {
-        assert!(rt; is_named(rt, row, et_to_str(row.0)));
-    }
-}
-
-#[test]
-fn names_classes(rt: HostRuntime) {
-    for row in &CLASSES {
-        assert!(rt; is_named(rt, row, class_to_str(row.0)));
     }
 }
 

@@ -5,8 +5,6 @@
 #[cfg(test)]
 mod compare;
 #[cfg(test)]
-mod constants;
-#[cfg(test)]
 mod container;
 #[cfg(test)]
 mod cost;
@@ -16,6 +14,8 @@ mod counted_bytes;
 mod entries;
 #[cfg(test)]
 mod error;
+#[cfg(test)]
+mod greatest;
 #[cfg(test)]
 mod header;
 #[cfg(test)]

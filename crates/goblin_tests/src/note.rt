@@ -6,7 +6,7 @@ use crate::compare::{are_alike, differs, holds, is, number, reports, returns};
 use crate::container::{BIG32, LITTLE64};
 use crate::record::{is_apart, refuses, with_each_default, writes};
 use goblin::elf::note::{
-    NT_GNU_BUILD_ID, NT_SIGINFO, Note, NoteDataIterator, NoteIterator, NotePart, NotePlaces,
+    NT_GNU_BUILD_ID, Note, NoteDataIterator, NoteIterator, NotePart, NotePlaces,
 };
 use goblin::{elf, elf32, elf64};
 use goblin_base::container::{BE, Ctx, Endian, LE};
@@ -137,6 +137,8 @@ const BARE: &[u8] = b"\x04\0\0\0\0\0\0\0\x01\0\0\0GNU\0";
 const CUT_NAME: &[u8] = b"\x05\0\0\0\0\0\0\0\x01\0\0\0CORE";
 // A note of type 7 without name and descriptor.
 const EMPTY: &[u8] = b"\0\0\0\0\0\0\0\0\x07\0\0\0";
+// A note of type 7 with no name but a zero byte, and one byte of a descriptor: each is padded.
+const PADDED: &[u8] = b"\x01\0\0\0\x01\0\0\0\x07\0\0\0\0\0\0\0\xAA";
 // A note whose name is not UTF-8.
 const NO_TEXT: &[u8] = b"\x02\0\0\0\0\0\0\0\x01\0\0\0\xFF\0";
 // Notes whose name and whose descriptor are the longest that a header can ask for.
@@ -164,6 +166,10 @@ const READ: &[Read] = &[
     (BUILD_BIG, (4, BIG32), (3, "GNU", DESC, 20)),
     (BARE, (4, LITTLE64), (1, "GNU", b"", 16)),
     (EMPTY, (0, LITTLE64), (7, "", b"", 12)),
+    (PADDED, (0, LITTLE64), (7, "", b"\xAA", 20)),
+    (PADDED, (1, LITTLE64), (7, "", b"\xAA", 20)),
+    (PADDED, (2, LITTLE64), (7, "", b"\xAA", 20)),
+    (PADDED, (3, LITTLE64), (7, "", b"\xAA", 20)),
 ];
 
 fn is_read(rt: HostRuntime, row: &Read) -> bool {
@@ -217,6 +223,11 @@ const REFUSED: &[(&[u8], usize, &str)] = &[
     (b"", 4, "bad offset 0"),
     (CUT_NAME, 4, "bad offset 20"),
     (NO_TEXT, 4, "bad input invalid utf8 (2)"),
+    (
+        b"\x02\0\0\0\0\0\0\0\x01\0\0\0\xFF\0\0\0more",
+        4,
+        "bad input invalid utf8 (8)",
+    ),
     (LONG_NAME, 4, "type is too big (4294967294) for 4"),
     (LONG_DESC, 4, "type is too big (4294967295) for 4"),
 ];
@@ -405,41 +416,6 @@ fn serves_a_loop_and_a_count(rt: HostRuntime) {
     assert!(rt; returns(rt, build_of(range(THREE, 0, 132, 4)), Some(&THREE[48..68])));
     assert!(rt; reports(rt, build_of(range(CUT_NAME, 0, 16, 4)), "bad offset 20"));
     assert!(rt; returns(rt, bytes_of(rt, &[(0, 32), (32, 68)]), 36));
-}
-
-// Whether a note of a row's name and type has the row's name of its type.
-fn is_named(rt: HostRuntime, row: &(&str, u32, &str)) -> bool {
-    let note = Note {
-        n_type: row.1,
-        name: row.0,
-        desc: b"",
-    };
-    holds(rt, row, is(rt, note.type_to_str(), row.2))
-}
-
-// Names and types of notes, and the names of these types.
-const TYPES: &[(&str, u32, &str)] = &[
-    ("CORE", 1, "NT_PRSTATUS"),
-    ("CORE", 2, "NT_UNKNOWN"),
-    ("CORE", 3, "NT_PRPSINFO"),
-    ("CORE", 0x5349_4749, "NT_SIGINFO"),
-    ("CORE", 0x4649_4c45, "NT_UNKNOWN"),
-    ("GNU", 1, "NT_GNU_ABI_TAG"),
-    ("", 2, "NT_GNU_HWCAP"),
-    ("GNU", 3, "NT_GNU_BUILD_ID"),
-    ("Go", 3, "NT_GNU_BUILD_ID"),
-    ("GNU", 4, "NT_GNU_GOLD_VERSION"),
-    ("GNU", 5, "NT_GNU_PROPERTY_0"),
-    ("GNU", 6, "NT_UNKNOWN"),
-    ("GNU", NT_SIGINFO, "NT_UNKNOWN"),
-    ("CORE2", 1, "NT_GNU_ABI_TAG"),
-];
-
-#[test]
-fn names_types(rt: HostRuntime) {
-    for row in TYPES {
-        assert!(rt; is_named(rt, row));
-    }
 }
 
 #[test]

@@ -1,14 +1,11 @@
 //! Cases with their results: program headers.
-use crate::compare::{holds, is, is_named, reports, returns, returns_list};
+use crate::compare::{holds, is, returns, returns_list};
 use crate::container::{BIG64, LITTLE32};
 use crate::record::{SHORT, has_form, is_apart, lacks_room, lists, with_each_default};
 use goblin_base::container::{BE, Container, Ctx, LE};
 use goblin_base::error::Result as Answer;
 use goblin_base::scroll::TryIntoCtx;
-use goblin_headers::program_header::{
-    PF_R, PF_W, PF_X, PT_ARM_EXIDX, PT_GNU_EH_FRAME, PT_GNU_RELRO, PT_GNU_STACK, PT_HIOS, PT_LOAD,
-    PT_SUNWBSS, ProgramHeader, pt_to_str,
-};
+use goblin_headers::program_header::{PF_R, PF_W, PF_X, PT_LOAD, ProgramHeader, pt_to_str};
 use goblin_headers::{program_header, program_header32, program_header64};
 use std::alloc::Global;
 use std::ops::Range;
@@ -278,33 +275,6 @@ fn reads_raw_program_headers_of_zeros(rt: HostRuntime) {
     assert!(rt; returns_list(rt, two, &[zeros, zeros]));
     let two = program_header64::ProgramHeader::from_bytes(rt.alloc(), &[0; 112], 2);
     assert!(rt; returns_list(rt, two, &[zeros, zeros]));
-}
-
-static TYPES: [(u32, &str); 17] = [
-    (0, "PT_NULL"),
-    (1, "PT_LOAD"),
-    (PT_LOAD, "PT_LOAD"),
-    (8, "PT_NUM"),
-    (9, "UNKNOWN_PT"),
-    (PT_GNU_EH_FRAME, "PT_GNU_EH_FRAME"),
-    (0x6474e551, "PT_GNU_STACK"),
-    (PT_GNU_STACK, "PT_GNU_STACK"),
-    (PT_GNU_RELRO, "PT_GNU_RELRO"),
-    (0x6474e553, "PT_GNU_PROPERTY"),
-    (0x6ffffffa, "PT_SUNWBSS"),
-    (PT_SUNWBSS, "PT_SUNWBSS"),
-    (0x6fffffff, "PT_HIOS"),
-    (PT_HIOS, "PT_HIOS"),
-    (PT_ARM_EXIDX, "PT_ARM_EXIDX"),
-    (0x7fffffff, "PT_HIPROC"),
-    (u32::MAX, "UNKNOWN_PT"),
-];
-
-#[test]
-fn names_segment_types(rt: HostRuntime) {
-    for row in &TYPES {
-        assert!(rt; is_named(rt, row, pt_to_str(row.0)));
-    }
 }
 
 // The function that the modules of the classes pass on is this one.

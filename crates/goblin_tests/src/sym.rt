@@ -15,8 +15,7 @@ use goblin_base::scroll::{IntoCtx, TryIntoCtx};
 use goblin_base::strtab::Strtab;
 use goblin_base::table::Table;
 use goblin_records::sym::{
-    STB_GLOBAL, STB_WEAK, STT_FUNC, Sym, bind_to_str, get_type, is_import, st_bind, st_type,
-    st_visibility, type_to_str, visibility_to_str,
+    STB_GLOBAL, STB_WEAK, STT_FUNC, Sym, get_type, is_import, st_bind, st_type, st_visibility,
 };
 use goblin_records::{sym, sym32, sym64};
 
@@ -350,77 +349,8 @@ fn reports_symbols_in_sections(rt: HostRuntime) {
     }
 }
 
-// The names of bindings.
-static BINDS: [(u8, &str); 8] = [
-    (0, "LOCAL"),
-    (1, "GLOBAL"),
-    (2, "WEAK"),
-    (3, "NUM"),
-    (4, "UNKNOWN_STB"),
-    (10, "GNU_UNIQUE"),
-    (12, "UNKNOWN_STB"),
-    (255, "UNKNOWN_STB"),
-];
-
-// The names of types.
-static TYPES: [(u8, &str); 11] = [
-    (0, "NOTYPE"),
-    (1, "OBJECT"),
-    (2, "FUNC"),
-    (3, "SECTION"),
-    (4, "FILE"),
-    (5, "COMMON"),
-    (6, "TLS"),
-    (7, "NUM"),
-    (8, "UNKNOWN_STT"),
-    (10, "GNU_IFUNC"),
-    (13, "UNKNOWN_STT"),
-];
-
-// The names of visibilities.
-static VISIBILITIES: [(u8, &str); 8] = [
-    (0, "DEFAULT"),
-    (1, "INTERNAL"),
-    (2, "HIDDEN"),
-    (3, "PROTECTED"),
-    (4, "EXPORTED"),
-    (5, "SINGLETON"),
-    (6, "ELIMINATE"),
-    (7, "UNKNOWN_STV"),
-];
-
-// The names that each module has for a binding, a type and a visibility.
-fn names_of(number: u8) -> [[&'static str; 3]; 3] {
-    [
-        [
-            bind_to_str(number),
-            sym32::bind_to_str(number),
-            sym64::bind_to_str(number),
-        ],
-        [
-            type_to_str(number),
-            sym32::type_to_str(number),
-            sym64::type_to_str(number),
-        ],
-        [
-            visibility_to_str(number),
-            sym::sym32::visibility_to_str(number),
-            sym::sym64::visibility_to_str(number),
-        ],
-    ]
-}
-
 #[test]
-fn names_bindings_types_and_visibilities(rt: HostRuntime) {
-    for row in &BINDS {
-        assert!(rt; holds(rt, row, is(rt, names_of(row.0)[0], [row.1; 3])));
-    }
-    for row in &TYPES {
-        assert!(rt; holds(rt, row, is(rt, names_of(row.0)[1], [row.1; 3])));
-    }
-    for row in &VISIBILITIES {
-        assert!(rt; holds(rt, row, is(rt, names_of(row.0)[2], [row.1; 3])));
-    }
+fn names_types_of_symbols(rt: HostRuntime) {
     let names = [get_type(0x12), sym32::get_type(0xf1), sym64::get_type(0x2f)];
     assert!(rt; is(rt, names, ["FUNC", "OBJECT", "UNKNOWN_STT"]));
 }
@@ -627,20 +557,24 @@ fn finds_the_first_of_a_name(rt: HostRuntime) {
 }
 
 // A symbol of nothing; two functions at 0x10, of 4 bytes and of 8; at 0x20 an absolute symbol and a section's; one of no
-// type and no size at 0x30, whose section index stands elsewhere; a thread's at 0x40; and a function at 0x50 that is not
-// defined.
-const ADDRESSED: &[u8; 128] = b"\0\0\0\0\0\0\0\0\0\0\0\0\0\0\0\0\
+// type and no size at 0x30, whose section index stands elsewhere; a thread's at 0x40; a function at 0x50 that is not
+// defined; and an indirect function of 4 bytes at 8.
+const ADDRESSED: &[u8; 144] = b"\0\0\0\0\0\0\0\0\0\0\0\0\0\0\0\0\
     \x01\0\0\0\x10\0\0\0\x04\0\0\0\x12\0\x01\0\
     \x01\0\0\0\x10\0\0\0\x08\0\0\0\x12\0\x01\0\
     \x01\0\0\0\x20\0\0\0\0\0\0\0\x10\0\xf1\xff\
     \x01\0\0\0\x20\0\0\0\0\0\0\0\x03\0\x01\0\
     \x01\0\0\0\x30\0\0\0\0\0\0\0\0\0\xff\xff\
     \x01\0\0\0\x40\0\0\0\x04\0\0\0\x16\0\x01\0\
-    \x01\0\0\0\x50\0\0\0\x04\0\0\0\x12\0\0\0";
+    \x01\0\0\0\x50\0\0\0\x04\0\0\0\x12\0\0\0\
+    \x01\0\0\0\x08\0\0\0\x04\0\0\0\x1a\0\x01\0";
 
 // Addresses, and the index of the symbol of each: the first that contains it, or else a label.
-static ADDRESSES: [(u64, Option<usize>); 11] = [
+static ADDRESSES: [(u64, Option<usize>); 14] = [
     (0, None),
+    (8, Some(8)),
+    (0xb, Some(8)),
+    (0xc, None),
     (0xf, None),
     (0x10, Some(1)),
     (0x13, Some(1)),
@@ -655,7 +589,7 @@ static ADDRESSES: [(u64, Option<usize>); 11] = [
 
 #[test]
 fn finds_the_symbol_at_an_address(rt: HostRuntime) {
-    let table = table_of(ADDRESSED, 0, 8, LITTLE32);
+    let table = table_of(ADDRESSED, 0, 9, LITTLE32);
     for row in &ADDRESSES {
         assert!(rt; holds(rt, row, is(rt, table.at(row.0), row.1)));
     }
