@@ -157,6 +157,25 @@ fn searches_begin(symbols: &GoblinRange, names: &GoblinRange) -> u64 {
     ))
 }
 
+// The same of a section's name, by where the section headers begin.
+fn section_searches_begin(e_shoff: u64, names: &GoblinRange) -> u64 {
+    let mut header = header();
+    header.e_shoff = e_shoff;
+    let mut found = (9, marked_layout().section);
+    let mut why = marked_layout().refusal;
+    let status = goblin_section_by_name(
+        FILE,
+        &header,
+        names,
+        b"ab",
+        0,
+        &mut found.0,
+        &mut found.1,
+        &mut why,
+    );
+    begins((status, found.0, why))
+}
+
 fn headers_begin() -> bool {
     let mut header = header();
     header.e_shoff = 300;
@@ -188,6 +207,8 @@ fn says_where_what_is_refused_begins(rt: HostRuntime) {
     assert!(rt; parts_begin());
     assert!(rt; searches_begin(&range(124, 23), &range(300, 9)) == 300);
     assert!(rt; searches_begin(&range(308, 16), &range(300, 9)) == 308);
+    assert!(rt; section_searches_begin(308, &range(300, 9)) == 308);
+    assert!(rt; section_searches_begin(header().e_shoff, &range(300, 9)) == 300);
 }
 
 // Reads a number of `width` bytes at an offset, big endian or little endian. Returns the status with the number, or

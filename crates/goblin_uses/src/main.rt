@@ -3,7 +3,7 @@
 //!
 //! Contracts say what is taken from the file, what each line shows, and which error comes first.
 //! No contract says that a loop adds a line for each item, that `list` lists each section, or what
-//! is printed before an error. One stored run (`stdin` and `stdout`) tests that.
+//! is printed before an error. Two stored runs test that: of `stdin`, and of `checks/files/uses`.
 #![tactic(auto)]
 
 mod functions;
