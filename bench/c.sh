@@ -10,7 +10,7 @@ fi
 folder=$(mktemp -d)
 trap 'rm -rf "$folder"' EXIT
 trap 'exit 1' HUP INT TERM
-TARGET='' SHARED='' LIBDIR='' sh faces/install.sh "$folder/installed" > "$folder/output" || { cat "$folder/output"; exit 1; }
+TARGET='' SHARED='' LIBDIR='' sh faces/install.sh "$folder/installed" > "$folder/output" || { cat "$folder/output"; exit 2; }
 cc -std=c99 -Wall -Wextra -pedantic -O2 -Ifaces/c -o "$folder/bench" faces/c/bench.c "$folder/installed/lib/libgoblin_c.a" -lelf
 mkdir "$folder/files"
 python3 checks/hostile.py "$folder/files"

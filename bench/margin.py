@@ -18,7 +18,7 @@ import time
 
 sys.dont_write_bytecode = True
 sys.path[:0] = ['checks/edits', 'checks']
-from crates import crates_listed
+from crates import crates_listed, fail, run
 from gate import copied
 from verdict import CHECKED, Said
 
@@ -43,8 +43,11 @@ def check(crate, folder):
 
 def main():
     crates, failed = sys.argv[1:] or list(crates_listed()), 0
+    for crate in crates:
+        if crate not in crates_listed():
+            fail(f'crates.txt has no crate {crate}')
     with tempfile.TemporaryDirectory(prefix='margin-') as room:
-        copied(room, with_cached=True)
+        copied(room, '.')
         for number, crate in enumerate(crates, 1):
             print(f'checking {crate} ({number} of {len(crates)})', flush=True)
             said, seconds = check(crate, f'{room}/crates/{crate}')
@@ -63,4 +66,4 @@ def main():
 
 
 if __name__ == '__main__':
-    sys.exit(main())
+    run(main)

@@ -1,28 +1,21 @@
 # From goblin.h STRUCT(name) of each struct that a goblin_layout_t holds, and FIELD(name, field, number) of each of its fields
 # in order, the two of a range counted as two. For faces/c/layout.c.
-{ text = text $0 "\n" }
+{ text = text " " $0 }
 END {
-    while ((at = index(text, "/*")) > 0) {
-        comment = substr(text, at)
-        text = substr(text, 1, at - 1) substr(comment, index(comment, "*/") + 2)
-    }
+    while (match(text, /\/\*([^*]|\*+[^*\/])*\*+\//)) text = substr(text, 1, RSTART - 1) substr(text, RSTART + RLENGTH)
     while (match(text, /typedef struct \{[^}]*\} *[a-z_]+;/)) {
-        struct = substr(text, RSTART, RLENGTH)
+        # each field is a type with names, and the last part is the struct's name
+        count = split(substr(text, RSTART, RLENGTH), parts, / *[{};] */)
         text = substr(text, RSTART + RLENGTH)
-        name = struct; sub(/.*\} */, "", name); sub(/;$/, "", name)
-        sub(/^[^{]*\{/, "", struct); sub(/\}.*/, "", struct)
-        count = split(struct, lines, ";")
-        for (i = 1; i < count; i++) {
-            gsub(/[ \n]+/, " ", lines[i]); sub(/^ /, "", lines[i])
-            type = lines[i]; sub(/ .*/, "", type)
-            names = lines[i]; sub(/^[^ ]* /, "", names)
-            each_of = split(names, each, /, */)
-            for (k = 1; k <= each_of; k++)
-                fields[name] = fields[name] (type == "goblin_range_t" ? each[k] ".offset " each[k] ".size " : each[k] " ")
-            if (name != "goblin_layout_t" || type !~ /^goblin_/) continue
-            print "STRUCT(" names ")"
-            each_of = split(fields[type], each, " ")
-            for (k = 1; k <= each_of; k++) print "FIELD(" names ", " each[k] ", " k ")"
+        struct = parts[count - 1]
+        for (i = 2; i < count - 1; i++) {
+            words = split(parts[i], word, /[, ]+/)
+            for (k = 2; k <= words; k++)
+                fields[struct] = fields[struct] (word[1] == "goblin_range_t" ? word[k] ".offset " word[k] ".size " : word[k] " ")
+            if (struct != "goblin_layout_t" || !(word[1] in fields)) continue
+            print "STRUCT(" word[2] ")"
+            of_type = split(fields[word[1]], field, " ")
+            for (k = 1; k <= of_type; k++) print "FIELD(" word[2] ", " field[k] ", " k ")"
         }
     }
 }

@@ -4,35 +4,40 @@
     python3 checks/program.py         all of that, once checks/prove.sh has built the program
     python3 checks/program.py FILE    only prints what the program is to show of one of the files
 
-The files of checks/files/made are objects, libraries and a core of both classes and byte orders. GNU as and ld 2.40 made them on Debian, for
-five machines and of one source of a few symbols and relocations; the core is the first 512 bytes of that of a program that crashes.
-checks/files/symbols was written by hand. Beside each file is the output of readelf -W -h -S -s -r for it, which is converted here to
-the program's words.
+The files are those of checks/files/made, which checks/files/make.sh made, and checks/files/symbols, which was written by hand. The output of
+readelf that is stored beside each file is converted here to the program's words. The example goblin_uses lists checks/files/uses: big
+endian, PN_XNUM, names from 64 KiB on, and nine notes.
 """
+import glob
 import os
 import re
 import subprocess
 import sys
 import tempfile
 
-MADE = ('i386_library', 'mips64el_object', 'powerpc_object', 's390x_library', 'x86_64_core', 'x86_64_library')
-FILES = ('checks/files/symbols', *(f'checks/files/made/{name}' for name in MADE))
-PROGRAMS = ('crates/goblin_show/out/goblin_show', 'crates/goblin_show/out/goblin_show.by-rattle')
+sys.dont_write_bytecode = True
+from crates import text_of
+
+FILES = [path[:-len('.listed')] for path in ('checks/files/symbols.listed', *sorted(glob.glob('checks/files/made/*.listed')))]
+PROGRAMS, EXAMPLES = ([f'crates/{crate}/out/{crate}{end}' for end in ('', '.by-rattle')] for crate in ('goblin_show', 'goblin_uses'))
 # The standard's names of what readelf says in words of its own. (EM_NONE has no name.)
-MACHINES = {'None': 'EM_UNKNOWN', 'Intel 80386': '386', 'MIPS R3000': 'MIPS', 'PowerPC': 'PPC', 'IBM S/390': 'S390',
-            'Advanced Micro Devices X86-64': 'X86_64'}
+MACHINES = {'None': 'EM_UNKNOWN', 'Intel 80386': '386', 'MIPS R3000': 'MIPS', 'PowerPC': 'PPC', 'PowerPC64': 'PPC64', 'IBM S/390': 'S390',
+            'ARM': 'ARM', 'Sparc v9': 'SPARCV9', 'Advanced Micro Devices X86-64': 'X86_64', 'AArch64': 'AARCH64', 'RISC-V': 'RISCV'}
 ORDERS = {"2's complement, little endian": 'little', "2's complement, big endian": 'big'}
-# What only one processor knows has no name.
-UNKNOWN = re.compile(r'MIPS_\w+')
+# Names that readelf shortens, and one of a number that it names by the processor. (The program names each number in one way.)
+NAMES = {'VERDEF': 'GNU_VERDEF', 'VERNEED': 'GNU_VERNEED', 'VERSYM': 'GNU_VERSYM', 'ARM_EXIDX': 'X86_64_UNWIND', 'UNIQUE': 'GNU_UNIQUE',
+         'IFUNC': 'GNU_IFUNC'}
+# What only one processor or system knows has no name.
+UNKNOWN = re.compile(r'(?:MIPS|ARM|RISCV)_\w+|LOOS\+.*')
 # What readelf prints for a section's name if the file has no table of such names. The program prints nothing.
 NAMELESS = '<no-strings>'
 
 HEADER = re.compile(r'  ([A-Z][^:]*): +(.*)')
-SECTION = re.compile(r'  \[ *(\d+)\] (\S*) +([A-Z]\w*) +[0-9a-f]+ ([0-9a-f]+) ([0-9a-f]+) ')
+SECTION = re.compile(r'  \[ *(\d+)\] (\S*) +([A-Z]\S*) +[0-9a-f]+ ([0-9a-f]+) ([0-9a-f]+) ')
 OF_TABLE = re.compile(r"(Symbol table|Relocation section) '([^']+)'")
 # The types of the sections that readelf calls by these words.
 KINDS = {'Symbol table': ('SYMTAB', 'DYNSYM'), 'Relocation section': ('REL', 'RELA')}
-SYMBOL = re.compile(r' *(\d+): ([0-9a-f]+) +(\d+) (\w+) +(\w+) +(\w+) +(\w+) ?(.*)')
+SYMBOL = re.compile(r' *(\d+): ([0-9a-f]+) +(\d+|0x[0-9a-f]+) (\w+) +(\w+) +(\w+)(?: \[[^]]*\])? +(\w+) ?(.*)')
 RELOCATION = re.compile(r'([0-9a-f]+) +([0-9a-f]+) R_\w+ *(.*)')
 
 
@@ -43,59 +48,51 @@ def header(said):
 
 
 def section(index, name, kind, offset, size):
+    kind = NAMES.get(kind, kind)
     kind = 'UNKNOWN_SHT' if UNKNOWN.fullmatch(kind) else f'SHT_{kind}'
     name = '' if name == NAMELESS else name
     return f'section {index} {kind} offset {int(offset, 16):#x} size {int(size, 16)} name={name}'
 
 
-def symbol(table, index, value, size, kind, bind, visibility, _, name):
-    # (readelf names a section's symbol, which has no name, by its section)
-    name = '' if kind == 'SECTION' else name
-    return f'symbol {table} {index} {kind} {bind} {visibility} value {int(value, 16):#x} size {size} name={name}'
+def symbol(table, is_dynamic, index, value, size, kind, bind, visibility, _, name):
+    # (readelf names a section's symbol, which has no name, by its section, and appends its version to a dynamic one's name)
+    name = '' if kind == 'SECTION' else name.partition('@')[0] if is_dynamic else name
+    kind, bind = NAMES.get(kind, kind), NAMES.get(bind, bind)
+    return f'symbol {table} {index} {kind} {bind} {visibility} value {int(value, 16):#x} size {int(size, 0)} name={name}'
 
 
 def relocation(table, index, offset, info, rest, is_wide, has_addends):
-    split = 32 if is_wide else 8
-    number = int(info, 16)
-    addend = '-'
-    if has_addends:
-        # (a symbol's value and name, a sign and a number, or a number alone)
-        sign, digits = re.fullmatch(r'(?:.* ([+-]) )?([0-9a-f]+)', rest).groups()
-        addend = int(digits, 16) * (-1 if sign == '-' else 1)
-    return f'reloc {table} {index} offset {int(offset, 16):#x} sym {number >> split} type {number & (1 << split) - 1} addend {addend}'
+    # (a symbol's value and name, a sign and a number, or a number alone)
+    sign, digits = re.fullmatch(r'(?:.* ([+-]) )?([0-9a-f]+)', rest).groups() if has_addends else ('', '')
+    addend = int(digits, 16) * (-1 if sign == '-' else 1) if has_addends else '-'
+    symbol, kind = divmod(int(info, 16), 1 << (32 if is_wide else 8))
+    return f'reloc {table} {index} offset {int(offset, 16):#x} sym {symbol} type {kind} addend {addend}'
 
 
-def text_of(listing):
-    """What the program is to show of a file of which readelf printed this."""
+def wanted_of(path):
+    """What the program is to show of a file, by readelf's listing beside it."""
     said, sections, symbols, relocations, table, tables = {}, [], {}, {}, None, {}
-    for line in listing.split('\n'):
+    for line in text_of(f'{path}.listed').partition('\n$ nm ')[0].split('\n'):
         if found := OF_TABLE.match(line):
             table = next(tables[kind, found[2]] for kind in KINDS[found[1]] if (kind, found[2]) in tables)
         elif found := SECTION.match(line):
             tables[found[3], found[2]] = (int(found[1]), found[3])
             sections.append(section(*found.groups()))
         elif found := SYMBOL.match(line):
-            symbols.setdefault(table[0], []).append(symbol(table[0], *found.groups()))
+            symbols.setdefault(table[0], []).append(symbol(table[0], table[1] == 'DYNSYM', *found.groups()))
         elif found := RELOCATION.match(line):
             lines = relocations.setdefault(table[0], [])
             lines.append(relocation(table[0], len(lines), *found.groups(), said['Class'] == 'ELF64', table[1] == 'RELA'))
         elif found := HEADER.fullmatch(line):
             said.setdefault(found[1], found[2].strip())
-    of_symbols = [line for index in sorted(symbols) for line in symbols[index]]
-    of_relocations = [line for index in sorted(relocations) for line in relocations[index]]
-    return '\n'.join([header(said), *sections, *of_symbols, *of_relocations, ''])
+    of_tables = [line for lines in (symbols, relocations) for index in sorted(lines) for line in lines[index]]
+    return '\n'.join([header(said), *sections, *of_tables, ''])
 
 
-def wanted_of(path):
-    """What the program is to show of a file, by readelf's listing beside it."""
-    with open(f'{path}.readelf', encoding='utf-8') as listing:
-        return text_of(listing.read())
-
-
-def differing(status, wanted, input, arguments=()):
+def differing(status, wanted, input, arguments=(), programs=PROGRAMS):
     """Runs each build over an input. Prints where one ends or writes otherwise, and returns how many do."""
     wrong = 0
-    for program in PROGRAMS:
+    for program in programs:
         file = os.open(input, os.O_RDONLY)
         ran = subprocess.run([program, *arguments], stdin=file, stdout=subprocess.PIPE)
         os.close(file)
@@ -122,7 +119,7 @@ def words(folder):
     # (a folder can be opened, and each read of it fails)
     rows += [(2, b'', folder, strict), (2, b'', folder, permissive)]
     wrong = sum(differing(*row) for row in rows)
-    full = [f'{program} < {input} > /dev/full' for program in PROGRAMS for input in (file, damaged)]
+    full = [f"{program} < '{input}' > /dev/full" for program in PROGRAMS for input in (file, damaged)]
     for command in full:
         if subprocess.run(command, shell=True).returncode != 2:
             wrong += 1
@@ -133,11 +130,11 @@ def words(folder):
 def main():
     with tempfile.TemporaryDirectory(prefix='program-') as folder:
         count, wrong = words(folder)
-    lines = 0
-    for path in FILES:
-        wanted = wanted_of(path)
-        lines += wanted.count('\n')
-        wrong += differing(0, wanted.encode(), path)
+    with open('checks/files/uses.shown', 'rb') as listed:
+        wrong += differing(0, listed.read(), 'checks/files/uses', programs=EXAMPLES)
+    texts = {path: wanted_of(path) for path in FILES}
+    lines = sum(text.count('\n') for text in texts.values())
+    wrong += sum(differing(0, text.encode(), path) for path, text in texts.items())
     print(f'program: {count} runs with arguments or what fails, and {len(FILES)} files, {lines} lines compared with readelf: {wrong} wrong')
     return 1 if wrong else 0
 

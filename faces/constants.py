@@ -4,7 +4,8 @@
     python3 faces/constants.py            writes the end of faces/c/goblin.h, faces/rust/src/constants/*.rs, faces/web/constants.js, and
                                           constants.py, interface.py and names.py of faces/python/goblin_elf
     python3 faces/constants.py --made     writes only the files for JavaScript and Python
-    python3 faces/constants.py --check    writes nothing, and fails if goblin.h or a file for Rust is not what it would write
+    python3 faces/constants.py --check    writes nothing, and fails if goblin.h or a file for Rust is not what it would write, or if a
+                                          constant is not in the table that the library's are compared with, crates/goblin_names/stdout
 
 The names, values, types and comments are those of crates/goblin_headers and crates/goblin_records. So a constant is written by
 hand only there. Git has goblin.h, because it is read as documentation, and the files for Rust, so that cargo can take the crate from
@@ -180,6 +181,11 @@ def interface():
     return re.search(r'^#define GOBLIN_VERSION (\d+)$', read(HEADER), re.M)[1]
 
 
+def version():
+    """Returns the version of all that is installed."""
+    return re.search(r'^#define GOBLIN_VERSION_STRING "(.+)"$', read(HEADER), re.M)[1]
+
+
 def js_file():
     text = f"""// The constants of goblin's ELF layer; goblin.js exports them all. The flags and the indices of sections are BigInts, as the fields
 // that hold them are: `sh_flags` and `st_shndx`. But `e_shstrndx` is a Number: compare it with `Number(SHN_XINDEX)`.
@@ -250,14 +256,17 @@ def py_file():
 \"\"\"
 import enum
 
-# The number of the interface: GOBLIN_VERSION of goblin.h.
+# The number of the interface: GOBLIN_VERSION of goblin.h. And the version of the package.
 VERSION = {interface()}
+__version__ = '{version()}'
 """
     for name, members in groups.items():
         text += py_enumeration(name, [constant for _, constant in members])
     for name, constant in others:
         text += '\n' + py_comment(constant, '') + f'{name} = {py_value(constant)}\n'
-    return text
+    names = ['VERSION', *groups, *(name for members in groups.values() for name, _ in members), *(name for name, _ in others)]
+    lines = textwrap.fill(', '.join(map(repr, names)) + ',', WIDTH, initial_indent='    ', subsequent_indent='    ')
+    return f'{text}\n# What `from goblin_elf.constants import *` imports.\n__all__ = [\n{lines}\n]\n'
 
 
 # What goblin.h declares, for the module interface.py: the structs that are items, with the class of their tables, and the types of C as
@@ -293,7 +302,7 @@ def numbers_in(comment):
 
 
 def py_members(name, comment, members):
-    text = f'\n\nclass {name}(enum.IntEnum):\n    """{comment}"""\n\n'
+    text = f'\n\nclass {name}(Named):\n    """{comment}"""\n\n'
     return text + ''.join(textwrap.indent(textwrap.fill(words, WIDTH, initial_indent='# ', subsequent_indent='# '), '    ') + '\n'
                           + f'    {member} = {value}\n' for words, member, value in members)
 
@@ -331,11 +340,21 @@ from typing import TYPE_CHECKING, NamedTuple, Optional
 
 if TYPE_CHECKING:
     from .items import {', '.join(sorted(filter(None, ITEMS.values())))}
+
+
+class Named(enum.IntEnum):
+    \"\"\"A number with a name, which `print` and f-strings show on each version of Python.\"\"\"
+
+    def __str__(self) -> str:
+        return self.name
+
+    def __format__(self, form: str) -> str:
+        return format(int(self), form) if form else self.name
 """
     own = ('A section was read as symbols or relocations, and has another type: its type. This kind is the package\'s own.', 'SECTION_TYPE',
            '0xffffffff')
     text += py_members('Kind', 'The kinds of refusals. After the colon are the numbers that belong to a kind, in order.', [*kinds, own])
-    text += '\n\nclass Item(enum.IntEnum):\n    """What a refusal is about, if its kind alone does not say it."""\n\n'
+    text += '\n\nclass Item(Named):\n    """What a refusal is about, if its kind alone does not say it."""\n\n'
     text += ''.join(f'    {name} = {value}\n' for name, value in parts)
     for name, comment, fields in all_structs:
         text += py_item(name, comment, fields) if name in ITEMS else ''
@@ -447,6 +466,16 @@ def write(name, text):
     return True
 
 
+def missing():
+    """The paths of the library's constants that are not in the table."""
+    table = {line.split()[0] for line in read('crates/goblin_names/stdout').splitlines()}
+    files = [name for record, crate, _, _ in RECORDS for name in
+             [*MORE.get(record, []), *(f'crates/{crate}/src/{file}.rt' for file in (f'constants_{record}', f'{record}32', f'{record}64'))]]
+    paths = [f'{os.path.basename(name)[:-3].replace("constants_", "")}::{constant.name}' for name in files if os.path.exists(path_of(name))
+             for constant in constants_in(name)]
+    return [path for path in paths if path not in table]
+
+
 def main(arguments):
     if arguments not in ([], ['--made'], ['--check']):
         sys.exit('usage: python3 faces/constants.py [--made | --check]')
@@ -455,7 +484,9 @@ def main(arguments):
         stale = [name for name, text in of_git if not os.path.exists(path_of(name)) or read(name) != text]
         for name in stale:
             print(f'{name} does not have the constants of the library: run python3 faces/constants.py')
-        return 1 if stale else 0
+        for path in missing():
+            print(f'crates/goblin_names/stdout does not have {path}')
+        return 1 if stale or missing() else 0
     write('faces/web/constants.js', js_file())
     for name, text in [('constants', py_file()), ('interface', py_interface()), ('names', py_names())]:
         write(f'faces/python/goblin_elf/{name}.py', text)

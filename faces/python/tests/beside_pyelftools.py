@@ -2,17 +2,16 @@
 """Compares goblin_elf with pyelftools: beside_pyelftools.py [--files N] [--damaged N] [DIR ..]
 
 It reads N whole ELF files of the folders (default: 40 of this machine's) by both and compares headers, sections, segments, symbols with
-their names, relocations, notes, and what the dynamic section says. A difference fails. Then it reads N damaged or cut files by both: goblin_elf
-must return records or raise Refused. What pyelftools does is counted.
+their names, relocations, notes, and what the dynamic section says. Then it reads N damaged or cut files by both: goblin_elf must return
+records or raise Refused. What pyelftools does is counted. With --sums FILE .. it prints the sums of what pyelftools reads that test_stored.py
+compares.
 """
 import argparse
 import collections
 import io
 import itertools
 import os
-import random
 import signal
-import sys
 import time
 
 from elftools.elf import enums
@@ -22,10 +21,11 @@ from elftools.elf.relocation import RelocationSection
 from elftools.elf.sections import NoteSection, SymbolTableSection
 from elftools.elf.segments import InterpSegment, NoteSegment
 
-from goblin_elf import SHT_DYNSYM, SHT_NOTE, SHT_REL, SHT_RELA, SHT_SYMTAB, Elf, Refused
+from goblin_elf import Elf, Refused
 from goblin_elf.facts import facts
 
 import made
+from parts import PARTS, Ours, OursWhole, content_of, damaged, made_files, read_by, sum_of
 
 
 def number(value, names):
@@ -93,70 +93,9 @@ class Theirs:
                  self.elf['e_type'] == 'ET_DYN' and ('DT_DEBUG' in flags or bool(flags.get('DT_FLAGS_1', 0) & 0x08000000))]]
 
 
-class Ours:
-    """What goblin_elf reads of a file."""
-
-    def __init__(self, buffer):
-        self.elf = Elf(buffer)
-
-    def header(self):
-        h = self.elf.header
-        return (h.e_type, h.e_machine, h.e_entry, h.e_phoff, h.e_shoff, h.e_flags, h.e_ehsize, h.e_phentsize, h.e_phnum, h.e_shentsize,
-                h.e_shnum, h.e_shstrndx, 64 if self.elf.is_64 else 32, self.elf.little_endian)
-
-    def sections(self):
-        table = self.elf.sections
-        return [(name, s.sh_name, s.sh_type, s.sh_flags, s.sh_addr, s.sh_offset, s.sh_size, s.sh_link, s.sh_info, s.sh_addralign, s.sh_entsize)
-                for s, name in zip(table, table.names('replace'))]
-
-    def segments(self):
-        return [(s.p_type, s.p_flags, s.p_offset, s.p_vaddr, s.p_paddr, s.p_filesz, s.p_memsz, s.p_align) for s in self.elf.segments]
-
-    def symbols(self):
-        tables = [s.symbols for s in self.elf.sections if s.sh_type in (SHT_SYMTAB, SHT_DYNSYM)]
-        return [[(name, s.st_name, s.st_value, s.st_size, s.st_shndx, s.binding, s.type, s.visibility)
-                 for s, name in zip(table, table.names('replace'))] for table in tables]
-
-    def relocations(self):
-        return [[relocation[:2] + (relocation.r_type, relocation.r_addend) for relocation in s.relocations]
-                for s in self.elf.sections if s.sh_type in (SHT_RELA, SHT_REL)]
-
-    def notes(self):
-        holders = [s for s in self.elf.segments if s.p_type == 4] + [s for s in self.elf.sections if s.sh_type == SHT_NOTE]
-        # (pyelftools cuts a name at its first zero byte: Go's compiler pads `Go` with two, of which goblin leaves one)
-        return [[(note.n_type, note.name.split('\0')[0], bytes(note.desc)) for note in holder.notes] for holder in holders]
-
-
-    def linking(self):
-        found = facts(self.elf)
-        return [found['needed'], *([found[name]] if found[name] is not None else [] for name in ('soname', 'interpreter')),
-                [found['nx'], found['relro'], found['pie']]]
-
-
-class OursWhole(Ours):
-    """What goblin_elf reads by the header that counts only what lies in the file whole."""
-
-    def whole_sections(self):
-        return list(self.elf.whole().sections)
-
-    def whole_segments(self):
-        return list(self.elf.whole().segments)
-
-
-PARTS = ('header', 'sections', 'segments', 'symbols', 'relocations', 'notes', 'linking')
-
-
-def read_by(kind, source, part):
-    """Returns a part of a file, or the exception that it raises."""
-    try:
-        return getattr(kind(source), part)()
-    except Exception as error:
-        return error
-
-
 def elf_files(folders, count):
-    """Returns some ELF files, spread over those below the folders."""
-    found = []
+    """Returns some ELF files, spread over those below the folders. A folder may also be a file."""
+    found = [path for path in folders if os.path.isfile(path)]
     for folder in folders:
         for root, _, names in os.walk(folder):
             for name in names:
@@ -196,29 +135,8 @@ def compare(contents):
     return different
 
 
-def content_of(path):
-    with open(path, 'rb') as file:
-        return file.read()
-
-
 class TooLong(BaseException):
     """pyelftools takes more than a second."""
-
-
-def damaged(count, sources, seed):
-    """Yields damaged and cut files."""
-    chance = random.Random(seed)
-    for _ in range(count):
-        content = bytearray(chance.choice(sources))
-        for _ in range(chance.choice((0, 1, 1, 2, 8))):
-            # (a number somewhere, mostly in a header)
-            place = chance.choice((chance.randrange(len(content)), chance.randrange(16, 64), chance.randrange(max(0, len(content) - 2048), len(content))))
-            width = chance.choice((1, 2, 4, 8))
-            value = chance.choice((0, 1, 255, 1 << 31, (1 << 64) - 1, len(content), chance.getrandbits(64)))
-            content[place:place + width] = (value & (1 << 8 * width) - 1).to_bytes(width, chance.choice(('little', 'big')))
-        if chance.random() < 0.4:
-            del content[chance.randrange(len(content)):]
-        yield bytes(content)
 
 
 def stopped(*_):
@@ -259,22 +177,33 @@ def compare_damaged(count, sources, seed):
     return ours['other exceptions']
 
 
+# What it reads otherwise: relocations with three types, and bytes that are not in the file.
+LEFT_OUT = ('mips64el_object relocations', 'x86_64_core linking', 'x86_64_debug linking')
+
+
+def print_sums(paths):
+    for name, content in itertools.chain(made_files(), ((os.path.basename(path), content_of(path)) for path in paths)):
+        for part in PARTS:
+            if f'{name} {part}' not in LEFT_OUT:
+                print(name, part, sum_of(read_by(Theirs, io.BytesIO(content), part)))
+
+
 def main():
     parser = argparse.ArgumentParser(description=__doc__.split('\n')[0])
     parser.add_argument('--files', type=int, default=40)
     parser.add_argument('--damaged', type=int, default=60)
     parser.add_argument('--seed', type=int, default=1)
+    parser.add_argument('--sums', action='store_true')
     parser.add_argument('folders', nargs='*', default=['/usr/lib/x86_64-linux-gnu', '/usr/bin'])
     options = parser.parse_args()
+    if options.sums:
+        return print_sums(options.folders)
     paths = elf_files(options.folders, options.files)
-    # (machines of x86-64, ARM and AArch64 for which both read relocations alike)
-    all_made = [made.Made(bits, order, machine) for bits in (32, 64) for order in '<>' for machine in (62, 40, 183)]
-    contents = itertools.chain(((f'made {file.bits} {file.order}', file.bytes) for file in all_made), ((path, content_of(path)) for path in paths))
-    different = compare(contents)
+    different = compare(itertools.chain(made_files(), ((path, content_of(path)) for path in paths)))
     sources = [file.bytes for file in made.ALL] + [content_of(path) for path in paths if os.path.getsize(path) < 100000][:20]
     wrong = compare_damaged(options.damaged, sources, options.seed)
-    return int(bool(different or wrong))
+    print(f'pyelftools: {sum(different.values())} differences in {len(paths)} files; {wrong} damaged files raise another exception than Refused')
 
 
 if __name__ == '__main__':
-    sys.exit(main())
+    main()

@@ -1,0 +1,108 @@
+"""What goblin_elf reads of a file, as plain values, in parts that can be compared with what others read."""
+import hashlib
+import random
+
+from goblin_elf import SHT_DYNSYM, SHT_NOTE, SHT_REL, SHT_RELA, SHT_SYMTAB, Elf
+from goblin_elf.facts import facts
+
+import made
+
+PARTS = ('header', 'sections', 'segments', 'symbols', 'relocations', 'notes', 'linking')
+
+
+class Ours:
+    """What goblin_elf reads of a file."""
+
+    def __init__(self, buffer):
+        self.elf = Elf(buffer)
+
+    def header(self):
+        h = self.elf.header
+        return (h.e_type, h.e_machine, h.e_entry, h.e_phoff, h.e_shoff, h.e_flags, h.e_ehsize, h.e_phentsize, h.e_phnum, h.e_shentsize,
+                h.e_shnum, h.e_shstrndx, 64 if self.elf.is_64 else 32, self.elf.little_endian)
+
+    def sections(self):
+        table = self.elf.sections
+        return [(name, s.sh_name, s.sh_type, s.sh_flags, s.sh_addr, s.sh_offset, s.sh_size, s.sh_link, s.sh_info, s.sh_addralign, s.sh_entsize)
+                for s, name in zip(table, table.names('replace'))]
+
+    def segments(self):
+        return [(s.p_type, s.p_flags, s.p_offset, s.p_vaddr, s.p_paddr, s.p_filesz, s.p_memsz, s.p_align) for s in self.elf.segments]
+
+    def symbols(self):
+        tables = [s.symbols for s in self.elf.sections if s.sh_type in (SHT_SYMTAB, SHT_DYNSYM)]
+        return [[(name, s.st_name, s.st_value, s.st_size, s.st_shndx, s.binding, s.type, s.visibility)
+                 for s, name in zip(table, table.names('replace'))] for table in tables]
+
+    def relocations(self):
+        return [[relocation[:2] + (relocation.r_type, relocation.r_addend) for relocation in s.relocations]
+                for s in self.elf.sections if s.sh_type in (SHT_RELA, SHT_REL)]
+
+    def notes(self):
+        holders = [s for s in self.elf.segments if s.p_type == 4] + [s for s in self.elf.sections if s.sh_type == SHT_NOTE]
+        # (pyelftools cuts a name at its first zero byte: Go's compiler pads `Go` with two, of which goblin leaves one)
+        return [[(note.n_type, note.name.split('\0')[0], bytes(note.desc)) for note in holder.notes] for holder in holders]
+
+    def linking(self):
+        found = facts(self.elf)
+        return [found['needed'], *([found[name]] if found[name] is not None else [] for name in ('soname', 'interpreter')),
+                [found['nx'], found['relro'], found['pie']]]
+
+
+class OursWhole(Ours):
+    """What goblin_elf reads by the header that counts only what lies in the file whole."""
+
+    def whole_sections(self):
+        return list(self.elf.whole().sections)
+
+    def whole_segments(self):
+        return list(self.elf.whole().segments)
+
+
+def read_by(kind, source, part):
+    """Returns a part of a file, or the exception that it raises."""
+    try:
+        return getattr(kind(source), part)()
+    except Exception as error:
+        return error
+
+
+def plain(value):
+    """Returns a value with plain numbers and lists."""
+    if isinstance(value, (list, tuple)):
+        return [plain(item) for item in value]
+    return int(value) if isinstance(value, int) else value
+
+
+def sum_of(value):
+    """Returns the start of a sum of what was read, or that it is refused."""
+    return 'refused' if isinstance(value, Exception) else hashlib.sha256(repr(plain(value)).encode()).hexdigest()[:16]
+
+
+def content_of(path):
+    with open(path, 'rb') as file:
+        return file.read()
+
+
+def made_files():
+    """Yields the names and bytes of made files, for machines of which pyelftools reads relocations as goblin does."""
+    for bits in (32, 64):
+        for order in '<>':
+            for machine in (62, 40, 183):
+                yield f'made-{bits}-{"little" if order == "<" else "big"}-{machine}', made.Made(bits, order, machine).bytes
+
+
+def damaged(count, sources, seed):
+    """Yields damaged and cut files."""
+    chance = random.Random(seed)
+    for _ in range(count):
+        content = bytearray(chance.choice(sources))
+        for _ in range(chance.choice((0, 1, 1, 2, 8))):
+            # (a number somewhere, mostly in a header)
+            place = chance.choice((chance.randrange(len(content)), chance.randrange(16, 64), chance.randrange(max(0, len(content) - 2048), len(content))))
+            width = chance.choice((1, 2, 4, 8))
+            value = chance.choice((0, 1, 255, 1 << 31, (1 << 64) - 1, len(content), chance.getrandbits(64)))
+            content[place:place + width] = (value & (1 << 8 * width) - 1).to_bytes(width, chance.choice(('little', 'big')))
+        if chance.random() < 0.4:
+            del content[chance.randrange(len(content)):]
+        yield bytes(content)
