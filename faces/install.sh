@@ -9,24 +9,26 @@
 #            one module
 #   CPU      the processors of the target that the library runs on, by default all
 #   LIBDIR   the folder of the library below FOLDER, by default lib
-#   SHARED   1 for a shared library, too, which the C compiler CC links
+#   SHARED   1 for a shared library for C, too
 #   LIBRARY  a library to install; else one is made, if none was made of the same sources before
 #   PROGRAM  a goblin_show to install, for x86-64 alone; else the one in the repository, if it is proved and built of these sources
 # The version is that of faces/rust/Cargo.toml.
 set -eu
+# (the order of lists of files is the same in each locale)
+export LC_ALL=C
 umask 022
 fail() {
     echo "$1" >&2
-    exit 1
+    exit 2
 }
 sh commands/has.sh goblin_c awk python3
 version=$(awk -F '"' '/^version = / { print $2; exit }' faces/rust/Cargo.toml)
 target=${TARGET:-x86_64-unknown-linux-gnu}
 interface=$(awk '$2 == "GOBLIN_VERSION" { print $3 }' faces/c/goblin.h)
 case $target in
-x86_64-unknown-linux-gnu) every=x86-64 compiler=cc ;;
-aarch64-unknown-linux-gnu) every=generic compiler=aarch64-linux-gnu-gcc ;;
-wasm64-unknown-unknown) every=lime1 compiler= ;;
+x86_64-unknown-linux-gnu) every=x86-64 ;;
+aarch64-unknown-linux-gnu) every=generic ;;
+wasm64-unknown-unknown) every=lime1 ;;
 *)
     fail "there is no target $target: TARGET must be x86_64-unknown-linux-gnu, aarch64-unknown-linux-gnu or wasm64-unknown-unknown"
     ;;
@@ -35,19 +37,33 @@ libdir=${LIBDIR:-lib}
 case /$libdir/ in
 //* | */../* | */./* | *//*) fail "LIBDIR is $libdir: it must be a folder below PREFIX, such as lib/x86_64-linux-gnu" ;;
 esac
-compiler=${CC:-$compiler}
 case $target-${SHARED:-} in
 *- | *-0) shared= ;;
 wasm64-unknown-unknown-*) fail "a module for WebAssembly can't be a shared library: leave out SHARED" ;;
 *-1) shared=$libdir/libgoblin_c.so.$interface ;;
 *) fail "SHARED is $SHARED: it must be 1 for a shared library, else 0" ;;
 esac
-if [ "$shared" ] && ! command -v "$compiler" > /dev/null; then
-    fail "a shared library needs a C compiler, and there is no $compiler: set CC to one for $target"
-fi
 folder=$(mktemp -d)
 trap 'rm -rf "$folder"' EXIT
 trap 'exit 1' HUP INT TERM
+
+# Fails if the toolchain doesn't compile for the processors CPU, which it says before it reads a crate: with status 2, and not 1 as for a
+# crate without a file.
+check_cpu() {
+    sh commands/has.sh 'making the library' rt
+    mkdir -p "$folder/crates/cpu/src"
+    echo 'cpu staticlib:' > "$folder/crates.txt"
+    echo 'mod without_a_file;' > "$folder/crates/cpu/src/lib.rt"
+    status=0
+    (cd "$folder/crates/cpu" && rt lib --target "$target" --cpu "$CPU") > "$folder/said" 2>&1 || status=$?
+    [ "$status" -ne 2 ] || { grep -F -e "$CPU" "$folder/said" >&2; fail "CPU is $CPU: the toolchain makes no library for it, for the reason above"; }
+}
+if [ "$1" != --uninstall ]; then
+    for made in . crates faces/web faces/python/goblin_elf; do
+        [ -w "$made" ] || fail "this folder is read-only, and what is installed is made in it. Use a copy"
+    done
+    if [ -n "${CPU:-}" ] && [ -z "${LIBRARY:-}" ] && [ ! -e "out/library/$target-$CPU" ]; then check_cpu; fi
+fi
 
 # Makes a folder below the folder, with those above it, and notes those that were not there in the list of installed files: those above
 # the whole installation as ../, ../../ and so on.
@@ -103,12 +119,13 @@ install_library() {
     put "$library" "$libdir/libgoblin_c.a"
     put faces/c/goblin.h include/goblin.h
     up=$(echo "$libdir/pkgconfig" | sed 's|[^/][^/]*|..|g')
-    put_edited "s|@VERSION@|$version|; s|@UP@|$up|; s|@LIBDIR@|$libdir|" faces/goblin_c.pc.in "$libdir/pkgconfig/goblin_c.pc"
+    put_flags goblin_c
     for file in config config-version; do
         put_edited "s|@VERSION@|$version|; s|@INTERFACE@|$interface|; s|@UP@|$up/..|; s|@LIBDIR@|$libdir|" "faces/goblin_c-$file.cmake.in" \
             "$libdir/cmake/goblin_c/goblin_c-$file.cmake"
     done
     put LICENSE share/goblin_c/LICENSE
+    put CHANGELOG.md share/goblin_c/CHANGELOG.md
     for example in execstack flag needed nm size strings symbolize truncated values; do put "faces/c/$example.c" "share/goblin_c/examples/$example.c"; done
     put LICENSE share/goblin_c/rust/LICENSE
     put_edited "s|join(\"lib\")|join(\"$libdir\")|" faces/rust/build.rs share/goblin_c/rust/build.rs
@@ -117,12 +134,14 @@ install_library() {
     # (what compares the crate with its repository stays there)
     put_all faces/rust/tests share/goblin_c/rust/tests ! -name repository.rs
     put faces/rust/Cargo.toml share/goblin_c/rust/Cargo.toml
+    link_shared
     install_python
     if [ "$shared" ]; then
-        link_shared
         put "$folder/shared" "$shared"
-        ln -sf "${shared##*/}" "$to/$libdir/libgoblin_c.so"
-        echo "$libdir/libgoblin_c.so" >> "$folder/files"
+        # (by this name, because -lgoblin_c would take libgoblin_c.so in place of the static library)
+        ln -sf "${shared##*/}" "$to/$libdir/libgoblin_c-shared.so"
+        echo "$libdir/libgoblin_c-shared.so" >> "$folder/files"
+        put_flags goblin_c-shared
     fi
     if [ "$program" ]; then
         put "$program" bin/goblin_show 755
@@ -137,32 +156,31 @@ install_library() {
     put "$folder/page" share/goblin_c/README.md
 }
 
-# The Python package, which finds the shared library in LIBDIR.
+# Installs the file for pkg-config of a library: put_flags NAME
+put_flags() {
+    put_edited "s|@NAME@|$1|; s|@VERSION@|$version|; s|@UP@|$up|; s|@LIBDIR@|$libdir|" faces/goblin_c.pc.in "$libdir/pkgconfig/$1.pc"
+}
+
+# The Python package, with a shared library of its own.
 install_python() {
-    put_all faces/python/goblin_elf share/goblin_c/python/goblin_elf '(' -name '*.py' -o -name py.typed ')' ! -name _library.py
-    put_edited "s|^LIBDIR = 'lib'|LIBDIR = '$libdir'|" faces/python/goblin_elf/_library.py share/goblin_c/python/goblin_elf/_library.py
-    put faces/python/examples/scan.py share/goblin_c/python/examples/scan.py
+    put_all faces/python/goblin_elf share/goblin_c/python/goblin_elf '(' -name '*.py' -o -name py.typed ')'
+    put "$folder/shared" "share/goblin_c/python/goblin_elf/libgoblin_c.so.$interface"
     put faces/python/README.md share/goblin_c/python/README.md
 }
 
-# Makes the wheel of the Python package into a folder, where there is a compiler for the shared library in it.
-make_wheel() {
-    if ! command -v "$compiler" > /dev/null; then
-        echo "the wheel is left out: its shared library needs a C compiler, and there is no $compiler"
-        return
-    fi
-    link_shared
-    echo "wrote $(python3 faces/python/wheel.py "$folder/shared" "${target%%-*}" "$1")"
+# Links the shared library by the toolchain's linker. It exports the calls alone, with a version of their own, so that two interfaces in one
+# process keep apart. It takes memcpy from the C library of the process, whichever that is.
+link_shared() {
+    bin=$(toolchain_bin)
+    echo "GOBLIN_$interface { global: goblin_*; local: *; };" > "$folder/exports"
+    "$bin/../toolchain/bin/ld.lld" -shared --build-id -o "$folder/shared" -soname "libgoblin_c.so.$interface" \
+        --version-script "$folder/exports" --gc-sections -z relro -z now --whole-archive "$library"
 }
 
-# Links the shared library, which exports the calls alone.
-link_shared() {
-    echo '{ global: goblin_*; local: *; };' > "$folder/exports"
-    # (the compiler may have arguments)
-    # shellcheck disable=SC2086
-    $compiler -shared -o "$folder/shared" -Wl,-soname,libgoblin_c.so.$interface -Wl,--version-script="$folder/exports" -Wl,-z,defs,-z,relro,-z,now \
-        -Wl,--whole-archive "$library" -Wl,--no-whole-archive > "$folder/said" 2>&1 \
-        || { cat "$folder/said"; fail "the shared library can't be linked by $compiler, for the reason above"; }
+# Prints the folder of the toolchain's commands.
+toolchain_bin() {
+    sh commands/has.sh 'linking the library' rt
+    dirname "$(readlink -f "$(command -v rt)")"
 }
 
 # Prints the installed files and folders, each by the start of its name, and what they are.
@@ -171,16 +189,18 @@ each_installed() {
         if grep -qF "$start" "$folder/files"; then echo "$start $content"; fi
     done << END
 $libdir/libgoblin_c.a the static library
-$libdir/libgoblin_c.so.$interface the shared library of interface $interface, to which \`libgoblin_c.so\` links
+$libdir/libgoblin_c.so.$interface the shared library of interface $interface, to which \`libgoblin_c-shared.so\` links
 $libdir/pkgconfig/goblin_c.pc the file for pkg-config
+$libdir/pkgconfig/goblin_c-shared.pc the same for the shared library
 $libdir/cmake/goblin_c/ the package for CMake
 include/goblin.h the header for C and C++
 bin/goblin_show the program that shows a file
 share/man/man1/goblin_show.1 its manual page
 share/goblin_c/README.md how to use the library
+share/goblin_c/CHANGELOG.md what each version changed
 share/goblin_c/examples/ the examples in C
 share/goblin_c/rust/ the Rust crate
-share/goblin_c/python/ the Python package, which needs the shared library
+share/goblin_c/python/ the Python package, with a shared library of its own
 share/goblin_c/web/ the npm package: the library for WebAssembly, its JavaScript, and its types
 share/goblin_c/web/index.html the page that shows files in a browser
 END
@@ -205,6 +225,7 @@ print_contents() {
 install_web() {
     put "$library" share/goblin_c/web/goblin_c.wasm
     put LICENSE share/goblin_c/web/LICENSE
+    put CHANGELOG.md share/goblin_c/web/CHANGELOG.md
     put faces/web/goblin.js share/goblin_c/web/goblin.js
     put faces/web/constants.js share/goblin_c/web/constants.js
     python3 faces/web/declarations.py > "$folder/types"
@@ -250,9 +271,9 @@ if [ "$1" = --uninstall ]; then
     exit 0
 fi
 
-# Links the module by the toolchain's linker, which is in the folder of `rt`.
+# Links the module by the toolchain's linker.
 link_module() {
-    bin=$(dirname "$(readlink -f "$(command -v rt)")")
+    bin=$(toolchain_bin)
     "$bin/rattle-link" --target "$target" --toolchain "$bin/../toolchain" -o "$folder/goblin_c.wasm" "$1"
     mv "$folder/goblin_c.wasm" "$1"
 }
@@ -319,4 +340,6 @@ mkdir -p "$(dirname "$archive")"
 tar -C "$folder" --sort=name --owner=0 --group=0 --numeric-owner --mode=u=rwX,go=rX --mtime=@0 -cf "$folder/tar" "$name"
 gzip -9n < "$folder/tar" > "$archive"
 echo "wrote goblin_c $version for $target to $archive"
-if [ "$target" != wasm64-unknown-unknown ]; then make_wheel "$(dirname "$archive")"; fi
+if [ "$target" != wasm64-unknown-unknown ]; then
+    echo "wrote $(python3 faces/python/wheel.py "$folder/shared" "${target%%-*}" "$(dirname "$archive")")"
+fi

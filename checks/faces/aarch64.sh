@@ -7,7 +7,7 @@ target=aarch64-unknown-linux-gnu
 other=$folder/aarch64
 
 if ! has aarch64-linux-gnu-gcc || ! has qemu-aarch64; then
-    echo "aarch64-linux-gnu-gcc or qemu-aarch64 is not installed, so the library for aarch64 is not tested"
+    left_out "aarch64-linux-gnu-gcc or qemu-aarch64 is not installed, so the library for aarch64 is not tested"
     exit 0
 fi
 mkdir "$other"
@@ -19,11 +19,10 @@ done
 quietly qemu-aarch64 "$other/layout"
 for file in "$files"/* "$other/nm" "$other/damaged"; do
     "$folder/nm" "$file" > "$folder/wanted"
-    qemu-aarch64 "$other/nm" "$file" > "$folder/listed"
-    quietly diff "$folder/wanted" "$folder/listed"
+    prints_wanted qemu-aarch64 "$other/nm" "$file"
 done
 qemu-aarch64 "$other/damaged" 1000 "$files"/* > "$folder/listed" || true
 quietly diff "$folder/summed" "$folder/listed"
 echo "the library for aarch64, in an emulator, has the same results"
 quietly env TARGET=$target LIBRARY="$other/libgoblin_c.a" sh faces/install.sh --archive "$other/goblin_c.tar.gz"
-sh checks/installed.sh "$other/goblin_c.tar.gz" 'aarch64-linux-gnu-gcc -static' qemu-aarch64
+python3 checks/installed.py "$other/goblin_c.tar.gz" 'aarch64-linux-gnu-gcc -static' qemu-aarch64

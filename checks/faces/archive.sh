@@ -1,5 +1,5 @@
 #!/bin/sh
-# Whether the library can be installed and used without the toolchain: sh checks/faces/archive.sh FOLDER, after library.sh
+# Whether the library can be installed and used without the toolchain: sh checks/faces/archive.sh FOLDER, after webassembly.sh
 # The archive has the same bytes whatever the umask, and all users can read what is installed. Another LIBDIR and a shared library can be
 # used too. A new installation leaves no old file, and an uninstallation neither a file nor a folder that was made. What others
 # made stays.
@@ -27,25 +27,25 @@ done
 quietly cmp "$folder/goblin_c.077.tar.gz" "$folder/goblin_c.022.tar.gz"
 tar -tzf "$folder/goblin_c.022.tar.gz" > "$folder/output"
 grep -qx 'goblin_c-[^/]*/README\.md' "$folder/output" || fail "the archive has no README.md"
-sh checks/installed.sh "$folder/goblin_c.022.tar.gz"
+python3 checks/installed.py "$folder/goblin_c.022.tar.gz"
+find_node
+python3 checks/readme.py "$folder/libgoblin_c.a" "$folder/goblin_c.022.tar.gz" "$(cat "$folder/node" 2> "$folder/output" || :)"
 
-# With another LIBDIR, a shared library where there is a compiler, and a program in place of goblin_show.
+# With another LIBDIR, a shared library, and a program in place of goblin_show.
 multiarch=lib/x86_64-linux-gnu
-printf '#!/bin/sh\ncat crates/goblin_show/stdout\n' > "$folder/program"
-shared=0
-if has cc; then shared=1; fi
-install_as 077 $multiarch SHARED=$shared PROGRAM="$folder/program"
+printf '#!/bin/sh\ncat "%s/crates/goblin_show/stdout"\n' "$PWD" > "$folder/program"
+install_as 077 $multiarch SHARED=1 PROGRAM="$folder/program"
 none_of "$root" -mindepth 1 '(' -type f ! -perm 644 ! -path '*/bin/*' -o -path '*/bin/*' ! -perm 755 -o -type d ! -perm 755 ')'
 mkdir "$folder/packed"
 cp -R "$root" "$folder/packed/goblin_c-$version-x86_64-unknown-linux-gnu"
 tar -C "$folder/packed" -czf "$folder/multiarch.tar.gz" .
-sh checks/installed.sh "$folder/multiarch.tar.gz"
+python3 checks/installed.py "$folder/multiarch.tar.gz"
 
 # (as if an earlier version had installed a file more)
 echo share/goblin_c/rust/src/earlier.rs >> "$root/share/goblin_c/library.files"
 touch "$root/share/goblin_c/rust/src/earlier.rs"
 install_as 022 lib
-none_of "$root" -path '*/x86_64-linux-gnu/*' ! -type d -o -name earlier.rs
+none_of "$root" -path '*/x86_64-linux-gnu/*' ! -type d -o -name earlier.rs -o -name '*-shared*'
 quietly sh faces/install.sh --uninstall "$root"
 [ ! -e "$folder/above" ] || none_of "$folder/above"
 mkdir -p "$root/share/man"

@@ -1,8 +1,8 @@
 #!/bin/sh
-# Tests the Python package over the shared library: sh checks/faces/python.sh FOLDER, after library.sh
+# Tests the Python package: sh checks/faces/python.sh FOLDER, after library.sh
 # The unit tests are run over the package as it is installed, by the system's Python, and first without numpy and Dask by the one on PATH if
-# that is another one. What needs numpy, mypy, pyelftools or Dask is left out where these are missing, and a line says so. Then the wheel is
-# installed in an environment of its own, and the first lines of the page and its scan.py are run there.
+# that is another one. What needs numpy, mypy or Dask is left out where these are missing, and a line says so. Then the wheel is
+# installed in an environment of its own, and the first lines of the page and its goblin-scan are run there.
 . checks/faces/shared.sh
 package=$folder/python/share/goblin_c/python
 tests=faces/python/tests
@@ -18,43 +18,36 @@ with_package() { quietly env PYTHONPATH="$package" "$@"; }
 try_tests() {
     with_package "$python" -m unittest discover -s $tests -p "$1"
     echo "the Python package: $(grep -o '^Ran [0-9]* tests' "$folder/output") by $("$python" -V)"
-    grep ' is not installed, so ' "$folder/output" || true
 }
 
 # Checks the types, where mypy is installed.
 check_types() {
-    if ! has_module mypy; then echo "mypy is not installed for $python, so the types are not checked"; return; fi
-    with_package "$python" -m mypy --strict --follow-imports skip --ignore-missing-imports --cache-dir "$folder/mypy" \
-        faces/python/goblin_elf faces/python/examples/scan.py
+    if ! has_module mypy; then left_out "mypy is not installed for $python, so the types are not checked"; return; fi
+    with_package "$python" -m mypy --strict --follow-imports skip --ignore-missing-imports --cache-dir "$folder/mypy" faces/python/goblin_elf
     echo "the Python package: mypy finds no fault in its types"
-}
-
-compare_with_pyelftools() {
-    if ! has_module elftools; then echo "pyelftools is not installed for $python, so the package is not compared with it"; return; fi
-    with_package "$python" $tests/beside_pyelftools.py --files 40 --damaged 100
-    sed 's/^/the Python package beside pyelftools: /' "$folder/output"
 }
 
 # Installs the wheel, and runs the first lines of the page.
 try_wheel() {
-    if ! "$python" -m venv "$folder/venv" > "$folder/output" 2>&1; then echo "venv is not installed for $python, so the wheel is not tried"; return; fi
+    if ! "$python" -m venv "$folder/venv" > "$folder/output" 2>&1; then left_out "venv is not installed for $python, so the wheel is not tried"; return; fi
     quietly sh faces/install.sh --archive "$folder/wheel/goblin_c.tar.gz"
     quietly "$folder/venv/bin/pip" install --no-index --disable-pip-version-check "$folder/wheel"/*.whl
     # shellcheck disable=SC2016 # (the signs are markdown's)
-    sed -n '/^```python$/,/^```$/ { /^```/d; p }' faces/python/README.md > "$folder/lines.py"
+    sed -n "/^\`\`\`python\$/,/^\`\`\`\$/ { /^\`\`\`/d; s|/bin/true|$PWD/$program_file|; p }" faces/python/README.md > "$folder/lines.py"
     (cd "$folder/venv" && quietly bin/python ../lines.py)
     grep -q '^0x[0-9a-f]* .' "$folder/output" || fail "the first lines of the page list no symbols"
-    quietly "$folder/venv/bin/python" "$folder/venv/share/goblin_elf/scan.py" "$folder/libgoblin_c.a" --workers 0 -o "$folder/report.csv"
-    grep -q "^$folder/libgoblin_c.a,.*,ELF64,little,REL," "$folder/report.csv" || fail "the wheel's scan.py finds no member"
+    "$folder/venv/bin/pip" show goblin_elf 2>&1 | grep -x 'License: MIT' > "$folder/output" || fail "pip finds no licence of the wheel"
+    quietly "$folder/venv/bin/goblin-scan" "$folder/libgoblin_c.a" -o "$folder/report.csv"
+    grep -q "^$folder/libgoblin_c.a,.*,ELF64,little,REL," "$folder/report.csv" || fail "the wheel's goblin-scan finds no member"
     echo "the Python package: its wheel can be installed, and the page's $(wc -l < "$folder/lines.py") lines list symbols"
 }
 
 is_new() { "$1" -c 'import sys; sys.exit(sys.version_info < (3, 8))' 2> "$folder/output"; }
 
-quietly env SHARED=1 sh faces/install.sh "$folder/python"
+quietly sh faces/install.sh "$folder/python"
 python=$(command -v python3)
 if ! is_new "$python"; then
-    echo "$python is older than 3.8, so the Python package is not tested"
+    left_out "$python is older than 3.8, so the Python package is not tested"
     exit 0
 fi
 if is_new /usr/bin/python3 && [ "$(readlink -f "$python")" != "$(readlink -f /usr/bin/python3)" ]; then
@@ -62,6 +55,6 @@ if is_new /usr/bin/python3 && [ "$(readlink -f "$python")" != "$(readlink -f /us
     python=/usr/bin/python3
 fi
 try_tests 'test_*.py'
+sed -n 's/^[a-z]* is not installed, so /left out: &/p' "$folder/output"
 check_types
-compare_with_pyelftools
 try_wheel

@@ -1,17 +1,20 @@
 # Functions of the scripts of checks/faces. Each is run from the repository's root: sh checks/faces/NAME.sh FOLDER
 # library.sh puts the library into the folder, and each script puts there what later ones need.
-# shellcheck shell=sh
+# shellcheck shell=sh disable=SC2034
 set -eu
 export LC_ALL=C
 folder=$1
 # The folders of the files that faces/c/made.c makes, and of the examples that cargo builds.
-# shellcheck disable=SC2034
 files=$folder/files examples=$folder/target/debug/examples
+# A program for x86-64. What readelf prints of it is stored beside it.
+program_file=checks/files/made/x86_64_program
 # The version of all that is installed.
-# shellcheck disable=SC2034
 version=$(awk -F '"' '/^version = / { print $2; exit }' faces/rust/Cargo.toml)
 
 has() { command -v "$1" > /dev/null 2>&1; }
+
+# Prints which program the machine lacks, and what is not tested for it. The table of checks/gate.py lists these lines.
+left_out() { echo "left out: $1"; }
 
 fail() {
     echo "$1"
@@ -29,6 +32,30 @@ refuses() {
     [ "$said" = "$text" ] || fail "it should print '$text', and prints '$said': $*"
 }
 
+# Fails unless a command prints what the file wanted of the folder has: prints_wanted COMMAND ..
+prints_wanted() {
+    "$@" > "$folder/listed" || { cat "$folder/listed"; fail "failed: $*"; }
+    diff "$folder/wanted" "$folder/listed" || fail "it prints what the lines with > show, and should print those with <: $*"
+}
+
+# Fails unless `example`, which runs an example in another language, prints what those in C print of the files that made.c makes, and these
+# examples refuse a short file: try_examples NAME ..
+try_examples() {
+    for file in "$files"/*; do
+        "$folder/truncated" "$file" > "$folder/wanted"
+        prints_wanted example truncated "$file"
+        for section in .text .data; do
+            "$folder/flag" "$file" $section > "$folder/wanted"
+            prints_wanted example flag "$file" $section
+        done
+        refuses "flag: $file: there is no section .no" example flag "$file" .no
+    done
+    for name; do
+        if [ "$name" = flag ]; then section=.text; else section=; fi
+        refuses "$name: $folder/short: Malformed entity: Too small" example "$name" "$folder/short" ${section:+"$section"}
+    done
+}
+
 # Runs a compiler with warnings as errors.
 strictly() { "$@" -Wall -Wextra -Werror -pedantic -O2; }
 
@@ -37,6 +64,15 @@ build() {
     program=$1
     shift
     quietly strictly cc "$@" -I"$folder" -o "$folder/$program" "faces/c/$program.c" -L"$folder" -lgoblin_c
+}
+
+# Leaves the command that runs node with 64-bit memories in the file node of the folder, if node has them, and sets the flag that it takes.
+find_node() {
+    # (a module that has only a 64-bit memory)
+    memories='process.exit(WebAssembly.validate(new Uint8Array([0, 97, 115, 109, 1, 0, 0, 0, 5, 3, 1, 4, 0])) ? 0 : 1)'
+    for flag in '' --experimental-wasm-memory64; do
+        if node ${flag:+"$flag"} -e "$memories" > "$folder/output" 2>&1; then echo "node $flag" > "$folder/node"; break; fi
+    done
 }
 
 # Makes the library for a target in a folder, as it is installed. What checks have not proved yet is proved first, at a low priority, since

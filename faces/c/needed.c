@@ -88,7 +88,7 @@ static int list(void) {
     goblin_segment_t segment;
     uint32_t status = goblin_header(bytes, len, &header, &why);
     if (status == GOBLIN_OK) status = find_segment(GOBLIN_PT_INTERP, &segment);
-    if (status == GOBLIN_OK) status = print("interpreter", &segment.file, 0);
+    if (status == GOBLIN_OK && segment.file.size > 0) status = print("interpreter", &segment.file, 0);
     if (status <= GOBLIN_END) status = list_dynamic();
     if (status <= GOBLIN_END) return 0;
     char text[160];

@@ -2,8 +2,7 @@
 """Makes a wheel of the package with the shared library: python3 faces/python/wheel.py LIBRARY MACHINE FOLDER, from the repository's root.
 
 LIBRARY is the shared library, and MACHINE is x86_64 or aarch64. It prints the path of the wheel, whose bytes depend on
-the sources and on LIBRARY alone. `pip install --no-index WHEEL` takes it on a machine with Linux, Python 3.8 or later, and the version of
-glibc that it states.
+the sources and on LIBRARY alone. `pip install --no-index WHEEL` takes it on a machine with Linux and Python 3.8 or later.
 """
 import base64
 import hashlib
@@ -13,12 +12,6 @@ import sys
 import zipfile
 
 HERE = os.path.dirname(os.path.abspath(__file__))
-
-
-def glibc_of(library):
-    """Returns the newest version of glibc of which the library needs a symbol."""
-    versions = re.findall(rb'\0GLIBC_(\d+)\.(\d+)(?=[.\d]*\0)', library)
-    return '.'.join(map(str, max((int(major), int(minor)) for major, minor in versions))) if versions else 'any'
 
 
 def content_of(library_path, machine):
@@ -35,21 +28,21 @@ def content_of(library_path, machine):
     with open(os.path.join(package, 'constants.py'), encoding='utf-8') as file:
         interface = re.search(r'^VERSION = (\d+)$', file.read(), re.M)[1]
     yield version, f'goblin_elf/libgoblin_c.so.{interface}', library
-    with open(os.path.join(HERE, 'examples', 'scan.py'), 'rb') as file:
-        # (pip puts it below the folder of the environment)
-        yield version, f'goblin_elf-{version}.data/data/share/goblin_elf/scan.py', file.read()
     info = f'goblin_elf-{version}.dist-info'
-    with open(os.path.join(HERE, '..', '..', 'LICENSE'), 'rb') as file:
-        yield version, f'{info}/LICENSE', file.read()
+    for name in ('LICENSE', 'CHANGELOG.md'):
+        with open(os.path.join(HERE, '..', '..', name), 'rb') as file:
+            yield version, f'{info}/{name}', file.read()
+    yield version, f'{info}/entry_points.txt', b'[console_scripts]\ngoblin-scan = goblin_elf.scan:main\n'
     with open(os.path.join(HERE, 'README.md'), encoding='utf-8') as file:
         page = file.read()
     yield version, f'{info}/METADATA', f'''Metadata-Version: 2.1
 Name: goblin_elf
 Version: {version}
 Summary: ELF files, read by a proved library
+License: MIT
 License-File: LICENSE
+Classifier: License :: OSI Approved :: MIT License
 Requires-Python: >=3.8
-Requires-External: glibc (>={glibc_of(library)})
 Provides-Extra: arrays
 Requires-Dist: numpy; extra == 'arrays'
 Description-Content-Type: text/markdown

@@ -1,6 +1,6 @@
 //! Links libgoblin_c.a. It looks in the folder that GOBLIN_C_LIB names; a relative name starts from the folder of this file. Without
-//! GOBLIN_C_LIB it looks where the library is installed with this crate, where `rt lib` puts it in the repository, and where pkg-config
-//! finds it. It skips a library for another processor.
+//! GOBLIN_C_LIB it looks where the library is installed with this crate, or where `rt lib` puts it in the repository, and where pkg-config
+//! finds it. Beside a copy of this crate elsewhere it doesn't look. It skips a library for another processor.
 //!
 //! If it finds none, it warns, and says where it looked and how to get the library. Only linking needs the library: without it `cargo
 //! check`, `cargo clippy` and `cargo doc` succeed, and a build ends with rustc's error that the native static library is missing.
@@ -44,15 +44,19 @@ fn folders() -> Vec<PathBuf> {
     if let Some(folder) = named() {
         return vec![here.join(folder)];
     }
+    beside(here).into_iter().chain(from_pkg_config()).collect()
+}
+
+/// Returns the library's folder, if this crate is where it is installed with the library, or in the repository.
+fn beside(here: &Path) -> Option<PathBuf> {
     let above = |levels| here.ancestors().nth(levels);
-    let installed = above(3).map(|folder| folder.join("lib"));
-    let built = above(2).map(|folder| folder.join("crates/goblin_c/out"));
-    installed.into_iter().chain(built).chain(from_pkg_config()).collect()
+    let installed = above(3).filter(|_| here.ends_with("share/goblin_c/rust")).map(|folder| folder.join("lib"));
+    let sources = above(2).map(|folder| folder.join("crates/goblin_c")).filter(|folder| folder.is_dir());
+    installed.or(sources.map(|folder| folder.join("out")))
 }
 
 /// Warns that the library is missing, and says where it was looked for and how to get it.
 fn warn(folders: &[PathBuf], processors: &str) {
-    let target = format!("{}-unknown-linux-gnu", processors);
     let by = match named() {
         Some(folder) if folder.is_relative() => format!("GOBLIN_C_LIB={}, which is ", folder.display()),
         Some(_) => "GOBLIN_C_LIB=".to_string(),
@@ -66,6 +70,15 @@ fn warn(folders: &[PathBuf], processors: &str) {
     if named().is_none() && from_pkg_config().is_none() {
         println!("cargo:warning=looked for by pkg-config: it finds no goblin_c; PKG_CONFIG_PATH names the folder of goblin_c.pc");
     }
+    if named().is_none() && beside(Path::new(env!("CARGO_MANIFEST_DIR"))).is_none() {
+        println!("cargo:warning=no folder beside this crate was looked in: it is a copy, outside of its installation and its repository");
+    }
+    let is_linux = env::var("CARGO_CFG_TARGET_OS").map_or(false, |system| system == "linux");
+    if !is_linux || !["x86_64", "aarch64"].contains(&processors) {
+        println!("cargo:warning=it is made for Linux on x86_64 and on aarch64 alone");
+        return;
+    }
+    let target = format!("{}-unknown-linux-gnu", processors);
     let archive = format!("goblin_c-{}-{}.tar.gz", env!("CARGO_PKG_VERSION"), target);
     println!("cargo:warning=to get it, unpack {}: use its share/goblin_c/rust, or set GOBLIN_C_LIB to its lib", archive);
     println!("cargo:warning=in the repository of goblin_c, `make dist TARGET={}` makes that archive", target);

@@ -8,8 +8,9 @@
 Each call of the library is proved; this package passes its results on and is tested. A file, or a part of it, that is refused raises
 `Refused`, and nothing that a file holds raises anything else. Offsets and sizes are in bytes. Arrays need numpy, which nothing else does.
 """
+from . import constants
 from .constants import *  # noqa: F401, F403
-from .constants import VERSION
+from .constants import __version__
 from .elf import Elf
 from .items import Header, Note, Notes, Relocation, Relocations, Section, Sections, Segment, Segments, Strings, Symbol, Symbols, Table
 from .interface import Item, Kind
@@ -18,5 +19,6 @@ from .names import (bind_to_str, class_to_str, et_to_str, machine_to_str, note_t
 from .refused import Refused
 
 __all__ = ['Elf', 'Header', 'Item', 'Kind', 'Note', 'Notes', 'Refused', 'Relocation', 'Relocations', 'Section', 'Sections', 'Segment',
-           'Segments', 'Strings', 'Symbol', 'Symbols', 'Table', 'VERSION', 'bind_to_str', 'class_to_str', 'et_to_str', 'machine_to_str',
-           'note_type_to_str', 'pt_to_str', 'shf_to_str', 'sht_to_str', 'type_to_str', 'visibility_to_str']
+           'Segments', 'Strings', 'Symbol', 'Symbols', 'Table', 'bind_to_str', 'class_to_str', 'et_to_str', 'machine_to_str',
+           'note_type_to_str', 'pt_to_str', 'shf_to_str', 'sht_to_str', 'type_to_str', 'visibility_to_str', '__version__']
+__all__ += constants.__all__

@@ -10,8 +10,6 @@ from .interface import CALLS, STRUCTS
 from .refused import Refused
 
 OK, END = 0, 1
-# The folder of the library below the folder of an installation, of which this file is share/goblin_c/python/goblin_elf/_library.py.
-LIBDIR = 'lib'
 NAME = f'libgoblin_c.so.{VERSION}'
 TYPES = {'p': ctypes.c_void_p, 'z': ctypes.c_size_t, 'Q': ctypes.c_uint64, 'I': ctypes.c_uint32, 'H': ctypes.c_uint16,
          'B': ctypes.c_uint8, 'b': ctypes.c_bool}
@@ -53,23 +51,25 @@ REFUSAL, RANGE, HEADER = RECORDS['refusal'], RECORDS['range'], RECORDS['header']
 
 
 def where() -> str:
-    """Returns where the library is: GOBLIN_ELF_LIBRARY, in this folder, in the installation, or where the system's loader looks."""
-    here = os.path.dirname(os.path.abspath(__file__))
-    paths = [os.path.join(here, NAME), os.path.join(here, *['..'] * 4, LIBDIR, NAME)]
-    return os.environ.get('GOBLIN_ELF_LIBRARY') or [*filter(os.path.exists, paths), NAME][0]
+    """Returns where the library is: GOBLIN_ELF_LIBRARY, in this folder, or if it was taken from there, where the system's loader looks."""
+    own = os.path.join(os.path.dirname(os.path.abspath(__file__)), NAME)
+    return os.environ.get('GOBLIN_ELF_LIBRARY') or (own if os.path.exists(own) else NAME)
 
 
 def load() -> ctypes.CDLL:
     """Loads the library. Raises an ImportError if there is none, or if it is of another interface than this package."""
     path = where()
+    is_named = bool(os.environ.get('GOBLIN_ELF_LIBRARY'))
     try:
         library = ctypes.CDLL(path)
         version = library.goblin_version()
     except (OSError, AttributeError) as error:
+        if is_named:
+            raise ImportError(f'GOBLIN_ELF_LIBRARY is {path}, which can not be loaded as {NAME}: {error}') from None
         raise ImportError(f'goblin_elf needs {NAME}, and can not load it ({error}): install it, or set GOBLIN_ELF_LIBRARY') from None
     if version != VERSION or not all(hasattr(library, f'goblin_{name}') for name in CALLS) or not is_laid_out(library):
         what = 'has other calls or structs' if version == VERSION else f'has interface {version}, not {VERSION}'
-        raise ImportError(f'{path} {what}: this goblin_elf needs another version of it')
+        raise ImportError(f'{"GOBLIN_ELF_LIBRARY is " * is_named}{path}{", which" * is_named} {what}: this goblin_elf needs another version of it')
     return library
 
 
@@ -112,6 +112,9 @@ class File:
         ctypes.pythonapi.PyObject_GetBuffer(ctypes.py_object(self.view), words, 0)
         self.address, self.length = words[0], len(self.view)
         ctypes.pythonapi.PyBuffer_Release(words)
+
+    def __reduce__(self) -> Any:
+        raise TypeError('a file, its tables and their items can not be pickled: pickle bytes(elf.bytes), or the numbers in item[:-2]')
 
     def part(self, offset: int, size: int) -> memoryview:
         """Returns some bytes, without a copy."""

@@ -168,6 +168,9 @@ class Note(NamedTuple):
     def __repr__(self) -> str:
         return f'Note(n_type={self.n_type}, name={self.name!r}, desc={self.desc.hex()!r})'
 
+    def __reduce__(self) -> Any:
+        return note_with, (self.n_type, self.name, bytes(self.desc))
+
 
 class Table(Sequence[T]):
     """A sequence of the items of a table. The call that makes it is refused if the table is, so it has all of its items.
@@ -364,6 +367,11 @@ class Notes(Table[Note]):
 
     def _made(self, fields: Fields, index: int) -> Note:
         return note_of(self.elf, fields, self._errors)
+
+
+def note_with(n_type: int, name: str, desc: bytes) -> Note:
+    """Returns a note that was pickled."""
+    return Note(n_type, name, memoryview(desc))
 
 
 def read_notes(elf: 'Elf', place: bytes, alignment: int, errors: str, offset: int) -> Iterator[Tuple[int, Note]]:
