@@ -1,5 +1,6 @@
-"""Tests of goblin_elf over made files, whose values are those that the System V gABI gives their bytes, and over files of this machine."""
+"""Tests of goblin_elf over made files, whose values are those that the System V gABI gives their bytes, and over a stored program."""
 import base64
+import copy
 import gc
 import hashlib
 import json
@@ -167,6 +168,17 @@ class Sequences(unittest.TestCase):
         self.assertIn("r_offset=0x10, r_sym=1, r_addend=-4, r_type=2, index=0", repr(elf.section('.rela.text').relocations[0]))
         self.assertIn('e_machine=0x3e', repr(elf.header))
 
+    def test_pickled_items(self):
+        elf = Elf(MADE.bytes)
+        header, note = pickle.loads(pickle.dumps((elf.header, elf.segments[1].notes[0])))
+        self.assertEqual((header, type(header), note.n_type, note.name, note.desc.hex()),
+                         (elf.header, type(elf.header), 3, 'GNU', made.BUILD_ID.hex()))
+        for table in (elf.sections, elf.segments, elf.symbols, elf.section('.rela.text').relocations):
+            for what in (elf, table, table[1], table[0], elf.section('.strtab').strings, Notes(elf, *elf.segments[1][:2], 4)):
+                self.assertRaisesRegex(TypeError, '^a file, its tables and their items can not be pickled: ', pickle.dumps, what)
+            self.assertEqual(copy.copy(table[1]), table[1])
+            self.assertEqual(pickle.loads(pickle.dumps(table[1][:-2])), table[1][:-2])
+
     def test_many_items(self):
         # more symbols than one call reads: each has its index as its value
         count = 3 * 4096 + 5
@@ -240,6 +252,11 @@ class Refusals(unittest.TestCase):
         error = refusal(Elf, bytes(16))
         again = pickle.loads(pickle.dumps(error))
         self.assertEqual((str(again), again.kind, again.numbers, again.offset), (str(error), error.kind, error.numbers, error.offset))
+
+    def test_names_of_kinds(self):
+        error = refusal(Elf, MADE.bytes[:63])
+        self.assertEqual((str(error.kind), f'{error.kind} {error.kind:#x} {error.kind:2}', repr(error.kind)), ('TOO_BIG', 'TOO_BIG 0x3  3', '<Kind.TOO_BIG: 3>'))
+        self.assertEqual((str(Item.NOTE_NAME), int(Kind.BAD_OFFSET), Kind.BAD_OFFSET == 4), ('NOTE_NAME', 4, True))
 
 
 class Cut(unittest.TestCase):
@@ -523,8 +540,12 @@ class Library(unittest.TestCase):
         return found.returncode, found.stderr.strip().split('\n')[-1]
 
     def test_a_wrong_library(self):
-        status, said = self.load('/nonexistent')
-        self.assertTrue(status == 1 and 'ImportError: goblin_elf needs libgoblin_c.so.' in said, said)
+        # what is not there, what is no library, and what is another one
+        for path, expected in [('/nonexistent', 'No such file or directory'), (__file__, 'invalid ELF header'),
+                               ('libc.so.6', 'undefined symbol: goblin_version')]:
+            status, said = self.load(path)
+            start = f'ImportError: GOBLIN_ELF_LIBRARY is {path}, which can not be loaded as libgoblin_c.so.{constants.VERSION}: '
+            self.assertTrue(status == 1 and said.startswith(start) and said.endswith(expected), said)
         with tempfile.TemporaryDirectory() as folder:
             # of another interface, with calls that are missing, and with all of them and another layout
             calls = ''.join(f'void goblin_{name}(void) {{}}\n' for name in _library.CALLS if name not in ('version', 'layout'))
@@ -539,7 +560,18 @@ class Library(unittest.TestCase):
                 except FileNotFoundError:
                     self.skipTest('cc is not installed')
                 status, said = self.load(path)
-                self.assertTrue(status == 1 and expected in said, said)
+                self.assertTrue(status == 1 and f'GOBLIN_ELF_LIBRARY is {path}, which {expected}' in said, said)
+
+    def test_what_is_imported(self):
+        names = {}
+        exec('from goblin_elf import *', names)
+        with open(os.path.join(FOLDER, '..', '..', 'rust', 'Cargo.toml'), encoding='utf-8') as file:
+            self.assertEqual(names['__version__'], re.search(r'^version = "(.*)"', file.read(), re.M)[1])
+        with open(os.path.join(FOLDER, '..', 'README.md'), encoding='utf-8') as file:
+            used = set(re.findall(r'\b(?:EM|SHT|STT)_\w+', '\n'.join(re.findall(r'`([^`]*)`', file.read()))))
+        self.assertEqual({name: names[name] for name in used}, {'EM_X86_64': 62, 'SHT_NOTE': 7, 'STT_FUNC': 2})
+        self.assertEqual(sorted(set(goblin_elf.__all__) - set(names)), [])
+        self.assertEqual([name for name in ('elf', 'enum', 'items', 'constants') if name in names], [])
 
     def test_constants(self):
         self.assertEqual((EM_X86_64, SHT_RELA, int(goblin_elf.SHN_XINDEX), goblin_elf.ELFMAG), (62, 4, 0xffff, b'\x7fELF'))
@@ -573,6 +605,9 @@ class Wheel(unittest.TestCase):
                     content = {name: wheel.read(name) for name in wheel.namelist()}
             info = f'{os.path.basename(path)[:-len(f"-py3-none-linux_{machine}.whl")]}.dist-info'
             self.assertIn(f'Tag: py3-none-linux_{machine}\n', content[f'{info}/WHEEL'].decode())
+            for name in ('LICENSE', 'CHANGELOG.md'):
+                with open(os.path.join(FOLDER, '..', '..', '..', name), 'rb') as file:
+                    self.assertEqual(content[f'{info}/{name}'], file.read())
             rows = dict(row.split(',', 1) for row in content.pop(f'{info}/RECORD').decode().splitlines())
             self.assertEqual(rows.pop(f'{info}/RECORD'), ',')
             sums = {name: base64.urlsafe_b64encode(hashlib.sha256(read).digest()).decode().rstrip('=') for name, read in content.items()}
@@ -624,10 +659,9 @@ class Program(unittest.TestCase):
                     (exec if line.startswith('for ') else eval)(line, dict(names))
         self.assertEqual([eval(rows[index][1], names) for index in (1, 4, 6, 9)], [True, False, True, made.BUILD_ID.hex()])
 
-    def test_this_python(self):
-        found = program.described(sys.executable)
-        self.assertIn('libc.so.6', found['needed'])
-        self.assertEqual((found['kind'], os.path.basename(found['interpreter'])[:3]), ('program', 'ld-'))
+    def test_a_program(self):
+        found = program.described(os.path.join(FOLDER, '..', '..', '..', 'checks', 'files', 'made', 'x86_64_program'))
+        self.assertEqual((found['kind'], found['needed'], found['interpreter']), ('program', ['libc.so.6'], '/lib64/ld-linux-x86-64.so.2'))
 
 
 if __name__ == '__main__':

@@ -1,11 +1,14 @@
-"""Tests of examples/scan.py: the same report by one process, by workers of which one is killed, and in two parts."""
+"""Tests of goblin_elf.scan: the same report by one process, by workers of which some are killed, and in parts. Nothing listens meanwhile."""
+import asyncio
 import contextlib
 import csv
 import importlib.machinery
-import importlib.util
 import io
 import json
 import os
+import random
+import signal
+import struct
 import subprocess
 import sys
 import tarfile
@@ -16,23 +19,25 @@ import unittest
 import unittest.mock
 
 import made
+from goblin_elf import scan as module
+from goblin_elf import workers
 
 try:
     import distributed
 except ImportError:
     distributed = None
-    print('distributed is not installed, so Dask is not tested')
 
-SCAN = os.path.join(os.path.dirname(os.path.abspath(__file__)), '..', 'examples', 'scan.py')
+SCAN = [sys.executable, '-m', 'goblin_elf.scan']
 
 
-loaded = importlib.util.spec_from_file_location('scan', SCAN)
-module = importlib.util.module_from_spec(loaded)
-loaded.loader.exec_module(module)
+def setUpModule():
+    # (workers import this module, too)
+    if not distributed:
+        print('distributed is not installed, so Dask is not tested')
 
 
 def scan(*arguments):
-    """Runs scan.py in this process, and returns what it printed."""
+    """Runs it in this process, and returns what it printed."""
     with contextlib.redirect_stderr(io.StringIO()) as said:
         if module.main(list(arguments)):
             raise AssertionError(said.getvalue())
@@ -65,8 +70,28 @@ def package(content):
     return archive([('debian-binary', b'2.0\n'), ('data.tar.xz', data.getvalue())])
 
 
+def linked(needed, soname, interpreter):
+    """Returns a program with a dynamic section, of names in bytes."""
+    strings, dynamic = b'\0', b''
+    for tag, name in [*((1, name) for name in needed), (14, soname)]:
+        dynamic += struct.pack('<QQ', tag, len(strings))
+        strings += name + b'\0'
+    parts = {}
+    content = bytearray(64 + 3 * 56)
+    for name, part in (('strings', strings), ('interpreter', interpreter + b'\0')):
+        parts[name] = len(content), len(part)
+        content += part
+    dynamic += struct.pack('<QQQQQQ', 5, parts['strings'][0], 10, len(strings), 0, 0)
+    parts['dynamic'] = len(content), len(dynamic)
+    content += dynamic
+    for index, (kind, (offset, size)) in enumerate([(1, (0, len(content))), (2, parts['dynamic']), (3, parts['interpreter'])]):
+        struct.pack_into('<' + made.PHDR[64], content, 64 + 56 * index, kind, 4, offset, offset, offset, size, size, 1)
+    struct.pack_into('<' + made.EHDR[64], content, 0, b'\x7fELF\2\1\1' + bytes(9), 3, 62, 1, 0, 64, 0, 0, 64, 56, 3, 64, 0, 0)
+    return bytes(content)
+
+
 class StandInForPyarrow(types.ModuleType):
-    """What scan.py uses of pyarrow, which Debian does not have: it writes a table as JSON, and takes the values alone that pyarrow takes
+    """What the scan uses of pyarrow, which Debian does not have: it writes a table as JSON, and takes the values alone that pyarrow takes
     for the types of the columns. It can't show that pyarrow itself takes them."""
 
     class Table(list):
@@ -102,7 +127,9 @@ class StandInForPyarrow(types.ModuleType):
             return self.Table(json.load(file))
 
 
-class Scan(unittest.TestCase):
+class Folder(unittest.TestCase):
+    """A test with a folder of files."""
+
     def setUp(self):
         folder = tempfile.TemporaryDirectory()
         self.addCleanup(folder.cleanup)
@@ -125,6 +152,10 @@ class Scan(unittest.TestCase):
         with open(self.out(name), newline='', encoding='utf-8') as file:
             return list(csv.DictReader(file))
 
+
+class Scan(Folder):
+    """What a report has, made by one process."""
+
     def test_rows(self):
         elf = made.ALL[3].bytes
         self.put('b.o', elf)
@@ -137,7 +168,7 @@ class Scan(unittest.TestCase):
         said = scan(self.files, '-o', self.out('r.csv'), '--workers', '0')
         rows = self.rows('r.csv')
         self.assertEqual([(os.path.relpath(row['file'], self.files), row['member'], row['refused']) for row in rows],
-                         [('a\\n', '', 'TOO_BIG'), ('b.o', '', ''), ('sub/x.a', 'x.o', ''), ('sub/x.a', 'a_name_that_is_long.o', ''),
+                         [('a\\x0a', '', 'TOO_BIG'), ('b.o', '', ''), ('sub/x.a', 'x.o', ''), ('sub/x.a', 'a_name_that_is_long.o', ''),
                           ('y.deb', './usr/bin/made', ''), ('z.deb', '', 'LEFT_OUT')])
         self.assertEqual([(row['class'], row['order'], row['type'], row['build_id'], row['symbols'], row['code']) for row in rows[1:2]],
                          [('ELF64', 'big', 'REL', made.BUILD_ID.hex(), '7', '128')])
@@ -207,74 +238,350 @@ class Scan(unittest.TestCase):
             self.put(name, content)
             os.truncate(os.path.join(self.files, name), size)
         script = 'import resource, runpy, sys; resource.setrlimit(resource.RLIMIT_DATA, (120 << 20, 120 << 20)); ' \
-                 'sys.argv = sys.argv[1:]; runpy.run_path(sys.argv[0], run_name="__main__")'
-        subprocess.run([sys.executable, '-c', script, SCAN, self.files, '-o', self.out('r.csv'), '--workers', '0'], check=True,
+                 'sys.argv = sys.argv[1:]; runpy.run_module("goblin_elf.scan", run_name="__main__")'
+        subprocess.run([sys.executable, '-c', script, 'scan', self.files, '-o', self.out('r.csv'), '--workers', '0'], check=True,
                        stderr=subprocess.PIPE, timeout=120)
         self.assertEqual([os.path.basename(row['file']) for row in self.rows('r.csv')], ['interpreter', 'notes', 'sections'])
         self.assertEqual(self.rows('r.csv')[2]['sections'], str((size - 4096) // 64))
 
-    @unittest.skipUnless(distributed, 'distributed is not installed')
+    def test_names_of_any_bytes(self):
+        names = b'caf\xe9.so', b'\xe2\x80\xae\x1b[1m\\', '\u00e9\u0085'.encode()
+        self.put('\udce9', linked(needed=names, soname=b'lib\xff\n', interpreter=b'/ld\xe9'))
+        self.put('b', linked(needed=[b'x' * 4000] * 50, soname=b'', interpreter=b''))
+        self.put('c', made.ALL[0].bytes)
+        for name in ('r.csv', 'r.json'):
+            scan(self.files, '-o', self.out(name), '--workers', '0')
+            whole = read(self.out(name))
+            for size in (len(whole), len(whole) // 2, 0):
+                with open(self.out(name), 'wb') as file:
+                    file.write(whole[:size])
+                scan(self.files, '-o', self.out(name), '--workers', '0', '--resume')
+                self.assertEqual(read(self.out(name)), whole)
+            rows = {row['file'][len(self.files) + 1:]: row for row in (self.rows(name) if name == 'r.csv' else json.loads(whole))}
+            row = rows['\\xe9']
+            self.assertEqual((row['needed'], row['soname'], row['interpreter']),
+                             ('caf\\xe9.so \\xe2\\x80\\xae\\x1b[1m\\x5c \u00e9\\xc2\\x85', 'lib\\xff\\x0a', '/ld\\xe9'))
+            self.assertEqual((rows['b']['needed'], rows['c']['class']), (' '.join(['x' * 4000] * 50), 'ELF32'))
+        # (what is there and no report is no row of it)
+        for junk in (b'\0\xff"\n,,\n', b'[\n{"file": 1},\n7\n'):
+            for name in ('r.csv', 'r.json'):
+                with open(self.out('junk' + name[1:]), 'wb') as file:
+                    file.write(junk)
+                scan(self.files, '-o', self.out('junk' + name[1:]), '--workers', '0', '--resume')
+                self.assertEqual(read(self.out('junk' + name[1:])), read(self.out(name)))
+
+    def test_formulas(self):
+        for index, start in enumerate(('=', '+', '-', '@', ' =', '"=', "'", '\uff1d', '\t=')):
+            bad = f'{start}1+1'.encode()
+            self.put(f'{index}', linked(needed=[bad + b';' + bad, b';;"' + bad], soname=bad, interpreter=b'/a;' + bad))
+        self.put(';=1', made.ALL[0].bytes)
+        self.put(";'=1", made.ALL[0].bytes)
+        os.chdir(self.files)
+        self.addCleanup(os.chdir, '/')
+        os.rename('0', '=0')
+        arguments = ['=0', *'12345678', '.', '-o', self.out('r.csv'), '--workers', '0']
+        scan(*arguments)
+        whole = read(self.out('r.csv'))
+        for separator in ',;':
+            with open(self.out('r.csv'), newline='', encoding='utf-8') as file:
+                for cells in csv.reader(file, delimiter=separator):
+                    self.assertFalse([cell for cell in cells if cell.strip(' "')[:1] in tuple('=+-@\uff1d')], cells)
+        rows = self.rows('r.csv')
+        self.assertEqual([rows[0][column] for column in ('file', 'soname', 'interpreter')], ["'=0", "'=1+1", "/a;'=1+1"])
+        self.assertEqual([row['file'] for row in rows[-3:]], ["./;''=1", "./;'=1", "./=0"])
+        for size in range(0, len(whole), 97):
+            with open(self.out('r.csv'), 'wb') as file:
+                file.write(whole[:size])
+            scan(*arguments, '--resume')
+            self.assertEqual(read(self.out('r.csv')), whole)
+
+
+class Workers(Folder):
+    """Processes of this machine."""
+
+    def start(self, *arguments, **given):
+        """Starts a scan of the files in a process group of its own."""
+        command = [*SCAN, self.files, '-o', self.out('many.csv'), '--workers', '3', '--batch', '8', *arguments]
+        # (a test that runs in the background ignores SIGINT, and so would what it starts)
+        running = subprocess.Popen(command, stderr=subprocess.PIPE, universal_newlines=True, start_new_session=True,
+                                   preexec_fn=lambda: signal.signal(signal.SIGINT, signal.SIG_DFL), **given)
+        self.addCleanup(self.end, running)
+        return running
+
+    def end(self, running):
+        running.kill()
+        running.communicate()
+
+    def check_ended(self, running, status=0):
+        said = running.communicate(timeout=120)[1]
+        self.assertEqual(running.returncode, status, said)
+        self.assertNotIn('Traceback', said)
+        return said
+
+    def check_killed(self, kill):
+        """Lets a function kill workers of a scan until it ends. The report stays the same."""
+        running = self.start()
+        while running.poll() is None:
+            kill(running)
+        self.check_ended(running)
+        self.assertEqual(read(self.out('many.csv')), read(self.out('one.csv')))
+
+    def test_killed_workers(self):
+        self.put_many(1200)
+        scan(self.files, '-o', self.out('one.csv'), '--workers', '0')
+        killed = set()
+
+        def kill_first(running):
+            for process in [process for process in workers_of(running) if process not in killed][:3 - len(killed)]:
+                killed.add(process)
+                os.kill(process, signal.SIGKILL)
+
+        def kill_at_rows(running):
+            with contextlib.suppress(FileNotFoundError):
+                if len(killed) < 3 * os.path.getsize(self.out('many.csv')) // os.path.getsize(self.out('one.csv')):
+                    kill_next(running)
+
+        def kill_next(running):
+            processes = workers_of(running)
+            if processes:
+                process = random.choice(processes)
+                killed.add(process)
+                with contextlib.suppress(ProcessLookupError):
+                    os.kill(process, signal.SIGKILL)
+
+        def kill_often(running):
+            time.sleep(random.random() / 10)
+            if len(killed) < 12:
+                kill_next(running)
+
+        for kill in (kill_first, kill_at_rows, kill_often):
+            killed.clear()
+            with contextlib.suppress(FileNotFoundError):
+                os.remove(self.out('many.csv'))
+            self.check_killed(kill)
+            self.assertTrue(killed)
+
+    def test_files_that_end_workers(self):
+        batches = [['1', 'end', '2'], ['3'], ['end'], ['4', '5']]
+        found = list(workers.Workers(end_or_echo, 2, 1 << 30).results(iter(batches)))
+        self.assertEqual(found, [(['1'], ['1']), (['end'], None), (['2'], ['2']), (['3'], ['3']), (['end'], None), (['4', '5'], ['4', '5'])])
+        self.assertRaisesRegex(workers.Stopped, '16 workers ended as they started, the last one with exit code 7',
+                               list, workers.Workers(EndsWorkers(), 2, 1 << 30).results(iter(batches)))
+        self.put('a', made.ALL[0].bytes)
+        report = module.Report(self.out('r.csv'), False)
+        with contextlib.redirect_stderr(io.StringIO()) as said:
+            module.report_on(iter([(['a'], module.examine([os.path.join(self.files, 'a')])), (['b'], None)]), report)
+        self.assertEqual([row['refused'] for row in self.rows('r.csv')], ['', 'WORKER_LOST'])
+        self.assertIn('2 files, 1 refused', said.getvalue())
+
+    def test_little_memory(self):
+        (_, found), = workers.Workers(take_memory, 1, 256 << 20).results(iter([['128', '512']]))
+        self.assertEqual(found, ['128', 'MemoryError'])
+
+    def test_nothing_listens(self):
+        self.put_many(1200)
+        running, seen = self.start(), 0
+        while running.poll() is None:
+            processes = workers_of(running)
+            seen += len(processes) == 3
+            self.assertFalse(sockets_of([running.pid, *processes]) & listening())
+        self.check_ended(running)
+        self.assertGreater(seen, 0)
+
+    def test_interrupted(self):
+        self.put_many(1200)
+        scan(self.files, '-o', self.out('one.csv'), '--workers', '0')
+        for begin in (lambda running: workers_of(running), lambda running: os.path.getsize(self.out('many.csv')) > 2000):
+            with open(self.out('many.csv'), 'w'):
+                pass
+            running = self.start()
+            while not begin(running):
+                self.assertIsNone(running.poll())
+            processes = workers_of(running)
+            os.killpg(running.pid, signal.SIGINT)
+            self.assertEqual(self.check_ended(running, 130), f'goblin-scan: interrupted; --resume goes on with {self.out("many.csv")}\n')
+            self.assertFalse([process for process in processes if os.path.exists(f'/proc/{process}/fd')])
+            scan(self.files, '-o', self.out('many.csv'), '--workers', '0', '--resume')
+            self.assertEqual(read(self.out('many.csv')), read(self.out('one.csv')))
+
+    def test_reports_that_can_not_be_written(self):
+        self.put_many(100)
+        for arguments in ([], ['--resume']):
+            running = self.start('-o', self.out('absent/r.csv'), *arguments)
+            self.assertEqual(self.check_ended(running, 2),
+                             f'goblin-scan: {self.out("absent/r.csv")} can not be read or written: No such file or directory\n')
+        limit = 'import resource, runpy, sys; resource.setrlimit(resource.RLIMIT_FSIZE, (9999, 9999)); sys.argv = sys.argv[1:]; ' \
+                'runpy.run_module("goblin_elf.scan", run_name="__main__")'
+        for number in ('0', '2'):
+            command = [sys.executable, '-c', limit, 'scan', self.files, '-o', self.out('r.csv'), '--workers', number]
+            ended = subprocess.run(command, stderr=subprocess.PIPE, universal_newlines=True)
+            self.assertEqual((ended.returncode, ended.stderr),
+                             (2, f'goblin-scan: {self.out("r.csv")} can not be read or written: File too large\n'))
+
+
+@unittest.skipUnless(distributed, 'distributed is not installed')
+class Scheduler(Folder):
+    """The workers of a scheduler of Dask."""
+
+    def run_dask(self, command, *arguments):
+        """Starts a scheduler or a worker."""
+        with open(self.out('said'), 'ab') as said:
+            process = subprocess.Popen([sys.executable, '-m', f'distributed.cli.dask_{command}', '--scheduler-file', self.out('scheduler.json'),
+                                        '--no-dashboard', *arguments], stdout=said, stderr=said, cwd=self.folder)
+        self.addCleanup(process.wait)
+        self.addCleanup(process.kill)
+        return process
+
+    def start_scheduler(self):
+        """Starts a scheduler, and returns it and its address."""
+        scheduler = self.run_dask('scheduler', '--host', '127.0.0.1', '--port', '0')
+        while not os.path.exists(self.out('scheduler.json')) or os.path.getsize(self.out('scheduler.json')) == 0:
+            self.assertIsNone(scheduler.poll())
+            time.sleep(0.05)
+        with open(self.out('scheduler.json')) as file:
+            return scheduler, json.load(file)['address']
+
+    def start(self, address):
+        command = [*SCAN, self.files, '-o', self.out('many.csv'), '--scheduler', address, '--batch', '4']
+        running = subprocess.Popen(command, stderr=subprocess.PIPE, universal_newlines=True)
+        self.addCleanup(running.communicate)
+        self.addCleanup(running.kill)
+        return running
+
+    def start_workers(self, address):
+        processes = [self.run_dask('worker', '--no-nanny', '--nthreads', '1') for _ in range(3)]
+        with distributed.Client(address) as client:
+            client.wait_for_workers(3, timeout=60)
+        return processes
+
     def test_a_file_that_ends_each_worker(self):
         """As Dask reports a batch of which it has tried the last worker."""
         self.put_many(7)
-        lost = os.path.join(self.files, '00002')
+        lost, late = os.path.join(self.files, '00002'), [asyncio.TimeoutError()]
 
-        class Client:
-            @staticmethod
-            def ncores():
-                return {}
+        class Client(contextlib.nullcontext):
+            def wait_for_workers(self, count, timeout):
+                pass
 
-            @staticmethod
-            def submit(function, batch, pure):
-                def result():
+            def ncores(self):
+                return {'a': 1}
+
+            def submit(self, function, batch, pure):
+                def result(timeout):
+                    if late:
+                        raise late.pop()
                     if lost in batch:
                         raise distributed.KilledWorker('examine', None, 3)
                     return function(batch)
                 return types.SimpleNamespace(result=result)
 
         paths = sorted(os.path.join(self.files, name) for name in os.listdir(self.files) if name != 'sub')
-        batches = iter([paths[:4], paths[4:]])
-        found = [(path, rows[0]['refused']) for result in module.results_of(Client, batches) for path, rows, _ in result]
+        patched = unittest.mock.patch.object(distributed, 'Client', lambda address, timeout: Client())
+        with patched, contextlib.redirect_stderr(io.StringIO()) as said:
+            results = list(workers.Scheduled(module.examine, 'made').results(iter([paths[:4], paths[4:]])))
+        self.assertEqual(said.getvalue(), f'goblin-scan: the scheduler made has had no result for {workers.PATIENCE} seconds; waiting\n')
+        found = [(path, rows[0]['refused']) for batch, result in results for path, rows, _ in result or module.lost(*batch)]
         self.assertEqual(found, [(path, 'WORKER_LOST' if path == lost else 'TOO_BIG' if path.endswith('6') else None) for path in paths])
 
-    @unittest.skipUnless(distributed, 'distributed is not installed')
-    def test_a_killed_worker(self):
+    def test_killed_workers(self):
         self.put_many(1200)
         scan(self.files, '-o', self.out('one.csv'), '--workers', '0')
-        where = self.out('scheduler.json')
-        start = [sys.executable, '-m', 'distributed.cli.dask_']
-        processes = []
-
-        def run(command, *arguments):
-            with open(self.out('said'), 'ab') as said:
-                processes.append(subprocess.Popen([*start[:2], start[2] + command, '--scheduler-file', where, '--no-dashboard', *arguments],
-                                                  stdout=said, stderr=said, cwd=self.folder))
-            return processes[-1]
-
-        try:
-            run('scheduler', '--host', '127.0.0.1', '--port', '0')
-            while not os.path.exists(where):
-                time.sleep(0.05)
-            workers = [run('worker', '--no-nanny', '--nthreads', '1') for _ in range(3)]
-            with open(where) as file:
-                address = json.load(file)['address']
-            with distributed.Client(address) as client:
-                client.wait_for_workers(3, timeout=60)
-            arguments = [self.files, '-o', self.out('many.csv'), '--scheduler', address, '--batch', '4']
-            running = subprocess.Popen([sys.executable, SCAN, *arguments], stderr=subprocess.PIPE, universal_newlines=True)
-            third = len(read(self.out('one.csv'))) // 3
-            while not os.path.exists(self.out('many.csv')) or os.path.getsize(self.out('many.csv')) < third:
+        scheduler, address = self.start_scheduler()
+        processes = self.start_workers(address)
+        third = len(read(self.out('one.csv'))) // 3
+        # (the first of them before the first row)
+        for process, size in zip(processes, (1, third)):
+            with open(self.out('many.csv'), 'w'):
+                pass
+            running = self.start(address)
+            while os.path.getsize(self.out('many.csv')) < size:
                 self.assertIsNone(running.poll())
-            workers[0].kill()
-            killed_at = os.path.getsize(self.out('many.csv'))
+            process.kill()
+            self.assertLess(os.path.getsize(self.out('many.csv')), 3 * third)
             self.assertIn('1200 files', running.communicate(timeout=120)[1])
             self.assertEqual(running.returncode, 0)
-            self.assertLess(killed_at, 3 * third)
             self.assertEqual(read(self.out('many.csv')), read(self.out('one.csv')))
-        finally:
-            for process in reversed(processes):
-                process.kill()
-                process.wait()
+        # the scheduler itself
+        os.remove(self.out('many.csv'))
+        running = self.start(address)
+        while not os.path.exists(self.out('many.csv')) or os.path.getsize(self.out('many.csv')) < third:
+            self.assertIsNone(running.poll())
+        scheduler.kill()
+        said = running.communicate(timeout=60)[1]
+        self.assertEqual((running.returncode, said),
+                         (2, f'goblin-scan: the scheduler {address} is gone; --resume goes on with {self.out("many.csv")}\n'))
+        scan(self.files, '-o', self.out('many.csv'), '--workers', '2', '--resume')
+        self.assertEqual(read(self.out('many.csv')), read(self.out('one.csv')))
+
+    def test_schedulers_that_can_not_be_used(self):
+        self.put_many(1)
+        with open(self.out('r.csv'), 'w') as file:
+            file.write('old')
+        scheduler, address = self.start_scheduler()
+        with unittest.mock.patch.object(workers, 'PATIENCE', 1):
+            self.check_stopped(address, 'has no workers')
+            scheduler.kill()
+            scheduler.wait()
+            self.check_stopped(address, 'does not answer')
+            self.check_stopped('127.0.0.1', 'does not answer')
+            self.assertEqual(read(self.out('r.csv')), b'old')
+
+    def check_stopped(self, address, why):
+        with contextlib.redirect_stderr(io.StringIO()) as said:
+            self.assertEqual(module.main([self.files, '-o', self.out('r.csv'), '--scheduler', address]), 2)
+        self.assertRegex(said.getvalue(), f'(?m)^goblin-scan: the scheduler {address} {why}[^\n]*\n$')
+
+
+def end_or_echo(batch):
+    """Returns a batch, or ends its process."""
+    if 'end' in batch:
+        os.kill(os.getpid(), signal.SIGKILL)
+    return batch
+
+
+def take_memory(batch):
+    """Returns whether as many MiB can be taken as each path says."""
+    found = []
+    for path in batch:
+        try:
+            found.append(str(len(bytearray(int(path) << 20)) >> 20))
+        except MemoryError:
+            found.append('MemoryError')
+    return found
+
+
+class EndsWorkers:
+    """What ends the process that unpickles it."""
+
+    def __reduce__(self):
+        return os._exit, (7,)
+
+
+def workers_of(running):
+    """Returns the processes that a scan has started for files, in the order of their numbers."""
+    found = []
+    for process in filter(str.isdecimal, os.listdir('/proc')):
+        with contextlib.suppress(OSError):
+            fields = read(f'/proc/{process}/stat').rsplit(b')', 1)[1].split()
+            if int(fields[1]) == running.pid and b'spawn_main' in read(f'/proc/{process}/cmdline'):
+                found.append(int(process))
+    return sorted(found)
+
+
+def sockets_of(processes):
+    """Returns the numbers of the sockets of some processes."""
+    links = []
+    for process in processes:
+        with contextlib.suppress(OSError):
+            links += [os.readlink(f'/proc/{process}/fd/{name}') for name in os.listdir(f'/proc/{process}/fd')]
+    return {link[8:-1] for link in links if link.startswith('socket:[')}
+
+
+def listening():
+    """Returns the numbers of the sockets that listen, of any kind."""
+    tables = {name: read(f'/proc/net/{name}').decode().splitlines()[1:] for name in ('tcp', 'tcp6', 'unix') if os.path.exists(f'/proc/net/{name}')}
+    tcp = [line.split() for name in ('tcp', 'tcp6') for line in tables.get(name, [])]
+    return {line[9] for line in tcp if line[3] == '0A'} | {line.split()[6] for line in tables['unix'] if line.split()[3] == '00010000'}
 
 
 if __name__ == '__main__':

@@ -1,31 +1,32 @@
-#!/usr/bin/env python3
-"""Examines all ELF files below some folders, and writes a report with a row for each: scan.py DIR.. -o report.csv
+"""Examines all ELF files below some folders, and writes a report with a row for each: goblin-scan DIR.. -o report.csv
 
-The report is a .csv, a .json, or where pyarrow is installed a .parquet. It runs over Dask where that is installed: on a scheduler of its
-own with a worker for each processor, or on one that runs already (--scheduler HOST:PORT), whose workers need this package and the same
-files at the same paths. Without Dask, or with --workers 0, it is one process. The report is the same in each case.
+The report is a .csv, a .json, or where pyarrow is installed a .parquet. Files are examined by a process for each processor (--workers), or
+by the workers of a scheduler of Dask that runs already (--scheduler HOST:PORT), which need this package and the same files at the same
+paths. The report is the same in each case. This command listens on no port. `python -m goblin_elf.scan` is the same command.
 
 Files are mapped, and symbolic links are not followed. Members of `.a` and `.deb` archives are examined, too: those of a `.deb` if they have
-at most 64 MiB and Python can unpack its data. A batch whose worker dies is tried again on another one; a file that ends one worker after
+at most 64 MiB and Python can unpack its data. A batch whose worker ends is tried again by other ones; a file that ends one worker after
 another is a row with the refusal WORKER_LOST. With --resume, files of the report are left out.
 """
 import argparse
 import collections
 import contextlib
 import csv
-import functools
 import importlib.util
 import itertools
 import json
 import mmap
 import os
+import re
 import sys
 import tarfile
 import time
 from typing import Any, Callable, Dict, Iterator, List, Optional, Set, TextIO, Tuple
 
-from goblin_elf import Elf, Refused
-from goblin_elf.facts import facts, refusal
+from . import workers
+from .elf import Elf
+from .facts import facts, refusal
+from .refused import Refused
 
 Row = Dict[str, Any]
 Result = List[Tuple[str, List[Row], float]]  # of each file of a batch its path, its rows, and the seconds that it took
@@ -50,12 +51,35 @@ def row_of(path: str, member: Optional[str], elf_of: Callable[[], Elf]) -> Row:
 
 def row_with(path: str, member: Optional[str], **columns: Any) -> Row:
     """Returns a row with some columns."""
-    return {**dict.fromkeys(COLUMNS), 'file': escaped(path), 'member': member and escaped(member), **columns}
+    row = {**dict.fromkeys(COLUMNS), 'member': member, **columns}
+    return {**{column: escaped(value) if isinstance(value, str) else value for column, value in row.items()}, 'file': named(path)}
 
 
-def escaped(path: str) -> str:
-    """Returns a name in which signs that do not print are escaped."""
-    return ''.join(sign if sign.isprintable() else ascii(sign)[1:-1] for sign in os.fsencode(path).decode('utf-8', 'backslashreplace'))
+def named(path: str) -> str:
+    """Returns a path as a report has it."""
+    return escaped(os.fsencode(path).decode('utf-8', 'surrogateescape'))
+
+
+# A report's texts are safe to show. Each byte of a character that does not print, or of a backslash, is written as \\xNN, and so is a byte
+# that is not UTF-8. In a CSV a sign ' stands before each of = + - @ ' that begins a cell or follows a semicolon, with or without spaces and
+# quotation marks between: so no spreadsheet runs it as a formula, whether it splits lines at commas or at semicolons.
+FORMULA = r"""(?=[ "]*[=+\-@'\uff1d\uff0b\uff0d\uff20])"""
+
+
+def escaped(text: str) -> str:
+    """Returns a text without characters that do not print."""
+    return ''.join(sign if sign.isprintable() and sign != '\\' else ''.join(f'\\x{byte:02x}' for byte in sign.encode('utf-8', 'surrogateescape'))
+                   for sign in text)
+
+
+def guarded(cell: Any) -> Any:
+    """Returns a cell of a CSV in which nothing is a formula."""
+    return re.sub(f'(^|;){FORMULA}', r"\1'", cell) if isinstance(cell, str) else cell
+
+
+def unguarded(cell: str) -> str:
+    """Returns the text of a guarded cell."""
+    return re.sub(f"(^|;)'{FORMULA}", r'\1', cell)
 
 
 def rows_of(path: str) -> Iterator[Row]:
@@ -107,7 +131,7 @@ def unpacked(path: str, data: Any) -> Iterator[Row]:
                     content = MAGIC + file.read()
                     yield row_of(path, member.name, lambda: Elf(content))
     except Exception as error:  # (Python's modules for archives raise many types of exceptions at damaged data)
-        yield row_with(path, None, refused='LEFT_OUT', text=f'its data can not be unpacked: {escaped(str(error))}')
+        yield row_with(path, None, refused='LEFT_OUT', text=f'its data can not be unpacked: {error or type(error).__name__}')
 
 
 def examine(paths: List[str]) -> Result:
@@ -119,6 +143,8 @@ def examine(paths: List[str]) -> Result:
             rows = list(rows_of(path))
         except OSError as error:
             rows = [row_with(path, None, refused='UNREADABLE', text=error.strerror or 'it can not be read')]
+        except MemoryError:
+            rows = [row_with(path, None, refused='LEFT_OUT', text='it takes more memory than a worker may take')]
         results.append((path, rows, time.perf_counter() - start))
     return results
 
@@ -131,27 +157,6 @@ def found_below(folder: str) -> Iterator[str]:
                 yield from found_below(entry.path)
             elif entry.is_file(follow_symlinks=False):
                 yield entry.path
-
-
-def results_of(client: Any, batches: Iterator[List[str]]) -> Iterator[Result]:
-    """Yields the result of each batch, in order. Dask examines a few at once, and tries a batch again, three times, if its worker dies."""
-    submit = functools.partial(client.submit, examine, pure=False)
-    waiting = collections.deque((batch, submit(batch)) for batch in itertools.islice(batches, 4 * max(1, len(client.ncores()))))
-    while waiting:
-        yield result_of(submit, *waiting.popleft())
-        waiting.extend((batch, submit(batch)) for batch in itertools.islice(batches, 1))
-
-
-def result_of(submit: Callable[[List[str]], Any], batch: List[str], future: Any) -> Result:
-    """Waits for a batch. If it ends its workers, each file is a batch of its own."""
-    from distributed import KilledWorker
-    try:
-        result: Result = future.result()
-    except KilledWorker:
-        if len(batch) > 1:
-            return [result for path in batch for result in result_of(submit, [path], submit([path]))]
-        return [(batch[0], [row_with(batch[0], None, refused='WORKER_LOST', text='each worker that examined it ended')], 0.0)]
-    return result
 
 
 class Report:
@@ -182,20 +187,25 @@ class Report:
             import pyarrow.parquet
             yield from pyarrow.parquet.read_table(self.path).to_pylist()
             return
-        with open(self.lines_path, newline='', encoding='utf-8') as file:
-            if self.is_csv:
-                rows = csv.reader(line for line in file if line.endswith('\n'))
-                yield from (dict(zip(COLUMNS, row)) for row in rows if len(row) == len(COLUMNS) and row != COLUMNS)
-                return
+        csv.field_size_limit(sys.maxsize)  # (a list of libraries may be long)
+        with open(self.lines_path, newline='\n', encoding='utf-8', errors='replace') as file:
             for line in file:
-                with contextlib.suppress(ValueError):
-                    row = json.loads(line.rstrip(',\n'))
-                    if isinstance(row, dict):
+                # (what is no row is left out)
+                with contextlib.suppress(ValueError, csv.Error):
+                    row = self.row(line)
+                    if isinstance(row, dict) and list(row) == COLUMNS:
                         yield row
+
+    def row(self, line: str) -> Any:
+        """Returns the row in a line of the report."""
+        if not self.is_csv:
+            return json.loads(line.rstrip(',\n'))
+        cells = next(csv.reader([line], strict=True)) if line.endswith('\n') else COLUMNS
+        return dict(zip(COLUMNS, map(unguarded, cells))) if len(cells) == len(COLUMNS) and cells != COLUMNS else None
 
     def write(self, row: Row) -> None:
         if self.is_csv:
-            csv.writer(self.file, lineterminator='\n').writerow([row[column] for column in COLUMNS])
+            csv.writer(self.file, lineterminator='\n').writerow([guarded(row[column]) for column in COLUMNS])
         else:
             self.file.write((',\n' if self.count else '[\n') + json.dumps(row))
         self.count += 1
@@ -212,52 +222,73 @@ class Report:
             os.remove(self.lines_path)
 
 
-def report_on(results: Iterator[Result], report: Report) -> None:
+def lost(path: str) -> Result:
+    """Returns the result for a file that ended one worker after another."""
+    return [(path, [row_with(path, None, refused='WORKER_LOST', text='each worker that examined it ended')], 0.0)]
+
+
+def line_end() -> str:
+    """Returns what ends the line of the progress, which is shown on a terminal."""
+    return '\n' if sys.stderr.isatty() else ''
+
+
+def report_on(results: workers.Results, report: Report) -> None:
     """Writes the rows, shows the progress on a terminal, and prints a summary."""
     start, files = time.perf_counter(), 0
     refused: 'collections.Counter[str]' = collections.Counter()
     slowest: List[Tuple[float, str]] = []
-    for result in results:
-        for path, rows, seconds in result:
+    for batch, result in results:
+        for path, rows, seconds in lost(*batch) if result is None else result:
             for row in rows:
                 report.write(row)
             refused.update(row['refused'] for row in rows if row['refused'])
             slowest = sorted([*slowest, (seconds, escaped(path))], reverse=True)[:10]
         report.file.flush()
-        files += len(result)
+        files += len(batch)
         if sys.stderr.isatty():
             bar = '=' * (files // 1000 % 40)
             print(f'\r{files} files, {files / (time.perf_counter() - start):.0f} a second {bar:40}', end='', file=sys.stderr, flush=True)
     report.end()
     seconds = time.perf_counter() - start
-    end = '\n' if sys.stderr.isatty() else ''
-    print(f'{end}{files} files, {sum(refused.values())} refused, {seconds:.1f} seconds, {files / seconds:.0f} files a second',
+    print(f'{line_end()}{files} files, {sum(refused.values())} refused, {seconds:.1f} seconds, {files / seconds:.0f} files a second',
           *(f'  refused: {count} {kind}' for kind, count in sorted(refused.items())),
           *(f'  slow: {taken * 1000:.1f} ms {path}' for taken, path in slowest), sep='\n', file=sys.stderr)
 
 
-def connected(options: argparse.Namespace) -> Any:
-    """Returns a client of Dask as a context, or `None` for one process."""
-    if options.workers == 0 and not options.scheduler:
-        return None
-    try:
-        import distributed
-    except ImportError:
-        print('scan: distributed is not installed, so this is one process', file=sys.stderr)
-        return None
-    client: Any = distributed.Client
-    own = dict(n_workers=options.workers or os.cpu_count(), threads_per_worker=1, dashboard_address=None, memory_limit=options.memory)
-    return client(options.scheduler) if options.scheduler else client(**own)
+def runner_of(options: argparse.Namespace) -> Callable[[Iterator[workers.Batch]], workers.Results]:
+    """Returns what examines batches."""
+    if options.scheduler:
+        return workers.Scheduled(examine, options.scheduler).results
+    if options.workers:
+        return workers.Workers(examine, options.workers, options.memory).results
+    return lambda batches: ((batch, examine(batch)) for batch in batches)
 
 
-def main(arguments: Optional[List[str]] = None) -> int:
-    parser = argparse.ArgumentParser(description=(__doc__ or '').split('\n')[0])
+def natural(text: str, least: int = 0) -> int:
+    """Returns the number that an argument is."""
+    if not text.isdecimal() or int(text) < least:
+        raise argparse.ArgumentTypeError(f'{text} is not a number from {least} on')
+    return int(text)
+
+
+def memory(text: str) -> int:
+    """Returns the number of bytes that an argument is, such as 512MiB."""
+    match = re.fullmatch(r'(\d+)(KiB|MiB|GiB)', text)
+    if not match:
+        raise argparse.ArgumentTypeError(f'{text} is not a number with KiB, MiB or GiB after it')
+    return int(match[1]) << {'K': 10, 'M': 20, 'G': 30}[match[2][0]]
+
+
+def options_of(arguments: Optional[List[str]]) -> argparse.Namespace:
+    """Returns the options, or ends the program with a line that says what is wrong."""
+    parser = argparse.ArgumentParser(prog='goblin-scan', description=(__doc__ or '').split('\n')[0])
     parser.add_argument('folders', nargs='+', metavar='DIR')
     parser.add_argument('-o', '--output', required=True, metavar='REPORT', help='a .csv, .json or .parquet')
     parser.add_argument('--scheduler', metavar='HOST:PORT', help='a scheduler of Dask that runs already')
-    parser.add_argument('--workers', type=int, metavar='N', help='workers of a scheduler of its own (default: the processors); 0: one process')
-    parser.add_argument('--memory', default='1GiB', help='the memory that each of these workers may take (default: 1GiB)')
-    parser.add_argument('--batch', type=int, default=256, metavar='N', help='files in a batch (default: 256)')
+    parser.add_argument('--workers', type=natural, metavar='N', default=len(os.sched_getaffinity(0)),
+                        help='processes that examine files (default: one for each processor); 0: this process does')
+    parser.add_argument('--memory', type=memory, default='1GiB', help='the memory that each of these processes may take (default: 1GiB)')
+    parser.add_argument('--batch', type=lambda text: natural(text, 1), default=256, metavar='N', help='files in a batch (default: 256)')
     parser.add_argument('--resume', action='store_true', help='leave out the files of the report')
     options = parser.parse_args(arguments)
     if not options.output.endswith(('.csv', '.json', '.parquet')):
@@ -266,14 +297,33 @@ def main(arguments: Optional[List[str]] = None) -> int:
         parser.error('pyarrow is not installed, which writes a .parquet')
     for folder in itertools.filterfalse(os.path.exists, options.folders):
         parser.error(f'{folder} is not there')
-    report = Report(options.output, options.resume)
-    found = ([folder] if os.path.isfile(folder) else found_below(folder) for folder in options.folders)
-    paths = (path for path in itertools.chain.from_iterable(found) if escaped(path) not in report.known)
-    batches = iter(lambda: list(itertools.islice(paths, options.batch)), [])
-    with connected(options) or contextlib.nullcontext() as client:
-        report_on(results_of(client, batches) if client else map(examine, batches), report)
+    return options
+
+
+def main(arguments: Optional[List[str]] = None) -> int:
+    options = options_of(arguments)
+    try:
+        run = runner_of(options)
+        report = Report(options.output, options.resume)
+        found = ([folder] if os.path.isfile(folder) else found_below(folder) for folder in options.folders)
+        paths = (path for path in itertools.chain.from_iterable(found) if named(path) not in report.known)
+        with contextlib.closing(run(iter(lambda: list(itertools.islice(paths, options.batch)), []))) as results:
+            report_on(results, report)
+    except KeyboardInterrupt:
+        return stopped('interrupted', options.output, 130)
+    except workers.Stopped as error:
+        return stopped(str(error), options.output, 2)
+    except OSError as error:
+        return stopped(f'{options.output} can not be read or written: {error.strerror or error}', '', 2)
     return 0
 
 
+def stopped(why: str, report: str, status: int) -> int:
+    """Prints why this ends before all files are examined, and returns the exit status."""
+    print(f'{line_end()}goblin-scan: {why}{report and f"; --resume goes on with {report}"}', file=sys.stderr)
+    return status
+
+
 if __name__ == '__main__':
-    sys.exit(main())
+    from goblin_elf import scan  # (workers find what they run by the module's name)
+    sys.exit(scan.main())
