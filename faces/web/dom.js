@@ -1,4 +1,5 @@
 // Elements of the page and their texts. A text of a file is always inserted as text, with invisible characters made visible.
+import { UNSEEN } from './unseen.js';
 
 export const get = (id) => document.getElementById(id);
 export const focus_chosen = () => get('chosen').querySelector('h2')?.focus();
@@ -21,9 +22,6 @@ export function make(name, given = {}, ...content) {
 /** Returns elements with commas between them, which a copied text has, too. */
 export const joined = (parts) => parts.flatMap((part, i) => (i ? [', ', part] : [part]));
 export const button = (text, onclick, given = {}) => make('button', { type: 'button', onclick, ...given }, text);
-// Characters that are invisible or change how others look: control and format characters, separators, lone surrogates (which stand for
-// bytes that are not UTF-8), and spaces that look like others.
-const UNSEEN = /([\p{Cc}\p{Cf}\p{Zl}\p{Zp}\p{Cs}\p{Co}\p{Cn}]|(?! )\p{Zs})/gu;
 
 function shown(sign) {
     const code = sign.codePointAt(0);

@@ -5,6 +5,7 @@ import { spawnSync } from 'node:child_process';
 import { mkdtempSync, readFileSync, rmSync, writeFileSync } from 'node:fs';
 import { tmpdir } from 'node:os';
 import { join } from 'node:path';
+import { csv_line } from './csv.js';
 import { import_goblin } from './tested.mjs';
 
 const COPIES = 150, FEW = 3, WHOLE = 20, FIRST = 16;
@@ -57,6 +58,17 @@ function check_arguments() {
     assert.deepEqual(parts, [all.slice(1), all.slice(2, 5)]);
     assert.equal(Buffer.from(names.get_start(1, 4)).toString(), names.get(1).slice(0, 4));
     assert.equal(names.get_start(names.range.size, 4), undefined);
+}
+
+// Cells that a spreadsheet would run as formulas if it splits lines at commas or at semicolons, and characters that can't be seen.
+function check_csv() {
+    const cells = [
+        ['=1+1', "'=1+1"], ['+1', "'+1"], ['-1+1', "'-1+1"], ['@a', "'@a"], ["'a", "''a"], [' =1', "' =1"], ['\uff1d1', "'\uff1d1"],
+        ['1;=1+1', "1;'=1+1"], ['1; -1', "1;' -1"], ['1;"@a', `"1;'""@a"`], ['-0x10', '-0x10'], [';-0x10', ";'-0x10"], ['a-b=c', 'a-b=c'],
+        ['a,"b"', '"a,""b"""'], ['a\\x1b', 'a\\x5cx1b'], ['\x1b[1m', '\\x1b[1m'], ['\t=1\r\n', '\\x09=1\\x0d\\x0a'],
+        ['a\u202eb\u2066', 'a\\xe2\\x80\\xaeb\\xe2\\x81\\xa6'], ['\u200f\udce9\u0085', '\\xe2\\x80\\x8f\\xe9\\xc2\\x85'], ['\u00e9t\u00e9', '\u00e9t\u00e9'],
+    ];
+    for (const [text, cell] of cells) assert.equal(csv_line([text, '0']), `${cell},0\r\n`);
 }
 
 // The names in goblin.h of the fields that have other names in goblin.js.
@@ -302,6 +314,7 @@ check_module();
 check_layout();
 check_kinds();
 check_arguments();
+check_csv();
 const folder = mkdtempSync(join(tmpdir(), 'goblin-'));
 try {
     let lines = compare(files).length, refusals = 0, copies = 0;

@@ -1,6 +1,7 @@
 // Reads one file for the page. A message { id, call, given } is answered with { id, result } or { id, failed }. A refusal of the library is
 // { refused } in `result`. What takes long is done in steps, and ends if the same is requested again.
 import init, * as goblin from './goblin.js';
+import { csv_line } from './csv.js';
 import { address_details, header_fields, is_address, item_details, offset_details } from './details.js';
 import {
     all_sections, called, file, header_refusal, list_refusal, part, read_or, RELOCATION_TYPES, RELR, segments, size_of, SYMBOL_TYPES,
@@ -95,14 +96,6 @@ function begin(name) {
     const run = runs[name] = {};
     return () => runs[name] === run;
 }
-
-const CSV_QUOTED = /[",\r\n]/, CSV_FORMULA = /^([=+@\t\r]|-(?!0x[0-9a-f]+$))/;
-// (a spreadsheet would run a text that starts like a formula, which a negative number is not)
-function csv_cell(text) {
-    const safe = CSV_FORMULA.test(text) ? `'${text}` : text;
-    return CSV_QUOTED.test(safe) ? `"${safe.replaceAll('"', '""')}"` : safe;
-}
-const csv_line = (cells) => `${cells.map(csv_cell).join(',')}\r\n`;
 
 const calls = {
     async open({ module, given }) {

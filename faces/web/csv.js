@@ -1,0 +1,22 @@
+// Lists as CSV, which spreadsheets open.
+//
+// A report's texts are safe to show. Each byte of a character that does not print, or of a backslash, is written as \xNN, and so is a byte
+// that is not UTF-8. In a CSV a sign ' stands before each of = + - @ ' that begins a cell or follows a semicolon, with or without spaces and
+// quotation marks between: so no spreadsheet runs it as a formula, whether it splits lines at commas or at semicolons. A number stays.
+import { UNSEEN } from './unseen.js';
+
+const FORMULA = /(^|;)(?=[ "]*[=+\-@'\uff1d\uff0b\uff0d\uff20])/g, NUMBER = /^-0x[0-9a-f]+$/;
+const encoder = new TextEncoder();
+
+function escaped(sign) {
+    const code = sign.codePointAt(0), bytes = code >= 0xdc80 && code <= 0xdcff ? [code - 0xdc00] : encoder.encode(sign);
+    return Array.from(bytes, (byte) => `\\x${byte.toString(16).padStart(2, '0')}`).join('');
+}
+
+function cell_of(text) {
+    const safe = NUMBER.test(text) ? text : text.replace(/\\/g, escaped).replace(UNSEEN, escaped).replace(FORMULA, "$1'");
+    return /[",]/.test(safe) ? `"${safe.replaceAll('"', '""')}"` : safe;
+}
+
+/** Returns a line of cells. */
+export const csv_line = (cells) => `${cells.map(cell_of).join(',')}\r\n`;
