@@ -14,27 +14,30 @@ sys.path.append(os.path.dirname(os.path.dirname(os.path.abspath(__file__))))
 import names
 import pinned
 import quotes
+import readme
 import words
-from files import text_of, tracked
+from crates import text_of, tracked
 
 
 def wide():
     paths = tracked('*.antt')
-    lines = [(path, number, line) for path in paths for number, line in enumerate(text_of(path).split('\n'), 1)]
-    return f'columns of {len(paths)} definitions and proofs', [f'{path}:{number}: it is over 120 columns' for path, number, line in lines if len(line) > 120]
+    wrong = [f'{path}:{number}: it is over 120 columns' for path in paths for number, line in enumerate(text_of(path).split('\n'), 1)
+             if len(line) > 120]
+    return f'columns of {len(paths)} definitions and proofs', wrong
 
 
 def shell():
     paths = tracked('*.sh', '.ci/run')
     if not shutil.which('shellcheck'):
-        return 'no shell script, because shellcheck is not installed', []
+        print('left out: shellcheck is not installed, so shell scripts are not read')
+        return 'no shell script', []
     ran = subprocess.run(['shellcheck', '-x', *paths], stdout=subprocess.PIPE, text=True)
     return f'{len(paths)} shell scripts', ran.stdout.splitlines() or ['shellcheck failed'] * (ran.returncode != 0)
 
 
 def main():
     read, failed = [], 0
-    for check in (quotes.faults, words.faults, names.faults, pinned.faults, wide, shell):
+    for check in (quotes.faults, words.faults, names.faults, pinned.faults, readme.faults, wide, shell):
         what, wrong = check()
         read.append(what)
         failed += len(wrong)

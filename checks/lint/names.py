@@ -4,13 +4,15 @@
 - of `a::b`, b stands in a file of the module a, or in one that defines a or has an impl of it;
 - a file or a folder is there;
 - in a CALLING.md a module in parentheses, as (`Strtab`), is one of specs/, and the name before it stands there;
-- in docs/PROVED.md a name after a function or module and a colon, as in `walk`: `looks`, is a clause in its file or a definition.
+- in docs/PROVED.md a name after a function or module and a colon, as in `walk`: `looks`, is a clause in its file or a definition;
+- of an example of a change in docs/MAP.md, also of a number, `git grep -wF` finds each word outside docs/, or in the named folders.
 Columns of a table with the head goblin, libelf, object, pyelftools or lief hold names of others, which may stand anywhere.
 """
 import os
 import re
+import subprocess
 
-from files import text_of, tracked
+from crates import text_of, tracked
 
 # The heads of such columns.
 HEADS = ('goblin', 'libelf', 'object', 'pyelftools', 'lief')
@@ -59,7 +61,7 @@ class Code:
                    for file in self.files)
 
     def has_file(self, path):
-        name = '/' + path.strip('./')
+        name = '/' + re.sub(r'^(\.?\./)+|/$', '', path)
         return path.startswith('/') or any(f'/{known}'.endswith(name) or f'{name}/' in f'/{known}' for known in self.paths)
 
     def has_clause(self, functions, name):
@@ -114,6 +116,14 @@ def dead_links(page, line):
     return [link for link in links if not os.path.exists(os.path.join(os.path.dirname(page), link))]
 
 
+def unfound(page, line):
+    """The words of an example that aren't there."""
+    _, change, example, *_ = [*line.split('|'), '', '', '']
+    names, _, folders = example.partition(' in ') if page == 'docs/MAP.md' and '`' not in change else ('', '', '')
+    where = re.findall('`([^`]+)`', folders) or [':!docs']
+    return [name for name in re.findall('`([^`]+)`', names) if subprocess.run(['git', 'grep', '-qwF', '-e', name, '--', *where]).returncode]
+
+
 def faults():
     code, pages = Code(), {page: page_of(page) for page in tracked('*.md')}
     others = OTHERS.union(*map(others_in, pages.values()))
@@ -124,7 +134,7 @@ def faults():
             missing = [name for span in spans for name in code.missing_in(span)]
             missing += code.missing_modules(line) if page.endswith('CALLING.md') else []
             missing += code.missing_clauses(line) if page == 'docs/PROVED.md' else []
-            missing = [name for name in missing if not words_in(name) <= others] + dead_links(page, line)
+            missing = [name for name in missing if not words_in(name) <= others] + dead_links(page, line) + unfound(page, line)
             wrong += [f'{page}:{number}: there is no {name}' for name in missing]
             count += len(spans)
     return f'{count} names on {len(pages)} pages', wrong if count else ['no page names anything']

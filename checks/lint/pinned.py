@@ -9,8 +9,7 @@ import functools
 import os
 import re
 
-from crates import crates_listed
-from files import text_of, tracked
+from crates import crates_listed, text_of, tracked
 
 CONSTANT = re.compile(r'^ *(?:pub(?:\(crate\))? )?(?:const|static) ([A-Z][A-Z0-9_]*): ([^=]*)', re.MULTILINE)
 NUMBER = re.compile(r'[ui](\d+|size) ')

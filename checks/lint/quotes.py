@@ -7,7 +7,7 @@ its condition says something else.
 import os
 import re
 
-from files import text_of, tracked
+from crates import text_of, tracked
 
 MARK = re.compile(r'^<!-- quoted: ', re.MULTILINE)
 QUOTATION = re.compile(r'^<!-- quoted: (.*) -->\n+```.*\n((?:.*\n)*?)```', re.MULTILINE)

@@ -1,7 +1,7 @@
 """Words that only this repository understood. All text that git tracks is read, but for code and the list here."""
 import re
 
-from files import text_of, tracked
+from crates import text_of, tracked
 
 # A regular expression for each private word, and what to say instead. A space stands for any white space.
 WORDS = {
