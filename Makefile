@@ -26,10 +26,11 @@ show:
 # Tests all, but doesn't prove the tests themselves. First come checks that take seconds: of the pages, the scripts, and whether the edits
 # fit the code. Then run side by side, as many as there are processors: the proof of each crate; the tests; the program over real and
 # hostile files; calls of the library from C, Rust, JavaScript and Python; the edits of must-fail/ and controls/; and allocations that are
-# refused. The last lines are a table of what each part took.
+# refused. The last lines are a table of what each part took. commands/surroundings.sh runs them in other surroundings, with OVER, a folder
+# that was tested before: its proofs are taken over, and edits are left out.
 test:
 	$(has_rt)
-	@python3 checks/gate.py test
+	@python3 checks/gate.py test $(if $(OVER),--over '$(OVER)')
 
 # Tests all, and proves the tests too: they and must-fail/ are left to the toolchain's own gate, `rt ci`, which proves all from nothing once
 # more. All other edits are tried, and so is the script that tries them.
@@ -41,6 +42,12 @@ gate:
 faces:
 	$(has_rt)
 	@sh checks/faces.sh
+
+# Compares what the library's programs and the Python package list of a FILE, or of files of this machine, with what its nm, readelf, size,
+# addr2line and pyelftools list, and prints each difference: make compare [FILE=/usr/lib/libx.so]
+compare:
+	$(has_rt)
+	@sh bench/compare.sh
 
 # Tries the edits alone, over proofs that earlier checks in the crates' folders cached: make edits [CRATES=goblin_base] [EDIT=one_early]
 # CRATES names crates, and EDIT an edit by its file's name. FROM=/tmp/bugs tries those of another folder, which has a folder for each crate.
@@ -78,7 +85,7 @@ bench-python:
 #   DESTDIR=/tmp/root   a folder that stands for the root, as for a package
 #   TARGET=aarch64-unknown-linux-gnu   or wasm64-unknown-unknown, which makes the module, its JavaScript and the page
 #   CPU=x86-64-v2       the processors that the library may be used on, by default all of the target's
-#   SHARED=1            also a shared library; `make dist` makes a wheel for Python in any case, if there is a C compiler
+#   SHARED=1            also a shared library for C, which goblin_c-shared.pc finds
 PREFIX ?= /usr/local
 LIBDIR ?= lib
 export CPU TARGET SHARED
@@ -91,4 +98,4 @@ uninstall:
 dist:
 	@sh faces/install.sh --archive
 
-.PHONY: help try show test gate faces edits margin bench bench-faces bench-python install uninstall dist
+.PHONY: help try show test gate faces compare edits margin bench bench-faces bench-python install uninstall dist

@@ -1,10 +1,10 @@
 #!/bin/sh
 # Shows a file with the program of this repository: sh commands/show.sh show|try. SHOWN is the name of the file, and MODE may be
 # permissive. Both run the proved program if it was built from the present sources. Otherwise `show` first proves each crate, with
-# a line for each, and builds the program. `try` runs it without a proof and prints the first 1 MiB of the text, because such a run
-# prints no more. The exit status is 0 also for a refused file, and 2 if something can't be read, proved or written. `sh
-# commands/show.sh built` only notes that the program was proved and built from the present sources, and `sh commands/show.sh is_built`
-# only reports by its exit status whether it was. Run from the repository's root.
+# a line for each, and builds the program. `try` compiles it without a proof, unless an earlier `try` did so from the same sources: the
+# program is in out/try, or in the user's cache if this folder is read-only. The exit status is 0 also for a refused file, and 2 if something
+# can't be read, compiled, proved or written. `sh commands/show.sh built` only notes that the program was proved and built from the
+# present sources, and `sh commands/show.sh is_built` only reports by its exit status whether it was. Run from the repository's root.
 set -eu
 goal=$1
 show=crates/goblin_show/out/goblin_show
@@ -33,15 +33,36 @@ note=$show.sources
 
 is_built() { [ -x "$show" ] && [ -f "$note" ] && [ "$(sums)" = "$(cat "$note")" ]; }
 
-run_program() {
+# Runs a program over the file: run PROGRAM [permissive]
+run() {
+    program=$1
+    shift
     status=0
-    "$show" "$@" < "$file" || status=$?
+    "$program" "$@" < "$file" || status=$?
+    [ "$status" -ne 134 ] || fail 'the program stopped at a fault, which is above'
     [ "$status" -lt 2 ] || fail 'the file could not be read, or the output could not be written'
-    exit 0
 }
 
-# Runs the program without a proof, with a `main` that stops at what such a run can print.
-try_program() {
+# Prints the folder of the program without a proof, which is the first of these that can be written to.
+folder_of_try() {
+    cache=${XDG_CACHE_HOME:-${HOME:+$HOME/.cache}}
+    for place in out/try ${cache:+"$cache/goblin_try"} "$folder/try"; do
+        if mkdir -p "$place" 2> "$said" && [ -w "$place" ]; then break; fi
+    done
+    echo "$place"
+}
+
+# Prints checksums of what the program without a proof was compiled from, and of the program.
+sums_of_try() {
+    python3 checks/crates.py --sum goblin_text
+    sha256sum < commands/try.main
+    sha256sum < "$tried"
+}
+
+is_compiled() { [ -x "$tried" ] && [ -f "$tried.sources" ] && [ "$(sums_of_try)" = "$(cat "$tried.sources")" ]; }
+
+# Compiles the program without a proof. The toolchain removes the program after it has run, so the program copies itself first.
+compile() {
     sh commands/has.sh 'make try' rt
     echo 'make try: compiling the program without a proof, which takes up to a minute' >&2
     # (the copy can be written to and removed, whatever can be done with the original)
@@ -49,18 +70,10 @@ try_program() {
     echo 'goblin_try: goblin_text' >> "$folder/crates.txt"
     mkdir -p "$folder/crates/goblin_try/src"
     cp --no-preserve=mode commands/try.main "$folder/crates/goblin_try/src/main.rt"
-    status=0
-    (cd "$folder/crates/goblin_try" && rt try --steps 1000 --seconds 300 -- "$@") < "$file" > "$folder/text" 2> "$said" || status=$?
-    if [ "$status" -ge 2 ] || ! grep -q '^run=ended' "$said"; then fail_as_said 'the program failed'; fi
-    if [ "$(wc -c < "$folder/text")" -lt 1048576 ]; then
-        cat "$folder/text"
-    else
-        # (its last line may be cut)
-        sed '$d' "$folder/text"
-        echo 'make try: the output ends after 1 MiB. make show prints all of it.' >&2
-    fi
-    echo 'make try: this program was not proved. make show proves it first.' >&2
-    exit 0
+    (cd "$folder/crates/goblin_try" && rt try --steps 1000 --seconds 300 -- copy "$folder/compiled") < /dev/null > "$said" 2>&1 \
+        || fail_as_said 'the program was not compiled'
+    mv "$folder/compiled" "$tried" || fail_as_said 'the program was not copied'
+    sums_of_try > "$tried.sources"
 }
 
 # Proves each crate that the program depends on, and builds the program.
@@ -96,8 +109,13 @@ file=$(cd "$(dirname -- "$SHOWN")" && pwd)/$(basename -- "$SHOWN")
 
 if is_built; then
     [ "$goal" = show ] || echo 'make try: this is the proved program, built from these sources.' >&2
-    run_program "$@"
+elif [ "$goal" = try ]; then
+    tried=$(folder_of_try)/goblin_try
+    if ! is_compiled; then compile; fi
+    run "$tried" "$@"
+    echo 'make try: this program was not proved. make show proves it first.' >&2
+    exit 0
+else
+    prove_program
 fi
-if [ "$goal" = try ]; then try_program "$@"; fi
-prove_program
-run_program "$@"
+run "$show" "$@"
