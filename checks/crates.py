@@ -4,17 +4,45 @@ checks/crates.py CRATE; or a sum of all that is proved of them: python3 checks/c
 """
 import hashlib
 import os
+import subprocess
 import sys
+
+
+def fail(why):
+    """Ends the command that runs with a sentence, and with status 2."""
+    print(f'{os.path.basename(sys.argv[0])[:-len(".py")]}: {why}', file=sys.stderr)
+    sys.exit(2)
+
+
+def run(main):
+    """Runs a command, and ends with its status, or with a sentence if it is interrupted."""
+    try:
+        sys.exit(main())
+    except KeyboardInterrupt:
+        print(file=sys.stderr)
+        fail('it was interrupted')
+
+
+def text_of(path):
+    with open(path, encoding='utf-8', errors='replace') as file:
+        return file.read()
+
+
+def tracked(*patterns):
+    """The repository's files: those that git tracks or would add, by their paths from its root."""
+    listed = subprocess.run(['git', 'ls-files', '-coz', '--exclude-standard', *patterns], stdout=subprocess.PIPE, text=True)
+    if listed.returncode:
+        fail("git doesn't list the files of this folder, for the reason above")
+    return [path for path in listed.stdout.split('\0') if os.path.isfile(path)]
 
 
 def crates_listed():
     """The crates of crates.txt in its order, each with those of them that it stands on, directly or not."""
     stands_on = {}
-    with open('crates.txt', encoding='utf-8') as lines:
-        for line in lines:
-            head, split, names = line.partition('#')[0].partition(':')
-            if split:
-                stands_on[head.split()[0]] = names.split()
+    for line in text_of('crates.txt').split('\n'):
+        head, split, names = line.partition('#')[0].partition(':')
+        if split:
+            stands_on[head.split()[0]] = names.split()
     below = lambda crate: {lower for name in stands_on[crate] if name in stands_on for lower in {name, *below(name)}}
     return {crate: below(crate) for crate in stands_on}
 
@@ -33,7 +61,7 @@ def sum_of(crates):
 def main(crate, wants_sum):
     listed = crates_listed()
     if crate not in listed:
-        sys.exit(f'crates: crates.txt has no crate {crate}')
+        fail(f'crates.txt has no crate {crate}')
     crates = [name for name in listed if name in {crate, *listed[crate]}]
     print(sum_of(crates) if wants_sum else '\n'.join(crates))
 

@@ -1,14 +1,13 @@
 #!/bin/sh
-# Tests the library's calls from C, Rust, JavaScript and Python: sh checks/faces.sh [FILE ..]
-# It runs the scripts of checks/faces, one for each subject, in folders of this run. If the machine lacks a compiler, an emulator or
-# binutils, a line says what is skipped, and the test passes. The FILEs are compared with binutils, by default files of this machine.
-# Run it from the repository's root.
+# Tests the library's calls from C, Rust, JavaScript and Python: sh checks/faces.sh, from the repository's root
+# It runs the scripts of checks/faces, one for each subject, in folders of this run. If the machine lacks a compiler, an emulator or a
+# browser, a line says what is left out, and the test passes. No file of the machine decides what comes of it.
 set -eu
 folder=$(mktemp -d)
 trap 'rm -rf "$folder"' EXIT
 trap 'exit 1' HUP INT TERM
 start=$(date +%s)
-left='c python archive rust webassembly aarch64 comparison'
+left='c python rust webassembly aarch64 archive comparison'
 python3 faces/constants.py --check
 python3 faces/constants.py --made
 echo "the constants in C are the library's, and those in Rust, JavaScript and Python are made of it"
@@ -35,14 +34,14 @@ echo "faces: making the library, which takes some minutes if its calls are not p
 mkdir "$folder/library"
 sh checks/faces/library.sh "$folder/library"
 if ! command -v cc > /dev/null; then
-    echo "cc is not installed, so the calls from C, Rust, JavaScript and Python are not tested: install a C compiler"
+    echo "left out: cc is not installed, so the calls from C, Rust, JavaScript and Python are not tested: install a C compiler"
     exit 0
 fi
-try library c python archive
+try library c python
 try c rust webassembly
 # (the toolchain makes one library at a time)
-try c aarch64
+try c aarch64 archive
 echo "faces: comparison, after $(($(date +%s) - start)) seconds"
 for made in rust/target webassembly/web webassembly/node; do if [ -e "$folder/$made" ]; then mv "$folder/$made" "$folder/c/"; fi; done
-python3 checks/faces/comparison.py "$folder/c" "$@"
+python3 checks/faces/comparison.py "$folder/c"
 echo "faces: the calls from C, Rust, JavaScript and Python are as expected"

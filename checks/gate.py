@@ -3,6 +3,8 @@
 
     python3 checks/gate.py test            every proof but those of the tests' own bodies, every test and program, must-fail/ and controls/
     python3 checks/gate.py gate            `rt ci`, which proves the tests too and tries must-fail/, and edits/ and controls/
+    python3 checks/gate.py test --over FOLDER     in another surrounding: over the proofs that a test of the same sources left in FOLDER,
+                                           without edits, which try the proofs alone
     python3 checks/gate.py edits [CRATE ..] [--edit NAME] [--from FOLDER]     the edits alone, of these crates or of all
     python3 checks/gate.py prove CRATE     in a copy of the repository in which the crates below are proved: a part of each of these
 
@@ -12,6 +14,7 @@ soon as they can, and what the longest chain waits for gets a processor first. A
 left out. What each part prints stands in out/log.
 """
 import argparse
+import glob
 import os
 import shutil
 import subprocess
@@ -21,9 +24,11 @@ import time
 from dataclasses import dataclass
 
 sys.dont_write_bytecode = True
-from crates import crates_listed
+from crates import crates_listed, fail, run, tracked
 
 LOGS = 'out/log'
+# What a line begins with that says which program the machine lacks, and what is not tested for it.
+LEFT_OUT = 'left out: '
 PYTHON = sys.executable or 'python3'
 
 
@@ -44,10 +49,9 @@ class Part:
     def log(self, mode='r'):
         return open(f'{LOGS}/{self.name.replace(" ", "-")}', mode, encoding='utf-8', errors='replace')
 
-    def doing(self):
-        """Its name, and of `rt ci`, which takes longest, what it reported last."""
-        lines = [line[len('rt: '):].strip() for line in self.log() if line.startswith('rt: ')] if self.name == 'rt ci' else []
-        return f'{self.name} ({lines[-1]})' if lines else self.name
+    def printed(self, start):
+        """The lines that it printed so far and that begin so."""
+        return [line.rstrip() for line in self.log() if line.startswith(start)]
 
 
 def link(path, to):
@@ -58,18 +62,17 @@ def link(path, to):
         shutil.copy2(path, to)
 
 
-def copied(folder, with_cached=False):
-    """Copies the repository's files, and what checks of its crates have cached if that is asked for."""
-    listed = subprocess.run(['git', 'ls-files', '-co', '-z', '--exclude-standard'], stdout=subprocess.PIPE, text=True, check=True).stdout
-    for path in filter(os.path.isfile, listed.split('\0')):
+def copied(folder, cached=None):
+    """Copies the repository's files, and what checks have cached of the crates of another copy, if one is given."""
+    for path in tracked():
         os.makedirs(os.path.dirname(f'{folder}/{path}'), exist_ok=True)
         shutil.copy(path, f'{folder}/{path}')
-    for crate in crates_listed() if with_cached else []:
-        take(crate, '.', folder, 'incremental', 'rlib')
+    for crate in crates_listed() if cached else []:
+        take(crate, cached, folder)
     return folder
 
 
-def take(crate, source, to, *parts):
+def take(crate, source, to, parts=('incremental', 'rlib')):
     """Takes what checks of a crate have cached in one copy, and its library, to another one. (No check writes into a file that is there.)"""
     for part in parts:
         if os.path.isdir(f'{source}/crates/{crate}/out/{part}'):
@@ -84,8 +87,8 @@ def alone(crate, source, room):
     for name in ('HANDLES', 'crates.txt'):
         shutil.copy(f'{source}/{name}', room)
     for name in crates_listed()[crate]:
-        take(name, source, room, 'rlib')
-    take(crate, source, room, 'incremental', 'rlib')
+        take(name, source, room, ['rlib'])
+    take(crate, source, room)
     return f'{room}/crates/{crate}'
 
 
@@ -100,10 +103,6 @@ def prove(crate):
     return status
 
 
-def has_tests(crate):
-    return subprocess.run(['git', 'grep', '-qF', '#[test]', '--', f'crates/{crate}/src']).returncode == 0
-
-
 # These tests are proved before they run. Without a proof they run with checks of each access, and take minutes.
 LONG_TESTS = 'goblin_long_tests'
 
@@ -115,12 +114,12 @@ def proofs(crates, copy, after=()):
     """The proofs of these crates and of those below them."""
     listed = crates_listed()
     wanted = [crate for crate in listed if any(crate in {one, *listed[one]} for one in crates)]
-    return [Part(f'proof of {crate}', [PYTHON, 'checks/gate.py', 'prove', crate], (*after, *(f'proof of {name}' for name in listed if name in listed[crate])),
-                 copy, True) for crate in wanted]
+    waits = lambda crate: (*after, *(f'proof of {name}' for name in listed[crate]))
+    return [Part(f'proof of {crate}', [PYTHON, 'checks/gate.py', 'prove', crate], waits(crate), copy, True) for crate in wanted]
 
 
 def edits(crates, copy, *words, what='edits'):
-    """The edits of these crates, each once the crate is proved. (Those of the highest crates, which are proved last, take longest.)"""
+    """The edits of these crates. (Those of the highest crates, which are proved last, take longest.)"""
     return [Part(f'{what} of {crate}', [PYTHON, 'checks/edits', '--over', copy, *words, crate], (f'proof of {crate}',), copy, weight=3)
             for crate in reversed(crates)]
 
@@ -128,54 +127,52 @@ def edits(crates, copy, *words, what='edits'):
 def crates_with(kinds, name=None, folder=''):
     """The crates that have edits of these kinds, or of a folder that has a folder for each crate; or one of this name."""
     folders = lambda crate: [f'{folder}/{crate}'] if folder else [f'crates/{crate}/{kind}' for kind in kinds]
-    return [crate for crate in crates_listed() if any(name in (None, file[:-len('.edit')]) for path in folders(crate) if os.path.isdir(path)
-                                                      for file in os.listdir(path))]
+    return [crate for crate in crates_listed() if any(glob.glob(f'{glob.escape(path)}/{name or "*"}.edit') for path in folders(crate))]
 
 
-def test(room, whole):
-    """The parts of `make test`, or where it is to be whole, of `make gate`."""
-    copy = copied(f'{room}/proved')
+def test(room, whole, over):
+    """The parts of `make test`, or where it is to be whole, of `make gate`, or of a test over the proofs of a folder."""
+    copy = copied(f'{room}/proved', over)
     waits = tuple(QUICK)
     # (`rt ci` tries must-fail/)
-    kinds = ['controls', 'edits'] if whole else ['must-fail', 'controls']
+    kinds = [] if over else ['controls', 'edits'] if whole else ['must-fail', 'controls']
     here = lambda name, command, *after: Part(name, command.split(), after or waits, copy)
     parts = [Part(name, command.split(), is_first=True) for name, command in QUICK.items()]
     parts += [Part('rt ci', ['rt', 'ci'], waits, copied(f'{room}/whole'), True)] if whole else []
     # (a crate whose name ends so holds tests alone)
     proved = [crate for crate in crates_listed() if not crate.endswith('_tests') or crate == LONG_TESTS and not whole]
     parts += proofs(proved, copy, waits)
+    has_tests = lambda crate: not subprocess.run(['git', 'grep', '-qF', '#[test]', '--', f'crates/{crate}/src']).returncode
     if not whole:
         parts += [here(f'tests of {crate}', f'sh checks/tests.sh {crate}') for crate in crates_listed() if has_tests(crate) and crate != LONG_TESTS]
     parts += [Part('calls from other languages', ['sh', 'checks/faces.sh'], ('proof of goblin_c',), copy, True, weight=3)]
     # (all kinds together take fewer checks, and each by itself ends sooner)
     for some in [','.join(kinds)] if whole else kinds:
         parts += edits(crates_with(some.split(',')), copy, '--kinds', some, what='edits' if whole else some)
-    parts += [here('refused allocations', 'sh checks/refused.sh'), here("a reader of one's own", 'sh checks/reader.sh'),
-              here('the program', f'{PYTHON} checks/program.py', 'proof of goblin_show'),
+    parts += [here('refused allocations', 'sh checks/refused.sh'), here("README's commands", f'{PYTHON} checks/readme.py', 'proof of goblin_show'),
+              here('the program', f'{PYTHON} checks/program.py', 'proof of goblin_show', 'proof of goblin_uses'),
               here('hostile files', f'{PYTHON} checks/limits.py', 'proof of goblin_show', 'proof of goblin_refused')]
+    # (in this folder, which git knows)
+    parts += [Part('commands', ['sh', 'checks/commands.sh'], waits)]
     return parts + [here("the edits' own test", f'{PYTHON} checks/edits/self_test.py')] * whole
 
 
 def leave(copy):
     """Leaves the programs and libraries in the repository, with the sums of the sources that they were built of, for later commands, and
     what the checks have cached where none have before."""
-    for crate in crates_listed():
-        made = f'{copy}/crates/{crate}/out'
-        for file in os.scandir(made) if os.path.isdir(made) else []:
-            if file.is_file():
-                os.makedirs(f'crates/{crate}/out', exist_ok=True)
-                shutil.copy2(file.path, f'crates/{crate}/out/{file.name}')
-        for part in ('incremental', 'rlib'):
-            if os.path.isdir(f'{made}/{part}') and not os.path.exists(f'crates/{crate}/out/{part}'):
-                shutil.move(f'{made}/{part}', f'crates/{crate}/out/{part}')
+    for made in glob.glob(f'{copy}/crates/*/out/*'):
+        there = made[len(f'{copy}/'):]
+        os.makedirs(os.path.dirname(there), exist_ok=True)
+        if os.path.isfile(made):
+            shutil.copy2(made, there)
+        elif os.path.basename(made) in ('incremental', 'rlib') and not os.path.exists(there):
+            shutil.move(made, there)
     if os.path.isdir(f'{copy}/out/library'):
         shutil.rmtree('out/library', ignore_errors=True)
         shutil.copytree(f'{copy}/out/library', 'out/library')
 
 
 class Run:
-    """A run of parts."""
-
     def __init__(self, parts):
         self.parts, self.running, self.start, self.said = parts, {}, time.time(), time.time()
         self.status = {part.name: part for part in parts}
@@ -190,9 +187,6 @@ class Run:
         minutes, seconds = divmod(int(self.said - self.start), 60)
         print(f'[{minutes:3}:{seconds:02}] {line}', flush=True)
 
-    def left(self):
-        return [part for part in self.parts if part.status is None]
-
     def begin(self, part):
         part.begun = time.time()
         level = 15 if not part.is_first else 0 if self.chain[part.name] + part.weight > 3 else 8
@@ -205,12 +199,8 @@ class Run:
         part, ran = self.running.pop(pid)
         ran.returncode = status
         part.ended, part.seconds, part.status = time.time(), used.ru_utime + used.ru_stime, status
-        with part.log() as log:
-            text = log.read().rstrip('\n')
-        if status:
-            self.say(f'{part.name} FAILED. It printed:\n{text}')
-        else:
-            self.say(f'{part.name}: {text.rpartition(chr(10))[2]}')
+        lines = part.printed('')
+        self.say('\n'.join([f'{part.name} FAILED. It printed:', *lines]) if status else f'{part.name}: {next(filter(None, reversed(lines)), "")}')
         for other in self.parts:
             if other.status is None and any(self.status[name].status for name in other.after):
                 other.status = 1
@@ -220,9 +210,9 @@ class Run:
         """Runs all parts, as many side by side as there are places, and returns the exit status."""
         os.makedirs(LOGS, exist_ok=True)
         self.say(f'{len(self.parts)} parts, about {places} side by side; what each prints is left in {LOGS}')
-        while self.left():
+        while left := [part for part in self.parts if part.status is None]:
             now = [part for part, _ in self.running.values()]
-            waiting = [part for part in self.left() if part not in now]
+            waiting = [part for part in left if part not in now]
             ready = [part for part in waiting if all(self.status[name].status == 0 for name in part.after)]
             for part in sorted(ready, key=lambda part: (not part.is_first, -self.chain[part.name])):
                 if len(self.running) < places or part.is_first and sum(other.is_first for other in now) < places:
@@ -232,7 +222,10 @@ class Run:
             if pid in self.running:
                 self.end(pid, status, used)
             elif time.time() - self.said > 60:
-                self.say(f'running: {", ".join(map(Part.doing, now))}; {len(waiting)} other parts are left')
+                # (what `rt ci`, which takes longest, reported last)
+                # (`rt ci` takes longest)
+                doing = ', '.join(' '.join([part.name, *part.printed('rt: ')[-1:]]) if part.name == 'rt ci' else part.name for part in now)
+                self.say(f'running: {doing}; {len(waiting)} other parts are left')
             else:
                 time.sleep(0.2)
         self.table()
@@ -243,16 +236,17 @@ class Run:
         for part in sorted((part for part in self.parts if part.ended), key=lambda part: part.begun):
             print(f'{part.name:<32} {(part.begun - self.start) / 60:6.1f} {(part.ended - self.start) / 60:6.1f} {part.seconds / 60:18.1f}')
         print(f'{"all":<32} {0:6.1f} {(time.time() - self.start) / 60:6.1f} {sum(part.seconds for part in self.parts) / 60:18.1f}')
+        print(''.join(dict.fromkeys(f'{line}\n' for part in self.parts if part.ended for line in part.printed(LEFT_OUT))), end='')
 
 
 def parts_of(options, room):
     """The parts of a run that is asked for."""
     if options.goal != 'edits':
-        return test(room, options.goal == 'gate')
+        return test(room, options.goal == 'gate', options.over)
     folder = os.path.abspath(options.folder) if options.folder else ''
     crates = [crate for crate in crates_with(('edits', 'must-fail', 'controls'), options.edit, folder) if crate in (options.crates or [crate])]
     words = [*(['--edit', options.edit] if options.edit else []), *(['--from', folder] if folder else [])]
-    copy = copied(f'{room}/proved', with_cached=True)
+    copy = copied(f'{room}/proved', '.')
     return [*proofs(crates, copy), *edits(crates, copy, *words)]
 
 
@@ -262,13 +256,16 @@ def main():
     parser.add_argument('crates', nargs='*')
     parser.add_argument('--edit')
     parser.add_argument('--from', dest='folder')
+    parser.add_argument('--over')
     options = parser.parse_args()
     if options.goal == 'prove':
         return prove(*options.crates)
+    if not os.access('.', os.W_OK):
+        fail('this folder is read-only, and what the parts print is left in it. Use a copy')
     with tempfile.TemporaryDirectory(prefix='gate-') as room:
         parts = parts_of(options, room)
         if not parts:
-            sys.exit('gate: no edit was found')
+            fail('no edit was found')
         status = Run(parts).all(len(os.sched_getaffinity(0)))
         if not status and options.goal != 'edits':
             subprocess.run(['sh', 'commands/show.sh', 'built'], cwd=f'{room}/proved', check=True)
@@ -278,4 +275,4 @@ def main():
 
 
 if __name__ == '__main__':
-    sys.exit(main())
+    run(main)

@@ -1,7 +1,8 @@
 #!/usr/bin/env python3
 """Makes ELF files that ask for much work, in a folder: python3 checks/hostile.py FOLDER
 
-MAKERS says of each file what it asks for. All are 64-bit little-endian files of at most the 16,777,216 bytes that the program takes.
+MAKERS says of each file what it asks for. All are little-endian files, and 64-bit ones but for `memory`, of at most the 16,777,216 bytes that
+the program takes.
 Where a name begins with text_ every byte of the file is below 128, in its headers too: whoever tests the whole file for text reads
 all of it there, and in the others stops early.
 """
@@ -16,12 +17,6 @@ HEADER_SIZE = SECTION_SIZE = 64
 RELA_SIZE, REL_SIZE = 24, 16
 WIDE = '\U0001f600'.encode()
 BAD = b'\xff'
-
-
-def header(sections, names):
-    """The header of a program for x86-64, after which the headers of so many sections follow. One of these has their names."""
-    magic = b'\x7fELF' + bytes([2, 1, 1])
-    return struct.pack('<16sHHIQQQIHHHHHH', magic, 2, 62, 1, 0, 0, HEADER_SIZE, 0, HEADER_SIZE, 0, 0, SECTION_SIZE, sections, names)
 
 
 def section(kind, offset, size, link=0, name=0):
@@ -39,13 +34,15 @@ def body_start(count):
 
 
 def elf(sections, body, names=0):
-    """A file: its header, the headers of the null section and of these, and the body."""
-    return header(1 + len(sections), names) + section(SHT_NULL, 0, 0) + b''.join(sections) + body
+    """A program for x86-64: its header, the headers of the null section and of these, one of which has their names, and the body."""
+    header = struct.pack('<16sHHIQQQIHHHHHH', b'\x7fELF\2\1\1', 2, 62, 1, 0, 0, HEADER_SIZE, 0, HEADER_SIZE, 0, 0, SECTION_SIZE,
+                         1 + len(sections), names)
+    return b''.join([header, section(SHT_NULL, 0, 0), *sections, body])
 
 
-def symbols_file(table, names, times=1):
-    """A file of symbol sections over the same symbols, so many times, and of the string table of their names."""
-    start = body_start(1 + times)
+def symbols_file(places, names, times=1):
+    """A file of symbol sections over the same symbols, so many times, and of the string table that has their names at these places."""
+    table, start = b''.join(symbol(place, i) for i, place in enumerate(places)), body_start(1 + times)
     strings = section(SHT_STRTAB, start + len(table), len(names))
     return elf([strings] + [section(SHT_SYMTAB, start, len(table), link=1)] * times, table + names)
 
@@ -57,19 +54,13 @@ def in_turn(tables, count, text, step=1):
     return elf(strings + [section(SHT_SYMTAB, start, 1, link=1 + i % tables) for i in range(1 + tables, 1 + tables + count)], text)
 
 
-def named(places, strings):
-    """Symbols with names at these places of a string table."""
-    return symbols_file(b''.join(symbol(place, i) for i, place in enumerate(places)), strings)
-
-
 NAMES = b''.join(b'symbol_%06d\0' % i for i in range(300_000))
-NAMED = b''.join(symbol(14 * i, i) for i in range(300_000))
+NAMED = range(0, len(NAMES), len(NAMES) // 300_000)
 
 
 def relocs():
-    start = body_start(65_000)
     places = range(LONGEST - RELA_SIZE - 65_000, LONGEST - RELA_SIZE)
-    return elf([section(SHT_RELA, place, RELA_SIZE) for place in places], bytes(LONGEST - start))
+    return elf([section(SHT_RELA, place, RELA_SIZE) for place in places], bytes(LONGEST - body_start(65_000)))
 
 
 def relocations():
@@ -122,6 +113,16 @@ def text_sections():
     return text_file([section(SHT_STRTAB, TEXT_BODY, TEXT_SIZE)] + headers, SHORT_STRINGS, names=1)
 
 
+def memory():
+    """A 32-bit file of as many sections as fit, because a 64-bit file has fewer and no larger records are made of them. Lists of parts double,
+    so there are just more symbol sections, of a byte, than half of a list holds. The others are relocation sections of an entry."""
+    header = struct.pack('<16sHHIIIIIHHHHHH', b'\x7fELF\1\1\1', 2, 3, 1, 0, 0, 52, 0, 52, 0, 0, 40, 0, 0)
+    section = lambda kind, size, link=0: struct.pack('<IIIIIIIIII', 0, kind, 0, 0, 0, size, link, 0, 0, 0)
+    count, symbols = (LONGEST - len(header)) // 40, (1 << 18) + 1
+    parts = section(SHT_SYMTAB, 1, link=1) * symbols + section(SHT_REL, 8) * (count - 2 - symbols)
+    return (header + section(SHT_NULL, count) + section(SHT_STRTAB, 0) + parts).ljust(LONGEST, b'\0')
+
+
 # Each file: how it is made, and the most processor seconds that a strict and a permissive run may take, at most some 20 times what they
 # took when this was set.
 MAKERS = {
@@ -135,17 +136,19 @@ MAKERS = {
     # 60,000 symbol sections linked in turn to two tables of 6 MB, of 3,000,000 strings and a byte that is not UTF-8
     'strings': (lambda: in_turn(2, 60_000, b'a\0' * 2_999_999 + b'a' + BAD), 1, 1),
     # 200,000 names that begin inside a character of four bytes, in a string table of 11 MB
-    'inside': (lambda: named([5] * 200_000, WIDE * 2_750_000), 2, 2),
+    'inside': (lambda: symbols_file([5] * 200_000, WIDE * 2_750_000), 2, 2),
     # 300,000 symbols with names
     'symbols': (lambda: symbols_file(NAMED, NAMES), 2, 2),
     # 300,000 names in one string of 9 MB that ends in a byte that is not UTF-8, of characters of one byte and of four
-    'failing': (lambda: named(range(1, 29 * 300_000, 29), b'a' * 8_999_999 + BAD), 1, 6),
-    'failing_wide': (lambda: named(range(4, 28 * 300_000, 28), WIDE * 2_249_999 + b'abc' + BAD), 2, 11),
+    'failing': (lambda: symbols_file(range(1, 29 * 300_000, 29), b'a' * 8_999_999 + BAD), 1, 6),
+    'failing_wide': (lambda: symbols_file(range(4, 28 * 300_000, 28), WIDE * 2_249_999 + b'abc' + BAD), 2, 11),
     # 60,000 symbol sections over the same 300,000 symbols with names
     'endless': (lambda: symbols_file(NAMED, NAMES, 60_000), 7, 7),
     # 65,000 relocation sections of one entry each, at the end of a file of 16 MB; and one section of 690,000
     'relocs': (relocs, 1, 1),
     'relocations': (relocations, 2, 2),
+    # 419,427 of 262,145 symbol sections and of relocation sections, in 32 bits: no file of this length is known to need more memory
+    'memory': (memory, 2, 2),
     # 16,256 symbol sections of a byte, each linked to one of as many overlapping string tables
     'text_tables': (text_tables, 1, 1),
     # 32,637 sections with names, which lie 6 MB and more after the start of a string table of 8 MB

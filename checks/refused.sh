@@ -14,21 +14,20 @@ refused=1000
 well='as expected'
 more='it makes more allocations than were refused'
 
-# Writes the cases of a call in a folder: its line and its file, with its allocations from one number to another refused, one in
-# each case. The first time it adds a case in which none is refused, if it is known what the call then writes.
+# Writes a case of a call in a folder, which is to print what standard input has: add_case FOLDER CALL NAME MORE_WORDS_OF_ITS_LINE
+add_case() {
+    { echo "$(cat "$1/$2.line") $4"; cat "$1/$2.file"; } > "$1/cases/$3"
+    cat > "$1/cases/$3.stdout"
+}
+
+# Writes the cases of a call in a folder, with its allocations from one number to another refused, one in each case. The first time it
+# adds a case in which none is refused, if it is known what the call then writes.
 add_cases() {
-    number=$3
-    while [ "$number" -le "$4" ]; do
-        is_last=
-        [ "$number" -lt "$4" ] || is_last=' last'
-        { echo "$(cat "$1/$2.line") $number $refused$is_last"; cat "$1/$2.file"; } > "$1/cases/$2.$number"
-        echo "$well" > "$1/cases/$2.$number.stdout"
-        number=$((number + 1))
+    for number in $(seq "$3" "$4"); do
+        if [ "$number" -eq "$4" ]; then last=' last'; else last=; fi
+        echo "$well" | add_case "$1" "$2" "$2.$number" "$number $refused$last"
     done
-    if [ "$3" -eq 1 ] && [ -e "$1/$2.shown" ]; then
-        { echo "$(cat "$1/$2.line") 0 $refused"; cat "$1/$2.file"; } > "$1/cases/$2.0"
-        cp "$1/$2.shown" "$1/cases/$2.0.stdout"
-    fi
+    if [ "$3" -eq 1 ] && [ -e "$1/$2.shown" ]; then add_case "$1" "$2" "$2.0" "0 $refused" < "$1/$2.shown"; fi
 }
 
 # Runs a crate's program over the calls of a folder. The count of a call says how many of its allocations are refused in a round,
@@ -44,10 +43,7 @@ try_allocations() {
             count=$(cat "$2/$name.count")
             add_cases "$2" "$name" $((rounds * count + 1)) $(((rounds + 1) * count))
         done < "$2/names"
-        if [ "$rounds" -eq 0 ]; then
-            { echo "$(cat "$2/$3.line") 1 $refused last"; cat "$2/$3.file"; } > "$2/cases/too_few.1"
-            echo "$well" > "$2/cases/too_few.1.stdout"
-        fi
+        if [ "$rounds" -eq 0 ]; then echo "$well" | add_case "$2" "$3" too_few.1 "1 $refused last"; fi
         (cd "$1" && rt try --steps 100000 --fail-alloc "$refused" --cases "$2/cases") > "$folder/out" 2>&1 || true
         sed -n "s/^the output differs from .\(.*\)[.][0-9]*[.]stdout.: at byte 0, expected \"$well.n\", found \"$more.n\"$/\1/p" \
             "$folder/out" > "$2/names"

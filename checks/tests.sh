@@ -6,7 +6,8 @@ count=$(grep -rF '#[test]' "crates/$1/src" | wc -l)
 said=$(mktemp)
 trap 'rm -f "$said"' EXIT
 trap 'exit 1' HUP INT TERM
-if ! (cd "crates/$1" && rt try --test --seconds 1200) > "$said" 2>&1 || ! grep -q "^test result: ok[.] $count passed; 0 failed; 0 ignored" "$said"; then
+passed="^test result: ok[.] $count passed; 0 failed; 0 ignored"
+if ! (cd "crates/$1" && rt try --test --seconds 1200) > "$said" 2>&1 || ! grep -q "$passed" "$said"; then
     cat "$said"
     echo "tests: not all $count tests of $1 passed"
     exit 1

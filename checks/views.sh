@@ -1,15 +1,18 @@
 #!/bin/sh
 # The check `clones_the_view`: the counted views can't be copied, since bytes of a copy could be read without a count, and no contract would
 # notice. Callers call `clone` and `len` on each view, and a function beside the walk makes a second view of a view's bytes. The compiler must
-# refuse each `clone`, because the view isn't `Clone`, the second view, because its field is private, and nothing else. Nothing is proved.
-# Run from the repository's root.
+# refuse each `clone`, because the view isn't `Clone`, the second view, because its field is private, and nothing else. Nothing is proved. Nor
+# have the views' files a public call or field that isn't listed here, or an impl of another trait. Run from the repository's root.
 set -eu
 sh commands/has.sh 'compiling callers of views' rt
 views='entries::Looked entries::Entries entries::Probes counted_bytes::CountedBytes'
+public='Looked new len at marks text entries count Entries len is_empty text Probes of len at count CountedBytes new len at get bytes count '
 folder=$(mktemp -d)
 trap 'rm -rf "$folder"' EXIT
 trap 'exit 1' HUP INT TERM
-
+found=$(cd crates/goblin_base/src && sed -En 's/^ *pub(\(\w+\))? ((fn|struct) )?(\w+).*/\4/p; /^impl.* (Model|fmt::Debug) for /!s/^impl.* for /&/p' \
+    entries.rt counted_bytes.rt | tr '\n' ' ')
+[ "$found" = "$public" ] || wrong="; only what this script lists may be public, and this is: $found"
 cp -R --parents HANDLES crates/goblin_base/src crates/goblin_base/specs crates/goblin_base/proofs "$folder"
 mkdir -p "$folder/crates/views/src"
 { grep '^goblin_base:' crates.txt; echo 'views: goblin_base'; } > "$folder/crates.txt"
@@ -18,20 +21,17 @@ echo "fn again<'a>(view: &Looked<'a>) -> Looked<'a> { Looked::new(view.bytes) }"
 code=$folder/crates/views/src/main.rt
 printf '#![tactic(auto)]\nfn main(_rt: HostRuntime) {}\n' > "$code"
 for view in $views; do
-    for call in len clone; do
-        echo "fn ${call}_${view##*::}(view: &goblin_base::$view<'_>) { let _value = view.$call(); }" >> "$code"
-    done
+    printf "fn %s_${view##*::}(view: &goblin_base::$view<'_>) { let _value = view.%s(); }\n" len len clone clone >> "$code"
 done
 (cd "$folder/crates/views" && rt try) > "$folder/said" 2>&1 || true
 for view in $views; do
     line=$(grep -n "clone.*$view" "$code" | cut -d : -f 1)
     grep -q "^src/main.rt:$line:[0-9]*: error.*\`${view##*::}\` is not \`Clone\`" "$folder/said" || wrong="${wrong:-} $view"
 done
-line=$(wc -l < "$folder/$walk")
-grep -q "/$walk:$line:[0-9]*: error.* \`bytes\` of struct \`Looked\` is private" "$folder/said" || wrong="${wrong:-} $walk"
+grep -q "/$walk:$(wc -l < "$folder/$walk"):[0-9]*: error.* \`bytes\` of struct \`Looked\` is private" "$folder/said" || wrong="${wrong:-} $walk"
 if [ "${wrong:-}" ] || [ "$(grep -c ': error' "$folder/said")" -ne $(($(echo "$views" | wc -w) + 1)) ]; then
     cat "$folder/said"
-    echo "clones_the_view: the compiler must refuse to copy each of $views, and a second view of the bytes, and nothing else"
+    echo "clones_the_view: the compiler must refuse to copy each of $views, and a second view of the bytes, and nothing else${wrong:-}"
     exit 1
 fi
 echo "clones_the_view: the compiler refuses to copy each of $views, and a second view of the bytes"

@@ -17,7 +17,7 @@ import time
 HERE = os.path.dirname(os.path.abspath(__file__))
 sys.dont_write_bytecode = True
 sys.path[:0] = [HERE, os.path.dirname(HERE)]
-from crates import crates_listed
+from crates import crates_listed, text_of
 from edit import CONTROLS, EDITS, MUST_FAIL, edits_of
 from gate import alone
 from trial import Trial
@@ -45,7 +45,6 @@ def without_pair(crate):
 
 
 def fits(options):
-    """Whether each edit fits the code."""
     count, wrong = 0, []
     for crate in crates_listed():
         edits, misfits = read_edits(crate, options)
@@ -59,15 +58,15 @@ def try_crate(crate, options):
     """Tries the edits of a crate, says what came of each, and returns how many are at fault."""
     start, (edits, wrong) = time.time(), read_edits(crate, options)
     if not wrong:
-        with open(f'{options.over}/crates/{crate}/out/said', encoding='utf-8', errors='replace') as text:
-            said = Said(text.read(), crate)
+        said = Said(text_of(f'{options.over}/crates/{crate}/out/said'), crate)
         # (beside the proved copy, whose files are linked)
         with tempfile.TemporaryDirectory(prefix='edits-', dir=os.path.dirname(options.over)) as room:
             trial = Trial(crate, alone(crate, options.over, room), edits, said)
             trial.run()
         wrong = trial.wrong if trial.ways or trial.wrong else [f'{crate}: no edit was tried']
         ways = ', '.join(f'{count} {way}' for way, count in trial.ways.items())
-        print(f'{crate}: {len(edits)} edits, of which {len(wrong)} are at fault: {ways}; {len(trial.groups)} checks, {time.time() - start:.0f} seconds')
+        seconds = time.time() - start
+        print(f'{crate}: {len(edits)} edits, of which {len(wrong)} are at fault: {ways}; {trial.checks} checks, {seconds:.0f} seconds')
     for line in wrong:
         print(f'edits: {line}')
     return len(wrong)

@@ -7,6 +7,8 @@ import os
 import re
 from dataclasses import dataclass, replace
 
+from crates import text_of
+
 
 class Misfit(Exception):
     """An edit that can't be applied, and why."""
@@ -31,12 +33,11 @@ EDITS, MUST_FAIL, CONTROLS = 'edits', 'must-fail', 'controls'
 
 @dataclass(frozen=True)
 class Place:
-    """Where a change stands, the function that is to be refused for it, if there is one, the module that a list is taken from, and the
-    function that a change elsewhere writes."""
+    """Where a change stands, the function that is to be refused for it, or that it writes elsewhere, if there is one, and the module that a
+    list is taken from."""
     kind: str
     function: tuple = None
     source: str = ''
-    written: tuple = None
 
 
 @dataclass(frozen=True)
@@ -46,14 +47,6 @@ class Edit:
     name: str
     changes: tuple
     places: tuple
-
-    def functions(self):
-        """The functions that are to be refused."""
-        return {place.function for place in self.places if place.function}
-
-    def written(self):
-        """The functions that its changes write outside of any other."""
-        return {place.written for place in self.places if place.written}
 
     def refused_by(self, function):
         """How a check refuses a function for this edit, if it does. What must fail leaves a goal open, of a clause or at values."""
@@ -85,32 +78,27 @@ def edits_of(folder, kind, crate, source):
 
 
 def read_edit(path, kind, name, crate, source):
-    """The edit that a file holds."""
     changes, file, old = [], None, None
-    with open(path, encoding='utf-8') as lines:
-        for line in lines.read().split('\n'):
-            if line.startswith('file: '):
-                file = line[len('file: '):].strip()
-            elif line.startswith('old: '):
-                old = line[len('old: '):]
-            elif line.startswith('new:'):
-                if not file or not old:
-                    raise Misfit(f'{crate}/{name}: a new text without a file or an old one')
-                new = line[len('new: '):]
-                changes.append(Change(file, start_of(old, f'{source}/{file}', f'{crate}/{name}'), old, new))
-                old = None
-    if not changes or old:
-        raise Misfit(f'{crate}/{name}: an old text without a new one, or no pair at all')
+    for line in text_of(path).split('\n'):
+        if line.startswith('file: '):
+            file = line[len('file: '):].strip()
+        elif line.startswith('old: '):
+            old = line[len('old: '):]
+        elif line.startswith('new:'):
+            if not file or not old:
+                raise Misfit(f'{crate}/{name}: a new text without a file or an old one')
+            changes.append(Change(file, start_of(old, f'{source}/{file}', f'{crate}/{name}'), old, line[len('new: '):]))
+            old = None
+    wrong = 'an old text without a new one, or no pair at all' if not changes or old else ''
+    if wrong := wrong or kind == CONTROLS and any(map(is_idle, changes)) and 'a condition of it, or a part of one, is constant':
+        raise Misfit(f'{crate}/{name}: {wrong}')
     return Edit(kind, name, tuple(changes), tuple(place_in(crate, source, change) for change in changes))
 
 
 def start_of(old, path, label):
-    """Where an old text stands in its file."""
-    try:
-        with open(path, encoding='utf-8') as file:
-            text = file.read()
-    except OSError:
-        raise Misfit(f'{label}: there is no file {path}') from None
+    if not os.path.isfile(path):
+        raise Misfit(f'{label}: there is no file {path}')
+    text = text_of(path)
     if text.count(old) != 1:
         raise Misfit(f'{label}: {text.count(old)} times in {path}, and not once: {old}')
     return text.index(old)
@@ -120,10 +108,7 @@ def apply(edits, source):
     """The files that these edits change, by their path in the crate, with all changes made at once."""
     texts = {}
     for change in sorted((c for edit in edits for c in edit.changes), key=lambda c: -c.start):
-        if change.file not in texts:
-            with open(f'{source}/{change.file}', encoding='utf-8') as file:
-                texts[change.file] = file.read()
-        text, end = texts[change.file], change.start + len(change.old)
+        text, end = texts.get(change.file) or text_of(f'{source}/{change.file}'), change.start + len(change.old)
         texts[change.file] = text[:change.start] + change.new + text[end:]
     return texts
 
@@ -136,12 +121,21 @@ PASSED_ON = re.compile(r'^pub use ((?:\w+::)+)(\{[^}]*\});', re.M)
 CLAUSE = re.compile(r'\b(?:requires|ensures|ghost)\b[^{]*$')
 
 
+# A condition, and what a part of one names unless it is constant.
+CONDITION = re.compile(r'\b(?:if|while) (?!let\b)([^{]*)\{')
+NAMED = re.compile(r'\b(?!(?:true|false|as|[ui]\d+|[ui]size)\b)[a-z]\w*')
+
+
+def is_idle(change):
+    """Whether a part of a condition is constant, so that a right body after it may never run, and shows nothing."""
+    return any(not NAMED.search(part) for condition in CONDITION.findall(change.new) for part in re.split(r'&&|\|\|', condition))
+
+
 def place_in(crate, source, change):
     """The place of a change: the innermost function round it, or the list that a module passes on, or the function that it writes."""
     if not re.fullmatch(r'src/.*\.rt', change.file):
         return Place(ELSEWHERE)
-    with open(f'{source}/{change.file}', encoding='utf-8') as file:
-        text = UNREAD.sub(lambda found: re.sub(r'[^\n]', ' ', found[0]), file.read())
+    text = UNREAD.sub(lambda found: re.sub(r'[^\n]', ' ', found[0]), text_of(f'{source}/{change.file}'))
     module, end = module_of(crate, change.file), change.start + len(change.old)
     inside, kind = None, ELSEWHERE
     for found in FUNCTION.finditer(text):
@@ -154,7 +148,7 @@ def place_in(crate, source, change):
         if found.start(2) <= change.start and end <= found.end():
             return Place(LIST, (module, '', LAW), found[1][:-len('::')].replace('crate', crate, 1))
     written = FUNCTION.search(change.new)
-    return Place(ELSEWHERE, written=(module, block_at(text, change.start), written[1]) if written else None)
+    return Place(ELSEWHERE, (module, block_at(text, change.start), written[1]) if written else None)
 
 
 def body_of(text, at):

@@ -13,16 +13,13 @@ sys.dont_write_bytecode = True
 from verdict import open_of
 
 CODE = {
-    'src/lib.rt': '''//! A crate in which edits are planted.
-#![tactic(auto)]
-
+    'src/lib.rt': '''#![tactic(auto)]
 ghost use Rattle.std.specs.Prelude.{◌≡◌, ◌+◌, ◌<◌, ◌≤◌};
 
 pub mod left;
 pub mod numbers;
 pub mod right;
 
-/// One more.
 pub fn next(x: u8) -> u8
     requires { x < 250 }
     ensures { result ≡ x + 1 }
@@ -30,7 +27,6 @@ pub fn next(x: u8) -> u8
     x + 1
 }
 
-/// Two more.
 pub fn second(x: u8) -> u8
     requires { x < 249 }
     ensures { result ≡ x + 2 }
@@ -38,7 +34,6 @@ pub fn second(x: u8) -> u8
     next(next(x))
 }
 
-/// Three more.
 pub fn third(x: u8) -> u8
     requires { x < 248 }
     ensures { result ≡ x + 3 }
@@ -47,44 +42,30 @@ pub fn third(x: u8) -> u8
     one + 2
 }
 
-/// At most as much.
 pub fn no_more(x: u8) -> u8
     ensures { result ≤ x }
 {
     x / 2
 }
 ''',
-    'src/numbers.rt': '''//! The numbers that two modules pass on.
-
-/// One.
-pub const ONE: u8 = 1;
-/// Two.
-pub const TWO: u8 = 2;
-''',
-    'src/left.rt': '''//! A module whose law says what it passes on.
-ghost use Rattle.std.specs.Prelude.{◌≡◌};
-
+    'src/numbers.rt': 'pub const ONE: u8 = 1;\npub const TWO: u8 = 2;\n',
+    # (whose law says what it passes on)
+    'src/left.rt': '''ghost use Rattle.std.specs.Prelude.{◌≡◌};
 pub use crate::numbers::{ONE, TWO};
 
-/// A law.
 pub fn constants()
     ensures one { ONE ≡ 1 }
     ensures two { TWO ≡ 2 }
-{
-}
+{}
 ''',
-    'src/right.rt': '''//! A module whose law says half of it.
-ghost use Rattle.std.specs.Prelude.{◌≡◌};
-
+    # (whose law says half of it)
+    'src/right.rt': '''ghost use Rattle.std.specs.Prelude.{◌≡◌};
 pub use crate::numbers::{ONE, TWO};
 
-/// A law.
 pub fn constants()
     ensures { ONE ≡ 1 }
-{
-}
+{}
 
-/// Two.
 pub fn two() -> u8
     ensures { result ≡ 2 }
 {
@@ -118,9 +99,7 @@ PLANTED = {
         ('must-fail/gives_half', '    x / 2', '    x / 2 + 0', 'NOT REFUSED: the crate is still proved with it'),
         ('controls/gives_half', '    x / 2', '    x + x', 'NOT ACCEPTED: its function is not proved with it'),
     ],
-    'src/left.rt': [
-        ('edits/left_exchanges_two', '{ONE, TWO}', '{TWO as ONE, ONE as TWO}', 'refused with values: planted::left::constants'),
-    ],
+    'src/left.rt': [('edits/left_exchanges_two', '{ONE, TWO}', '{TWO as ONE, ONE as TWO}', 'refused with values: planted::left::constants')],
     'src/right.rt': [
         ('edits/right_exchanges_two', '{ONE, TWO}', '{TWO as ONE, ONE as TWO}', 'refused with values: planted::right::constants'),
         ('edits/right_passes_on_what_its_law_leaves_out', '{ONE, TWO}', '{ONE, ONE as TWO}',
@@ -128,9 +107,10 @@ PLANTED = {
     ],
 }
 
-# An edit of must-fail/ that doesn't fit the code and has no control, and what is to be said of it.
-MISFIT = ('stands_nowhere', 'file: src/lib.rt\nold:     x + 9\nnew:     x\n',
-          ['planted/must-fail/stands_nowhere: 0 times in ', 'planted/stands_nowhere.edit: it stands in one of must-fail/ and controls/'])
+# An edit of must-fail/ that doesn't fit the code and has no control, a control that never runs, and what is to be said of them.
+MISFITS = {'must-fail/stands_nowhere': ('    x + 9', '    x'), 'controls/adds_two': ('    x + 1', '    if x < 9 && 0 > 1 { return x; } x + 1')}
+MISFIT = ['planted/must-fail/stands_nowhere: 0 times in ', 'planted/stands_nowhere.edit: it stands in one of must-fail/ and controls/',
+          'planted/controls/adds_two: a condition of it, or a part of one, is constant']
 
 # Lines of the prover, and what each says is open of a function.
 OPEN = {
@@ -148,41 +128,30 @@ def write(path, text):
         file.write(text)
 
 
-def plant(room):
-    """Writes the crate with its edits."""
-    write(f'{room}/HANDLES', 'Handles allowed: none.\n')
-    write(f'{room}/crates.txt', 'planted:\n')
-    for path, text in CODE.items():
-        write(f'{room}/crates/planted/{path}', text)
-    for file, edits in PLANTED.items():
-        for name, old, new, _ in edits:
-            write(f'{room}/crates/planted/{name}.edit', f'file: {file}\nold: {old}\nnew: {new}\n')
-
-
 def main():
     script = os.path.dirname(os.path.abspath(__file__))
     wanted = {name: said for edits in PLANTED.values() for name, _, _, said in edits}
-    with tempfile.TemporaryDirectory(prefix='planted-') as room:
-        plant(room)
-        how = {'cwd': room, 'stdout': subprocess.PIPE, 'stderr': subprocess.STDOUT, 'text': True}
-        proved = subprocess.run(['sh', f'{os.path.dirname(script)}/prove.sh', 'planted'], **how)
-        ran = subprocess.run([sys.executable, script, '--over', room, 'planted'], **how)
-        write(f'{room}/crates/planted/must-fail/{MISFIT[0]}.edit', MISFIT[1])
-        fits = subprocess.run([sys.executable, script, '--fits'], **how)
-    lines = ran.stdout.split('\n')
-    lacking = [name for name in wanted if not any(line.startswith(f'planted/{name}: {wanted[name]}') for line in lines)]
     wrong = sum(said.startswith('NOT') for said in wanted.values())
-    if lacking or ran.returncode != 1 or not any(f'{len(wanted)} edits, of which {wrong} are at fault' in line for line in lines):
-        print(f'{proved.stdout}{ran.stdout}\nself_test: checks/edits judged these edits wrong: {lacking or "their number"}')
-        return 1
-    if fits.returncode != 1 or not all(any(line.startswith(said) for line in fits.stdout.split('\n')) for said in MISFIT[2]):
-        print(f'{fits.stdout}\nself_test: checks/edits --fits did not report the edit that does not fit and has no control')
-        return 1
-    if any(open_of([line]) != said for line, said in OPEN.items()):
-        print(f'self_test: these lines were read wrong: {[line for line, said in OPEN.items() if open_of([line]) != said]}')
-        return 1
-    print(f'self_test: checks/edits judged {len(wanted)} edits right, {wrong} of which test nothing')
-    return 0
+    edits = {f'{name}.edit': f'file: {file}\nold: {old}\nnew: {new}\n' for file, edits in PLANTED.items() for name, old, new, _ in edits}
+    with tempfile.TemporaryDirectory(prefix='planted-') as room:
+        write(f'{room}/HANDLES', 'Handles allowed: none.\n')
+        write(f'{room}/crates.txt', 'planted:\n')
+        for path, text in {**CODE, **edits}.items():
+            write(f'{room}/crates/planted/{path}', text)
+        run = lambda *command: subprocess.run(command, cwd=room, stdout=subprocess.PIPE, stderr=subprocess.STDOUT, text=True)
+        proved = run('sh', f'{os.path.dirname(script)}/prove.sh', 'planted')
+        tried = run(sys.executable, script, '--over', room, 'planted')
+        for name, (old, new) in MISFITS.items():
+            write(f'{room}/crates/planted/{name}.edit', f'file: src/lib.rt\nold: {old}\nnew: {new}\n')
+        fits = run(sys.executable, script, '--fits')
+    faults, count = [], f'planted: {len(wanted)} edits, of which {wrong} are at fault'
+    for ran, lines in ((tried, [count, *(f'planted/{name}: {said}' for name, said in wanted.items())]), (fits, MISFIT)):
+        lacking = [line for line in lines if f'\n{line}' not in f'\n{ran.stdout}']
+        if lacking or ran.returncode != 1:
+            faults += [proved.stdout, ran.stdout, f'self_test: {ran.args[1:]} ended with {ran.returncode}, and lacks lines that begin so:', *lacking]
+    faults += [f'self_test: this line was read wrong: {line}' for line, said in OPEN.items() if open_of([line]) != said]
+    print(*faults or [f'self_test: checks/edits judged {len(wanted)} edits right, {wrong} of which test nothing'], sep='\n')
+    return 1 if faults else 0
 
 
 if __name__ == '__main__':

@@ -13,14 +13,13 @@ import shutil
 import subprocess
 from collections import Counter
 
-from edit import BODY, CONTROLS, HEAD, LIST, MUST_FAIL, apply, path_among
-from verdict import Said
+from crates import text_of
+from edit import BODY, CONTROLS, ELSEWHERE, HEAD, LIST, MUST_FAIL, apply, path_among
+from verdict import ANSWER_WORD, Said
 
 
-# From this status on a check was killed.
-KILLED = 128
-# What comes of a right body.
-ACCEPTED = 'accepted'
+# From this status on a check was killed; what comes of a right body.
+KILLED, ACCEPTED = 128, 'accepted'
 
 
 class Trial:
@@ -28,8 +27,7 @@ class Trial:
 
     def __init__(self, crate, folder, edits, before):
         self.crate, self.folder, self.edits, self.before = crate, folder, edits, before
-        self.ways, self.groups, self.wrong = Counter(), [], []
-        self.waits, self.functions = {}, {}
+        self.ways, self.wrong, self.checks, self.waits, self.functions = Counter(), [], 0, {}, {}
         self.cached, self.proved = f'{folder}/out/incremental', f'{folder}/out/proved'
 
     def run(self):
@@ -38,7 +36,8 @@ class Trial:
         # a library whose proof was cached reports nothing about its functions
         before = self.before if self.before.functions else self.check([])
         if not before.is_proved():
-            return self.fail(f'the crate is not proved without edits\n{before.text[-2000:]}')
+            self.wrong.append(f'{self.crate}: the crate is not proved without edits\n{before.text[-2000:]}')
+            return
         known = [edit.among(before.functions) for edit in self.edits]
         edits = [edit for edit in known if self.place(edit, before)]
         for kind in (BODY, LIST):
@@ -49,39 +48,34 @@ class Trial:
             if not edit.stands_in(BODY) and not edit.stands_in(LIST):
                 self.try_alone(edit)
 
-    def fail(self, why):
-        self.wrong.append(f'{self.crate}: {why}')
-
     def place(self, edit, said):
         """Finds the functions of an edit among those that the prover names."""
-        paths = {path_among(name, said.functions) for name in edit.functions()}
-        # (what it writes besides may be new)
-        written = {path_among(name, said.functions) for name in edit.written()}
-        self.functions[edit.name] = frozenset((paths | written) - {None})
-        if None in paths:
+        paths = {place: path_among(place.function, said.functions) for place in edit.places if place.function}
+        self.functions[edit.name] = frozenset(paths.values()) - {None}
+        # (what it writes elsewhere may be new)
+        is_named = all(path or place.kind == ELSEWHERE for place, path in paths.items())
+        if not is_named:
             self.report_wrong(edit, 'the prover names no function of this name')
-        return None not in paths
+        return is_named
 
     def check(self, edits):
         """What the prover says of the crate with these edits. A check that is killed, as where memory is short, is made once more."""
         texts = apply(edits, self.folder)
-        before = {path: open(f'{self.folder}/{path}', encoding='utf-8').read() for path in texts}
+        before = {path: text_of(f'{self.folder}/{path}') for path in texts}
         try:
             self.write(texts)
             for _ in range(2):
-                self.begin_anew()
+                # (what the crate's own proof left, in place of what the last check did; no check writes into a file that is there)
+                shutil.rmtree(self.cached, ignore_errors=True)
+                shutil.copytree(self.proved, self.cached, copy_function=os.link)
                 command = ['rt', 'check', '--jobs', '1']
                 ran = subprocess.run(command, cwd=self.folder, stdin=subprocess.DEVNULL, capture_output=True, text=True, errors='replace')
                 if ran.returncode < KILLED:
                     break
         finally:
             self.write(before)
+        self.checks += 1
         return Said(ran.stdout + ran.stderr, self.crate)
-
-    def begin_anew(self):
-        """Puts what the crate's own proof left in the place of what the last check did; no check writes into a file that is there."""
-        shutil.rmtree(self.cached, ignore_errors=True)
-        shutil.copytree(self.proved, self.cached, copy_function=os.link)
 
     def write(self, texts):
         for path, text in texts.items():
@@ -118,18 +112,21 @@ class Trial:
         for path, function in said.functions.items():
             self.waits[path] = self.waits.get(path, frozenset()) | function.waits
         judged = [edit for edit in group if self.judge(edit, said)]
-        self.groups.append(len(judged))
         return [edit for edit in pending if edit not in judged] if judged else self.try_group(group[:1], pending)
+
+    def verdict(self, edit, said):
+        """How a check refuses each of an edit's functions that it refuses, and whether it proves all of them. It may not come to some."""
+        own = {path: said.functions.get(path) for path in sorted(self.functions[edit.name])}
+        refused = {path: edit.refused_by(function) for path, function in own.items() if edit.refused_by(function)}
+        return refused, bool(own) and all(function and function.is_proved() for function in own.values()), None not in own.values()
 
     def judge(self, edit, said):
         """Reports what a check says of an edit's functions, if it judges them."""
-        own = [said.functions.get(path) for path in sorted(self.functions[edit.name])]
-        by = next(filter(None, map(edit.refused_by, own)), '')
-        is_proved = all(function and function.is_proved() for function in own)
-        if None in own or not (by or is_proved):
+        refused, is_proved, is_whole = self.verdict(edit, said)
+        if not is_whole or not (refused or is_proved):
             return False
         if is_proved == (edit.kind == CONTROLS):
-            self.report_right(edit, by, ' and '.join(sorted(self.functions[edit.name])))
+            self.report_right(edit, next(iter(refused.values()), ''), self.functions[edit.name])
         else:
             # alone it shows what the rest of the crate says of it
             self.try_alone(edit)
@@ -138,38 +135,30 @@ class Trial:
     def try_alone(self, edit):
         """Judges an edit by a check of its own."""
         said = self.check([edit])
-        own = {path: said.functions.get(path) for path in self.functions[edit.name]}
-        is_proved = own and all(function and function.is_proved() for function in own.values())
-        by = {path: edit.refused_by(function) for path, function in own.items() if edit.refused_by(function)}
+        own, is_proved, _ = self.verdict(edit, said)
         refused = said.refused()
-        self.groups.append(1)
         if not said.is_whole():
             self.report_wrong(edit, 'the edited code is no valid Rattle, so no contract was tried')
+        elif edit.kind == CONTROLS and is_proved:
+            self.report_right(edit, '', self.functions[edit.name])
         elif edit.kind == CONTROLS:
-            if is_proved:
-                self.report_right(edit, '', ' and '.join(own))
-            else:
-                self.report_wrong(edit, f'its function is not proved with it\n{said.text[-2000:]}')
+            self.report_wrong(edit, f'its function is not proved with it\n{said.text[-2000:]}')
         elif said.is_proved():
             self.report_wrong(edit, 'the crate is still proved with it')
-        elif by:
-            path = next(iter(by))
-            self.report_right(edit, by[path], path)
+        elif own:
+            self.report_right(edit, next(iter(own.values())), list(own)[:1])
         elif refused and edit.kind != MUST_FAIL and not edit.stands_in(BODY, HEAD, LIST):
             # it changes a definition, a constant or a type: whatever cites it may refuse it
-            self.report_right(edit, self.way(said, refused[0]), ' and '.join(refused[:3]))
+            self.report_right(edit, said.functions[refused[0]].refused if refused[0] in said.functions else ANSWER_WORD, refused[:3])
         elif is_proved:
             others = f', though {refused[0]} is not' if refused else ''
             self.report_wrong(edit, f'its own function is still proved with it{others}')
         else:
             self.report_wrong(edit, 'no goal of its own function is refused, but by names that the edit took away')
 
-    def way(self, said, path):
-        return said.functions[path].refused if path in said.functions else 'by an answer'
-
-    def report_right(self, edit, by, where):
+    def report_right(self, edit, by, functions):
         self.ways[by or ACCEPTED] += 1
-        print(f'{self.crate}/{edit.name}: {f"refused {by}" if by else ACCEPTED}: {where}', flush=True)
+        print(f'{self.crate}/{edit.name}: {f"refused {by}" if by else ACCEPTED}: {" and ".join(sorted(functions))}', flush=True)
 
     def report_wrong(self, edit, why):
         self.wrong.append(f'{self.crate}/{edit.name}: NOT {"ACCEPTED" if edit.kind == CONTROLS else "REFUSED"}: {why}')

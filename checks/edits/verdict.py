@@ -17,8 +17,7 @@ END = re.compile(r'^logic=(proved|not-proved)', re.M)
 # that it ended with a function, whatever came of it
 CHECKED = re.compile(r'checked (\S+), \d+ of \d+')
 
-VALUES_WORD, SEARCH_WORD, ANSWER_WORD = 'with values', 'by search', 'by an answer'
-VALUES_OPEN = 'values'
+VALUES_WORD, SEARCH_WORD, ANSWER_WORD, VALUES_OPEN = 'with values', 'by search', 'by an answer', 'values'
 
 
 @dataclass
