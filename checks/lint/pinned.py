@@ -5,11 +5,11 @@ definition imports from the code, or that a clause of a public function or of a 
 clause of a function `constants` or `laws`: alone or in a list, under no condition. On the right there is no constant of the code and
 no definition of a module that imports one. It reads the crates that the program and the library for C stand on.
 """
-import functools
 import os
 import re
 
 from crates import crates_listed, text_of, tracked
+from rattle import CLAUSE, closing, code_of
 
 CONSTANT = re.compile(r'^ *(?:pub(?:\(crate\))? )?(?:const|static) ([A-Z][A-Z0-9_]*): ([^=]*)', re.MULTILINE)
 NUMBER = re.compile(r'[ui](\d+|size) ')
@@ -20,13 +20,7 @@ IMPORT = re.compile(r'^use Rattle\.(\w+)\.specs\.declared\.([\w.]+)\.TheConstant
 DEFINED = re.compile(r'^(?:abbrev |unfoldable |record |data )*pub (?:record |data )?(\w+)', re.MULTILINE)
 # A function, the head of an impl, or a clause up to its opening brace.
 PART = re.compile(r'^ *(?P<public>pub(?:\(crate\))? )?(?:const |unsafe )*fn (?P<function>\w+)|^(?P<block>impl|(?:pub )?trait)\b(?P<head>[^{]*)'
-                  r'|^\}|\b(?:requires|ensures) *\w* *\{|\bghost (?!use)\w+ = \{', re.MULTILINE)
-
-
-@functools.lru_cache(None)
-def read(path):
-    """The text of a file without its comments and strings."""
-    return re.sub(r'"(?:\\.|[^"\\])*"|(?://|--)[^\n]*', '', text_of(path))
+                  r'|^\}|' + CLAUSE.pattern, re.MULTILINE)
 
 
 def file_of(crate, module):
@@ -38,10 +32,10 @@ def declared(name, path):
     """The file that declares the constant that a name stands for in a file, with its type. There is none for a type parameter."""
     if not os.path.isfile(path):
         return None
-    types = dict(CONSTANT.findall(read(path)))
+    types = dict(CONSTANT.findall(code_of(path)))
     if name in types:
         return path, types[name]
-    for module, names, one in USE.findall(read(path)):
+    for module, names, one in USE.findall(code_of(path)):
         if name in re.split(r'\W+', names or one):
             first, *rest = module[:-2].split('::')
             return declared(name, file_of(path.split('/')[1] if first == 'crate' else first, rest))
@@ -50,19 +44,15 @@ def declared(name, path):
 
 def clauses(path):
     """Each clause of a file, with the name of its function, and whether that is public or of a trait."""
-    text, function, public, of_trait = read(path), '', False, False
-    for part in PART.finditer(text):
+    code, function, public, of_trait = code_of(path), '', False, False
+    for part in PART.finditer(code):
         if part['function']:
             function, public = part['function'], bool(part['public']) or of_trait
         elif part['block'] or part[0] == '}':
             function, of_trait = '', bool(part['block']) and (part['block'] != 'impl' or ' for ' in part['head'])
             public = of_trait
         else:
-            end, depth = part.end(), 1
-            while depth:
-                depth += {'{': 1, '}': -1}.get(text[end], 0)
-                end += 1
-            yield text[part.end():end - 1], function, public
+            yield code[part.end():closing(code, part.end() - 1)], function, public
 
 
 def pinned_by(clause, unfit):
@@ -78,9 +68,9 @@ def promised(crates):
     a file that cites it; those that laws pin; and what could not be read."""
     cited, pinned, unfit, wrong = {}, set(), set(), []
     for path in tracked(*(f'crates/{crate}/specs/*.antt' for crate in crates)):
-        for owner, module, names in IMPORT.findall(read(path)):
+        for owner, module, names in IMPORT.findall(text_of(path)):
             wrong += [] if names else [f'{path} imports constants of {owner} without a list of their names']
-            unfit.update(DEFINED.findall(read(path)))
+            unfit.update(DEFINED.findall(text_of(path)))
             for name in re.findall(r'\w+', names):
                 cited.setdefault((declared(name, file_of(owner, module.split('.'))), name), path)
     for path in tracked(*(f'crates/{crate}/src/*.rt' for crate in crates)):

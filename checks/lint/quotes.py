@@ -8,36 +8,29 @@ import os
 import re
 
 from crates import text_of, tracked
+from rattle import clauses, code_of
 
-MARK = re.compile(r'^<!-- quoted: ', re.MULTILINE)
-QUOTATION = re.compile(r'^<!-- quoted: (.*) -->\n+```.*\n((?:.*\n)*?)```', re.MULTILINE)
-CLAUSE = re.compile(r'(?:^|[^a-z_])(?:(?:requires|ensures)(?: [a-z_0-9]+)?|ghost [a-z_]+(?: =|:)) {')
-UNREAD = re.compile(r'"(?:[^"\\]|\\.)*"|//.*')
+# The file of a quotation, and its block, if that is closed.
+QUOTATION = re.compile(r'^<!-- quoted: (.*?)(?: -->(?:\n+```.*\n((?:.*\n)*?)```)?|$)', re.MULTILINE)
 
 
-def open_clauses(path, lines):
-    """Before which lines of code a clause is open, and at last whether one is open after them."""
-    depth = 0
-    yield False
-    for line in lines:
-        code = UNREAD.sub('', line) if path.endswith('.rt') else ''
-        clause = CLAUSE.search(code)
-        if depth or clause:
-            code = code if depth else code[clause.start():]
-            depth += code.count('{') - code.count('}')
-        yield depth > 0
+def inside_clauses(path):
+    """The lines of a file, counted from 0, before which a clause is open."""
+    code = code_of(path) if path.endswith('.rt') else ''
+    return {line for start, end in clauses(code).items() for line in range(code.count('\n', 0, start) + 1, code.count('\n', 0, end) + 1)}
 
 
 def faults_in(source, body):
     """What is wrong with a quotation: of each part that doesn't stand in its source, the first line that differs."""
+    if body is None:
+        return ['no closed code block follows']
     parts = [[line.strip() for line in part.split('\n')] for part in re.split(r'\n\s*\n', body.strip('\n')) if part.strip()]
     if not os.path.isfile(source) or not parts:
         return ['it is empty, or there is no such file']
-    lines, start, wrong = text_of(source).split('\n'), 0, []
-    is_open, lines = list(open_clauses(source, lines)), [line.strip() for line in lines]
+    lines, inside, start, wrong = [line.strip() for line in text_of(source).split('\n')], inside_clauses(source), 0, []
     for part in parts:
         begins = lambda count: [at for at in range(start, len(lines)) if lines[at:at + count] == part[:count]]
-        whole = [at + len(part) for at in begins(len(part)) if not is_open[at] and not is_open[at + len(part)]]
+        whole = [at + len(part) for at in begins(len(part)) if not {at, at + len(part)} & inside]
         if whole:
             start = whole[0]
         else:
@@ -52,10 +45,8 @@ def faults():
         text = text_of(page)
         if page.endswith('.rt'):
             text = re.sub(r'^ *(?:/// ?|(?!///).*)', '', text, flags=re.MULTILINE)
-        quotations = {found.start(): found.groups() for found in QUOTATION.finditer(text)}
-        for mark in MARK.finditer(text):
+        for found in QUOTATION.finditer(text):
             count += 1
-            found, line = quotations.get(mark.start()), text.count('\n', 0, mark.start()) + 1
-            wrong += [f'{page}:{line}: quoted from {found[0]}: {why}' for why in faults_in(*found)] if found \
-                else [f'{page}:{line}: no closed code block follows']
+            line = text.count('\n', 0, found.start()) + 1
+            wrong += [f'{page}:{line}: quoted from {found[1]}: {why}' for why in faults_in(*found.groups())]
     return f'{count} quotations', wrong if count else ['no quotation was found']

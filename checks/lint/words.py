@@ -2,6 +2,7 @@
 import re
 
 from crates import text_of, tracked
+from rattle import blank
 
 # A regular expression for each private word, and what to say instead. A space stands for any white space.
 WORDS = {
@@ -31,7 +32,7 @@ UNREAD = re.compile(r'^ *```.*?^ *```|`[^`\n]*`|^[ \t]*(?:///?!?|--|\*|#)', re.D
 def faults():
     wrong, paths = [], tracked(':!checks/lint/words.py', ':!LICENSE', ':!*.png')
     for path in paths:
-        text = UNREAD.sub(lambda found: re.sub(r'[^\n]', ' ', found[0]), text_of(path))
+        text = UNREAD.sub(blank, text_of(path))
         for found in ANY.finditer(text):
             line = text.count('\n', 0, found.start()) + 1
             wrong.append(f'{path}:{line}: "{" ".join(found[0].split())}": say {list(WORDS.values())[found.lastindex - 1]}')
