@@ -79,23 +79,22 @@ def take(crate, source, to, parts=('incremental', 'rlib')):
             shutil.copytree(f'{source}/crates/{crate}/out/{part}', f'{to}/crates/{crate}/out/{part}', copy_function=link)
 
 
-def alone(crate, source, room):
-    """Copies the crates for one crate, with what its checks have cached and the libraries below it as they were proved, and returns its
+def alone(crate, room):
+    """Copies the crates here for one crate, with what its checks have cached and the libraries below it as they were proved, and returns its
     folder there. The toolchain lets one check at a time into a crate's folder and those below it, so each proof has folders of its own."""
-    ignored = shutil.ignore_patterns('target', 'out')
-    shutil.copytree(f'{source}/crates', f'{room}/crates', ignore=ignored, symlinks=True)
+    shutil.copytree('crates', f'{room}/crates', ignore=shutil.ignore_patterns('target', 'out'), symlinks=True)
     for name in ('HANDLES', 'crates.txt'):
-        shutil.copy(f'{source}/{name}', room)
+        shutil.copy(name, room)
     for name in crates_listed()[crate]:
-        take(name, source, room, ['rlib'])
-    take(crate, source, room)
+        take(name, '.', room, ['rlib'])
+    take(crate, '.', room)
     return f'{room}/crates/{crate}'
 
 
 def prove(crate):
     """Proves a crate over those below it that are proved here."""
     with tempfile.TemporaryDirectory(prefix='proof-', dir='..') as room:
-        folder = alone(crate, '.', room)
+        folder = alone(crate, room)
         status = subprocess.run(['sh', os.path.abspath('checks/prove.sh'), crate], cwd=room).returncode
         if not status:
             shutil.rmtree(f'crates/{crate}/out', ignore_errors=True)
@@ -120,7 +119,7 @@ def proofs(crates, copy, after=()):
 
 def edits(crates, copy, *words, what='edits'):
     """The edits of these crates. (Those of the highest crates, which are proved last, take longest.)"""
-    return [Part(f'{what} of {crate}', [PYTHON, 'checks/edits', '--over', copy, *words, crate], (f'proof of {crate}',), copy, weight=3)
+    return [Part(f'{what} of {crate}', [PYTHON, 'checks/edits', *words, crate], (f'proof of {crate}',), copy, weight=3)
             for crate in reversed(crates)]
 
 

@@ -1,12 +1,11 @@
 #!/usr/bin/env python3
 """Whether the prover refuses each wrong body that crates/NAME/edits/ and must-fail/ plant, and accepts each right one of controls/.
 
-    python3 checks/edits --over FOLDER CRATE ..   tries those of some crates, which checks/prove.sh has proved in a copy of the
-                                                  repository, FOLDER
-    python3 checks/edits --fits                   only whether each fits the code, and each of must-fail/ has its control: nothing is proved
+    python3 checks/edits CRATE ..   tries those of some crates, in a copy of the repository in which checks/prove.sh has proved them
+    python3 checks/edits --fits     only whether each fits the code, and each of must-fail/ has its control: nothing is proved
 
 `--kinds must-fail,controls` tries those alone, `--edit NAME` the one of that name, and `--from FOLDER` those of FOLDER/CRATE/ in place of
-the crates' own. They are planted in copies. Run from the repository's root; checks/gate.py proves the crates and runs this.
+the crates' own. They are planted in copies. Run from the root of the repository, or of the copy; checks/gate.py proves the crates and runs this.
 """
 import argparse
 import os
@@ -58,10 +57,10 @@ def try_crate(crate, options):
     """Tries the edits of a crate, says what came of each, and returns how many are at fault."""
     start, (edits, wrong) = time.time(), read_edits(crate, options)
     if not wrong:
-        said = Said(text_of(f'{options.over}/crates/{crate}/out/said'), crate)
+        said = Said(text_of(f'crates/{crate}/out/said'), crate)
         # (beside the proved copy, whose files are linked)
-        with tempfile.TemporaryDirectory(prefix='edits-', dir=os.path.dirname(options.over)) as room:
-            trial = Trial(crate, alone(crate, options.over, room), edits, said)
+        with tempfile.TemporaryDirectory(prefix='edits-', dir='..') as room:
+            trial = Trial(crate, alone(crate, room), edits, said)
             trial.run()
         wrong = trial.wrong if trial.ways or trial.wrong else [f'{crate}: no edit was tried']
         ways = ', '.join(f'{count} {way}' for way, count in trial.ways.items())
@@ -75,7 +74,6 @@ def try_crate(crate, options):
 def main():
     parser = argparse.ArgumentParser(prog='python3 checks/edits', description=__doc__.split('\n')[0])
     parser.add_argument('crates', nargs='*')
-    parser.add_argument('--over')
     parser.add_argument('--kinds', default=','.join(KINDS))
     parser.add_argument('--edit')
     parser.add_argument('--from', dest='folder')
@@ -83,9 +81,8 @@ def main():
     options = parser.parse_args()
     if options.fits:
         return fits(options)
-    if not options.over or not options.crates:
-        parser.error('it takes --fits, or --over FOLDER and crates that are proved there; make edits [CRATES=..] proves them first')
-    options.over = os.path.abspath(options.over)
+    if not options.crates or not all(os.path.isfile(f'crates/{crate}/out/said') for crate in options.crates):
+        parser.error('it takes --fits, or crates that are proved in this folder; make edits [CRATES=..] proves them first')
     return 1 if sum(try_crate(crate, options) for crate in options.crates) else 0
 
 

@@ -140,7 +140,7 @@ def main():
             write(f'{room}/crates/planted/{path}', text)
         run = lambda *command: subprocess.run(command, cwd=room, stdout=subprocess.PIPE, stderr=subprocess.STDOUT, text=True)
         proved = run('sh', f'{os.path.dirname(script)}/prove.sh', 'planted')
-        tried = run(sys.executable, script, '--over', room, 'planted')
+        tried = run(sys.executable, script, 'planted')
         for name, (old, new) in MISFITS.items():
             write(f'{room}/crates/planted/{name}.edit', f'file: src/lib.rt\nold: {old}\nnew: {new}\n')
         fits = run(sys.executable, script, '--fits')
