@@ -52,13 +52,13 @@ def main():
             print(f'checking {crate} ({number} of {len(crates)})', flush=True)
             said, seconds = check(crate, f'{room}/crates/{crate}')
             # (but for those that only wait for others)
-            found = [path for path, own in said.functions.items() if not own.is_proved() and (own.refused or not own.waits)] + said.others
+            found = [path for path, own in said.functions.items() if not own.is_proved and (own.refused or not own.waits)] + said.others
             print(f'{crate}: {len(found)} of {len(said.functions)} functions are not proved at half the limits')
             for path in found:
                 print(f'  not proved: {path}')
             for path in sorted(seconds, key=seconds.get, reverse=True)[:SLOWEST]:
                 print(f'  {seconds[path]:.1f} seconds: {path}')
-            if not said.is_proved():
+            if not said.is_proved:
                 failed += 1
                 print(f'{"" if found else said.text[-2000:]}{crate}: NOT PROVED at half the limits', flush=True)
     print(f'margin: {failed} of {len(crates)} crates are not proved at half the limits')

@@ -12,34 +12,22 @@ import os
 import sys
 import tempfile
 import time
+from pathlib import Path
 
 HERE = os.path.dirname(os.path.abspath(__file__))
 sys.dont_write_bytecode = True
 sys.path[:0] = [HERE, os.path.dirname(HERE)]
 from crates import crates_listed, text_of
-from edit import CONTROLS, EDITS, MUST_FAIL, edits_of
+from edit import CONTROLS, EDITS, MUST_FAIL, read_edits
 from gate import alone
 from trial import Trial
 from verdict import Said
-
-KINDS = (EDITS, MUST_FAIL, CONTROLS)
-
-
-def read_edits(crate, options):
-    """The edits of a crate that are asked for, and why others fit no code."""
-    folders = {EDITS: f'{options.folder}/{crate}'} if options.folder else {kind: f'crates/{crate}/{kind}' for kind in options.kinds.split(',')}
-    edits, misfits = [], []
-    for kind, folder in folders.items():
-        found, wrong = edits_of(folder, kind, crate, f'crates/{crate}')
-        edits += [edit for edit in found if options.edit in (None, edit.name.split('/')[1])]
-        misfits += wrong
-    return edits, misfits
 
 
 def without_pair(crate):
     """The edits of must-fail/ without a control, and the controls without such an edit. A search that finds no proof of a wrong body shows
     little if it finds none of a right one in the same form either."""
-    names = [set(os.listdir(folder) if os.path.isdir(folder) else []) for folder in (f'crates/{crate}/{MUST_FAIL}', f'crates/{crate}/{CONTROLS}')]
+    names = [{path.name for path in Path(f'crates/{crate}/{kind}').glob('*')} for kind in (MUST_FAIL, CONTROLS)]
     return [f'{crate}/{name}: it stands in one of {MUST_FAIL}/ and {CONTROLS}/, and not in both' for name in sorted(names[0] ^ names[1])]
 
 
@@ -74,7 +62,7 @@ def try_crate(crate, options):
 def main():
     parser = argparse.ArgumentParser(prog='python3 checks/edits', description=__doc__.split('\n')[0])
     parser.add_argument('crates', nargs='*')
-    parser.add_argument('--kinds', default=','.join(KINDS))
+    parser.add_argument('--kinds', default=f'{EDITS},{MUST_FAIL},{CONTROLS}')
     parser.add_argument('--edit')
     parser.add_argument('--from', dest='folder')
     parser.add_argument('--fits', action='store_true')

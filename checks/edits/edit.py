@@ -5,22 +5,16 @@ and 'new: TEXT'. Each old text occurs exactly once in that file as it is committ
 """
 import os
 import re
+from collections import namedtuple
 from dataclasses import dataclass, replace
+from pathlib import Path
 
 from crates import text_of
+from rattle import clauses, closing, code_of
 
 
 class Misfit(Exception):
-    """An edit that can't be applied, and why."""
-
-
-@dataclass(frozen=True)
-class Change:
-    """One text of a file that is replaced."""
-    file: str
-    start: int
-    old: str
-    new: str
+    """Why an edit can't be applied."""
 
 
 # Where a change stands: in a function's body, in its head, in a list of constants that a module passes on, or elsewhere.
@@ -30,77 +24,74 @@ LAW = 'constants'
 # The folders of a crate that hold edits: wrong bodies; those that break a promise outright; and for each of these a right body.
 EDITS, MUST_FAIL, CONTROLS = 'edits', 'must-fail', 'controls'
 
-
-@dataclass(frozen=True)
-class Place:
-    """Where a change stands, the function that is to be refused for it, or that it writes elsewhere, if there is one, and the module that a
-    list is taken from."""
-    kind: str
-    function: tuple = None
-    source: str = ''
+# One text of a file that is replaced: where it starts, its place, the function that is to be refused for it, or that it writes elsewhere, if
+# there is one, and the module that a list is taken from.
+Change = namedtuple('Change', 'file start old new place function source', defaults=(ELSEWHERE, None, ''))
 
 
 @dataclass(frozen=True)
 class Edit:
-    """A wrong body, or another wrong text, or a right one: its folder and name, its changes, and where they stand."""
+    """A wrong body, or another wrong text, or a right one: its folder and name, its changes, and the functions by which it is judged."""
     kind: str
     name: str
     changes: tuple
-    places: tuple
+    functions: frozenset = frozenset()
 
-    def refused_by(self, function):
-        """How a check refuses a function for this edit, if it does. What must fail leaves a goal open, of a clause or at values."""
-        return function.refused if function and (function.open or self.kind != MUST_FAIL) else ''
-
-    def stands_in(self, *kinds):
-        return all(place.kind in kinds for place in self.places)
+    def stands_in(self, *places):
+        return all(change.place in places for change in self.changes)
 
     def among(self, known):
-        """The edit as it is judged where the prover names these functions: by the law of a list's module, unless it has none, or
-        the list is taken from a module with a law of its own, whose lists may be edited too."""
-        has_law = lambda place: law_among(place.function[0], known) and not law_among(place.source, known)
-        places = (Place(ELSEWHERE) if place.kind == LIST and not has_law(place) else place for place in self.places)
-        return replace(self, places=tuple(places))
+        """The edit with its functions among those that the prover names, or None if it doesn't name one of them. A list is judged by the law of
+        its module, unless it has none, or the list is taken from a module with a law of its own, whose lists may be edited too."""
+        has_law = lambda change: law_among(change.function[0], known) and not law_among(change.source, known)
+        changes = tuple(change._replace(place=ELSEWHERE, function=None) if change.place == LIST and not has_law(change) else change
+                        for change in self.changes)
+        paths = {change: path_among(change.function, known) for change in changes if change.function}
+        # (what it writes elsewhere may be new)
+        is_named = all(path or change.place == ELSEWHERE for change, path in paths.items())
+        return replace(self, changes=changes, functions=frozenset(paths.values()) - {None}) if is_named else None
 
 
-def edits_of(folder, kind, crate, source):
-    """The edits in a folder, by name, of the crate whose files stand in `source`, and what is wrong with those that don't fit."""
+def read_edits(crate, options):
+    """The edits of a crate that are asked for, by name, and what is wrong with those that don't fit."""
+    folders = {EDITS: f'{options.folder}/{crate}'} if options.folder else {kind: f'crates/{crate}/{kind}' for kind in options.kinds.split(',')}
     edits, misfits = [], []
-    for file in sorted(os.listdir(folder) if os.path.isdir(folder) else []):
-        try:
-            name, is_edit, rest = file.rpartition('.edit')
-            if not is_edit or rest:
-                raise Misfit(f'{crate}/{kind}/{file}: it is no edit')
-            edits.append(read_edit(f'{folder}/{file}', kind, f'{kind}/{name}', crate, source))
-        except Misfit as misfit:
-            misfits.append(str(misfit))
+    for kind, folder in folders.items():
+        for path in sorted(Path(folder).glob(f'{options.edit}.edit' if options.edit else '*')):
+            try:
+                edits.append(read_edit(path, kind, crate))
+            except Misfit as misfit:
+                misfits.append(f'{crate}/{kind}/{path.name}: {misfit}')
     return edits, misfits
 
 
-def read_edit(path, kind, name, crate, source):
-    changes, file, old = [], None, None
-    for line in text_of(path).split('\n'):
-        if line.startswith('file: '):
-            file = line[len('file: '):].strip()
-        elif line.startswith('old: '):
-            old = line[len('old: '):]
-        elif line.startswith('new:'):
-            if not file or not old:
-                raise Misfit(f'{crate}/{name}: a new text without a file or an old one')
-            changes.append(Change(file, start_of(old, f'{source}/{file}', f'{crate}/{name}'), old, line[len('new: '):]))
-            old = None
-    wrong = 'an old text without a new one, or no pair at all' if not changes or old else ''
-    if wrong := wrong or kind == CONTROLS and any(map(is_idle, changes)) and 'a condition of it, or a part of one, is constant':
-        raise Misfit(f'{crate}/{name}: {wrong}')
-    return Edit(kind, name, tuple(changes), tuple(place_in(crate, source, change) for change in changes))
+def read_edit(path, kind, crate):
+    if path.suffix != '.edit':
+        raise Misfit('it is no edit')
+    changes, file, old = [], '', ''
+    for key, text in re.findall('^(file|old|new): ?(.*)', text_of(path), re.MULTILINE):
+        if key == 'file':
+            file = text.strip()
+        elif key == 'old':
+            old = text
+        elif not file or not old:
+            raise Misfit('a new text without a file or an old one')
+        else:
+            changes.append(placed(crate, Change(file, start_of(old, f'crates/{crate}/{file}'), old, text)))
+            old = ''
+    if not changes or old:
+        raise Misfit('an old text without a new one, or no pair at all')
+    if kind == CONTROLS and any(map(is_idle, changes)):
+        raise Misfit('a condition of it, or a part of one, is constant')
+    return Edit(kind, f'{kind}/{path.stem}', tuple(changes))
 
 
-def start_of(old, path, label):
+def start_of(old, path):
     if not os.path.isfile(path):
-        raise Misfit(f'{label}: there is no file {path}')
+        raise Misfit(f'there is no file {path}')
     text = text_of(path)
     if text.count(old) != 1:
-        raise Misfit(f'{label}: {text.count(old)} times in {path}, and not once: {old}')
+        raise Misfit(f'{text.count(old)} times in {path}, and not once: {old}')
     return text.index(old)
 
 
@@ -113,14 +104,9 @@ def apply(edits, source):
     return texts
 
 
-# What is blanked before a file is read for its functions: comments, texts and characters.
-UNREAD = re.compile(r'//[^\n]*|/\*.*?\*/|b?"(?:\\.|[^"\\])*"|b?\'(?:\\[^\']+|[^\'\\])\'', re.S)
 FUNCTION = re.compile(r'\bfn\s+(\w+)')
 BLOCK = re.compile(r'^[ \t]*(?:pub\s+)?(impl|trait|mod)\b([^{;]*)\{', re.M)
 PASSED_ON = re.compile(r'^pub use ((?:\w+::)+)(\{[^}]*\});', re.M)
-CLAUSE = re.compile(r'\b(?:requires|ensures|ghost)\b[^{]*$')
-
-
 # A condition, and what a part of one names unless it is constant.
 CONDITION = re.compile(r'\b(?:if|while) (?!let\b)([^{]*)\{')
 NAMED = re.compile(r'\b(?!(?:true|false|as|[ui]\d+|[ui]size)\b)[a-z]\w*')
@@ -131,58 +117,39 @@ def is_idle(change):
     return any(not NAMED.search(part) for condition in CONDITION.findall(change.new) for part in re.split(r'&&|\|\|', condition))
 
 
-def place_in(crate, source, change):
-    """The place of a change: the innermost function round it, or the list that a module passes on, or the function that it writes."""
+def placed(crate, change):
+    """A change with its place: the innermost function round it, or the list that a module passes on, or the function that it writes."""
     if not re.fullmatch(r'src/.*\.rt', change.file):
-        return Place(ELSEWHERE)
-    text = UNREAD.sub(lambda found: re.sub(r'[^\n]', ' ', found[0]), text_of(f'{source}/{change.file}'))
-    module, end = module_of(crate, change.file), change.start + len(change.old)
-    inside, kind = None, ELSEWHERE
-    for found in FUNCTION.finditer(text):
-        start, stop = body_of(text, found.end())
+        return change
+    code, module, end = code_of(f'crates/{crate}/{change.file}'), module_of(crate, change.file), change.start + len(change.old)
+    inside, place = None, ELSEWHERE
+    for found in FUNCTION.finditer(code):
+        start, stop = body_of(code, found.end())
         if found.start() < end and change.start < stop:
-            inside, kind = found, BODY if start < change.start and end <= stop else HEAD
+            inside, place = found, BODY if start < change.start and end <= stop else HEAD
     if inside:
-        return Place(kind, (module, block_at(text, inside.start()), inside[1]))
-    for found in PASSED_ON.finditer(text):
+        return change._replace(place=place, function=(module, block_at(code, inside.start()), inside[1]))
+    for found in PASSED_ON.finditer(code):
         if found.start(2) <= change.start and end <= found.end():
-            return Place(LIST, (module, '', LAW), found[1][:-len('::')].replace('crate', crate, 1))
+            return change._replace(place=LIST, function=(module, '', LAW), source=found[1][:-len('::')].replace('crate', crate, 1))
     written = FUNCTION.search(change.new)
-    return Place(ELSEWHERE, (module, block_at(text, change.start), written[1]) if written else None)
+    return change._replace(function=(module, block_at(code, change.start), written[1])) if written else change
 
 
-def body_of(text, at):
+def body_of(code, at):
     """Returns where the body of the function begins and ends whose name ends at `at`. The range is empty if it has no body."""
-    head, depth = at, 0
-    while at < len(text):
-        sign = text[at]
-        if sign == ';' and depth == 0:
-            return at, at
-        if sign == '{' and depth == 0:
-            end = closing(text, at)
-            if not CLAUSE.search(text[head:at]):
-                return at, end
-            at = head = end
-        depth += (sign in '([') - (sign in ')]')
-        at += 1
-    return at, at
+    passed, depth = clauses(code), 0
+    while at < len(code) and (depth or code[at] not in '{;' or at in passed):
+        depth += (code[at] in '([') - (code[at] in ')]')
+        at = passed.get(at, at) + 1
+    return at, closing(code, at)
 
 
-def closing(text, at):
-    """Where the brace closes that opens at a place."""
-    depth = 0
-    for place in range(at, len(text)):
-        depth += (text[place] == '{') - (text[place] == '}')
-        if depth == 0:
-            return place
-    return len(text)
-
-
-def block_at(text, at):
+def block_at(code, at):
     """The head of the innermost impl or trait round a place, or nothing."""
     head = ''
-    for found in BLOCK.finditer(text):
-        if found.end() <= at < closing(text, found.end() - 1):
+    for found in BLOCK.finditer(code):
+        if found.end() <= at < closing(code, found.end() - 1):
             head = f'{found[1]}{found[2]}'.strip()
     return head
 

@@ -109,12 +109,12 @@ PLANTED = {
 
 # An edit of must-fail/ that doesn't fit the code and has no control, a control that never runs, and what is to be said of them.
 MISFITS = {'must-fail/stands_nowhere': ('    x + 9', '    x'), 'controls/adds_two': ('    x + 1', '    if x < 9 && 0 > 1 { return x; } x + 1')}
-MISFIT = ['planted/must-fail/stands_nowhere: 0 times in ', 'planted/stands_nowhere.edit: it stands in one of must-fail/ and controls/',
-          'planted/controls/adds_two: a condition of it, or a part of one, is constant']
+MISFIT = ['planted/must-fail/stands_nowhere.edit: 0 times in ', 'planted/stands_nowhere.edit: it stands in one of must-fail/ and controls/',
+          'planted/controls/adds_two.edit: a condition of it, or a part of one, is constant']
 
 # Lines of the prover, and what each says is open of a function.
 OPEN = {
-    'note: src/lib.rt:7:1: it is not proved that this holds (`returns-clause-one`); the facts known there allow': 'values',
+    'note: src/lib.rt:7:1: it is not proved that this holds (`returns-clause-one`); the facts known there allow': 'with values',
     'note: src/lib.rt:7:1: it is not proved that this holds (`returns-then-x-clause-one`)': 'goal',
     'note: src/lib.rt:7:1: it is not proved that this holds (`returns`)': 'goal',
     './proofs/third/Answers.antt:5:1: error: `returns`: `omega`: the goal does not follow from what it read': 'goal',

@@ -11,12 +11,11 @@ Each check goes by what the crate's own proof left, so that none proves anew wha
 import os
 import shutil
 import subprocess
-from collections import Counter
+from collections import Counter, defaultdict
 
 from crates import text_of
-from edit import BODY, CONTROLS, ELSEWHERE, HEAD, LIST, MUST_FAIL, apply, path_among
-from verdict import ANSWER_WORD, Said
-
+from edit import BODY, CONTROLS, HEAD, LIST, MUST_FAIL, apply
+from verdict import Said
 
 # From this status on a check was killed; what comes of a right body.
 KILLED, ACCEPTED = 128, 'accepted'
@@ -27,7 +26,7 @@ class Trial:
 
     def __init__(self, crate, folder, edits, before):
         self.crate, self.folder, self.edits, self.before = crate, folder, edits, before
-        self.ways, self.wrong, self.checks, self.waits, self.functions = Counter(), [], 0, {}, {}
+        self.ways, self.wrong, self.checks, self.waits = Counter(), [], 0, defaultdict(set)
         self.cached, self.proved = f'{folder}/out/incremental', f'{folder}/out/proved'
 
     def run(self):
@@ -35,45 +34,35 @@ class Trial:
         os.rename(self.cached, self.proved)
         # a library whose proof was cached reports nothing about its functions
         before = self.before if self.before.functions else self.check([])
-        if not before.is_proved():
+        if not before.is_proved:
             self.wrong.append(f'{self.crate}: the crate is not proved without edits\n{before.text[-2000:]}')
             return
-        known = [edit.among(before.functions) for edit in self.edits]
-        edits = [edit for edit in known if self.place(edit, before)]
+        known = {edit: edit.among(before.functions) for edit in self.edits}
+        for edit in [edit for edit in known if not known[edit]]:
+            self.report_wrong(edit, 'the prover names no function of this name')
+        edits = [edit for edit in known.values() if edit]
         for kind in (BODY, LIST):
             pending = [edit for edit in edits if edit.stands_in(kind)]
             while pending:
-                pending = self.try_group(self.next_group(pending), pending)
+                pending = self.try_group(pending)
         for edit in edits:
             if not edit.stands_in(BODY) and not edit.stands_in(LIST):
                 self.try_alone(edit)
-
-    def place(self, edit, said):
-        """Finds the functions of an edit among those that the prover names."""
-        paths = {place: path_among(place.function, said.functions) for place in edit.places if place.function}
-        self.functions[edit.name] = frozenset(paths.values()) - {None}
-        # (what it writes elsewhere may be new)
-        is_named = all(path or place.kind == ELSEWHERE for place, path in paths.items())
-        if not is_named:
-            self.report_wrong(edit, 'the prover names no function of this name')
-        return is_named
 
     def check(self, edits):
         """What the prover says of the crate with these edits. A check that is killed, as where memory is short, is made once more."""
         texts = apply(edits, self.folder)
         before = {path: text_of(f'{self.folder}/{path}') for path in texts}
-        try:
-            self.write(texts)
-            for _ in range(2):
-                # (what the crate's own proof left, in place of what the last check did; no check writes into a file that is there)
-                shutil.rmtree(self.cached, ignore_errors=True)
-                shutil.copytree(self.proved, self.cached, copy_function=os.link)
-                command = ['rt', 'check', '--jobs', '1']
-                ran = subprocess.run(command, cwd=self.folder, stdin=subprocess.DEVNULL, capture_output=True, text=True, errors='replace')
-                if ran.returncode < KILLED:
-                    break
-        finally:
-            self.write(before)
+        self.write(texts)
+        for _ in range(2):
+            # (what the crate's own proof left, in place of what the last check did; no check writes into a file that is there)
+            shutil.rmtree(self.cached, ignore_errors=True)
+            shutil.copytree(self.proved, self.cached, copy_function=os.link)
+            command = ['rt', 'check', '--jobs', '1']
+            ran = subprocess.run(command, cwd=self.folder, stdin=subprocess.DEVNULL, capture_output=True, text=True, errors='replace')
+            if ran.returncode < KILLED:
+                break
+        self.write(before)
         self.checks += 1
         return Said(ran.stdout + ran.stderr, self.crate)
 
@@ -86,9 +75,8 @@ class Trial:
         """As many edits as change different functions, none of which is known to wait for another one of them."""
         group, taken = [], set()
         for edit in pending:
-            own = self.functions[edit.name]
-            awaited = self.awaited(own)
-            if not own & taken and not awaited & taken and not own & self.awaited(taken):
+            own = edit.functions
+            if not (own | self.awaited(own)) & taken and not own & self.awaited(taken):
                 group.append(edit)
                 taken |= own
         return group
@@ -97,68 +85,71 @@ class Trial:
         """All that these functions were seen to wait for."""
         found, left = set(), list(paths)
         while left:
-            more = self.waits.get(left.pop(), frozenset()) - found
+            more = self.waits[left.pop()] - found
             found |= more
             left += more
         return found
 
-    def try_group(self, group, pending):
-        """Judges the edits of a group, and returns those that are still to be judged."""
-        said = self.check(group) if len(group) > 1 else None
-        # where they can't be read together, or none could be judged, the first is tried alone
-        if not said or not said.is_whole():
-            self.try_alone(group[0])
-            return [edit for edit in pending if edit is not group[0]]
+    def try_group(self, pending):
+        """Judges as many edits as can be judged together, or the first one alone, and returns those that are still to be judged."""
+        group = self.next_group(pending)
+        said = self.check(group) if len(group) > 1 else Said('', self.crate)
         for path, function in said.functions.items():
-            self.waits[path] = self.waits.get(path, frozenset()) | function.waits
-        judged = [edit for edit in group if self.judge(edit, said)]
-        return [edit for edit in pending if edit not in judged] if judged else self.try_group(group[:1], pending)
+            self.waits[path] |= function.waits
+        judged = [edit for edit in group if said.is_whole and self.judge(edit, said)]
+        if not judged:
+            judged = group[:1]
+            self.try_alone(*judged)
+        return [edit for edit in pending if edit not in judged]
 
     def verdict(self, edit, said):
-        """How a check refuses each of an edit's functions that it refuses, and whether it proves all of them. It may not come to some."""
-        own = {path: said.functions.get(path) for path in sorted(self.functions[edit.name])}
-        refused = {path: edit.refused_by(function) for path, function in own.items() if edit.refused_by(function)}
-        return refused, bool(own) and all(function and function.is_proved() for function in own.values()), None not in own.values()
+        """Whether a check judges an edit as it should be, how it refuses each of the edit's functions that it refuses, and whether it proves
+        all of them."""
+        own = {path: said.functions.get(path) for path in sorted(edit.functions)}
+        # (what must fail leaves a goal open, of a clause or at values)
+        is_refused = lambda function: function and function.refused and (function.open or edit.kind != MUST_FAIL)
+        refused = {path: function.refused for path, function in own.items() if is_refused(function)}
+        is_proved = bool(own) and all(function and function.is_proved for function in own.values())
+        return is_proved if edit.kind == CONTROLS else bool(refused), refused, is_proved
 
     def judge(self, edit, said):
         """Reports what a check says of an edit's functions, if it judges them."""
-        refused, is_proved, is_whole = self.verdict(edit, said)
-        if not is_whole or not (refused or is_proved):
-            return False
-        if is_proved == (edit.kind == CONTROLS):
-            self.report_right(edit, next(iter(refused.values()), ''), self.functions[edit.name])
-        else:
+        is_right, refused, is_proved = self.verdict(edit, said)
+        if is_right:
+            self.report_right(edit, refused)
+        elif refused or is_proved:
             # alone it shows what the rest of the crate says of it
             self.try_alone(edit)
-        return True
+        return bool(refused) or is_proved
 
     def try_alone(self, edit):
         """Judges an edit by a check of its own."""
         said = self.check([edit])
-        own, is_proved, _ = self.verdict(edit, said)
-        refused = said.refused()
-        if not said.is_whole():
+        is_right, refused, is_proved = self.verdict(edit, said)
+        all_refused = said.refused()
+        if not said.is_whole:
             self.report_wrong(edit, 'the edited code is no valid Rattle, so no contract was tried')
-        elif edit.kind == CONTROLS and is_proved:
-            self.report_right(edit, '', self.functions[edit.name])
+        elif is_right:
+            self.report_right(edit, refused)
         elif edit.kind == CONTROLS:
             self.report_wrong(edit, f'its function is not proved with it\n{said.text[-2000:]}')
-        elif said.is_proved():
+        elif said.is_proved:
             self.report_wrong(edit, 'the crate is still proved with it')
-        elif own:
-            self.report_right(edit, next(iter(own.values())), list(own)[:1])
-        elif refused and edit.kind != MUST_FAIL and not edit.stands_in(BODY, HEAD, LIST):
+        elif all_refused and edit.kind != MUST_FAIL and not edit.stands_in(BODY, HEAD, LIST):
             # it changes a definition, a constant or a type: whatever cites it may refuse it
-            self.report_right(edit, said.functions[refused[0]].refused if refused[0] in said.functions else ANSWER_WORD, refused[:3])
+            self.report_right(edit, dict(list(all_refused.items())[:3]))
         elif is_proved:
-            others = f', though {refused[0]} is not' if refused else ''
+            others = f', though {next(iter(all_refused))} is not' if all_refused else ''
             self.report_wrong(edit, f'its own function is still proved with it{others}')
         else:
             self.report_wrong(edit, 'no goal of its own function is refused, but by names that the edit took away')
 
-    def report_right(self, edit, by, functions):
+    def report_right(self, edit, refused):
+        """Reports an edit that is judged as it should be: which functions are refused, and by what the first is, or none of a control."""
+        by = next(iter(refused.values()), '')
         self.ways[by or ACCEPTED] += 1
-        print(f'{self.crate}/{edit.name}: {f"refused {by}" if by else ACCEPTED}: {" and ".join(sorted(functions))}', flush=True)
+        functions = ' and '.join(refused or sorted(edit.functions))
+        print(f'{self.crate}/{edit.name}: {f"refused {by}" if by else ACCEPTED}: {functions}', flush=True)
 
     def report_wrong(self, edit, why):
         self.wrong.append(f'{self.crate}/{edit.name}: NOT {"ACCEPTED" if edit.kind == CONTROLS else "REFUSED"}: {why}')

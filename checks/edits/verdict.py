@@ -1,15 +1,15 @@
 """What a check says of each function. The prover's words stand here and nowhere else."""
 import re
-from dataclasses import dataclass, field
+from collections import namedtuple
 
-VERDICT = re.compile(r'(fn|impl|trait|struct|enum) (\S+): (.+)')
+VERDICT = re.compile(r'^(fn|impl|trait|struct|enum) (\S+): (.+)', re.M)
 PROVED = 'proved'
 NOT_PROVED = ('not proved', 'no proof')
 # what a function's own goal is refused by
 SEARCH = '`search` did not prove'
 VALUES = 'the facts known there allow'
 OPEN = re.compile(r'is not proved that .*\(`[^`]+`\)|error: `[^`]+`: `(?:search|omega|grind)`')
-ANSWER = re.compile(r'(?:\./)?(proofs/\S+?):\d+:\d+: error: (.*)')
+ANSWER = re.compile(r'^(?:\./)?(proofs/\S+?):\d+:\d+: error: (.*)', re.M)
 NAMES_ALONE = re.compile(r'has no field|is not in scope|has no `|was not admitted')
 # what it waits for
 WAITS = re.compile(r'it (?:calls|passes|waits for) .*')
@@ -17,78 +17,56 @@ END = re.compile(r'^logic=(proved|not-proved)', re.M)
 # that it ended with a function, whatever came of it
 CHECKED = re.compile(r'checked (\S+), \d+ of \d+')
 
-VALUES_WORD, SEARCH_WORD, ANSWER_WORD, VALUES_OPEN = 'with values', 'by search', 'by an answer', 'values'
+VALUES_WORD, SEARCH_WORD, ANSWER_WORD = 'with values', 'by search', 'by an answer'
+
+# What is said of a function: whether it is proved, how a goal of its own was refused, if one was, what it waits for, and what is open of it.
+Function = namedtuple('Function', 'is_proved refused waits open')
 
 
-@dataclass
-class Function:
-    """What is said of one: its verdict, how a goal of its own was refused, if one was, what it waits for, and what is open of it."""
-    verdict: str
-    refused: str = ''
-    waits: frozenset = frozenset()
-    open: str = ''
-
-    def is_proved(self):
-        # (a closure with a condition is `proved where its callers give what it asks`)
-        return self.verdict.startswith(PROVED)
-
-
-@dataclass
 class Said:
-    """What a check said: of each function, and of the lemmas and definitions that it refused."""
-    text: str
-    crate: str
-    functions: dict = field(default_factory=dict)
-    others: list = field(default_factory=list)
+    """What a check said: of each function, and of the lemmas and definitions that it refused; whether it came to the functions, and whether
+    the whole crate is proved."""
 
-    def __post_init__(self):
-        answers, lines = answers_refused(self.text, self.crate), []
-        for line in self.text.split('\n'):
-            found = VERDICT.fullmatch(line)
-            if not found:
-                lines.append(line)
-                continue
+    def __init__(self, text, crate):
+        self.text, self.functions, self.others = text, {}, []
+        answers, start = answers_refused(text, crate), 0
+        for found in VERDICT.finditer(text):
+            lines, start = text[start:found.start()].split('\n'), found.end()
             kind, path, verdict = found.groups()
+            waits = ''.join(WAITS.findall(verdict))
             if kind == 'fn':
                 answered = answers.pop(path, [])
                 open = open_of([*(line for line in lines if not ANSWER.match(line)), *answered])
-                by = VALUES_WORD if open == VALUES_OPEN else SEARCH_WORD if SEARCH in verdict else ANSWER_WORD if answered else ''
-                waits = frozenset(re.findall(r'`([\w:]+)`', WAITS.search(verdict)[0])) if WAITS.search(verdict) else frozenset()
-                by, open = (by, open) if verdict.startswith(NOT_PROVED) else ('', '')
-                self.functions[path] = Function(verdict, by, waits, open)
-            elif verdict != PROVED and not WAITS.search(verdict):
+                by = VALUES_WORD if open == VALUES_WORD else SEARCH_WORD if SEARCH in verdict else ANSWER_WORD if answered else ''
+                # (a closure with a condition is `proved where its callers give what it asks`)
+                is_proved, by = verdict.startswith(PROVED), by if verdict.startswith(NOT_PROVED) else ''
+                self.functions[path] = Function(is_proved, by, set(re.findall(r'`([\w:]+)`', waits)), open)
+            elif verdict != PROVED and not waits:
                 self.others.append(f'{kind} {path}')
-            lines = []
-        self.others += [path for path, own in answers.items() if own]
-
-    def is_whole(self):
-        """Whether the check came to the functions."""
-        return bool(END.search(self.text)) and bool(self.functions)
-
-    def is_proved(self):
-        """Whether the whole crate is proved."""
-        ended = END.search(self.text)
-        return bool(ended) and ended[1] == PROVED and all(function.is_proved() for function in self.functions.values())
+        self.others += answers
+        ends = END.findall(text)
+        self.is_whole = bool(ends and self.functions)
+        self.is_proved = ends[:1] == [PROVED] and all(function.is_proved for function in self.functions.values())
 
     def refused(self):
-        """The functions, and after them the lemmas and types, a goal of whose own was refused."""
-        return [path for path, function in self.functions.items() if function.refused] + self.others
+        """The functions, and after them the lemmas and types, a goal of whose own was refused, each with how."""
+        functions = {path: function.refused for path, function in self.functions.items() if function.refused}
+        return {**functions, **dict.fromkeys(self.others, ANSWER_WORD)}
 
 
 def answers_refused(text, crate):
     """Of each function, or else each file of lemmas, with an answer that was refused: its errors, without those of names alone that the
     edit took away."""
     found = {}
-    for line in text.split('\n'):
-        error = ANSWER.match(line)
-        if error:
-            parts = [part.lstrip('+') for part in error[1].split('/')[1:-1]]
-            path = '::'.join([crate, *parts]) if parts else error[1]
-            found.setdefault(path, []).extend([] if NAMES_ALONE.search(error[2]) else [line])
+    for error in ANSWER.finditer(text):
+        parts = [part.lstrip('+') for part in error[1].split('/')[1:-1]]
+        path = '::'.join([crate, *parts]) if parts else error[1]
+        if not NAMES_ALONE.search(error[2]):
+            found.setdefault(path, []).append(error[0])
     return found
 
 
 def open_of(lines):
-    """Returns what these lines leave open of a function: `values`, at which a goal of its is false; another `goal`; or nothing, as where only
-    an answer's type no longer fits."""
-    return VALUES_OPEN if any(VALUES in line for line in lines) else 'goal' if any(map(OPEN.search, lines)) else ''
+    """Returns what these lines leave open of a function: `with values`, at which a goal of its is false; another `goal`; or nothing, as where
+    only an answer's type no longer fits."""
+    return VALUES_WORD if any(VALUES in line for line in lines) else 'goal' if any(map(OPEN.search, lines)) else ''
