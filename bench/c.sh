@@ -13,7 +13,7 @@ trap 'exit 1' HUP INT TERM
 TARGET='' SHARED='' LIBDIR='' sh faces/install.sh "$folder/installed" > "$folder/output" || { cat "$folder/output"; exit 2; }
 cc -std=c99 -Wall -Wextra -pedantic -O2 -Ifaces/c -o "$folder/bench" faces/c/bench.c "$folder/installed/lib/libgoblin_c.a" -lelf
 mkdir "$folder/files"
-python3 checks/hostile.py "$folder/files"
+python3 checks/limits.py "$folder/files"
 if [ -z "${SHOWN:-}" ]; then
     for file in /usr/lib*/libLLVM*.so* /usr/lib/*/libLLVM*.so* /usr/lib*/libstdc++.so.6 /usr/lib/*/libstdc++.so.6; do
         if [ -f "$file" ]; then SHOWN=$file; break; fi

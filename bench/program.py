@@ -1,7 +1,7 @@
 #!/usr/bin/env python3
 """Times the built program beside readelf: python3 bench/program.py [FILE], from the repository's root.
 
-First over the files of checks/hostile.py and over FILE: for each the least of RUNS runs, strict and permissive, in milliseconds, and
+First over the files of checks/limits.py and over FILE: for each the least of RUNS runs, strict and permissive, in milliseconds, and
 readelf's time divided by the strict one. The programs run in turn. readelf is stopped after 10 seconds, and of a text without end the first
 100 MB are read. Then over 64 programs and libraries of this machine, spread evenly over their names: readelf's time divided by the
 program's, the least, the middle and the most. Both print the header, the sections, the symbols and the relocations. Then calls of the
@@ -77,7 +77,7 @@ def main(given):
         sys.exit(f'make bench: {SHOW} is not built. To build it: make show FILE=/bin/true')
     has_readelf = shutil.which('readelf') is not None
     with tempfile.TemporaryDirectory(prefix='bench-') as folder:
-        subprocess.run([sys.executable, 'checks/hostile.py', folder], check=True)
+        subprocess.run([sys.executable, 'checks/limits.py', folder], check=True)
         files = sorted(f'{folder}/{name}' for name in os.listdir(folder)) + given
         print(f'{len(files)} files, in milliseconds, the least of {RUNS} runs:\n{"file":<20} {"strict":>10} {"permissive":>10} {"readelf":>10} {"ratio":>8}')
         for path in files:
