@@ -14,6 +14,7 @@ import re
 import subprocess
 import sys
 import tempfile
+from pathlib import Path
 
 sys.dont_write_bytecode = True
 from crates import text_of
@@ -71,71 +72,57 @@ def relocation(table, index, offset, info, rest, is_wide, has_addends):
 
 def wanted_of(path):
     """What the program is to show of a file, by readelf's listing beside it."""
-    said, sections, symbols, relocations, table, tables = {}, [], {}, {}, None, {}
+    said, sections, tables, of_tables = {}, [], {}, {}
     for line in text_of(f'{path}.listed').partition('\n$ nm ')[0].split('\n'):
         if found := OF_TABLE.match(line):
-            table = next(tables[kind, found[2]] for kind in KINDS[found[1]] if (kind, found[2]) in tables)
+            index, kind = next(tables[kind, found[2]] for kind in KINDS[found[1]] if (kind, found[2]) in tables)
+            lines = of_tables.setdefault((kind in KINDS['Relocation section'], index), [])
         elif found := SECTION.match(line):
             tables[found[3], found[2]] = (int(found[1]), found[3])
             sections.append(section(*found.groups()))
         elif found := SYMBOL.match(line):
-            symbols.setdefault(table[0], []).append(symbol(table[0], table[1] == 'DYNSYM', *found.groups()))
+            lines.append(symbol(index, kind == 'DYNSYM', *found.groups()))
         elif found := RELOCATION.match(line):
-            lines = relocations.setdefault(table[0], [])
-            lines.append(relocation(table[0], len(lines), *found.groups(), said['Class'] == 'ELF64', table[1] == 'RELA'))
+            lines.append(relocation(index, len(lines), *found.groups(), said['Class'] == 'ELF64', kind == 'RELA'))
         elif found := HEADER.fullmatch(line):
             said.setdefault(found[1], found[2].strip())
-    of_tables = [line for lines in (symbols, relocations) for index in sorted(lines) for line in lines[index]]
-    return '\n'.join([header(said), *sections, *of_tables, ''])
+    return '\n'.join([header(said), *sections, *(line for key in sorted(of_tables) for line in of_tables[key]), ''])
 
 
-def differing(status, wanted, input, arguments=(), programs=PROGRAMS):
+def differing(status, wanted, input, arguments=(), programs=PROGRAMS, output=None):
     """Runs each build over an input. Prints where one ends or writes otherwise, and returns how many do."""
     wrong = 0
     for program in programs:
         file = os.open(input, os.O_RDONLY)
-        ran = subprocess.run([program, *arguments], stdin=file, stdout=subprocess.PIPE)
+        ran = subprocess.run([program, *arguments], stdin=file, stdout=output or subprocess.PIPE)
         os.close(file)
-        if (ran.returncode, ran.stdout) != (status, wanted):
+        to, written = f' > {output.name}' if output else '', ran.stdout or b''
+        if (ran.returncode, written) != (status, wanted):
             wrong += 1
-            print(f'program: {program} {" ".join(arguments)} < {input}: exit status {ran.returncode} (expected {status}). Its output:\n'
-                  f'{ran.stdout.decode()}\nExpected:\n{wanted.decode()}')
+            print(f'program: {program} {" ".join(arguments)} < {input}{to}: exit status {ran.returncode} (expected {status}). Its output:\n'
+                  f'{written.decode()}\nExpected:\n{wanted.decode()}')
     return wrong
 
 
-def words(folder):
-    """Tries the arguments, and inputs and outputs that fail: no argument means strict, `permissive` means permissive, and all others print the
-    usage. Returns how many runs there were, and how many were wrong."""
-    file, usage, strict = 'crates/goblin_show/stdin', b'usage: goblin_show [permissive]\n', ()
-    permissive, damaged = ('permissive',), f'{folder}/damaged'
-    with open(file, 'rb') as input, open('crates/goblin_show/stdout', 'rb') as output:
-        whole, shown = input.read(), output.read()
-    # (a byte in its string table that is not UTF-8)
-    with open(damaged, 'wb') as made:
-        made.write(whole[:53] + b'\xff' + whole[54:])
-    rows = [(0, shown, file, strict), (0, shown, file, permissive), (1, b'refused: bad input invalid utf8 (3)\n', damaged, strict),
-            (0, shown.replace(b'name=.s\n', b'name=\n'), damaged, permissive)]
-    rows += [(2, usage, file, arguments) for arguments in [('strict',), ('',), ('Permissive',), permissive * 2, ('permissive', '')]]
-    # (a folder can be opened, and each read of it fails)
-    rows += [(2, b'', folder, strict), (2, b'', folder, permissive)]
-    wrong = sum(differing(*row) for row in rows)
-    full = [f"{program} < '{input}' > /dev/full" for program in PROGRAMS for input in (file, damaged)]
-    for command in full:
-        if subprocess.run(command, shell=True).returncode != 2:
-            wrong += 1
-            print(f'program: {command}: the exit status is not 2')
-    return len(PROGRAMS) * len(rows) + len(full), wrong
-
-
 def main():
-    with tempfile.TemporaryDirectory(prefix='program-') as folder:
-        count, wrong = words(folder)
-    with open('checks/files/uses.shown', 'rb') as listed:
-        wrong += differing(0, listed.read(), 'checks/files/uses', programs=EXAMPLES)
+    usage, strict, permissive = b'usage: goblin_show [permissive]\n', (), ('permissive',)
+    file, shown = Path('crates/goblin_show/stdin'), Path('crates/goblin_show/stdout').read_bytes()
     texts = {path: wanted_of(path) for path in FILES}
+    with tempfile.TemporaryDirectory(prefix='program-') as folder, open('/dev/full', 'wb') as full:
+        # (a byte in its string table that is not UTF-8)
+        damaged = Path(folder, 'damaged')
+        damaged.write_bytes(file.read_bytes()[:53] + b'\xff' + file.read_bytes()[54:])
+        # No argument means strict, `permissive` means permissive, and all others print the usage.
+        rows = [(0, shown, file, strict), (0, shown, file, permissive), (1, b'refused: bad input invalid utf8 (3)\n', damaged, strict),
+                (0, shown.replace(b'name=.s\n', b'name=\n'), damaged, permissive)]
+        rows += [(2, usage, file, arguments) for arguments in [('strict',), ('',), ('Permissive',), permissive * 2, ('permissive', '')]]
+        # (a folder can be opened, and each read of it fails)
+        rows += [(2, b'', folder, strict), (2, b'', folder, permissive), *((2, b'', input, strict, PROGRAMS, full) for input in (file, damaged))]
+        examples = (0, Path('checks/files/uses.shown').read_bytes(), 'checks/files/uses', strict, EXAMPLES)
+        wrong = sum(differing(*row) for row in [*rows, examples, *((0, text.encode(), path) for path, text in texts.items())])
     lines = sum(text.count('\n') for text in texts.values())
-    wrong += sum(differing(0, text.encode(), path) for path, text in texts.items())
-    print(f'program: {count} runs with arguments or what fails, and {len(FILES)} files, {lines} lines compared with readelf: {wrong} wrong')
+    print(f'program: {len(PROGRAMS) * len(rows)} runs with arguments or what fails, and {len(FILES)} files, {lines} lines compared with readelf: '
+          f'{wrong} wrong')
     return 1 if wrong else 0
 
 
