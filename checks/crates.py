@@ -4,6 +4,7 @@ checks/crates.py CRATE; or a sum of all that is proved of them: python3 checks/c
 """
 import hashlib
 import os
+import re
 import subprocess
 import sys
 
@@ -38,12 +39,8 @@ def tracked(*patterns):
 
 def crates_listed():
     """The crates of crates.txt in its order, each with those of them that it stands on, directly or not."""
-    stands_on = {}
-    for line in text_of('crates.txt').split('\n'):
-        head, split, names = line.partition('#')[0].partition(':')
-        if split:
-            stands_on[head.split()[0]] = names.split()
-    below = lambda crate: {lower for name in stands_on[crate] if name in stands_on for lower in {name, *below(name)}}
+    stands_on = dict(re.findall(r'^(\w+)[^:#\n]*:([^#\n]*)', text_of('crates.txt'), re.MULTILINE))
+    below = lambda crate: {lower for name in stands_on[crate].split() if name in stands_on for lower in {name, *below(name)}}
     return {crate: below(crate) for crate in stands_on}
 
 

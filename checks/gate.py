@@ -27,8 +27,6 @@ sys.dont_write_bytecode = True
 from crates import crates_listed, fail, run, tracked
 
 LOGS = 'out/log'
-# What a line begins with that says which program the machine lacks, and what is not tested for it.
-LEFT_OUT = 'left out: '
 PYTHON = sys.executable or 'python3'
 
 
@@ -123,7 +121,7 @@ def edits(crates, copy, *words, what='edits'):
             for crate in reversed(crates)]
 
 
-def crates_with(kinds, name=None, folder=''):
+def crates_with(kinds, name='', folder=''):
     """The crates that have edits of these kinds, or of a folder that has a folder for each crate; or one of this name."""
     folders = lambda crate: [f'{folder}/{crate}'] if folder else [f'crates/{crate}/{kind}' for kind in kinds]
     return [crate for crate in crates_listed() if any(glob.glob(f'{glob.escape(path)}/{name or "*"}.edit') for path in folders(crate))]
@@ -167,8 +165,7 @@ def leave(copy):
         elif os.path.basename(made) in ('incremental', 'rlib') and not os.path.exists(there):
             shutil.move(made, there)
     if os.path.isdir(f'{copy}/out/library'):
-        shutil.rmtree('out/library', ignore_errors=True)
-        shutil.copytree(f'{copy}/out/library', 'out/library')
+        shutil.copytree(f'{copy}/out/library', 'out/library', dirs_exist_ok=True)
 
 
 class Run:
@@ -217,13 +214,12 @@ class Run:
                 if len(self.running) < places or part.is_first and sum(other.is_first for other in now) < places:
                     self.begin(part)
                     now.append(part)
-            pid, status, used = os.wait4(-1, os.WNOHANG) if self.running else (0, 0, None)
+            pid, status, used = os.wait4(-1, os.WNOHANG)
             if pid in self.running:
                 self.end(pid, status, used)
             elif time.time() - self.said > 60:
-                # (what `rt ci`, which takes longest, reported last)
-                # (`rt ci` takes longest)
-                doing = ', '.join(' '.join([part.name, *part.printed('rt: ')[-1:]]) if part.name == 'rt ci' else part.name for part in now)
+                # (`rt ci`, which takes longest, reports how far it is)
+                doing = ', '.join(' '.join([part.name, *part.printed('rt: ')[-1:]]) for part in now)
                 self.say(f'running: {doing}; {len(waiting)} other parts are left')
             else:
                 time.sleep(0.2)
@@ -235,26 +231,24 @@ class Run:
         for part in sorted((part for part in self.parts if part.ended), key=lambda part: part.begun):
             print(f'{part.name:<32} {(part.begun - self.start) / 60:6.1f} {(part.ended - self.start) / 60:6.1f} {part.seconds / 60:18.1f}')
         print(f'{"all":<32} {0:6.1f} {(time.time() - self.start) / 60:6.1f} {sum(part.seconds for part in self.parts) / 60:18.1f}')
-        print(''.join(dict.fromkeys(f'{line}\n' for part in self.parts if part.ended for line in part.printed(LEFT_OUT))), end='')
+        # (which programs the machine lacks, and what is not tested for each)
+        print(''.join(dict.fromkeys(f'{line}\n' for part in self.parts if part.ended for line in part.printed('left out: '))), end='')
 
 
-def parts_of(options, room):
-    """The parts of a run that is asked for."""
-    if options.goal != 'edits':
-        return test(room, options.goal == 'gate', options.over)
-    folder = os.path.abspath(options.folder) if options.folder else ''
+def edits_asked_for(options, room):
+    """The parts of `make edits`."""
+    folder = options.folder and os.path.abspath(options.folder)
     crates = [crate for crate in crates_with(('edits', 'must-fail', 'controls'), options.edit, folder) if crate in (options.crates or [crate])]
-    words = [*(['--edit', options.edit] if options.edit else []), *(['--from', folder] if folder else [])]
     copy = copied(f'{room}/proved', '.')
-    return [*proofs(crates, copy), *edits(crates, copy, *words)]
+    return [*proofs(crates, copy), *edits(crates, copy, '--edit', options.edit, '--from', folder)]
 
 
 def main():
     parser = argparse.ArgumentParser(prog='python3 checks/gate.py', description=__doc__.split('\n')[0])
     parser.add_argument('goal', choices=('test', 'gate', 'edits', 'prove'))
     parser.add_argument('crates', nargs='*')
-    parser.add_argument('--edit')
-    parser.add_argument('--from', dest='folder')
+    parser.add_argument('--edit', default='')
+    parser.add_argument('--from', dest='folder', default='')
     parser.add_argument('--over')
     options = parser.parse_args()
     if options.goal == 'prove':
@@ -262,7 +256,7 @@ def main():
     if not os.access('.', os.W_OK):
         fail('this folder is read-only, and what the parts print is left in it. Use a copy')
     with tempfile.TemporaryDirectory(prefix='gate-') as room:
-        parts = parts_of(options, room)
+        parts = edits_asked_for(options, room) if options.goal == 'edits' else test(room, options.goal == 'gate', options.over)
         if not parts:
             fail('no edit was found')
         status = Run(parts).all(len(os.sched_getaffinity(0)))
