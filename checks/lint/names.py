@@ -31,11 +31,11 @@ def words_in(text):
 
 
 class File:
-    """The words of a file without its comments, those that it is named by or defines, its functions, and its clauses or definitions."""
+    """Of a file without comments: its module of specs/, its words, those that it is named by or defines, its functions, clauses, definitions."""
     def __init__(self, path):
         comment, text = COMMENT.get(path.rsplit('.', 1)[-1]), text_of(path)
         text = re.sub(rf'(?<!\S){comment}[^\n]*', '', text) if comment else text
-        self.is_spec = '/specs/' in path
+        self.module = os.path.basename(path)[:-5] if '/specs/' in path else None
         self.words = words_in(text)
         self.owners = words_in(path) | words_in(' '.join(one + other for one, other in DEFINED.findall(text)))
         self.functions = set(re.findall(r'\bfn (\w+)', text))
@@ -48,13 +48,11 @@ class Code:
         self.files = [File(path) for path in tracked(*READ)]
         self.words = words_in('\n'.join(self.paths)).union(*(file.words for file in self.files))
         self.modules = {}
-        for path in self.paths:
-            if '/specs/' in path:
-                self.modules.setdefault(os.path.basename(path)[:-5], set()).update(File(path).words)
+        for file in self.files:
+            self.modules.setdefault(file.module, set()).update(file.words)
 
     def has_word(self, before, word, after):
-        return word in self.words or bool(after) and any(one.startswith(word) for one in self.words) \
-            or bool(before) and any(one.endswith(word) for one in self.words)
+        return word in self.words or any(after and one.startswith(word) or before and one.endswith(word) for one in self.words)
 
     def has_pair(self, left, right):
         return any(left in file.owners and any(word == right or right.endswith('_') and word.startswith(right) for word in file.words)
@@ -65,7 +63,7 @@ class Code:
         return path.startswith('/') or any(f'/{known}'.endswith(name) or f'{name}/' in f'/{known}' for known in self.paths)
 
     def has_clause(self, functions, name):
-        return any(name in file.clauses and (file.is_spec or functions & (file.functions | file.owners)) for file in self.files)
+        return any(name in file.clauses and (file.module or functions & (file.functions | file.owners)) for file in self.files)
 
     def missing_in(self, span):
         """What code between backquotes names that doesn't exist."""
