@@ -35,7 +35,7 @@ def exported(path):
 
 class Unpacked:
     def __init__(self, folder, archive, compiler='cc', runner=''):
-        self.folder, self.linker, self.runner, self.tried = folder, compiler.split()[0], runner, []
+        self.folder, self.linker, self.runner = folder, compiler.split()[0], runner
         readme.run([f'tar -C {shlex.quote(folder)} -xzf {shlex.quote(archive)}'], '')
         self.there, = glob.glob(f'{folder}/goblin_c-*')
         self.libdir = os.path.dirname(*glob.glob(f'{self.there}/**/libgoblin_c.a', recursive=True))
@@ -120,13 +120,10 @@ class Unpacked:
                               'target_link_libraries(listing PkgConfig::GOBLIN)')
         if not self.runner and os.path.exists(f'{self.libdir}/libgoblin_c-shared.so'):
             ways['shared'] = f'{package}\ntarget_link_libraries(listing goblin_c::shared)'
+        project = 'cmake_minimum_required(VERSION 3.10)\nproject(listing C)\nadd_executable(listing "$ENV{THERE}/share/goblin_c/examples/nm.c")\n'
         for name, lines in ways.items():
-            os.mkdir(f'{self.folder}/{name}')
-            with open(f'{self.folder}/{name}/CMakeLists.txt', 'w', encoding='utf-8') as file:
-                file.write('cmake_minimum_required(VERSION 3.10)\nproject(listing C)\n'
-                           f'add_executable(listing "{self.there}/share/goblin_c/examples/nm.c")\n{lines}\n')
-            built = f'{name}/built'
-            self.run(f'cmake -S {name} -B {built}', f'cmake --build {built}', f'$RUNNER {built}/listing {built}/listing', wanted=OF_C)
+            self.run(f'mkdir {name}', f'cd {name}', 'echo "$LISTS" > CMakeLists.txt', 'cmake -S . -B built', 'cmake --build built',
+                     '$RUNNER built/listing built/listing', wanted=OF_C, LISTS=project + lines)
 
     def cargo(self, command, wanted='', **variables):
         linker = {f'CARGO_TARGET_{self.target.upper().replace("-", "_")}_LINKER': self.linker}
@@ -135,9 +132,9 @@ class Unpacked:
 
     def by_rust(self):
         crate = f'{self.there}/share/goblin_c/rust'
-        self.run('mkdir -p app/src', 'cp "$THERE/share/goblin_c/rust/examples/symbols.rs" app/src/main.rs')
-        with open(f'{self.folder}/app/Cargo.toml', 'w', encoding='utf-8') as file:
-            file.write(f'[package]\nname = "app"\nversion = "0.0.0"\nedition = "2021"\n\n[dependencies]\ngoblin_rs = {{ path = "{crate}" }}\n')
+        package = f'[package]\nname = "app"\nversion = "0.0.0"\nedition = "2021"\n\n[dependencies]\ngoblin_rs = {{ path = "{crate}" }}'
+        self.run('mkdir -p app/src', 'cp "$THERE/share/goblin_c/rust/examples/symbols.rs" app/src/main.rs', 'echo "$PACKAGE" > app/Cargo.toml',
+                 PACKAGE=package)
         self.cargo('cargo build')
         self.run(f'$RUNNER target/{self.target}/debug/app target/{self.target}/debug/app', wanted=OF_RUST)
         if not self.runner:
@@ -166,16 +163,15 @@ def main(archive, *compiler):
         has = lambda *names: all(map(shutil.which, names))
         has_program, compiles = os.path.exists(f'{it.there}/bin/goblin_show'), has(it.linker)
         has_rust = has('cargo', 'rustc') and os.path.isdir(it.run(f'rustc --print target-libdir --target {it.target}').strip())
-        tried = {'its page': (it.page, True), 'the shared library': (it.shared_library, has('readelf')),
-                 'two interfaces in one process': (it.versions, compiles and not it.runner),
-                 'hidden in a shared library': (it.hidden, compiles and not it.runner and has('readelf')), 'goblin_show': (it.program, has_program),
-                 'its manual page': (it.manual, has_program and has('groff')), 'C by pkg-config': (it.by_pkg_config, compiles and has('pkg-config')),
-                 'CMake': (it.by_cmake, compiles and has('cmake')), 'Rust by its path': (it.by_rust, compiles and has_rust)}
-        for check, can_be in tried.values():
-            if can_be:
-                check()
-        names = ', '.join(name for name, (_, can_be) in tried.items() if can_be)
-        print(f'the archive of goblin_c {it.version} for {it.target} can be used without the toolchain: {names}')
+        checks = {'its page': (it.page, True), 'the shared library': (it.shared_library, has('readelf')),
+                  'two interfaces in one process': (it.versions, compiles and not it.runner),
+                  'hidden in a shared library': (it.hidden, compiles and not it.runner and has('readelf')), 'goblin_show': (it.program, has_program),
+                  'its manual page': (it.manual, has_program and has('groff')), 'C by pkg-config': (it.by_pkg_config, compiles and has('pkg-config')),
+                  'CMake': (it.by_cmake, compiles and has('cmake')), 'Rust by its path': (it.by_rust, compiles and has_rust)}
+        tried = {name: check for name, (check, can_be) in checks.items() if can_be}
+        for check in tried.values():
+            check()
+        print(f'the archive of goblin_c {it.version} for {it.target} can be used without the toolchain: {", ".join(tried)}')
 
 
 if __name__ == '__main__':
