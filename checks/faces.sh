@@ -9,7 +9,6 @@ trap 'exit 1' HUP INT TERM
 start=$(date +%s)
 left='c python rust webassembly aarch64 archive comparison'
 python3 faces/constants.py --check
-python3 faces/constants.py --made
 echo "the constants in C are the library's, and those in Rust, JavaScript and Python are made of it"
 
 # Runs the scripts of some subjects side by side, each in a folder of its own, which begins as a copy of another one: try FROM SUBJECT ..

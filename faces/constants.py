@@ -6,11 +6,13 @@
     python3 faces/constants.py --made     writes only the files for JavaScript and Python
     python3 faces/constants.py --check    writes nothing, and fails if goblin.h or a file for Rust is not what it would write, or if a
                                           constant is not in the table that the library's are compared with, crates/goblin_names/stdout
+    python3 faces/constants.py --fields   prints STRUCT(name) for each struct of goblin.h, and FIELD(name, field, number) for each of its fields
+                                          in order, for the tests in faces/c
 
 The names, values, types and comments are those of crates/goblin_headers and crates/goblin_records. So a constant is written by
 hand only there. Git has goblin.h, because it is read as documentation, and the files for Rust, so that cargo can take the crate from
-a repository. It ignores the files for JavaScript and Python, which faces/install.sh and checks/faces.sh make; by hand they must be made
-before node or Python reads them.
+a repository. It ignores the files for JavaScript and Python, which faces/install.sh makes; by hand they must be made before node or Python
+reads them.
 
 Flags of sections and indices of sections get the type of the field that holds them: `sh_flags` and `st_shndx`. JavaScript and Python also
 get the number of the interface, from goblin.h, and Python all that it declares.
@@ -280,17 +282,21 @@ def words_of(comment):
     return re.sub(r'\ba (?=[ES]\w*_ )', 'an ', re.sub(r'\bGOBLIN_', '', ' '.join(comment.split())))
 
 
-def structs():
-    """Yields each struct of goblin.h: its name, its comment, and its fields, each with its code and comment. A range is two fields."""
-    pattern = r'/\* ([^/]*?) \*/\ntypedef struct \{\n(.*?)^\} goblin_(\w+)_t;'
+def structs(in_c=False):
+    """Yields each struct of goblin.h: its name, its comment, and its fields, each with its code and comment. A range is two fields, whose names
+    are those of Python or of C."""
+    pattern = r'(?:/\* ([^/]*?) \*/\n)?typedef struct \{\n(.*?)^\} goblin_(\w+)_t;'
     for comment, body, name in re.findall(pattern, read(HEADER), re.M | re.S):
-        fields = []
-        for kind, field, text in re.findall(r'^ +(\w+) (\w+);(?: +/\*(.*?)\*/)?', body, re.M | re.S):
+        fields, declared = [], re.findall(r'^ +(\w+) (\w+);(?: +/\*(.*?)\*/)?', body, re.M | re.S)
+        if len(declared) != re.sub(r'/\*.*?\*/', '', body, flags=re.S).count(';'):
+            sys.exit(f'constants.py: each field of goblin_{name}_t must have a line of its own')
+        for kind, field, text in declared:
             if kind != 'goblin_range_t':
                 fields.append((field, CODES.get(kind), words_of(text)))
                 continue
             # (the standard's names of its two numbers)
             names = {'section': ('sh_offset', 'sh_size'), 'segment': ('p_offset', 'p_filesz')}.get(name, (f'{field}_offset', f'{field}_size'))
+            names = (f'{field}.offset', f'{field}.size') if in_c else names
             fields += [(names[0], 'Q', words_of(text)), (names[1], 'Q', '')]
         if name != 'layout':
             yield name, words_of(comment), fields
@@ -477,8 +483,12 @@ def missing():
 
 
 def main(arguments):
-    if arguments not in ([], ['--made'], ['--check']):
-        sys.exit('usage: python3 faces/constants.py [--made | --check]')
+    if arguments not in ([], ['--made'], ['--check'], ['--fields']):
+        sys.exit('usage: python3 faces/constants.py [--made | --check | --fields]')
+    if arguments == ['--fields']:
+        for name, _, fields in structs(in_c=True):
+            print(f'STRUCT({name})', *(f'FIELD({name}, {field}, {number})' for number, (field, _, _) in enumerate(fields, 1)), sep='\n')
+        return 0
     of_git = [(HEADER, c_file()), *rust_files()]
     if arguments == ['--check']:
         stale = [name for name, text in of_git if not os.path.exists(path_of(name)) or read(name) != text]

@@ -32,7 +32,7 @@ c V 2 weak_data
 check_header() {
     grep -qxF "#define GOBLIN_VERSION_STRING \"$version\"" faces/c/goblin.h \
         || fail "goblin.h and faces/rust/Cargo.toml have different versions: GOBLIN_VERSION_STRING is to be \"$version\""
-    awk -f checks/fields.awk faces/c/goblin.h > "$folder/fields.h"
+    python3 faces/constants.py --fields > "$folder/fields.h"
     for standard in c99 c11; do
         build layout -std=$standard
         quietly "$folder/layout"

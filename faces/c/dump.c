@@ -1,5 +1,5 @@
 /* Prints all that the library reads of files, for faces/web/test.mjs: dump FILE..
-   Each line is a result, with all fields of its struct. checks/fields.awk makes fields.h from goblin.h. */
+   Each line is a result, with all fields of its struct. faces/constants.py makes fields.h from goblin.h. */
 #include "goblin.h"
 #include <elf.h>
 #include <inttypes.h>

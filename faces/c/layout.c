@@ -2,7 +2,7 @@
    Each field of each struct has the library's offset, by goblin_layout. Each field that is read from files of both classes and byte
    orders, whose fields all differ, is the number that was written there. Each refusal has the number of its name. With the argument
    `assertions` it prints the offsets as static assertions.
-   checks/fields.awk makes fields.h from goblin.h, so no field is left out. It has STRUCT(name) for each struct and FIELD(struct, field,
+   faces/constants.py makes fields.h from goblin.h, so no field is left out. It has STRUCT(name) for each struct and FIELD(struct, field,
    number) for each of its fields. */
 #include "goblin.h"
 #include <stdio.h>
