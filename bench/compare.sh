@@ -2,17 +2,12 @@
 # Compares what the library's programs and its Python package list of files of this machine with what this machine's binutils and pyelftools
 # list of them: SHOWN=FILE sh bench/compare.sh. It lists each difference, and fails only if something can't run. The library is made in a
 # folder of this run. Run from the repository's root.
-set -- "$(mktemp -d)"
-trap 'rm -rf "$folder"' EXIT
-trap 'exit 1' HUP INT TERM
 . checks/faces/shared.sh
 quietly make_library x86_64-unknown-linux-gnu "$folder"
 installed=$folder/installed/share/goblin_c
 for program in nm size symbolize needed; do build $program -std=c99; done
-if has cargo; then
+if has cargo 'the examples in Rust are not compared'; then
     quietly env GOBLIN_C_LIB="$folder" CARGO_TARGET_DIR="$folder/target" cargo build --offline --examples --manifest-path faces/rust/Cargo.toml
-else
-    left_out "cargo is not installed, so the examples in Rust are not compared"
 fi
 find_node
 if [ -e "$folder/node" ]; then

@@ -1,21 +1,13 @@
 #!/bin/sh
 # Checks that commands which can't do what they are asked for say so in a sentence, with status 2, before they prove anything; that a second
 # `make try` compiles nothing; and that a proof says what it waits for. Nothing is proved. Run from the repository's root.
-set -- "$(mktemp -d)"
-trap 'chmod -R u+w "$folder"; rm -rf "$folder"' EXIT
-trap 'exit 1' HUP INT TERM
 . checks/faces/shared.sh
+trap 'chmod -R u+w "$folder"; rm -rf "$folder"' EXIT
 
-# Fails unless a command ends with status 2, and its last line is this one: refuses SENTENCE COMMAND ..
+# Fails unless a command ends with status 2 and a sentence, and neither fails in Python nor proves before: refuses TEXT COMMAND ..
 refuses() {
-    text=$1
-    shift
-    status=0
-    "$@" < /dev/null > "$folder/output" 2>&1 || status=$?
-    if [ "$status" -ne 2 ] || [ "$(tail -n 1 "$folder/output")" != "$text" ] || grep -q -e Traceback -e proving "$folder/output"; then
-        cat "$folder/output"
-        fail "it should end with status 2 and '$text', and ends with $status: $*"
-    fi
+    ends_with 2 "$@"
+    case $said in *Traceback* | *proving*) fail "it should print neither a traceback nor that it proves, and prints '$said': $*" ;; esac
 }
 
 # Runs a command as a user who can't write into the copy.
@@ -32,7 +24,8 @@ shows() {
 
 refuses 'margin: crates.txt has no crate nope' python3 bench/margin.py goblin nope
 refuses 'gate: no edit was found' python3 checks/gate.py edits --edit nope
-refuses "gate: git doesn't list the files of this folder, for the reason above" env GIT_TEST_ASSUME_DIFFERENT_OWNER=1 \
+refuses "fatal: *
+gate: git doesn't list the files of this folder, for the reason above" env GIT_TEST_ASSUME_DIFFERENT_OWNER=1 \
     python3 checks/gate.py edits --edit nope
 
 chmod 755 "$folder"
@@ -42,7 +35,8 @@ cp -R --parents Makefile HANDLES crates.txt crates/*/src crates/*/specs crates/*
 cp checks/files/symbols "$folder/copy"
 python3 checks/program.py checks/files/symbols > "$folder/wanted"
 cd "$folder/copy"
-refuses 'CPU is nope: the toolchain makes no library for it, for the reason above' env CPU=nope sh faces/install.sh "$folder/installed"
+refuses '*
+CPU is nope: the toolchain makes no library for it, for the reason above' env CPU=nope sh faces/install.sh "$folder/installed"
 
 # (the first proof waits while something else has its folder, and is interrupted then, also if this runs in the background)
 said=$(flock crates/goblin_base env --default-signal=INT timeout -s INT 15 sh commands/libraries.sh proof goblin 2>&1 || echo end)
@@ -62,10 +56,11 @@ chmod -R go=rwX "$folder/goblin_try"
 chmod -R a-w .
 if elsewhere rt version > "$folder/output" 2>&1 && elsewhere python3 checks/crates.py goblin > "$folder/output" 2>&1 && export TMPDIR=/tmp; then
     shows "$unproved" elsewhere env XDG_CACHE_HOME="$folder"
+    read_only='this folder is read-only, and what is installed is made in it. Use a copy'
     for command in "$folder/installed" --archive; do
-        refuses 'this folder is read-only, and what is installed is made in it. Use a copy' elsewhere sh faces/install.sh "$command"
+        refuses "$read_only" elsewhere sh faces/install.sh "$command"
     done
-    refuses 'this folder is read-only, and what is installed is made in it. Use a copy' elsewhere env PYTHONPATH="$folder/modules" sh bench/python.sh
+    refuses "$read_only" elsewhere env PYTHONPATH="$folder/modules" sh bench/python.sh
     refuses 'gate: this folder is read-only, and what the parts print is left in it. Use a copy' elsewhere python3 checks/gate.py edits
 else
     echo 'no user who is not root can run rt, so nothing is tried in a read-only folder'
@@ -74,6 +69,6 @@ chmod -R u+w .
 printf '#!/bin/sh\nexit 1\n' > rt
 chmod +x rt
 echo '//' >> commands/try.main
-refuses "make try: the program was not compiled; the toolchain's messages are above" env PATH="$PWD:$PATH" XDG_CACHE_HOME="$folder" SHOWN=symbols \
+refuses "*make try: the program was not compiled; the toolchain's messages are above" env PATH="$PWD:$PATH" XDG_CACHE_HOME="$folder" SHOWN=symbols \
     sh commands/show.sh try
 echo "commands refuse in a sentence what they can't do, a proof says what it waits for, and a second make try compiles nothing"

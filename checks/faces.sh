@@ -2,10 +2,7 @@
 # Tests the library's calls from C, Rust, JavaScript and Python: sh checks/faces.sh, from the repository's root
 # It runs the scripts of checks/faces, one for each subject, in folders of this run. If the machine lacks a compiler, an emulator or a
 # browser, a line says what is left out, and the test passes. No file of the machine decides what comes of it.
-set -eu
-folder=$(mktemp -d)
-trap 'rm -rf "$folder"' EXIT
-trap 'exit 1' HUP INT TERM
+. checks/faces/shared.sh
 start=$(date +%s)
 left='c python rust webassembly aarch64 archive comparison'
 python3 faces/constants.py --check
@@ -24,7 +21,7 @@ try() {
     wait
     for subject; do
         cat "$folder/$subject.said"
-        if [ -e "$folder/$subject.failed" ]; then echo "faces: $subject FAILED"; exit 1; fi
+        [ ! -e "$folder/$subject.failed" ] || fail "faces: $subject FAILED"
     done
 }
 
@@ -32,10 +29,7 @@ sh commands/libraries.sh faces goblin_c
 echo "faces: making the library, which takes some minutes if its calls are not proved yet"
 mkdir "$folder/library"
 sh checks/faces/library.sh "$folder/library"
-if ! command -v cc > /dev/null; then
-    echo "left out: cc is not installed, so the calls from C, Rust, JavaScript and Python are not tested: install a C compiler"
-    exit 0
-fi
+has cc 'the calls from C, Rust, JavaScript and Python are not tested: install a C compiler' || exit 0
 try library c python
 try c rust webassembly
 # (the toolchain makes one library at a time)

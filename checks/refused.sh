@@ -2,11 +2,7 @@
 # Checks that each call that allocates reports out of memory, or returns what it returns with ample memory, whichever one of its
 # allocations is refused. The calls are those that crates/goblin_refused lists in its stdin, a run of goblin_text over files that
 # reach each of its lines, and text_of over two of them. Nothing is proved here. Run from the repository's root.
-set -eu
-export LC_ALL=C
-folder=$(mktemp -d)
-trap 'rm -rf "$folder"' EXIT
-trap 'exit 1' HUP INT TERM
+. checks/faces/shared.sh
 mkdir "$folder/calls" "$folder/runs"
 
 # The number of the allocation of a program that is refused. So many are made before a call that it is one of the call's own.
@@ -56,8 +52,7 @@ try_allocations() {
         if [ "$rounds" -eq 0 ]; then
             if [ "$expected" -eq 0 ] || ! grep -q -x too_few "$2/names"; then
                 cat "$folder/out"
-                echo "refused: this script does not understand the output of rt try, which is above; its wording may have changed"
-                exit 1
+                fail "refused: this script does not understand the output of rt try, which is above; its wording may have changed"
             fi
             sed -i '/^too_few$/d' "$2/names"
         fi

@@ -3,13 +3,10 @@
 # notice. Callers call `clone` and `len` on each view, and a function beside the walk makes a second view of a view's bytes. The compiler must
 # refuse each `clone`, because the view isn't `Clone`, the second view, because its field is private, and nothing else. Nothing is proved. Nor
 # have the views' files a public call or field that isn't listed here, or an impl of another trait. Run from the repository's root.
-set -eu
+. checks/faces/shared.sh
 sh commands/has.sh 'compiling callers of views' rt
 views='entries::Looked entries::Entries entries::Probes counted_bytes::CountedBytes'
 public='Looked new len at marks text entries count Entries len is_empty text Probes of len at count CountedBytes new len at get bytes count '
-folder=$(mktemp -d)
-trap 'rm -rf "$folder"' EXIT
-trap 'exit 1' HUP INT TERM
 found=$(cd crates/goblin_base/src && sed -En 's/^ *pub(\(\w+\))? ((fn|struct) )?(\w+).*/\4/p; /^impl.* (Model|fmt::Debug) for /!s/^impl.* for /&/p' \
     entries.rt counted_bytes.rt | tr '\n' ' ')
 [ "$found" = "$public" ] || wrong="; only what this script lists may be public, and this is: $found"
@@ -31,7 +28,6 @@ done
 grep -q "/$walk:$(wc -l < "$folder/$walk"):[0-9]*: error.* \`bytes\` of struct \`Looked\` is private" "$folder/said" || wrong="${wrong:-} $walk"
 if [ "${wrong:-}" ] || [ "$(grep -c ': error' "$folder/said")" -ne $(($(echo "$views" | wc -w) + 1)) ]; then
     cat "$folder/said"
-    echo "clones_the_view: the compiler must refuse to copy each of $views, and a second view of the bytes, and nothing else${wrong:-}"
-    exit 1
+    fail "clones_the_view: the compiler must refuse to copy each of $views, and a second view of the bytes, and nothing else${wrong:-}"
 fi
 echo "clones_the_view: the compiler refuses to copy each of $views, and a second view of the bytes"

@@ -6,10 +6,8 @@
 target=aarch64-unknown-linux-gnu
 other=$folder/aarch64
 
-if ! has aarch64-linux-gnu-gcc || ! has qemu-aarch64; then
-    left_out "aarch64-linux-gnu-gcc or qemu-aarch64 is not installed, so the library for aarch64 is not tested"
-    exit 0
-fi
+has aarch64-linux-gnu-gcc 'the library for aarch64 is not tested' || exit 0
+has qemu-aarch64 'the library for aarch64 is not tested' || exit 0
 mkdir "$other"
 quietly make_library $target "$other"
 check_axioms
@@ -21,8 +19,8 @@ for file in "$files"/* "$other/nm" "$other/damaged"; do
     "$folder/nm" "$file" > "$folder/wanted"
     prints_wanted qemu-aarch64 "$other/nm" "$file"
 done
-qemu-aarch64 "$other/damaged" 1000 "$files"/* > "$folder/listed" || true
-quietly diff "$folder/summed" "$folder/listed"
+cp "$folder/summed" "$folder/wanted"
+prints_wanted qemu-aarch64 "$other/damaged" 1000 "$files"/*
 echo "the library for aarch64, in an emulator, has the same results"
 quietly env TARGET=$target LIBRARY="$other/libgoblin_c.a" sh faces/install.sh --archive "$other/goblin_c.tar.gz"
 python3 checks/installed.py "$other/goblin_c.tar.gz" 'aarch64-linux-gnu-gcc -static' qemu-aarch64

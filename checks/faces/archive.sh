@@ -9,16 +9,9 @@ export LIBRARY="$folder/libgoblin_c.a" TARGET='' CPU=''
 
 # Installs with an umask, a LIBDIR and more variables: install_as UMASK LIBDIR [VARIABLE=VALUE ..]
 install_as() {
-    mask=$1
-    libdir=$2
+    mask=$1 libdir=$2
     shift 2
     (umask "$mask" && quietly env LIBDIR="$libdir" "$@" sh faces/install.sh "$root")
-}
-
-# Fails if find finds a file or a folder.
-none_of() {
-    found=$(find "$@")
-    [ -z "$found" ] || fail "this should not be there after an installation: $found"
 }
 
 for mask in 077 022; do
@@ -35,7 +28,7 @@ python3 checks/readme.py "$folder/libgoblin_c.a" "$folder/goblin_c.022.tar.gz" "
 multiarch=lib/x86_64-linux-gnu
 printf '#!/bin/sh\ncat "%s/crates/goblin_show/stdout"\n' "$PWD" > "$folder/program"
 install_as 077 $multiarch SHARED=1 PROGRAM="$folder/program"
-none_of "$root" -mindepth 1 '(' -type f ! -perm 644 ! -path '*/bin/*' -o -path '*/bin/*' ! -perm 755 -o -type d ! -perm 755 ')'
+ends_with 0 '' find "$root" -mindepth 1 '(' -type f ! -perm 644 ! -path '*/bin/*' -o -path '*/bin/*' ! -perm 755 -o -type d ! -perm 755 ')'
 mkdir "$folder/packed"
 cp -R "$root" "$folder/packed/goblin_c-$version-x86_64-unknown-linux-gnu"
 tar -C "$folder/packed" -czf "$folder/multiarch.tar.gz" .
@@ -45,13 +38,13 @@ python3 checks/installed.py "$folder/multiarch.tar.gz"
 echo share/goblin_c/rust/src/earlier.rs >> "$root/share/goblin_c/library.files"
 touch "$root/share/goblin_c/rust/src/earlier.rs"
 install_as 022 lib
-none_of "$root" -path '*/x86_64-linux-gnu/*' ! -type d -o -name earlier.rs -o -name '*-shared*'
+ends_with 0 '' find "$root" -path '*/x86_64-linux-gnu/*' ! -type d -o -name earlier.rs -o -name '*-shared*'
 quietly sh faces/install.sh --uninstall "$root"
-[ ! -e "$folder/above" ] || none_of "$folder/above"
+[ ! -e "$folder/above" ] || fail "an uninstallation leaves: $(find "$folder/above")"
 mkdir -p "$root/share/man"
 install_as 022 lib
 touch "$root/include/own.h"
 quietly sh faces/install.sh --uninstall "$root"
 for own in share/man include/own.h; do [ -e "$root/$own" ] || fail "an uninstallation removes $own, which the installation didn't make"; done
-none_of "$root" -mindepth 1 ! -path "$root/share" ! -path "$root/share/man" ! -path "$root/include" ! -path "$root/include/own.h"
+ends_with 0 '' find "$root" -mindepth 1 ! -path "$root/share" ! -path "$root/share/man" ! -path "$root/include" ! -path "$root/include/own.h"
 echo "all users can read what is installed, and it can be removed"

@@ -22,14 +22,14 @@ try_tests() {
 
 # Checks the types, where mypy is installed.
 check_types() {
-    if ! has_module mypy; then left_out "mypy is not installed for $python, so the types are not checked"; return; fi
+    has_module mypy || { left_out "mypy is not installed for $python, so the types are not checked"; return; }
     with_package "$python" -m mypy --strict --follow-imports skip --ignore-missing-imports --cache-dir "$folder/mypy" faces/python/goblin_elf
     echo "the Python package: mypy finds no fault in its types"
 }
 
 # Installs the wheel, and runs the first lines of the page.
 try_wheel() {
-    if ! "$python" -m venv "$folder/venv" > "$folder/output" 2>&1; then left_out "venv is not installed for $python, so the wheel is not tried"; return; fi
+    "$python" -m venv "$folder/venv" > "$folder/output" 2>&1 || { left_out "venv is not installed for $python, so the wheel is not tried"; return; }
     quietly sh faces/install.sh --archive "$folder/wheel/goblin_c.tar.gz"
     quietly "$folder/venv/bin/pip" install --no-index --disable-pip-version-check "$folder/wheel"/*.whl
     # shellcheck disable=SC2016 # (the signs are markdown's)

@@ -15,8 +15,8 @@ quietly cargo test --offline --manifest-path $crate
 awk '/^test result: ok\. / { tests += $4 } END { print "the Rust crate passes " tests + 0 " tests"; exit tests < 60 }' "$folder/output"
 # (cargo has built the examples with the tests)
 for file in "$files"/*; do
-    "$examples/symbols" "$file" > "$folder/listed"
-    [ "$(grep -c -x -e '12 function' -e '18 été' "$folder/listed")" -eq 2 ] || fail "symbols.rs does not list the symbols of $file"
+    "$folder/values" "$file" > "$folder/wanted"
+    prints_wanted "$examples/symbols" "$file"
 done
 example() { (name=$1; shift; "$examples/$name" "$@"); }
 try_examples symbols relocations needed segments truncated flag

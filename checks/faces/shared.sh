@@ -1,9 +1,15 @@
-# Functions of the scripts of checks/faces. Each is run from the repository's root: sh checks/faces/NAME.sh FOLDER
+# Functions of the scripts of checks/faces and of others. Each of checks/faces is run from the repository's root: sh checks/faces/NAME.sh FOLDER
 # library.sh puts the library into the folder, and each script puts there what later ones need.
 # shellcheck shell=sh disable=SC2034
 set -eu
 export LC_ALL=C
-folder=$1
+# The folder that is named, or else one of this run, which is removed at its end.
+folder=${1:-}
+if [ -z "$folder" ]; then
+    folder=$(mktemp -d)
+    trap 'rm -rf "$folder"' EXIT
+    trap 'exit 1' HUP INT TERM
+fi
 # The folders of the files that faces/c/made.c makes, and of the examples that cargo builds.
 files=$folder/files examples=$folder/target/debug/examples
 # A program for x86-64. What readelf prints of it is stored beside it.
@@ -11,10 +17,11 @@ program_file=checks/files/made/x86_64_program
 # The version of all that is installed.
 version=$(awk -F '"' '/^version = / { print $2; exit }' faces/rust/Cargo.toml)
 
-has() { command -v "$1" > /dev/null 2>&1; }
-
 # Prints which program the machine lacks, and what is not tested for it. The table of checks/gate.py lists these lines.
 left_out() { echo "left out: $1"; }
+
+# Whether the machine has a program. If not, prints what follows from that, if it is given: has PROGRAM [CONSEQUENCE]
+has() { command -v "$1" > /dev/null 2>&1 || { [ -z "${2:-}" ] || left_out "$1 is not installed, so $2"; false; }; }
 
 fail() {
     echo "$1"
@@ -24,12 +31,13 @@ fail() {
 # Runs a command, and prints its output only if it fails.
 quietly() { "$@" > "$folder/output" 2>&1 || { cat "$folder/output"; fail "failed: $*"; }; }
 
-# Fails unless a command fails and prints just this text: refuses TEXT COMMAND ..
-refuses() {
-    text=$1
-    shift
-    said=$("$@" 2>&1) && fail "it should fail, and does not: $*"
-    [ "$said" = "$text" ] || fail "it should print '$text', and prints '$said': $*"
+# Fails unless a command ends with a status and prints a text. Both are patterns of the shell: ends_with STATUS TEXT COMMAND ..
+ends_with() {
+    wanted=$1 text=$2 status=0
+    shift 2
+    said=$("$@" < /dev/null 2>&1) || status=$?
+    # shellcheck disable=SC2254 # (they are patterns)
+    case $status-$said in $wanted-$text) ;; *) fail "it should end with $wanted, '$text', and ends with $status, '$said': $*" ;; esac
 }
 
 # Fails unless a command prints what the file wanted of the folder has: prints_wanted COMMAND ..
@@ -48,11 +56,11 @@ try_examples() {
             "$folder/flag" "$file" $section > "$folder/wanted"
             prints_wanted example flag "$file" $section
         done
-        refuses "flag: $file: there is no section .no" example flag "$file" .no
+        ends_with 1 "flag: $file: there is no section .no" example flag "$file" .no
     done
     for name; do
         if [ "$name" = flag ]; then section=.text; else section=; fi
-        refuses "$name: $folder/short: Malformed entity: Too small" example "$name" "$folder/short" ${section:+"$section"}
+        ends_with 1 "$name: $folder/short: Malformed entity: Too small" example "$name" "$folder/short" ${section:+"$section"}
     done
 }
 

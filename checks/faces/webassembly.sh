@@ -6,10 +6,7 @@
 web=$folder/web
 dump=$folder/dump
 
-if ! has node; then
-    left_out "node is not installed, so the module for WebAssembly is not tested: install Node.js 24"
-    exit 0
-fi
+has node 'the module for WebAssembly is not tested: install Node.js 24' || exit 0
 quietly env LIBRARY= CPU= TARGET=wasm64-unknown-unknown sh faces/install.sh --archive "$folder/goblin_web.tar.gz"
 check_axioms
 build dump -std=c99
@@ -21,16 +18,11 @@ call() { node ${flag:+"$flag"} "$@"; }
 if [ -e "$folder/node" ]; then
     call faces/web/test.mjs "$web" "$dump" "$files"/* $program_file
     call faces/web/calls.mjs "$web" "$files"/* $program_file
-    for script in test calls; do
-        said=$(call faces/web/$script.mjs "$folder" 2>&1) && fail "$script.mjs accepts a folder without goblin.js"
-        case $said in
-        "$folder has no goblin.js and no constants.js and no goblin_c.wasm"*'python3 faces/constants.py'*) ;;
-        *) fail "$script.mjs prints this of a folder without goblin.js: $said" ;;
-        esac
-    done
+    missing="$folder has no goblin.js and no constants.js and no goblin_c.wasm*python3 faces/constants.py*"
+    for script in test calls; do ends_with 2 "$missing" call faces/web/$script.mjs "$folder"; done
     example() { (name=$1; shift; call "$web/examples/$name.mjs" "$@"); }
     try_examples needed segments truncated flag
-    if has tsc; then
+    if has tsc 'goblin.d.ts is not compiled: install TypeScript'; then
         mkdir -p "$folder/app/node_modules"
         ln -s "$web" "$folder/app/node_modules/goblin_c"
         cp faces/web/use.ts "$folder/app/use.mts"
@@ -39,8 +31,6 @@ if [ -e "$folder/node" ]; then
             tsc --noEmit --strict --target es2020 --lib es2020 --module ${modules%:*} --moduleResolution ${modules#*:} "$folder/app/use.mts"
         done
         echo "TypeScript accepts a program over goblin.d.ts, without the types of a browser"
-    else
-        left_out "tsc is not installed, so goblin.d.ts is not compiled: install TypeScript"
     fi
 else
     left_out "node has no 64-bit memories, so the module for WebAssembly is not called: install Node.js 24"
@@ -55,14 +45,11 @@ open_page() {
     name=$1
     shift
     for browser; do
-        if has "$browser"; then break; fi
-        browser=
-    done
-    if [ -z "$browser" ]; then
-        left_out "$name is not installed, so the page is not opened in it"
-    else
+        has "$browser" || continue
         node faces/web/browser.mjs "$name" "$browser" "$web/index.html" "$dump" "$files" checks/files
-    fi
+        return
+    done
+    left_out "$name is not installed, so the page is not opened in it"
 }
 
 open_page chromium chromium chromium-browser google-chrome
