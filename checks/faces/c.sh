@@ -50,7 +50,9 @@ check_header() {
     "$folder/layout"
 }
 
-# Compiles the example of each call in goblin.h, with the variables that its first comment declares, by each standard and compiler.
+# Compiles by each standard and compiler the example of each call in goblin.h, with the variables that its first comment declares. Then
+# follow comparisons with the constants of <elf.h> of glibc 2.36, which are stored: if both have a name, both have the same number.
+# (Counts of types and machines are not stored, since they differ from version to version.)
 check_examples() {
     awk 'BEGIN { print "#include \"goblin.h\"" }
         /All are compiled with these variables:$/ { is_variables = 1; next }
@@ -60,20 +62,13 @@ check_examples() {
         sub(/^ *Example: /, "") { examples++; sub(/ \*\/$/, ""); print "    { " $0 " }" }
         END { print "    return range.size + string.size + value + note.n_type + count > 0;\n}"; exit calls == 0 || calls != examples }' \
         faces/c/goblin.h > "$folder/examples.c" || fail "each call in goblin.h must have one example"
+    awk '{ print "#if defined GOBLIN_" $1 " && GOBLIN_" $1 " != " $2 "\n#error " $1 " is another number in elf.h\n#endif" }' \
+        checks/files/elf_constants >> "$folder/examples.c"
     for compiler in cc clang; do
         has $compiler || continue
         for standard in c89 c99 c11; do quietly strictly $compiler -std=$standard -Ifaces/c -c -o "$folder/examples.o" "$folder/examples.c"; done
     done
     echo "the $(grep -c '^    { ' "$folder/examples.c") examples of goblin.h can be compiled"
-}
-
-# Compares the constants of goblin.h with those of <elf.h> of glibc 2.36, which are stored. If both have a name, both have the same number.
-# (Counts of types and machines are not stored, since they differ from version to version.)
-check_constants() {
-    awk 'BEGIN { print "#include \"goblin.h\"" }
-        { print "#if defined GOBLIN_" $1 " && GOBLIN_" $1 " != " $2 "\n#error " $1 " is another number in elf.h\n#endif" }
-        END { print "extern int compared;" }' checks/files/elf_constants > "$folder/constants.c"
-    quietly strictly cc -std=c99 -Ifaces/c -c -o "$folder/constants.o" "$folder/constants.c"
     echo "$(wc -l < checks/files/elf_constants) constants have the same number in goblin.h and elf.h"
 }
 
@@ -92,10 +87,7 @@ check_cost() {
 # Counts the instructions of calls for one item, by callgrind. Each limit is a quarter more than was counted: a function that is no longer
 # put into its caller, or a refusal that is prepared before it is needed, costs more.
 check_instructions() {
-    if [ "$(uname -m)" != x86_64 ] || ! has valgrind; then
-        left_out "valgrind is not installed or this is another processor, so the instructions of calls for one item are not counted"
-        return
-    fi
+    has valgrind 'the instructions of calls for one item are not counted' || return 0
     build single -std=c99
     quietly valgrind --tool=callgrind --callgrind-out-file="$folder/counts" "$folder/single" $program_file
     "$folder/single" $program_file > "$folder/calls" || fail "single.c reads nothing of $program_file"
@@ -150,17 +142,6 @@ check_execstack() {
     echo "execstack.c changes one flag"
 }
 
-# Runs needed.c over a program without section headers: it must list the same by the program headers, also if the file's end is cut off.
-check_without_sections() {
-    # (zeros for e_shoff, and for e_shnum with e_shstrndx, of a 64-bit file)
-    { head -c 40 $program_file; head -c 8 /dev/zero; head -c 60 $program_file | tail -c 12; head -c 4 /dev/zero; tail -c +65 $program_file; } \
-        > "$folder/stripped"
-    head -c $(($(wc -c < $program_file) - 1)) $program_file > "$folder/cut"
-    printf '%s\n' 'interpreter /lib64/ld-linux-x86-64.so.2' 'needed libc.so.6' > "$folder/wanted"
-    for file in stripped cut; do prints_wanted "$folder/needed" "$folder/$file"; done
-    echo "needed.c lists the same by the program headers"
-}
-
 # Runs the programs over each file that made.c makes, and over its first bytes.
 check_programs() {
     mkdir "$files"
@@ -195,11 +176,15 @@ check_programs() {
     ends_with 0 'strings: no zero byte closes the last string
 *' "$folder/strings" "$file" .note
     check_execstack "$file"
-    check_without_sections
+    # (comparison.py compares what needed.c lists of the whole file, and of x86_64_stripped, which has no section headers)
+    "$folder/needed" $program_file > "$folder/wanted"
+    head -c -1 $program_file > "$folder/cut"
+    prints_wanted "$folder/needed" "$folder/cut"
+    echo "needed.c lists the same by the program headers if the last section header is cut"
     echo "nm.c lists $(echo "$symbols_made" | wc -l) symbols in each class and byte order"
 }
 
-# Reads damaged files, with sanitizers if the compiler has them.
+# Reads damaged files, with sanitizers if the compiler has them, by the calls and by the same in plain C.
 check_damaged() {
     echo 'int main(void) { return 0; }' > "$folder/empty.c"
     set -- -fsanitize=address,undefined -fno-sanitize-recover=all
@@ -208,9 +193,6 @@ check_damaged() {
         set --
     fi
     build damaged -std=c99 "$@"
-    quietly "$folder/damaged" 1000 "$files"/*
-    tee "$folder/summed" < "$folder/output"
-    # The same over the calls in plain C, and over larger files with both.
     quietly strictly cc -std=c99 -Ifaces/c -o "$folder/plain" faces/c/damaged.c faces/c/plain.c
     for file in "$folder/nm" "$folder/made" "$files"; do
         if [ -d "$file" ]; then set -- "$file"/*; else set -- "$file"; fi
@@ -218,12 +200,12 @@ check_damaged() {
         mv "$folder/output" "$folder/wanted"
         prints_wanted "$folder/damaged" 1000 "$@"
     done
+    tee "$folder/summed" < "$folder/listed"
     echo "plain.c, a plain reading of goblin.h, has the same results"
 }
 
 check_header
 check_examples
-check_constants
 for program in $c_examples made search cost; do build "$program" -std=c99; done
 quietly "$folder/search"
 echo "c: $(wc -l < "$folder/output") searches among long names take less than their limit (search.c)"

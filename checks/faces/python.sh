@@ -42,17 +42,12 @@ try_wheel() {
     echo "the Python package: its wheel can be installed, and the page's $(wc -l < "$folder/lines.py") lines list symbols"
 }
 
-is_new() { "$1" -c 'import sys; sys.exit(sys.version_info < (3, 8))' 2> "$folder/output"; }
-
+# (this fails if the python3 on PATH is older than 3.8)
 quietly sh faces/install.sh "$folder/python"
-python=$(command -v python3)
-if ! is_new "$python"; then
-    left_out "$python is older than 3.8, so the Python package is not tested"
-    exit 0
-fi
-if is_new /usr/bin/python3 && [ "$(readlink -f "$python")" != "$(readlink -f /usr/bin/python3)" ]; then
+python=$(command -v python3) system=/usr/bin/python3 is_new='import sys; sys.exit(sys.version_info < (3, 8))'
+if $system -c "$is_new" 2> "$folder/output" && [ "$(readlink -f "$python")" != "$(readlink -f $system)" ]; then
     try_tests 'test_goblin_elf.py'
-    python=/usr/bin/python3
+    python=$system
 fi
 try_tests 'test_*.py'
 sed -n 's/^[a-z]* is not installed, so /left out: &/p' "$folder/output"
