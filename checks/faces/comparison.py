@@ -54,13 +54,14 @@ def symbols_by_readelf(text, is_dynamic):
             line = re.sub(r' \[[^]]*\] +', ' ', re.sub('<[^>]*>: [0-9a-f]+', '-', line))
             _, value, size, _, _, _, section, name = (line.split(None, 7) + [''])[:8]
             value = f'{int(size, 0):0{len(value)}x}' if section == 'COM' else value
-            found.append((value, SECTIONS.get(section, section), name))
+            found.append(f'{value} {SECTIONS.get(section, section)} {name}')
     return found
 
 
 def symbols_by_nm(text):
     """Of each symbol its value, if it is defined, its letter and name. None for a file that nm doesn't know."""
-    return None if 'file format not recognized' in text else re.findall(r'^(?:([0-9a-f]+)| +) (\S) ?(.*)$', text, re.MULTILINE)
+    rows = re.findall(r'^(?:([0-9a-f]+)| +) (\S) ?(.*)$', text, re.MULTILINE)
+    return None if 'file format not recognized' in text else list(map(' '.join, rows))
 
 
 def relocation_by_readelf(line):
@@ -115,16 +116,14 @@ class Comparison:
 
     def symbols(self, path, is_dynamic):
         """Compares them in the same order, each with its value, letter, section index and name."""
+        kind, printed = 'dynamic' if is_dynamic else 'static', self.printed[path]
         ours = [(line.split(' ', 3) + ['', '', ''])[:4] for line in lines_of(f'{self.folder}/nm', *['-D'] * is_dynamic, path)]
-        own = {'readelf': [f'{value} {section} {name}' for value, _, section, name in ours],
-               'nm': [f'{value if section != "0" else ""} {letter} {name}' for value, letter, section, name in ours]}
-        printed = self.printed[path]
-        by_others = {'readelf': symbols_by_readelf(printed['readelf'], is_dynamic), 'nm': symbols_by_nm(printed['nm -D' if is_dynamic else 'nm'])}
-        for other, rows in by_others.items():
-            if rows is not None:
-                theirs = [' '.join(row) for row in rows]
-                self.same(f'{path}: {"dynamic" if is_dynamic else "static"} symbols by {other}', own[other],
-                          unversioned(theirs, own[other]) if is_dynamic else theirs)
+        by_readelf = [f'{value} {section} {name}' for value, _, section, name in ours]
+        by_nm = [f'{value if section != "0" else ""} {letter} {name}' for value, letter, section, name in ours]
+        for other, own, theirs in (('readelf', by_readelf, symbols_by_readelf(printed['readelf'], is_dynamic)),
+                                   ('nm', by_nm, symbols_by_nm(printed['nm -D' if is_dynamic else 'nm']))):
+            if theirs is not None:
+                self.same(f'{path}: {kind} symbols by {other}', own, unversioned(theirs, own) if is_dynamic else theirs)
         return len(ours)
 
     def sizes(self, path, printed):
@@ -185,10 +184,9 @@ class Comparison:
 def many(path):
     """Writes an object of MANY sections of a byte, each with a function. What the header has no room for is in the section at index 0, and the
     index of a function's section in a table of such indices."""
-    names, indices = b''.join(b'f%d\0' % i for i in range(1, MANY)), struct.pack(f'<{MANY}I', *range(MANY))
-    places = itertools.accumulate((len(b'f%d\0' % i) for i in range(1, MANY)), initial=0)
-    symbol = lambda i, place: struct.pack('<IBBHQQ', place, 18, 0, i if i < 0xff00 else 0xffff, 0, 1)
-    symbols = bytes(24) + b''.join(map(symbol, range(1, MANY), places))
+    names, indices = b''.join(b'f%05d\0' % i for i in range(1, MANY)), struct.pack(f'<{MANY}I', *range(MANY))
+    symbol = lambda i: struct.pack('<IBBHQQ', 7 * (i - 1), 18, 0, i if i < 0xff00 else 0xffff, 0, 1)
+    symbols = bytes(24) + b''.join(map(symbol, range(1, MANY)))
     count, start = MANY + 3, 64
     section = lambda kind, flags, place, size, link=0, info=0, entry=0: \
         struct.pack('<IIQQQQIIQQ', 0, kind, flags, 0, place, size, link, info, 1, entry)
@@ -207,7 +205,7 @@ def main():
     missing = {'interpreter', 'needed', 'soname', 'rpath', 'runpath'} - {line.split()[0] for line in comparison.all()}
     comparison.wrong.extend(f'no compared file has a {name}, so it is not tested' for name in sorted(missing))
     many(f'{folder}/many')
-    listed, wanted = lines_of(f'{folder}/nm', f'{folder}/many'), [f'{0:016x} T {i} f{i}' for i in range(1, MANY)]
+    listed, wanted = lines_of(f'{folder}/nm', f'{folder}/many'), [f'{0:016x} T {i} f{i:05}' for i in range(1, MANY)]
     comparison.count('symbols of a made file of as many sections', comparison.same('many: symbols', listed, wanted))
     comparison.wrong.extend(f'nothing was compared: {what}' for what, number in comparison.counts.items() if not number)
     print('\n'.join(comparison.wrong[:20]))
