@@ -10,36 +10,36 @@ refused=1000
 well='as expected'
 more='it makes more allocations than were refused'
 
-# Writes a case of a call in a folder, which is to print what standard input has: add_case FOLDER CALL NAME MORE_WORDS_OF_ITS_LINE
-add_case() {
-    { echo "$(cat "$1/$2.line") $4"; cat "$1/$2.file"; } > "$1/cases/$3"
-    cat > "$1/cases/$3.stdout"
+# Adds a call to a folder: its name, how many of its allocations are refused in a round, its line and its file. Each line of the list
+# `left` has the first three.
+add_call() {
+    echo "$2 $3 $4" >> "$1/left"
+    cp "$5" "$1/$2.file"
 }
 
-# Writes the cases of a call in a folder, with its allocations from one number to another refused, one in each case. The first time it
-# adds a case in which none is refused, if it is known what the call then writes.
+# Writes the cases of a call in a folder, each with one of its allocations refused, so many after a number. The first time it adds a case
+# with none refused, if it is known what the call then writes: add_cases FOLDER CALL COUNT LINE NUMBER
 add_cases() {
-    for number in $(seq "$3" "$4"); do
-        if [ "$number" -eq "$4" ]; then last=' last'; else last=; fi
-        echo "$well" | add_case "$1" "$2" "$2.$number" "$number $refused$last"
+    first=$(($5 + 1)) last=$(($5 + $3))
+    if [ "$5" -eq 0 ] && [ -e "$1/$2.shown" ]; then first=0; fi
+    for number in $(seq $first $last); do
+        if [ "$number" -eq $last ]; then is_last=' last'; else is_last=; fi
+        { echo "$4 $number $refused$is_last"; cat "$1/$2.file"; } > "$1/cases/$2.$number"
+        if [ "$number" -eq 0 ]; then cat "$1/$2.shown"; else echo "$well"; fi > "$1/cases/$2.$number.stdout"
     done
-    if [ "$3" -eq 1 ] && [ -e "$1/$2.shown" ]; then add_case "$1" "$2" "$2.0" "0 $refused" < "$1/$2.shown"; fi
 }
 
 # Runs a crate's program over the calls of a folder. The count of a call says how many of its allocations are refused in a round,
-# one in each case. The calls that make more are run again with as many more refused, until none makes more. The call that is named
-# makes more than one, and is also run as if it made only one. The toolchain must report that in the words that are read here, and
-# must report other cases as expected.
+# one in each case. The calls that make more are run again with as many more refused, until none makes more. The call too_few makes more
+# than its count, and is run once. The toolchain must report that in the words that are read here, and other cases as expected.
 try_allocations() {
     rounds=0
-    while [ -s "$2/names" ]; do
+    while [ -s "$2/left" ]; do
         rm -rf "$2/cases"
         mkdir "$2/cases"
-        while read -r name; do
-            count=$(cat "$2/$name.count")
-            add_cases "$2" "$name" $((rounds * count + 1)) $(((rounds + 1) * count))
-        done < "$2/names"
-        if [ "$rounds" -eq 0 ]; then echo "$well" | add_case "$2" "$3" too_few.1 "1 $refused last"; fi
+        while read -r name count line; do
+            add_cases "$2" "$name" "$count" "$line" $((rounds * count))
+        done < "$2/left"
         (cd "$1" && rt try --steps 100000 --fail-alloc "$refused" --cases "$2/cases") > "$folder/out" 2>&1 || true
         sed -n "s/^the output differs from .\(.*\)[.][0-9]*[.]stdout.: at byte 0, expected \"$well.n\", found \"$more.n\"$/\1/p" \
             "$folder/out" > "$2/names"
@@ -49,28 +49,21 @@ try_allocations() {
             grep -v output=expected "$folder/out"
             exit 1
         fi
-        if [ "$rounds" -eq 0 ]; then
-            if [ "$expected" -eq 0 ] || ! grep -q -x too_few "$2/names"; then
-                cat "$folder/out"
-                fail "refused: this script does not understand the output of rt try, which is above; its wording may have changed"
-            fi
-            sed -i '/^too_few$/d' "$2/names"
+        if [ "$rounds" -eq 0 ] && { [ "$expected" -eq 0 ] || ! grep -q -x too_few "$2/names"; }; then
+            cat "$folder/out"
+            fail "refused: this script does not understand the output of rt try, which is above; its wording may have changed"
         fi
+        awk 'NR == FNR { makes_more[$1] = $1 != "too_few"; next } makes_more[$1]' "$2/names" "$2/left" > "$2/more"
+        mv "$2/more" "$2/left"
         rounds=$((rounds + 1))
     done
 }
 
-# Adds a call to a folder: its name, how many of its allocations are refused in a round, its line and its file.
-add_call() {
-    echo "$2" >> "$1/names"
-    echo "$3" > "$1/$2.count"
-    echo "$4" > "$1/$2.line"
-    cp "$5" "$1/$2.file"
-}
 while read -r name; do
     add_call "$folder/calls" "$name" 8 "$name" /dev/null
 done < crates/goblin_refused/stdin
-try_allocations crates/goblin_refused "$folder/calls" segments-parse
+add_call "$folder/calls" too_few 1 segments-parse /dev/null
+try_allocations crates/goblin_refused "$folder/calls"
 
 # Puts together a program that runs goblin_text with its allocations refused.
 cp -r --parents crates.txt crates/*/src crates/*/specs crates/*/proofs "$folder"
@@ -97,5 +90,6 @@ sed 's/name=[.]s$/name=/' crates/goblin_show/stdout | add_run damaged 20 'permis
 echo 'refused: Invalid magic number: 0x3736353433323130' | add_run longest 8 'strict 16777200' "$folder/magic"
 add_run text 20 'text 0' $symbols < "$folder/wanted"
 echo refused | add_run text_damaged 20 'text 0' "$folder/damaged"
-try_allocations "$folder/crates/goblin_runs" "$folder/runs" symbols
+add_call "$folder/runs" too_few 1 'strict 0' $symbols
+try_allocations "$folder/crates/goblin_runs" "$folder/runs"
 echo 'refused: with each allocation refused, every call reported out of memory or the same result as without'
