@@ -11,8 +11,8 @@ has qemu-aarch64 'the library for aarch64 is not tested' || exit 0
 mkdir "$other"
 quietly make_library $target "$other"
 check_axioms
-for program in layout nm damaged; do
-    quietly strictly aarch64-linux-gnu-gcc -static -std=c99 -I"$folder" -o "$other/$program" "faces/c/$program.c" -L"$other" -lgoblin_c
+for program in layout damaged $c_examples; do
+    strictly aarch64-linux-gnu-gcc -static -std=c99 -I"$folder" -o "$other/$program" "faces/c/$program.c" -L"$other" -lgoblin_c
 done
 quietly qemu-aarch64 "$other/layout"
 for file in "$files"/* "$other/nm" "$other/damaged"; do

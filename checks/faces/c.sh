@@ -4,8 +4,6 @@
 # damaged files that made.c makes.
 . checks/faces/shared.sh
 
-c_examples='execstack flag needed nm size strings symbolize truncated values'
-
 # The value, letter, section index and name of each symbol in the files that made.c makes.
 symbols_made='0 a 65521 made.c
 0 t 1 .text
@@ -38,12 +36,12 @@ check_header() {
         quietly "$folder/layout"
     done
     "$folder/layout" assertions > "$folder/assertions.c"
-    quietly strictly cc -std=c11 -Ifaces/c -c -o "$folder/assertions.o" "$folder/assertions.c"
+    strictly cc -std=c11 -Ifaces/c -c -o "$folder/assertions.o" "$folder/assertions.c"
     if has c++ 'goblin.h is not compiled as C++'; then
-        quietly strictly c++ -x c++ -std=c++11 -I"$folder" -o "$folder/layout" faces/c/layout.c -x none -L"$folder" -lgoblin_c
-        quietly strictly c++ -x c++ -std=c++11 -Ifaces/c -c -o "$folder/assertions.o" "$folder/assertions.c"
+        strictly c++ -x c++ -std=c++11 -I"$folder" -o "$folder/layout" faces/c/layout.c -x none -L"$folder" -lgoblin_c
+        strictly c++ -x c++ -std=c++11 -Ifaces/c -c -o "$folder/assertions.o" "$folder/assertions.c"
         for example in $c_examples; do
-            quietly strictly c++ -x c++ -std=c++11 -Ifaces/c -c -o "$folder/example.o" "faces/c/$example.c"
+            strictly c++ -x c++ -std=c++11 -Ifaces/c -c -o "$folder/example.o" "faces/c/$example.c"
         done
         echo "the examples can be compiled as C++"
     fi
@@ -66,7 +64,7 @@ check_examples() {
         checks/files/elf_constants >> "$folder/examples.c"
     for compiler in cc clang; do
         has $compiler || continue
-        for standard in c89 c99 c11; do quietly strictly $compiler -std=$standard -Ifaces/c -c -o "$folder/examples.o" "$folder/examples.c"; done
+        for standard in c89 c99 c11; do strictly $compiler -std=$standard -Ifaces/c -c -o "$folder/examples.o" "$folder/examples.c"; done
     done
     echo "the $(grep -c '^    { ' "$folder/examples.c") examples of goblin.h can be compiled"
     echo "$(wc -l < checks/files/elf_constants) constants have the same number in goblin.h and elf.h"
@@ -105,7 +103,7 @@ check_instructions() {
 check_bench() {
     echo '#include <gelf.h>' | cc -E - > "$folder/output" 2>&1 \
         || { left_out "the header of libelf is not installed, so bench.c is not compiled"; return; }
-    quietly strictly cc -std=c99 -Ifaces/c -o "$folder/bench" faces/c/bench.c -L"$folder" -lgoblin_c -lelf
+    strictly cc -std=c99 -Ifaces/c -o "$folder/bench" faces/c/bench.c -L"$folder" -lgoblin_c -lelf
     quietly "$folder/bench" $program_file
     echo "bench.c reads what libelf reads"
 }
@@ -193,7 +191,7 @@ check_damaged() {
         set --
     fi
     build damaged -std=c99 "$@"
-    quietly strictly cc -std=c99 -Ifaces/c -o "$folder/plain" faces/c/damaged.c faces/c/plain.c
+    strictly cc -std=c99 -Ifaces/c -o "$folder/plain" faces/c/damaged.c faces/c/plain.c
     for file in "$folder/nm" "$folder/made" "$files"; do
         if [ -d "$file" ]; then set -- "$file"/*; else set -- "$file"; fi
         quietly "$folder/plain" 1000 "$@"

@@ -20,10 +20,13 @@ try_tests() {
     echo "the Python package: $(grep -o '^Ran [0-9]* tests' "$folder/output") by $("$python" -V)"
 }
 
-# Checks the types, where mypy is installed.
+# Checks the types, where mypy is installed, by what its flag --strict turns on in version 1.0.1.
 check_types() {
     has_module mypy || { left_out "mypy is not installed for $python, so the types are not checked"; return; }
-    with_package "$python" -m mypy --strict --follow-imports skip --ignore-missing-imports --cache-dir "$folder/mypy" faces/python/goblin_elf
+    set -- --disallow-any-generics --disallow-subclassing-any --disallow-untyped-calls --disallow-untyped-defs --disallow-incomplete-defs \
+        --check-untyped-defs --disallow-untyped-decorators --warn-redundant-casts --warn-unused-ignores --warn-return-any --no-implicit-reexport \
+        --strict-equality --follow-imports skip --ignore-missing-imports --config-file= --cache-dir "$folder/mypy"
+    with_package "$python" -m mypy "$@" faces/python/goblin_elf
     echo "the Python package: mypy finds no fault in its types"
 }
 

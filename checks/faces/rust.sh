@@ -32,10 +32,20 @@ quietly env -u GOBLIN_C_LIB PKG_CONFIG_LIBDIR="$folder" cargo check --offline --
 awk '/looked for in/ { wrong++ } /no folder beside this crate was looked in: it is a copy/ { said++ } END { exit wrong || !said }' "$folder/output" \
     || fail "a copied crate should say that it looks in no folder beside it, and prints: $(cat "$folder/output")"
 quietly cargo package --offline --allow-dirty --manifest-path $crate
-quietly env RUSTDOCFLAGS='-D warnings' cargo doc --offline --manifest-path $crate
+# Puts into the file lints the flags of the stored lints, those of Rust 1.95, that a program of this version has, too, and that match a
+# pattern: lints PROGRAM PATTERN. They are errors. What else is found is printed.
+lints() {
+    "$1" -W help | awk '{ gsub(/-/, "_", $1); print "-D" $1 }' > "$folder/known"
+    grep -x -F -f "$folder/known" checks/files/lints | grep "$2" > "$folder/lints" || fail "$1 has none of the stored lints"
+}
+lints rustdoc rustdoc:
+quietly env RUSTDOCFLAGS="$(xargs < "$folder/lints")" cargo doc --offline --manifest-path $crate
+sed -n '/^warning/,/^$/p' "$folder/output"
 if cargo clippy --version > "$folder/output" 2>&1; then
-    quietly cargo clippy --offline --all-targets --manifest-path $crate -- -D warnings
-    echo "rust: clippy reports nothing"
+    lints clippy-driver ''
+    quietly xargs -a "$folder/lints" cargo clippy --offline --all-targets --manifest-path $crate -- -Wclippy::correctness -Aunknown_lints
+    sed -n '/^warning/,/^$/p' "$folder/output"
+    echo "rust: clippy reports none of the stored lints"
 else
     left_out "clippy is not installed, so it doesn't read the Rust crate"
 fi

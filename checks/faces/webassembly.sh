@@ -26,11 +26,17 @@ if [ -e "$folder/node" ]; then
         mkdir -p "$folder/app/node_modules"
         ln -s "$web" "$folder/app/node_modules/goblin_c"
         cp faces/web/use.ts "$folder/app/use.mts"
-        # (of package.json `node` reads `types`, and `nodenext` reads `exports`)
+        # (what --strict turns on in TypeScript 4.8)
+        set -- --alwaysStrict --noImplicitAny --noImplicitThis --strictBindCallApply --strictFunctionTypes --strictNullChecks \
+            --strictPropertyInitialization --useUnknownInCatchVariables --noEmit --target es2020 --lib es2020
+        # (of package.json `node` reads `types`, and `nodenext` reads `exports`; a line that begins with `error` says that an option is gone)
         for modules in es2022:node nodenext:nodenext; do
-            tsc --noEmit --strict --target es2020 --lib es2020 --module ${modules%:*} --moduleResolution ${modules#*:} "$folder/app/use.mts"
+            if tsc "$@" --module ${modules%:*} --moduleResolution ${modules#*:} "$folder/app/use.mts" > "$folder/output"; then
+                echo "TypeScript accepts a program over goblin.d.ts by ${modules#*:}, without the types of a browser"
+            else
+                grep '^error ' "$folder/output" || fail "TypeScript refuses a program over goblin.d.ts: $(cat "$folder/output")"
+            fi
         done
-        echo "TypeScript accepts a program over goblin.d.ts, without the types of a browser"
     fi
 else
     left_out "node has no 64-bit memories, so the module for WebAssembly is not called: install Node.js 24"

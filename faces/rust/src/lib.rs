@@ -107,7 +107,6 @@
 //! This crate does not read the dynamic section, so it has no `elf.libraries`, `elf.soname`, `elf.rpaths`, `elf.runpaths` and
 //! `elf.interpreter`. The example `needed` reads them in a few lines.
 #![deny(missing_docs, unsafe_code)]
-#![warn(clippy::missing_errors_doc)]
 
 mod address_map;
 mod constants;
