@@ -2,9 +2,10 @@
 """Says what is wrong with the repository's text: python3 checks/lint, from its root.
 
 Each of the modules beside this one checks what its first lines say. No line of a definition or a proof is over 120 columns. If
-shellcheck is installed, it must report nothing for the shell scripts.
+shellcheck is installed, it must find nothing in the shell scripts by the checks that version 0.9.0 has. What it finds by others is printed.
 """
 import os
+import re
 import shutil
 import subprocess
 import sys
@@ -19,6 +20,10 @@ import words
 from crates import text_of, tracked
 
 
+# The numbers of the checks of shellcheck 0.9.0.
+CHECKS = {*range(1000, 1146), *range(2000, 2324), *range(3000, 3061)}
+
+
 def wide():
     paths = tracked('*.antt')
     wrong = [f'{path}:{number}: it is over 120 columns' for path in paths for number, line in enumerate(text_of(path).split('\n'), 1)
@@ -31,8 +36,10 @@ def shell():
     if not shutil.which('shellcheck'):
         print('left out: shellcheck is not installed, so shell scripts are not read')
         return 'no shell script', []
-    ran = subprocess.run(['shellcheck', '-x', *paths], stdout=subprocess.PIPE, text=True)
-    return f'{len(paths)} shell scripts', ran.stdout.splitlines() or ['shellcheck failed'] * (ran.returncode != 0)
+    ran = subprocess.run(['shellcheck', '--norc', '-x', '-f', 'gcc', *paths], stdout=subprocess.PIPE, text=True)
+    wrong = [line for line in ran.stdout.splitlines() if int(re.search(r'\[SC(\d+)\]$', line)[1]) in CHECKS]
+    print(''.join(f'{line}\n' for line in ran.stdout.splitlines() if line not in wrong), end='')
+    return f'{len(paths)} shell scripts', wrong or ['shellcheck failed'] * (ran.returncode > 1)
 
 
 def main():
