@@ -1,9 +1,10 @@
 -- A run whose input is too long, or for which memory ran out, writes one line with that reason or fails, as `refuse`
 -- says. Of the reader it says what `input_of` says. If all was read, `show_file` says how it ended.
-use Rattle.goblin_text.proofs.Common.{◌∙◌, arith, inl, inr, refl, subst, common_steps}
+use Rattle.goblin_text.proofs.Common.{◌≡◌, arith, inl, inr, refl, subst, common_steps}
 use Rattle.goblin_text.specs.RunOutcome.{IsReasonOf}
 use Rattle.std.proofs.Common.{rules}
 use Rattle.std.specs.Fmt.{digits}
+use Rattle.std.specs.Prelude.{vec_items}
 use Rattle.goblin_text.proofs.run.run.Goals as goal
 
 pub returns-in-TooLong : goal.returns-in-TooLong
@@ -37,8 +38,8 @@ pub returns : goal.returns
 returns g c = record {
   shown = search rules;
   refused = λ e.
-      let said = c.show_file.ensures.refused e in
-      let is = c.new-file.ensures.bytes ∙ c.as_slice.ensures.value in
+      let said = c.show_file.ensures.refused (search rules) in
+      let is : c.new-file.result.bytes ≡ vec_items c.in-Whole.bytes = search rules in
       let reason = subst (λ bytes. IsReasonOf c.args.opts.now.parse_mode bytes said.0) is said.1 in
       (said.0, inl (_, c.in-Whole.ensures.input, reason), said.2);
   failed = search rules;
