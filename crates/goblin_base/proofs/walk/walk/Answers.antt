@@ -3,8 +3,8 @@
 -- because all before it are text (`strict`, `walked_fault`). A piece of ASCII is text (`no_fault`), so ASCII bytes
 -- never reach these last two cases.
 use Rattle.std.proofs.Common.{rules, ◌≡◌, ◌+◌, ◌-◌, ◌<◌, ◌≤◌, ℕ, List, false, true, length, slice_index, refl, sym, ap}
-use Rattle.std.proofs.Common.{subst, ◌∙◌, Ok, Err, arith, zero, suc}
-use Rattle.std.proofs.lemmas.Bool.{both_ways, false≢true}
+use Rattle.std.proofs.Common.{subst, ⊎_elim, ◌∙◌, Ok, Err, arith, zero, suc}
+use Rattle.std.proofs.lemmas.Bool.{both_ways, cases_lt, false≢true}
 use Rattle.std.proofs.lemmas.List.{take_all}
 use Rattle.std.specs.Bool.{IsTrue}
 use Rattle.std.specs.Str.{IsAscii, IsUtf8}
@@ -37,6 +37,12 @@ no_fault : (bytes seen then : List ℕ) (i e : ℕ)
 no_fault bytes seen then i e same unchanged bad low =
     let text = low_is_text bytes i e (λ k l r. low k) in
     false≢true (bad (subst (λ bs. IsUtf8 (slice_range bs i e)) (sym (unchanged ∙ same)) text))
+
+-- a piece that isn't text isn't empty
+not_empty : (bytes : List ℕ) (i e : ℕ) → (IsUtf8 (slice_range bytes i e) → IsTrue false) → i < e
+not_empty bytes i e bad = ⊎_elim (λ h. h)
+    (λ (h : e ≤ i). absurd (false≢true (bad (low_is_text bytes i e (λ k l r. absurd (omega (arith, h, l, r)))))))
+    (cases_lt i e)
 
 -- the same places are walked to the same offset
 ruleset kept = (rules, take_all)
@@ -111,6 +117,7 @@ loop-i-preserved c =
     let e = c.next_end-end.ensures in
     let walked : IsWalkedTo c.args.view.now.bytes c.args.delim c.walk_damaged.new.places.items c.in_ok-i.i =
     search rules in
+    let some = not_empty _ c.loop-i.i c.next_end-end.result.0 c.if-is_text.ensures.value.1 in
     record {
       same = search rules;
       within = search rules;
