@@ -1,9 +1,7 @@
 //! Cases with their results: contexts.
 use crate::compare::is;
-use goblin_base::container::{
-    BE, CONTAINER, Container, Ctx, Endian, LE, constants, derived_container, derived_ctx,
-    derived_endian,
-};
+use crate::record::is_apart;
+use goblin_base::container::{BE, CONTAINER, Container, Ctx, Endian, LE, constants};
 
 // The contexts of both classes in either byte order.
 pub(crate) const LITTLE32: Ctx = Ctx {
@@ -65,19 +63,12 @@ fn makes_contexts_of_one_part(rt: HostRuntime) {
 
 #[test]
 fn compares_contexts(rt: HostRuntime) {
-    let others = [LITTLE32, BIG64, LITTLE64];
-    assert!(rt; others.iter().all(|other| *other != BIG32));
-    assert!(rt; is(rt, derived_ctx(&BIG32, &BIG32), (true, Ok(BIG32), LITTLE64)));
-    let (little, big) = (Container::Little, Container::Big);
-    assert!(rt;
-        is(
-            rt,
-            derived_container(&little, &little),
-            (true, Ok(little), big)
-        )
-    );
-    assert!(rt; is(rt, derived_endian(&BE, &BE), (true, Ok(BE), LE)));
-    assert!(rt; little != big && BE != LE);
+    assert!(rt; is_apart(rt, &BIG32, &[LITTLE32, BIG64, LITTLE64]));
+    assert!(rt; is_apart(rt, &Container::Little, &[Container::Big]));
+    assert!(rt; is_apart(rt, &BE, &[LE]));
+    assert!(rt; is(rt, Ctx::default(), LITTLE64));
+    let default = (Container::default(), Endian::default());
+    assert!(rt; is(rt, default, (Container::Big, LE)));
 }
 
 #[test]

@@ -1,6 +1,7 @@
 //! Cases with their results: options.
 use crate::compare::is;
-use goblin_base::options::{ParseMode, ParseOptions, derived_mode, derived_options};
+use crate::record::is_apart;
+use goblin_base::options::{ParseMode, ParseOptions};
 
 // The mode of options, and whether it is permissive.
 fn mode(options: ParseOptions) -> (ParseMode, bool) {
@@ -25,11 +26,8 @@ fn makes_permissive_options(rt: HostRuntime) {
 
 #[test]
 fn compares_options(rt: HostRuntime) {
-    let (strict, permissive) = (ParseMode::Strict, ParseMode::Permissive);
-    let derived = derived_mode(&permissive, &permissive);
-    assert!(rt; is(rt, derived, (true, Ok(permissive), strict)));
-    let (strict, permissive) = (ParseOptions::strict(), ParseOptions::permissive());
-    let derived = derived_options(&permissive, &permissive);
-    assert!(rt; is(rt, derived, (true, Ok(permissive), strict)));
-    assert!(rt; ParseMode::Strict != ParseMode::Permissive && strict != permissive);
+    assert!(rt; is_apart(rt, &ParseMode::Permissive, &[ParseMode::Strict]));
+    assert!(rt; is_apart(rt, &ParseOptions::permissive(), &[ParseOptions::strict()]));
+    assert!(rt; is(rt, ParseMode::default(), ParseMode::Strict));
+    assert!(rt; is(rt, ParseOptions::default(), ParseOptions::strict()));
 }

@@ -2,7 +2,6 @@
 use crate::compare::{differs, has_message, has_written, is, reports, returns};
 use goblin_base::error::Result;
 use goblin_base::scroll::{SizeWith, TryFromCtx, TryIntoCtx};
-use std::alloc::AllocError;
 use std::fmt::Debug;
 
 // Reports whether a record has the size of these bytes, is read from them, and is written as them and no more.
@@ -54,18 +53,15 @@ macro_rules! with_each_default {
 
 pub(crate) use with_each_default;
 
-// Reports whether a value equals none of these others, but itself and its clone. `derived` is what its law returned for
-// the value twice: whether the two are equal, and the clone.
-pub(crate) fn is_apart<T: PartialEq + Debug + Drop>(
+// Reports whether a value equals none of these others, but itself and its clone.
+pub(crate) fn is_apart<T: PartialEq + Clone + Debug>(
     rt: HostRuntime,
     value: &T,
     others: &[T],
-    derived: (bool, std::result::Result<T, AllocError>),
 ) -> bool {
-    let (is_equal, clone) = derived;
-    match clone {
+    match value.clone() {
         Ok(clone) => {
-            is_equal && others.iter().all(|other| *other != *value) && is(rt, &clone, value)
+            *value == *value && others.iter().all(|other| *other != *value) && is(rt, &clone, value)
         }
         Err(e) => differs(rt, &e, value),
     }

@@ -4,7 +4,7 @@ use goblin_text::command::show;
 use goblin_text::counted::Counted;
 use goblin_text::file_bytes::FileBytes;
 use goblin_text::options::options_of;
-use goblin_text::run::{Outcome, derived, run, show_file};
+use goblin_text::run::{Outcome, run, show_file};
 use goblin_text::text::text_of;
 use std::alloc::Global;
 use std::io;
@@ -690,6 +690,6 @@ fn flushes_how_it_is_called(rt: HostRuntime) {
 #[test]
 fn compares_outcomes(rt: HostRuntime) {
     let (shown, refused, failed) = (Outcome::Shown, Outcome::Refused, Outcome::Failed);
-    assert!(rt; derived(&failed, &failed) == (true, Ok(failed)));
+    assert!(rt; (failed == failed, failed.clone()) == (true, Ok(failed)));
     assert!(rt; shown != refused && refused != failed && failed != shown);
 }
