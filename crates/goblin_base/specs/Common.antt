@@ -1,4 +1,5 @@
 -- The names that most contracts and proofs of records cite, passed on from one place. Declares nothing.
+pub use Rattle.goblin_base.specs.Derives.{Clones, ComparesAndClones}
 unfoldable pub use Rattle.goblin_base.specs.Eager.{records_from, records_in}
 pub use Rattle.goblin_base.specs.Eager.{room_of_each}
 unfoldable pub use Rattle.goblin_base.specs.Fields.{image_of_fields}

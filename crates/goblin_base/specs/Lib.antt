@@ -1,6 +1,7 @@
 pub mod Ascii
 pub mod Common
 pub mod Container
+pub mod Derives
 pub mod Digited
 pub mod Eager
 pub mod Entries

@@ -2,8 +2,7 @@
 //! `EI_DATA`).
 ghost use Rattle.std.specs.Prelude.{◌≡◌, ◌↔◌, IsTrue};
 ghost use Rattle.goblin_base.specs.Container.{word_size};
-
-use std::alloc::AllocError;
+ghost use Rattle.goblin_base.specs.Derives.{ComparesAndClones};
 
 /// The byte order of numbers.
 #[derive(Clone, Copy, Debug, Default, PartialEq)]
@@ -129,35 +128,14 @@ pub fn constants()
     ensures class { CONTAINER ≡ Container.Big }
 {}
 
-/// Laws of byte orders: `==` is true exactly if both are the same. `clone` returns the byte order,
-/// and never fails. The default is little endian. A call returns all three.
-pub fn derived_endian(order: &Endian, other: &Endian) -> (bool, Result<Endian, AllocError>, Endian)
-    ensures equal { IsTrue result.0 ↔ (order.now ≡ other.now) }
-    ensures clone { result.1 ≡ Ok order.now }
-    ensures default { result.2 ≡ Endian.Little }
-{
-    (*order == *other, Clone::clone(order), Default::default())
-}
-
-/// Laws of classes: `==` is true exactly if both are the same. `clone` returns the class, and never
-/// fails. The default is the 64-bit class. A call returns all three.
-pub fn derived_container(
-    class: &Container,
-    other: &Container,
-) -> (bool, Result<Container, AllocError>, Container)
-    ensures equal { IsTrue result.0 ↔ (class.now ≡ other.now) }
-    ensures clone { result.1 ≡ Ok class.now }
-    ensures default { result.2 ≡ Container.Big }
-{
-    (*class == *other, Clone::clone(class), Default::default())
-}
-
-/// Laws of contexts: `==` is true exactly if both are the same. `clone` returns the context, and
-/// never fails. The default is the 64-bit class in little endian. A call returns all three.
-pub fn derived_ctx(ctx: &Ctx, other: &Ctx) -> (bool, Result<Ctx, AllocError>, Ctx)
-    ensures equal { IsTrue result.0 ↔ (ctx.now ≡ other.now) }
-    ensures clone { result.1 ≡ Ok ctx.now }
-    ensures default { result.2 ≡ record { container = Container.Big; le = Endian.Little } }
-{
-    (*ctx == *other, Clone::clone(ctx), Default::default())
-}
+/// Laws of byte orders, classes and contexts: `==` is true exactly if both are the same. `clone` returns the value, and
+/// never fails. The defaults are little endian and the 64-bit class.
+pub fn laws()
+    ensures derived_endian { ComparesAndClones ⟦<Endian as PartialEq>⟧ ⟦<Endian as Clone>⟧ }
+    ensures derived_container { ComparesAndClones ⟦<Container as PartialEq>⟧ ⟦<Container as Clone>⟧ }
+    ensures derived_ctx { ComparesAndClones ⟦<Ctx as PartialEq>⟧ ⟦<Ctx as Clone>⟧ }
+    ensures default_endian { (order : Endian) → ⟦<Endian as Default>⟧.is_default order → order ≡ Endian.Little }
+    ensures default_container { (class : Container) → ⟦<Container as Default>⟧.is_default class → class ≡ Container.Big }
+    ensures default_ctx { (ctx : Ctx) → ⟦<Ctx as Default>⟧.is_default ctx
+        → ctx ≡ record { container = Container.Big; le = Endian.Little } }
+{}

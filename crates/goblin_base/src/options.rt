@@ -1,7 +1,6 @@
 //! Options of reading a file: whether damaged parts of it are refused or tolerated.
 ghost use Rattle.std.specs.Prelude.{◌≡◌, ◌↔◌, IsTrue};
-
-use std::alloc::AllocError;
+ghost use Rattle.goblin_base.specs.Derives.{ComparesAndClones};
 
 /// What reading does with damaged parts of a file.
 #[derive(Clone, Copy, Debug, Default, PartialEq, Eq)]
@@ -60,32 +59,12 @@ impl ParseOptions {
     }
 }
 
-/// Laws of modes: `==` is true exactly if both are the same. `clone` returns the mode, and never
-/// fails. The default is strict. A call returns all three.
-pub fn derived_mode(
-    mode: &ParseMode,
-    other: &ParseMode,
-) -> (bool, Result<ParseMode, AllocError>, ParseMode)
-    ensures equal { IsTrue result.0 ↔ (mode.now ≡ other.now) }
-    ensures clone { result.1 ≡ Ok mode.now }
-    ensures default { result.2 ≡ ParseMode.Strict }
-{
-    (*mode == *other, Clone::clone(mode), Default::default())
-}
-
-/// Laws of options: `==` is true exactly if both are the same. `clone` returns the options, and
-/// never fails. The default is strict. A call returns all three.
-pub fn derived_options(
-    options: &ParseOptions,
-    other: &ParseOptions,
-) -> (bool, Result<ParseOptions, AllocError>, ParseOptions)
-    ensures equal { IsTrue result.0 ↔ (options.now ≡ other.now) }
-    ensures clone { result.1 ≡ Ok options.now }
-    ensures default { result.2 ≡ record { parse_mode = ParseMode.Strict } }
-{
-    (
-        *options == *other,
-        Clone::clone(options),
-        Default::default(),
-    )
-}
+/// Laws of modes and options: `==` is true exactly if both are the same. `clone` returns the value, and never fails. The
+/// default is strict.
+pub fn laws()
+    ensures derived_mode { ComparesAndClones ⟦<ParseMode as PartialEq>⟧ ⟦<ParseMode as Clone>⟧ }
+    ensures derived_options { ComparesAndClones ⟦<ParseOptions as PartialEq>⟧ ⟦<ParseOptions as Clone>⟧ }
+    ensures default_mode { (mode : ParseMode) → ⟦<ParseMode as Default>⟧.is_default mode → mode ≡ ParseMode.Strict }
+    ensures default_options { (options : ParseOptions) → ⟦<ParseOptions as Default>⟧.is_default options
+        → options ≡ record { parse_mode = ParseMode.Strict } }
+{}

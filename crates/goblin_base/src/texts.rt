@@ -1,10 +1,10 @@
 //! An error as its kind, its numbers and its item, and the text of each kind, in parts.
-ghost use Rattle.std.specs.Prelude.{◌≡◌, ◌↔◌, IsTrue, Some, length};
+ghost use Rattle.std.specs.Prelude.{◌≡◌, IsTrue, Some, length};
 ghost use Rattle.std.specs.Fmt.{WritesOnOk};
 ghost use Rattle.std.specs.List.{find};
+ghost use Rattle.goblin_base.specs.Derives.{ComparesAndClones};
 ghost use Rattle.goblin_base.specs.Texts.{Facts, KindsAreFound, are_short, facts_of, facts_text, is_kind, joined, kind_number, kind_text, kind_with, part_text, prefix};
 
-use crate::error::Cloned;
 use Part::{First, Hexadecimal, Item, Overflow, Second, Text, Third};
 use std::fmt;
 
@@ -296,17 +296,10 @@ impl fmt::Display for Report {
     }
 }
 
-/// Laws: each kind is found by its number, and is listed once.
+/// Laws: each kind is found by its number, and is listed once. `==` is true exactly if both kinds are the same. `clone`
+/// returns the kind, and never fails.
 pub fn laws()
     ensures found { KindsAreFound }
     ensures once { length KINDS.now ≡ 21 }
+    ensures derived { ComparesAndClones ⟦<Kind as PartialEq>⟧ ⟦<Kind as Clone>⟧ }
 {}
-
-/// Laws of kinds: `==` is true exactly if both are the same. `clone` returns the kind, and never fails. A call
-/// returns both.
-pub fn derived(kind: &Kind, other: &Kind) -> (bool, Cloned<Kind>)
-    ensures equal { IsTrue result.0 ↔ (kind.now ≡ other.now) }
-    ensures clone { result.1 ≡ Ok kind.now }
-{
-    (*kind == *other, Clone::clone(kind))
-}
