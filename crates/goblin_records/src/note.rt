@@ -1,11 +1,10 @@
 //! Note headers of both classes, and the types of notes: System V gABI, "Note Section".
 ghost use Rattle.std.specs.Prelude.{◌≡◌, [], ◌∷◌};
-ghost use Rattle.goblin_base.specs.Common.{HasPlaces, shaped};
+ghost use Rattle.goblin_base.specs.Common.{Clones, HasPlaces, shaped};
 ghost use Rattle.goblin_records.specs.Nhdr.{nhdr32, nhdr64};
 ghost use Rattle.goblin_records.specs.NhdrLaws.{nhdr32_laws, nhdr64_laws};
 
 use goblin_base::container::Endian;
-use goblin_base::error::Cloned;
 use goblin_base::laid_out::LaidOut;
 use goblin_base::number::{get_u32, get_u64, put_u32, put_u64};
 
@@ -85,28 +84,16 @@ impl LaidOut<Endian> for Nhdr64 {
     ghost layout_laws = { nhdr64_laws };
 }
 
-/// Laws of note headers: their sizes, and where each field lies.
+/// Laws of note headers: their sizes, and where each field lies. `clone` returns the header, and never fails.
 pub fn laws()
     ensures sizes { (SIZEOF_NHDR32 ≡ 12) × (SIZEOF_NHDR64 ≡ 24) }
     ensures places32 { HasPlaces ⟦<Nhdr32 as LaidOut<Endian>>⟧.layout (λ n h.
         h.n_namesz ∷ h.n_descsz ∷ h.n_type ∷ [] ≡ n 0 4 ∷ n 4 4 ∷ n 8 4 ∷ []) }
     ensures places64 { HasPlaces ⟦<Nhdr64 as LaidOut<Endian>>⟧.layout (λ n h.
         h.n_namesz ∷ h.n_descsz ∷ h.n_type ∷ [] ≡ n 0 8 ∷ n 8 8 ∷ n 16 8 ∷ []) }
+    ensures derived32 { Clones ⟦<Nhdr32 as Clone>⟧ }
+    ensures derived64 { Clones ⟦<Nhdr64 as Clone>⟧ }
 {}
-
-/// A law: `clone` returns the note header, and never fails. A call returns the clone.
-pub fn derived32(header: &Nhdr32) -> Cloned<Nhdr32>
-    ensures { result ≡ Ok header.now }
-{
-    Clone::clone(header)
-}
-
-/// A law: `clone` returns the note header, and never fails. A call returns the clone.
-pub fn derived64(header: &Nhdr64) -> Cloned<Nhdr64>
-    ensures { result ≡ Ok header.now }
-{
-    Clone::clone(header)
-}
 
 // The types of notes, and the numbers of systems.
 pub use crate::constants_note::{

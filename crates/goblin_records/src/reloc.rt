@@ -1,6 +1,6 @@
 //! Relocations of either class, with an addend or without: System V gABI, "Relocation".
-ghost use Rattle.std.specs.Prelude.{◌≡◌, ◌≤◌, ◌↔◌, ◌/◌, ◌%◌, ◌^◌, IsTrue, Some, None, false, true, length};
-ghost use Rattle.goblin_base.specs.Common.{HasPlaces, Writes};
+ghost use Rattle.std.specs.Prelude.{◌≡◌, ◌≤◌, ◌/◌, ◌%◌, ◌^◌, Some, None, false, true, length};
+ghost use Rattle.goblin_base.specs.Common.{ComparesAndClones, HasPlaces, Writes};
 ghost use Rattle.goblin_base.specs.Signed.{signed_of};
 ghost use Rattle.goblin_base.specs.declared.container.Container.TheVariants as class;
 ghost use Rattle.goblin_records.specs.Reloc.{as_meant, as_stored, reloc_ctx_default, reloc_image, reloc_layout, reloc_layout_in, reloc_of, reloc_size, reloc_zero, SameInEachClass};
@@ -8,7 +8,7 @@ ghost use Rattle.goblin_records.specs.RelocLaws.{reloc_laws, reloc_laws_in};
 
 pub use crate::{reloc32, reloc64};
 use goblin_base::container::{Container, Ctx, Endian};
-use goblin_base::error::{Cloned, Result};
+use goblin_base::error::Result;
 use goblin_base::laid_out::LaidOut;
 use goblin_base::scroll::TryIntoCtx;
 
@@ -176,7 +176,8 @@ impl LaidOut<RelocCtx> for Reloc {
 
 /// Laws of relocations: where each part of one lies. A list of relocations that fit both classes is read back the same in each
 /// class and byte order. The default relocation has all fields 0 and no addend. The default context has no addends, isn't
-/// MIPS64, and is of the default class and byte order.
+/// MIPS64, and is of the default class and byte order. `==` is true exactly if all fields are equal. `clone` returns the
+/// value, and never fails.
 #[tactic(auto, using(crate::specs::RelocLaws::same_in_classes))]
 pub fn laws()
     ensures same { SameInEachClass }
@@ -196,22 +197,6 @@ pub fn laws()
         × (r.r_addend ≡ Some (signed_of 8 (n 16 8)))) }
     ensures zeros { (reloc : Reloc) → ⟦<Reloc as Default>⟧.is_default reloc → reloc ≡ reloc_zero }
     ensures context { (ctx : RelocCtx) → ⟦<RelocCtx as Default>⟧.is_default ctx → ctx ≡ reloc_ctx_default }
+    ensures derived { ComparesAndClones ⟦<Reloc as PartialEq>⟧ ⟦<Reloc as Clone>⟧ }
+    ensures derived_ctx { ComparesAndClones ⟦<RelocCtx as PartialEq>⟧ ⟦<RelocCtx as Clone>⟧ }
 {}
-
-/// Laws: `==` is true exactly if all fields of two relocations are equal. `clone` returns the
-/// relocation, and never fails. A call returns both.
-pub fn derived(reloc: &Reloc, other: &Reloc) -> (bool, Cloned<Reloc>)
-    ensures equal { IsTrue result.0 ↔ (reloc.now ≡ other.now) }
-    ensures clone { result.1 ≡ Ok reloc.now }
-{
-    (*reloc == *other, Clone::clone(reloc))
-}
-
-/// Laws: `==` is true exactly if all fields of two contexts of relocations are equal. `clone`
-/// returns the context, and never fails. A call returns both.
-pub fn derived_ctx(ctx: &RelocCtx, other: &RelocCtx) -> (bool, Cloned<RelocCtx>)
-    ensures equal { IsTrue result.0 ↔ (ctx.now ≡ other.now) }
-    ensures clone { result.1 ≡ Ok ctx.now }
-{
-    (*ctx == *other, Clone::clone(ctx))
-}

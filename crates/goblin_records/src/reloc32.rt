@@ -1,6 +1,6 @@
 //! Relocations of the 32-bit class: System V gABI, "Relocation" (`Elf32_Rel` and `Elf32_Rela`).
-ghost use Rattle.std.specs.Prelude.{◌≡◌, ◌↔◌, IsTrue};
-ghost use Rattle.goblin_base.specs.Common.{HasPlaces, low_bits, shaped, zero};
+ghost use Rattle.std.specs.Prelude.{◌≡◌};
+ghost use Rattle.goblin_base.specs.Common.{ComparesAndClones, HasPlaces, low_bits, shaped, zero};
 ghost use Rattle.goblin_base.specs.Signed.{signed_of};
 ghost use Rattle.goblin_base.specs.declared.container.Container.TheVariants as class;
 ghost use Rattle.goblin_records.specs.Reloc.{rel32, rela32, rela32_layout, rela32_low, rela_widened32, rel_widened32, rela_as32, rel_as32};
@@ -9,7 +9,6 @@ ghost use Rattle.goblin_records.specs.RelocLaws.{rela32_laws, rel32_laws};
 
 use crate::reloc::Reloc;
 use goblin_base::container::Endian;
-use goblin_base::error::Cloned;
 use goblin_base::laid_out::LaidOut;
 use goblin_base::number::{get_i32, get_u32, put_i32, put_u32};
 
@@ -161,7 +160,7 @@ impl LaidOut<Endian> for Rel {
 }
 
 /// Laws of relocations: the sizes; all fields of the default ones are 0; an `r_info` is the one of its
-/// symbol and its type.
+/// symbol and its type. `==` is true exactly if all fields are equal. `clone` returns the relocation, and never fails.
 #[tactic(auto, using(crate::specs::RelocInfoLaws::info_laws))]
 pub fn laws()
     ensures sizes { (SIZEOF_RELA ≡ 12) × (SIZEOF_REL ≡ 8) }
@@ -172,22 +171,6 @@ pub fn laws()
     ensures rela_places { HasPlaces ⟦<Rela as LaidOut<Endian>>⟧.layout (λ n r.
         (r.r_offset ≡ n 0 4) × (r.r_info ≡ n 4 4) × (r.r_addend ≡ signed_of 4 (n 8 4))) }
     ensures joins { JoinsItsParts class.Little }
+    ensures derived_rela { ComparesAndClones ⟦<Rela as PartialEq>⟧ ⟦<Rela as Clone>⟧ }
+    ensures derived_rel { ComparesAndClones ⟦<Rel as PartialEq>⟧ ⟦<Rel as Clone>⟧ }
 {}
-
-/// Laws: `==` is true exactly if all fields of two relocations with addends are equal. `clone`
-/// returns the relocation, and never fails. A call returns both.
-pub fn derived_rela(rela: &Rela, other: &Rela) -> (bool, Cloned<Rela>)
-    ensures equal { IsTrue result.0 ↔ (rela.now ≡ other.now) }
-    ensures clone { result.1 ≡ Ok rela.now }
-{
-    (*rela == *other, Clone::clone(rela))
-}
-
-/// Laws: `==` is true exactly if all fields of two relocations without addends are equal. `clone`
-/// returns the relocation, and never fails. A call returns both.
-pub fn derived_rel(rel: &Rel, other: &Rel) -> (bool, Cloned<Rel>)
-    ensures equal { IsTrue result.0 ↔ (rel.now ≡ other.now) }
-    ensures clone { result.1 ≡ Ok rel.now }
-{
-    (*rel == *other, Clone::clone(rel))
-}

@@ -1,6 +1,6 @@
 //! Relocations of the 64-bit class: System V gABI, "Relocation" (`Elf64_Rel` and `Elf64_Rela`).
-ghost use Rattle.std.specs.Prelude.{◌≡◌, ◌<◌, ◌^◌, ◌↔◌, IsTrue};
-ghost use Rattle.goblin_base.specs.Common.{HasPlaces, low_bits, shaped, zero};
+ghost use Rattle.std.specs.Prelude.{◌≡◌, ◌<◌, ◌^◌};
+ghost use Rattle.goblin_base.specs.Common.{ComparesAndClones, HasPlaces, low_bits, shaped, zero};
 ghost use Rattle.goblin_base.specs.Signed.{signed_of};
 ghost use Rattle.goblin_base.specs.declared.container.Container.TheVariants as class;
 ghost use Rattle.goblin_records.specs.Reloc.{rel64, rela64, rela64_layout, rela64_low, rela_widened64, rel_widened64, rela_as64, rel_as64};
@@ -9,7 +9,6 @@ ghost use Rattle.goblin_records.specs.RelocLaws.{rela64_laws, rel64_laws};
 
 use crate::reloc::Reloc;
 use goblin_base::container::Endian;
-use goblin_base::error::Cloned;
 use goblin_base::laid_out::LaidOut;
 use goblin_base::number::{get_i64, get_u64, put_i64, put_u64};
 
@@ -176,7 +175,8 @@ impl LaidOut<Endian> for Rel {
 }
 
 /// Laws of relocations: the sizes; all fields of the default ones are 0; an `r_info` is the one of its
-/// symbol and its type; `mips64el_r_info` and `mips64el_r_info_inverse` undo each other.
+/// symbol and its type; `mips64el_r_info` and `mips64el_r_info_inverse` undo each other. `==` is true exactly if all fields
+/// are equal. `clone` returns the relocation, and never fails.
 #[tactic(auto, using(crate::specs::RelocInfoLaws::info_laws))]
 pub fn laws()
     ensures sizes { (SIZEOF_RELA ≡ 24) × (SIZEOF_REL ≡ 16) }
@@ -190,22 +190,6 @@ pub fn laws()
     ensures inverse { Mips64elInverse }
     ensures one_to_one { Mips64elOneToOne }
     ensures four_times { Mips64elFourTimes }
+    ensures derived_rela { ComparesAndClones ⟦<Rela as PartialEq>⟧ ⟦<Rela as Clone>⟧ }
+    ensures derived_rel { ComparesAndClones ⟦<Rel as PartialEq>⟧ ⟦<Rel as Clone>⟧ }
 {}
-
-/// Laws: `==` is true exactly if all fields of two relocations with addends are equal. `clone`
-/// returns the relocation, and never fails. A call returns both.
-pub fn derived_rela(rela: &Rela, other: &Rela) -> (bool, Cloned<Rela>)
-    ensures equal { IsTrue result.0 ↔ (rela.now ≡ other.now) }
-    ensures clone { result.1 ≡ Ok rela.now }
-{
-    (*rela == *other, Clone::clone(rela))
-}
-
-/// Laws: `==` is true exactly if all fields of two relocations without addends are equal. `clone`
-/// returns the relocation, and never fails. A call returns both.
-pub fn derived_rel(rel: &Rel, other: &Rel) -> (bool, Cloned<Rel>)
-    ensures equal { IsTrue result.0 ↔ (rel.now ≡ other.now) }
-    ensures clone { result.1 ≡ Ok rel.now }
-{
-    (*rel == *other, Clone::clone(rel))
-}

@@ -1,6 +1,6 @@
 //! Symbols of either class: System V gABI, "Symbol Table".
 ghost use Rattle.std.specs.Prelude.{◌≡◌, ◌<◌, ◌/◌, ◌↔◌, IsTrue, length, codes, IsOk, [], ◌∷◌};
-ghost use Rattle.goblin_base.specs.Common.{HasPlaces, IsSameInEachClass, buffer_too_short, Gives, Refuses};
+ghost use Rattle.goblin_base.specs.Common.{ComparesAndClones, HasPlaces, IsSameInEachClass, buffer_too_short, Gives, Refuses};
 ghost use Rattle.goblin_base.specs.declared.container.Container.TheVariants as class;
 ghost use Rattle.goblin_records.specs.Constants.{bind_numbers, type_numbers, visibility_numbers};
 ghost use Rattle.goblin_records.specs.Sym.{is_in_section, sym_layout, sym_size, sym_zero, symbols_from};
@@ -9,7 +9,7 @@ ghost use Rattle.goblin_records.specs.declared.sym.Sym.{Sym};
 
 pub use crate::{sym32, sym64};
 use goblin_base::container::{Container, Ctx, Endian};
-use goblin_base::error::{Cloned, Result};
+use goblin_base::error::Result;
 use goblin_base::laid_out::LaidOut;
 use goblin_base::table::read_all;
 use std::alloc::Global;
@@ -181,7 +181,8 @@ pub fn get_type(info: u8) -> &'static str
 }
 
 /// Laws of symbols: a list of symbols that fit both classes is read back the same in each class and
-/// byte order. Where each field lies in each class. All fields of the default symbol are 0.
+/// byte order. Where each field lies in each class. All fields of the default symbol are 0. `==` is true exactly if all
+/// fields are equal. `clone` returns the symbol, and never fails.
 #[tactic(auto, using(crate::specs::SymLaws::same_symbols))]
 pub fn laws()
     ensures same { IsSameInEachClass sym_layout }
@@ -194,16 +195,8 @@ pub fn laws()
         (λ n s. s.st_name ∷ s.st_info ∷ s.st_other ∷ s.st_shndx ∷ s.st_value ∷ s.st_size ∷ []
         ≡ n 0 4 ∷ n 4 1 ∷ n 5 1 ∷ n 6 2 ∷ n 8 8 ∷ n 16 8 ∷ []) }
     ensures zeros { (sym : Sym) → ⟦<Sym as Default>⟧.is_default sym → sym ≡ sym_zero }
+    ensures derived { ComparesAndClones ⟦<Sym as PartialEq>⟧ ⟦<Sym as Clone>⟧ }
 {}
-
-/// Laws: `==` is true exactly if all fields of two symbols are equal. `clone` returns the symbol,
-/// and never fails. A call returns both.
-pub fn derived(sym: &Sym, other: &Sym) -> (bool, Cloned<Sym>)
-    ensures equal { IsTrue result.0 ↔ (sym.now ≡ other.now) }
-    ensures clone { result.1 ≡ Ok sym.now }
-{
-    (*sym == *other, Clone::clone(sym))
-}
 
 // The constants of symbols and their names.
 pub use crate::constants_sym::{

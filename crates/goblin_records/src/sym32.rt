@@ -1,6 +1,6 @@
 //! Symbols of the 32-bit class: System V gABI, "Symbol Table" (`Elf32_Sym`).
 ghost use Rattle.std.specs.Prelude.{◌≡◌, ◌↔◌, IsTrue, [], ◌∷◌};
-ghost use Rattle.goblin_base.specs.Common.{HasPlaces, low_bits, shaped, zero};
+ghost use Rattle.goblin_base.specs.Common.{ComparesAndClones, HasPlaces, low_bits, shaped, zero};
 ghost use Rattle.goblin_records.specs.Constants.{bind_numbers, type_numbers, visibility_numbers};
 ghost use Rattle.goblin_records.specs.Sym.{sym32, widened32, as32};
 ghost use Rattle.goblin_records.specs.SymParts.{type_of, IsImport};
@@ -8,7 +8,6 @@ ghost use Rattle.goblin_records.specs.declared.sym32.Sym.{Sym};
 
 use crate::sym::Sym as ElfSym;
 use goblin_base::container::Endian;
-use goblin_base::error::Cloned;
 use goblin_base::laid_out::LaidOut;
 use goblin_base::number::{get_u8, get_u16, get_u32, put_u8, put_u16, put_u32};
 
@@ -113,22 +112,15 @@ impl LaidOut<Endian> for Sym {
     ghost layout_laws = { sym32_laws };
 }
 
-/// Laws: where each field lies. All fields of the default symbol are 0.
+/// Laws: where each field lies. All fields of the default symbol are 0. `==` is true exactly if all fields are equal.
+/// `clone` returns the symbol, and never fails.
 pub fn laws()
     ensures places { HasPlaces ⟦<Sym as LaidOut<Endian>>⟧.layout (λ n s.
         s.st_name ∷ s.st_value ∷ s.st_size ∷ s.st_info ∷ s.st_other ∷ s.st_shndx ∷ []
         ≡ n 0 4 ∷ n 4 4 ∷ n 8 4 ∷ n 12 1 ∷ n 13 1 ∷ n 14 2 ∷ []) }
     ensures zeros { (sym : Sym) → ⟦<Sym as Default>⟧.is_default sym → sym ≡ zero sym32 }
+    ensures derived { ComparesAndClones ⟦<Sym as PartialEq>⟧ ⟦<Sym as Clone>⟧ }
 {}
-
-/// Laws: `==` is true exactly if all fields of two symbols are equal. `clone` returns the symbol,
-/// and never fails. A call returns both.
-pub fn derived(sym: &Sym, other: &Sym) -> (bool, Cloned<Sym>)
-    ensures equal { IsTrue result.0 ↔ (sym.now ≡ other.now) }
-    ensures clone { result.1 ≡ Ok sym.now }
-{
-    (*sym == *other, Clone::clone(sym))
-}
 
 // The constants of symbols and their names.
 pub use crate::constants_sym::{
