@@ -1,6 +1,6 @@
 //! The header of an ELF file: System V gABI, "ELF Header" and "ELF Identification".
-ghost use Rattle.std.specs.Prelude.{◌≡◌, ◌≤◌, ◌↔◌, ◌++◌, IsTrue, length, drop, [], ◌∷◌, ℕ, List, take};
-ghost use Rattle.goblin_base.specs.Common.{HasPlaces};
+ghost use Rattle.std.specs.Prelude.{◌≡◌, ◌≤◌, ◌++◌, length, drop, [], ◌∷◌, ℕ, List, take};
+ghost use Rattle.goblin_base.specs.Common.{ComparesAndClones, HasPlaces};
 ghost use Rattle.goblin_base.specs.declared.container.Container.TheVariants as class;
 ghost use Rattle.goblin_headers.specs.Constants.{class_numbers, data_numbers, file_type_numbers, ident_place_numbers, ident_size_numbers, system_numbers, unnamed_machine_numbers};
 ghost use Rattle.goblin_headers.specs.Header.{header_layout, header_size, magic, order_named};
@@ -12,7 +12,7 @@ use crate::program_header::ProgramHeader;
 use crate::section_header::SectionHeader;
 pub use crate::{header32, header64};
 use goblin_base::container::{Container, Ctx, Endian};
-use goblin_base::error::{Cloned, Error, Fault, Result};
+use goblin_base::error::{Error, Fault, Result};
 use goblin_base::number::get_u64;
 use goblin_base::scroll::{BE, IntoCtx, LE, SizeWith, TryFromCtx, TryIntoCtx};
 
@@ -247,6 +247,7 @@ impl IntoCtx<Ctx> for Header {
 ///   succeeds and changes nothing.
 /// - A new header names the class and the byte order of its context, and is read back from its
 ///   image.
+/// - `==` is true exactly if all fields of two headers are equal. `clone` returns the header, and never fails.
 pub fn laws()
     ensures ident { (class : Container) (order : Endian) (bytes : List ℕ)
         → ((header_layout class order).read bytes).e_ident ≡ take 16 bytes }
@@ -268,23 +269,8 @@ pub fn laws()
     ensures writes_back { WritesBack }
     ensures new_context { NewIsOfContext }
     ensures new_reads_back { NewIsReadBack }
+    ensures derived { ComparesAndClones ⟦<Header as PartialEq>⟧ ⟦<Header as Clone>⟧ }
 {}
-
-/// Laws: `==` is true exactly if all fields of two headers are equal. `clone` returns the header,
-/// and never fails. A call returns both.
-pub fn derived(header: &Header, other: &Header) -> (bool, Cloned<Header>)
-    ensures equal { IsTrue result.0 ↔ (header.now ≡ other.now) }
-    ensures clone { result.1 ≡ Ok header.now }
-{
-    (*header == *other, header.clone())
-}
-
-/// Law: the trait's `clone` returns the header, whatever method of this name the type has.
-pub fn derived_clone(header: &Header) -> Cloned<Header>
-    ensures { result ≡ Ok header.now }
-{
-    Clone::clone(header)
-}
 
 // The identification.
 pub use crate::constants_header::{

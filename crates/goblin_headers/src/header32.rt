@@ -1,6 +1,6 @@
 //! The header of a 32-bit ELF file: System V gABI, "ELF Header", `Elf32_Ehdr`.
-ghost use Rattle.std.specs.Prelude.{◌≡◌, ◌≤◌, ◌↔◌, ◌++◌, IsTrue, length, drop, replicate, [], ◌∷◌, ℕ, List, take};
-ghost use Rattle.goblin_base.specs.Common.{HasPlaces, values_of};
+ghost use Rattle.std.specs.Prelude.{◌≡◌, ◌≤◌, ◌++◌, length, drop, replicate, [], ◌∷◌, ℕ, List, take};
+ghost use Rattle.goblin_base.specs.Common.{ComparesAndClones, HasPlaces, values_of};
 ghost use Rattle.goblin_headers.specs.Constants.{class_numbers, data_numbers, file_type_numbers, ident_place_numbers, ident_size_numbers, system_numbers, unnamed_machine_numbers};
 ghost use Rattle.goblin_headers.specs.Header.{magic, headed, header32, low_header, widened32, as32};
 ghost use Rattle.goblin_headers.specs.HeaderTrips.{HeadersFit, IsOneHeaderImage, IsReadBack, IsWrittenAndReadBack, IsWrittenBack};
@@ -12,7 +12,7 @@ ghost use Rattle.goblin_base.specs.declared.error.Fault.TheVariants as faults;
 use crate::header::Header as ElfHeader;
 use crate::ident::{ident_of, order_of, put_ident};
 use goblin_base::container::Endian;
-use goblin_base::error::{Cloned, Error, Fault, Result};
+use goblin_base::error::{Error, Fault, Result};
 use goblin_base::number::{get_u16, get_u32, put_u16, put_u32};
 use goblin_base::room::room;
 use goblin_base::scroll::{LE, TryFromCtx, TryIntoCtx};
@@ -243,7 +243,7 @@ impl TryIntoCtx<Endian> for Header {
 /// Laws of headers: where each field lies. The image of a header is the only list of bytes that is read as that header. A
 /// header that fits is read back from its image, and from the bytes that it was written to. A
 /// header that was read is written back unchanged, and fits. A header fits exactly if the fields after its identification
-/// are their own low bits.
+/// are their own low bits. `==` is true exactly if all fields are equal. `clone` returns the header, and never fails.
 pub fn laws()
     ensures ident { (order : Endian) (bytes : List ℕ) → ((headed header32 order).read bytes).e_ident ≡ take 16 bytes }
     ensures places { HasPlaces (headed header32) (λ n h.
@@ -256,6 +256,7 @@ pub fn laws()
     ensures reads_back { IsReadBack (λ h. h.e_ident) (headed header32) }
     ensures written { IsWrittenAndReadBack (λ h. h.e_ident) (headed header32) }
     ensures writes_back { IsWrittenBack 52 (λ h. h.e_ident) (headed header32) }
+    ensures derived { ComparesAndClones ⟦<Header as PartialEq>⟧ ⟦<Header as Clone>⟧ }
 {}
 
 /// A law: every field of the default header is 0. A call returns that header.
@@ -362,19 +363,3 @@ pub fn constants()
         ∷ ELFOSABI_STANDALONE ∷ []
         ≡ system_numbers }
 {}
-
-/// Laws: `==` is true exactly if all fields of two headers are equal. `clone` returns the header,
-/// and never fails. A call returns both.
-pub fn derived(header: &Header, other: &Header) -> (bool, Cloned<Header>)
-    ensures equal { IsTrue result.0 ↔ (header.now ≡ other.now) }
-    ensures clone { result.1 ≡ Ok header.now }
-{
-    (*header == *other, header.clone())
-}
-
-/// Law: the trait's `clone` returns the header, whatever method of this name the type has.
-pub fn derived_clone(header: &Header) -> Cloned<Header>
-    ensures { result ≡ Ok header.now }
-{
-    Clone::clone(header)
-}

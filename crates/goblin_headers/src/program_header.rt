@@ -2,9 +2,7 @@
 ghost use Rattle.std.specs.Int.{IsBitSet};
 ghost use Rattle.std.specs.Int.Bits.{bit_or};
 ghost use Rattle.std.specs.Prelude.{◌≡◌, ◌↔◌, IsTrue, IfErr, IsOk, find, replicate, [], ◌∷◌};
-ghost use Rattle.goblin_base.specs.Fields.{values_of};
-ghost use Rattle.goblin_base.specs.Layout.{IsSameInEachClass, HasPlaces};
-ghost use Rattle.goblin_base.specs.Refusal.{Returns, Gives, Refuses};
+ghost use Rattle.goblin_base.specs.Common.{ComparesAndClones, Gives, HasPlaces, IsSameInEachClass, Refuses, Returns, values_of};
 ghost use Rattle.goblin_base.specs.declared.container.Container.TheVariants as class;
 ghost use Rattle.goblin_headers.specs.Constants.{segment_flag_numbers, segment_type_numbers};
 ghost use Rattle.goblin_headers.specs.ProgramHeader.{as64, program_header64, program_header_layout, program_header_size};
@@ -13,7 +11,7 @@ ghost use Rattle.goblin_headers.specs.Ranges.{span};
 
 pub use crate::{program_header32, program_header64};
 use goblin_base::container::{Container, Ctx, Endian};
-use goblin_base::error::{Cloned, Result};
+use goblin_base::error::Result;
 use goblin_base::laid_out::LaidOut;
 use goblin_base::table::{Table, read_all};
 use std::alloc::Global;
@@ -224,7 +222,8 @@ impl LaidOut<Ctx> for ProgramHeader {
 }
 
 /// Laws: a list of program headers that fit both classes is read back the same in each class and byte
-/// order. Where each field of a program header lies, and of a raw one.
+/// order. Where each field of a program header lies, and of a raw one. `==` is true exactly if all fields are equal. `clone`
+/// returns the program header, and never fails.
 #[tactic(auto, using(crate::specs::ProgramHeaderLaws::same_program_headers))]
 pub fn laws()
     ensures same { IsSameInEachClass program_header_layout }
@@ -242,6 +241,7 @@ pub fn laws()
         (λ order. ⟦<ProgramHeader as LaidOut<Ctx>>⟧.layout (record { container = class.Big; le = order }))
         (λ n h. h.p_type ∷ h.p_flags ∷ h.p_offset ∷ h.p_vaddr ∷ h.p_paddr ∷ h.p_filesz ∷ h.p_memsz ∷ h.p_align ∷ []
         ≡ n 0 4 ∷ n 4 4 ∷ n 8 8 ∷ n 16 8 ∷ n 24 8 ∷ n 32 8 ∷ n 40 8 ∷ n 48 8 ∷ []) }
+    ensures derived { ComparesAndClones ⟦<ProgramHeader as PartialEq>⟧ ⟦<ProgramHeader as Clone>⟧ }
 {}
 
 /// A law: every field of the default program header is 0. A call returns that program header.
@@ -271,12 +271,3 @@ pub fn constants()
         ≡ segment_type_numbers }
     ensures flags { PF_X ∷ PF_W ∷ PF_R ∷ PF_MASKOS ∷ PF_MASKPROC ∷ [] ≡ segment_flag_numbers }
 {}
-
-/// Laws: `==` is true exactly if all fields of two program headers are equal. `clone` returns the
-/// program header, and never fails. A call returns both.
-pub fn derived(header: &ProgramHeader, other: &ProgramHeader) -> (bool, Cloned<ProgramHeader>)
-    ensures equal { IsTrue result.0 ↔ (header.now ≡ other.now) }
-    ensures clone { result.1 ≡ Ok header.now }
-{
-    (*header == *other, Clone::clone(header))
-}

@@ -1,12 +1,12 @@
 //! Program headers of the 32-bit class: System V gABI, "Program Header" (`Elf32_Phdr`).
-ghost use Rattle.std.specs.Prelude.{◌≡◌, ◌≤◌, ◌*◌, ◌↔◌, IsTrue, length, IfErr, IfOk, IsOk, alloc_error, replicate, [], ◌∷◌};
-ghost use Rattle.goblin_base.specs.Common.{records_in, room_of_each, values_of, low_bits, shaped, Gives, records};
+ghost use Rattle.std.specs.Prelude.{◌≡◌, ◌≤◌, ◌*◌, length, IfErr, IfOk, IsOk, alloc_error, replicate, [], ◌∷◌};
+ghost use Rattle.goblin_base.specs.Common.{ComparesAndClones, records_in, room_of_each, values_of, low_bits, shaped, Gives, records};
 ghost use Rattle.goblin_headers.specs.Constants.{segment_flag_numbers, segment_type_numbers};
 ghost use Rattle.goblin_headers.specs.ProgramHeader.{program_header32, widened32, as32};
 
 use crate::program_header::ProgramHeader as ElfProgramHeader;
 use goblin_base::container::Endian;
-use goblin_base::error::{Cloned, Error, Result};
+use goblin_base::error::{Error, Result};
 use goblin_base::laid_out::LaidOut;
 use goblin_base::number::{get_u32, put_u32};
 use goblin_base::scroll::LE;
@@ -153,6 +153,11 @@ impl LaidOut<Endian> for ProgramHeader {
     ghost layout_laws = { program_header32_laws };
 }
 
+/// A law: `==` is true exactly if all fields are equal. `clone` returns the program header, and never fails.
+pub fn laws()
+    ensures derived { ComparesAndClones ⟦<ProgramHeader as PartialEq>⟧ ⟦<ProgramHeader as Clone>⟧ }
+{}
+
 /// A law: every field of the default program header is 0. A call returns that program header.
 pub fn default_is_zeros() -> ProgramHeader
     ensures { values_of (program_header32.fields result) ≡ replicate 8 0 }
@@ -181,12 +186,3 @@ pub fn constants()
         ≡ segment_type_numbers }
     ensures flags { PF_X ∷ PF_W ∷ PF_R ∷ PF_MASKOS ∷ PF_MASKPROC ∷ [] ≡ segment_flag_numbers }
 {}
-
-/// Laws: `==` is true exactly if all fields of two program headers are equal. `clone` returns the
-/// program header, and never fails. A call returns both.
-pub fn derived(header: &ProgramHeader, other: &ProgramHeader) -> (bool, Cloned<ProgramHeader>)
-    ensures equal { IsTrue result.0 ↔ (header.now ≡ other.now) }
-    ensures clone { result.1 ≡ Ok header.now }
-{
-    (*header == *other, Clone::clone(header))
-}

@@ -1,9 +1,7 @@
 //! Section headers, which describe what a file holds: System V gABI, "Section Header".
 ghost use Rattle.std.specs.Int.{IsBitSet};
 ghost use Rattle.std.specs.Prelude.{◌≡◌, ◌↔◌, IsTrue, IfErr, IsNone, IsOk, IfSome, map, replicate, [], ◌∷◌};
-ghost use Rattle.goblin_base.specs.Fields.{values_of};
-ghost use Rattle.goblin_base.specs.Layout.{IsSameInEachClass, HasPlaces};
-ghost use Rattle.goblin_base.specs.Refusal.{Returns, Gives, Refuses};
+ghost use Rattle.goblin_base.specs.Common.{ComparesAndClones, Gives, HasPlaces, IsSameInEachClass, Refuses, Returns, values_of};
 ghost use Rattle.goblin_base.specs.declared.container.Container.TheVariants as class;
 ghost use Rattle.goblin_headers.specs.Constants.{section_flag_numbers, section_index_numbers, section_type_numbers};
 ghost use Rattle.goblin_headers.specs.Ranges.{span};
@@ -13,7 +11,7 @@ ghost use Rattle.goblin_headers.specs.SectionNames.{section_flag_names};
 
 pub use crate::{section_header32, section_header64};
 use goblin_base::container::{Container, Ctx, Endian};
-use goblin_base::error::{Cloned, Error, Fault, Result};
+use goblin_base::error::{Error, Fault, Result};
 use goblin_base::laid_out::LaidOut;
 use goblin_base::room::room;
 use goblin_base::table::{Table, read_all, read_at};
@@ -310,7 +308,8 @@ impl LaidOut<Ctx> for SectionHeader {
 }
 
 /// Laws: a list of section headers that fit both classes is read back the same in each class and byte
-/// order. Where each field of a section header lies, and of a raw one.
+/// order. Where each field of a section header lies, and of a raw one. `==` is true exactly if all fields are equal. `clone`
+/// returns the section header, and never fails.
 #[tactic(auto, using(crate::specs::SectionHeaderLaws::same_section_headers))]
 pub fn laws()
     ensures same { IsSameInEachClass section_header_layout }
@@ -332,6 +331,7 @@ pub fn laws()
         (λ n h. h.sh_name ∷ h.sh_type ∷ h.sh_flags ∷ h.sh_addr ∷ h.sh_offset ∷ h.sh_size ∷ h.sh_link ∷ h.sh_info
         ∷ h.sh_addralign ∷ h.sh_entsize ∷ []
         ≡ n 0 4 ∷ n 4 4 ∷ n 8 8 ∷ n 16 8 ∷ n 24 8 ∷ n 32 8 ∷ n 40 4 ∷ n 44 4 ∷ n 48 8 ∷ n 56 8 ∷ []) }
+    ensures derived { ComparesAndClones ⟦<SectionHeader as PartialEq>⟧ ⟦<SectionHeader as Clone>⟧ }
 {}
 
 /// A law: every field of the default section header is 0. A call returns that section header.
@@ -385,12 +385,3 @@ pub fn constants()
     ensures all_flags { SHF_FLAGS ≡ map (λ row. row.0) section_flag_names }
     ensures count { SHF_NUM_REGULAR_FLAGS ≡ 12 }
 {}
-
-/// Laws: `==` is true exactly if all fields of two section headers are equal. `clone` returns the
-/// section header, and never fails. A call returns both.
-pub fn derived(header: &SectionHeader, other: &SectionHeader) -> (bool, Cloned<SectionHeader>)
-    ensures equal { IsTrue result.0 ↔ (header.now ≡ other.now) }
-    ensures clone { result.1 ≡ Ok header.now }
-{
-    (*header == *other, Clone::clone(header))
-}

@@ -1,13 +1,13 @@
 //! Section headers of the 64-bit class: System V gABI, "Section Header" (`Elf64_Shdr`).
-ghost use Rattle.std.specs.Prelude.{◌≡◌, ◌≤◌, ◌*◌, ◌↔◌, IsTrue, length, map, IfErr, IfOk, IsOk, alloc_error, replicate, [], ◌∷◌};
-ghost use Rattle.goblin_base.specs.Common.{values_of, low_bits, shaped, records};
+ghost use Rattle.std.specs.Prelude.{◌≡◌, ◌≤◌, ◌*◌, length, map, IfErr, IfOk, IsOk, alloc_error, replicate, [], ◌∷◌};
+ghost use Rattle.goblin_base.specs.Common.{ComparesAndClones, values_of, low_bits, shaped, records};
 ghost use Rattle.goblin_headers.specs.Constants.{section_flag_numbers, section_index_numbers, section_type_numbers};
 ghost use Rattle.goblin_headers.specs.SectionHeader.{section_header64, widened64, as64};
 ghost use Rattle.goblin_headers.specs.SectionNames.{section_flag_names};
 
 use crate::section_header::SectionHeader as ElfSectionHeader;
 use goblin_base::container::Endian;
-use goblin_base::error::{Cloned, Error, Result};
+use goblin_base::error::{Error, Result};
 use goblin_base::laid_out::LaidOut;
 use goblin_base::number::{get_u32, get_u64, put_u32, put_u64};
 use goblin_base::scroll::LE;
@@ -142,6 +142,11 @@ impl LaidOut<Endian> for SectionHeader {
     ghost layout_laws = { section_header64_laws };
 }
 
+/// A law: `==` is true exactly if all fields are equal. `clone` returns the section header, and never fails.
+pub fn laws()
+    ensures derived { ComparesAndClones ⟦<SectionHeader as PartialEq>⟧ ⟦<SectionHeader as Clone>⟧ }
+{}
+
 /// A law: every field of the default section header is 0. A call returns that section header.
 pub fn default_is_zeros() -> SectionHeader
     ensures { values_of (section_header64.fields result) ≡ replicate 10 0 }
@@ -194,12 +199,3 @@ pub fn constants()
     ensures all_flags { SHF_FLAGS ≡ map (λ row. row.0) section_flag_names }
     ensures count { SHF_NUM_REGULAR_FLAGS ≡ 12 }
 {}
-
-/// Laws: `==` is true exactly if all fields of two section headers are equal. `clone` returns the
-/// section header, and never fails. A call returns both.
-pub fn derived(header: &SectionHeader, other: &SectionHeader) -> (bool, Cloned<SectionHeader>)
-    ensures equal { IsTrue result.0 ↔ (header.now ≡ other.now) }
-    ensures clone { result.1 ≡ Ok header.now }
-{
-    (*header == *other, Clone::clone(header))
-}

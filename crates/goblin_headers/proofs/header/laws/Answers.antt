@@ -1,4 +1,4 @@
-use Rattle.goblin_headers.proofs.Common.{◌≡◌, ℕ, List, take, refl}
+use Rattle.goblin_headers.proofs.Common.{◌≡◌, ℕ, List, and_from, comparing, refl, rules, take}
 use Rattle.goblin_headers.specs.Common.{Container, Endian, Little, Big}
 use Rattle.goblin_headers.specs.Header.{header_layout}
 use Rattle.goblin_headers.proofs.WholeTrips.{each_fits, one_image, reads_back, written_and_read_back, image_of_read}
@@ -23,4 +23,6 @@ returns c = record {
   writes_back = writes_back;
   new_context = new_is_of_context;
   new_reads_back = new_is_read_back;
+  -- (each of the fourteen fields is equal to itself)
+  derived = (λ x y. (search rules, λ same. rw (← same) (search (and_from, comparing, rules) depth 20)), search rules);
 }
