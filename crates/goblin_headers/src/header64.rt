@@ -242,7 +242,8 @@ impl TryIntoCtx<Endian> for Header {
 /// Laws of headers: where each field lies. The image of a header is the only list of bytes that is read as that header. A
 /// header that fits is read back from its image, and from the bytes that it was written to. A
 /// header that was read is written back unchanged, and fits. A header fits exactly if the fields after its identification
-/// are their own low bits. `==` is true exactly if all fields are equal. `clone` returns the header, and never fails.
+/// are their own low bits. All fields of the default header are 0. `==` is true exactly if all fields are equal. `clone`
+/// returns the header, and never fails.
 pub fn laws()
     ensures ident { (order : Endian) (bytes : List ℕ) → ((headed header64 order).read bytes).e_ident ≡ take 16 bytes }
     ensures places { HasPlaces (headed header64) (λ n h.
@@ -255,16 +256,10 @@ pub fn laws()
     ensures reads_back { IsReadBack (λ h. h.e_ident) (headed header64) }
     ensures written { IsWrittenAndReadBack (λ h. h.e_ident) (headed header64) }
     ensures writes_back { IsWrittenBack 64 (λ h. h.e_ident) (headed header64) }
+    ensures zeros { (h : Header) → ⟦<Header as Default>⟧.is_default h
+        → (h.e_ident ≡ replicate 16 0) × (values_of (header64.fields h) ≡ replicate 13 0) }
     ensures derived { ComparesAndClones ⟦<Header as PartialEq>⟧ ⟦<Header as Clone>⟧ }
 {}
-
-/// A law: every field of the default header is 0. A call returns that header.
-pub fn default_is_zeros() -> Header
-    ensures ident { result.e_ident ≡ replicate 16 0 }
-    ensures fields { values_of (header64.fields result) ≡ replicate 13 0 }
-{
-    Default::default()
-}
 
 // The identification.
 pub use crate::constants_header::{

@@ -222,8 +222,8 @@ impl LaidOut<Ctx> for ProgramHeader {
 }
 
 /// Laws: a list of program headers that fit both classes is read back the same in each class and byte
-/// order. Where each field of a program header lies, and of a raw one. `==` is true exactly if all fields are equal. `clone`
-/// returns the program header, and never fails.
+/// order. Where each field of a program header lies, and of a raw one. All fields of the default one are 0. `==` is true
+/// exactly if all fields are equal. `clone` returns the program header, and never fails.
 #[tactic(auto, using(crate::specs::ProgramHeaderLaws::same_program_headers))]
 pub fn laws()
     ensures same { IsSameInEachClass program_header_layout }
@@ -241,15 +241,10 @@ pub fn laws()
         (λ order. ⟦<ProgramHeader as LaidOut<Ctx>>⟧.layout (record { container = class.Big; le = order }))
         (λ n h. h.p_type ∷ h.p_flags ∷ h.p_offset ∷ h.p_vaddr ∷ h.p_paddr ∷ h.p_filesz ∷ h.p_memsz ∷ h.p_align ∷ []
         ≡ n 0 4 ∷ n 4 4 ∷ n 8 8 ∷ n 16 8 ∷ n 24 8 ∷ n 32 8 ∷ n 40 8 ∷ n 48 8 ∷ []) }
+    ensures zeros { (h : ProgramHeader) → ⟦<ProgramHeader as Default>⟧.is_default h
+        → values_of (program_header64.fields (as64 h)) ≡ replicate 8 0 }
     ensures derived { ComparesAndClones ⟦<ProgramHeader as PartialEq>⟧ ⟦<ProgramHeader as Clone>⟧ }
 {}
-
-/// A law: every field of the default program header is 0. A call returns that program header.
-pub fn default_is_zeros() -> ProgramHeader
-    ensures { values_of (program_header64.fields (as64 result)) ≡ replicate 8 0 }
-{
-    Default::default()
-}
 
 // Segment types.
 pub use crate::constants_program_header::{

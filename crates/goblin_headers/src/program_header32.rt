@@ -153,17 +153,13 @@ impl LaidOut<Endian> for ProgramHeader {
     ghost layout_laws = { program_header32_laws };
 }
 
-/// A law: `==` is true exactly if all fields are equal. `clone` returns the program header, and never fails.
+/// Laws: all fields of the default program header are 0. `==` is true exactly if all fields are equal. `clone` returns the
+/// program header, and never fails.
 pub fn laws()
+    ensures zeros { (h : ProgramHeader) → ⟦<ProgramHeader as Default>⟧.is_default h
+        → values_of (program_header32.fields h) ≡ replicate 8 0 }
     ensures derived { ComparesAndClones ⟦<ProgramHeader as PartialEq>⟧ ⟦<ProgramHeader as Clone>⟧ }
 {}
-
-/// A law: every field of the default program header is 0. A call returns that program header.
-pub fn default_is_zeros() -> ProgramHeader
-    ensures { values_of (program_header32.fields result) ≡ replicate 8 0 }
-{
-    Default::default()
-}
 
 // Segment types.
 pub use crate::constants_program_header::{

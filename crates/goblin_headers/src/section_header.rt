@@ -308,8 +308,8 @@ impl LaidOut<Ctx> for SectionHeader {
 }
 
 /// Laws: a list of section headers that fit both classes is read back the same in each class and byte
-/// order. Where each field of a section header lies, and of a raw one. `==` is true exactly if all fields are equal. `clone`
-/// returns the section header, and never fails.
+/// order. Where each field of a section header lies, and of a raw one. All fields of the default one are 0. `==` is true
+/// exactly if all fields are equal. `clone` returns the section header, and never fails.
 #[tactic(auto, using(crate::specs::SectionHeaderLaws::same_section_headers))]
 pub fn laws()
     ensures same { IsSameInEachClass section_header_layout }
@@ -331,15 +331,10 @@ pub fn laws()
         (λ n h. h.sh_name ∷ h.sh_type ∷ h.sh_flags ∷ h.sh_addr ∷ h.sh_offset ∷ h.sh_size ∷ h.sh_link ∷ h.sh_info
         ∷ h.sh_addralign ∷ h.sh_entsize ∷ []
         ≡ n 0 4 ∷ n 4 4 ∷ n 8 8 ∷ n 16 8 ∷ n 24 8 ∷ n 32 8 ∷ n 40 4 ∷ n 44 4 ∷ n 48 8 ∷ n 56 8 ∷ []) }
+    ensures zeros { (h : SectionHeader) → ⟦<SectionHeader as Default>⟧.is_default h
+        → values_of (section_header64.fields (as64 h)) ≡ replicate 10 0 }
     ensures derived { ComparesAndClones ⟦<SectionHeader as PartialEq>⟧ ⟦<SectionHeader as Clone>⟧ }
 {}
-
-/// A law: every field of the default section header is 0. A call returns that section header.
-pub fn default_is_zeros() -> SectionHeader
-    ensures { values_of (section_header64.fields (as64 result)) ≡ replicate 10 0 }
-{
-    Default::default()
-}
 
 // Special section indices.
 pub use crate::constants_section_header::{

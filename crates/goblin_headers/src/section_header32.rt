@@ -142,17 +142,13 @@ impl LaidOut<Endian> for SectionHeader {
     ghost layout_laws = { section_header32_laws };
 }
 
-/// A law: `==` is true exactly if all fields are equal. `clone` returns the section header, and never fails.
+/// Laws: all fields of the default section header are 0. `==` is true exactly if all fields are equal. `clone` returns the
+/// section header, and never fails.
 pub fn laws()
+    ensures zeros { (h : SectionHeader) → ⟦<SectionHeader as Default>⟧.is_default h
+        → values_of (section_header32.fields h) ≡ replicate 10 0 }
     ensures derived { ComparesAndClones ⟦<SectionHeader as PartialEq>⟧ ⟦<SectionHeader as Clone>⟧ }
 {}
-
-/// A law: every field of the default section header is 0. A call returns that section header.
-pub fn default_is_zeros() -> SectionHeader
-    ensures { values_of (section_header32.fields result) ≡ replicate 10 0 }
-{
-    Default::default()
-}
 
 // Special section indices.
 pub use crate::constants_section_header::{

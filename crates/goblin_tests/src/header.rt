@@ -104,16 +104,9 @@ fn reads_and_writes_raw_headers(rt: HostRuntime) {
 #[test]
 fn default_headers_are_zeros(rt: HostRuntime) {
     let zeros = header32::Header::default();
-    assert!(rt; is(rt, header32::default_is_zeros(), zeros));
     assert!(rt; is(rt, zeros.e_ident, [0; 16]));
     let zeros = header64::Header::default();
-    assert!(rt;
-        is(
-            rt,
-            (header64::default_is_zeros(), zeros.e_entry),
-            (zeros, 0)
-        )
-    );
+    assert!(rt; is(rt, (zeros.e_ident, zeros.e_entry), ([0; 16], 0)));
 }
 
 // Copies of a header, each with the default in one field.

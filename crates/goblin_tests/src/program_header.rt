@@ -1,7 +1,7 @@
 //! Cases with their results: program headers.
 use crate::compare::{holds, is, returns, returns_list};
 use crate::container::{BIG64, LITTLE32};
-use crate::record::{SHORT, has_form, is_apart, lacks_room, lists, with_each_default};
+use crate::record::{SHORT, has_form, is_apart, lacks_room, lists, reads, with_each_default};
 use goblin_base::container::{BE, Container, Ctx, LE};
 use goblin_base::error::Result as Answer;
 use goblin_base::scroll::TryIntoCtx;
@@ -114,7 +114,7 @@ fn makes_program_headers(rt: HostRuntime) {
     );
     let default = ProgramHeader::default();
     assert!(rt; is(rt, default.p_align, 0));
-    assert!(rt; is(rt, default, program_header::default_is_zeros()));
+    assert!(rt; reads(rt, &[0; 56], BIG64, &default));
 }
 
 // What may be done is added to what might be done before.
@@ -236,26 +236,14 @@ fn reads_raw_program_headers_up_to_the_end(rt: HostRuntime) {
 
 #[test]
 fn reads_raw_program_headers_of_zeros(rt: HostRuntime) {
-    let zeros = program_header32::default_is_zeros();
-    assert!(rt;
-        is(
-            rt,
-            (program_header32::ProgramHeader::default(), zeros.p_align),
-            (zeros, 0)
-        )
-    );
+    let zeros = program_header32::ProgramHeader::default();
+    assert!(rt; is(rt, zeros.p_align, 0));
     let two = program_header32::ProgramHeader::parse(rt.alloc(), &[0; 64], 0, 2, LE);
     assert!(rt; returns_list(rt, two, &[zeros, zeros]));
     let two = program_header32::ProgramHeader::from_bytes(rt.alloc(), &[0; 64], 2);
     assert!(rt; returns_list(rt, two, &[zeros, zeros]));
-    let zeros = program_header64::default_is_zeros();
-    assert!(rt;
-        is(
-            rt,
-            (program_header64::ProgramHeader::default(), zeros.p_align),
-            (zeros, 0)
-        )
-    );
+    let zeros = program_header64::ProgramHeader::default();
+    assert!(rt; is(rt, zeros.p_align, 0));
     let two = program_header64::ProgramHeader::parse(rt.alloc(), &[0; 112], 0, 2, BE);
     assert!(rt; returns_list(rt, two, &[zeros, zeros]));
     let two = program_header64::ProgramHeader::from_bytes(rt.alloc(), &[0; 112], 2);

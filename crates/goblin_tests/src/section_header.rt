@@ -1,7 +1,7 @@
 //! Cases with their results: section headers.
 use crate::compare::{has_written, holds, is, reports, returns_list};
 use crate::container::{BIG64, LITTLE32};
-use crate::record::{SHORT, has_form, is_apart, lacks_room, lists, with_each_default};
+use crate::record::{SHORT, has_form, is_apart, lacks_room, lists, reads, with_each_default};
 use goblin_base::container::{BE, Ctx, LE};
 use goblin_base::error::Result as Answer;
 use goblin_base::scroll::IntoCtx;
@@ -126,7 +126,7 @@ fn makes_section_headers(rt: HostRuntime) {
     );
     let default = SectionHeader::default();
     assert!(rt; is(rt, default.sh_entsize, 0));
-    assert!(rt; is(rt, default, section_header::default_is_zeros()));
+    assert!(rt; reads(rt, &[0; 64], BIG64, &default));
 }
 
 // Flags, and whether a section with them is in memory, writable and executable.
@@ -363,24 +363,12 @@ fn reads_raw_section_headers_from_bytes(rt: HostRuntime) {
 
 #[test]
 fn reads_raw_section_headers_of_zeros(rt: HostRuntime) {
-    let zeros = section_header32::default_is_zeros();
-    assert!(rt;
-        is(
-            rt,
-            (section_header32::SectionHeader::default(), zeros.sh_size),
-            (zeros, 0)
-        )
-    );
+    let zeros = section_header32::SectionHeader::default();
+    assert!(rt; is(rt, zeros.sh_size, 0));
     let two = section_header32::SectionHeader::from_bytes(rt.alloc(), &[0; 80], 2);
     assert!(rt; returns_list(rt, two, &[zeros, zeros]));
-    let zeros = section_header64::default_is_zeros();
-    assert!(rt;
-        is(
-            rt,
-            (section_header64::SectionHeader::default(), zeros.sh_size),
-            (zeros, 0)
-        )
-    );
+    let zeros = section_header64::SectionHeader::default();
+    assert!(rt; is(rt, zeros.sh_size, 0));
     let two = section_header64::SectionHeader::from_bytes(rt.alloc(), &[0; 128], 2);
     assert!(rt; returns_list(rt, two, &[zeros, zeros]));
 }

@@ -1,7 +1,8 @@
-use Rattle.goblin_headers.proofs.Common.{and_from, comparing, refl, rules}
+use Rattle.goblin_headers.proofs.Common.{and_from, arith, comparing, refl, rules}
 use Rattle.goblin_headers.proofs.HeaderLemmas.{header32_laws, headers_fit, one_header_image}
 use Rattle.goblin_headers.proofs.RawTrips.{raw_reads_back, raw_written_and_read_back, raw_writes_back}
 use Rattle.goblin_headers.proofs.header32.laws.Goals as goal
+use Rattle.std.proofs.lemmas.Grind.{common_steps}
 
 pub returns : goal.returns
 returns c = record {
@@ -12,6 +13,7 @@ returns c = record {
   reads_back = raw_reads_back header32_laws;
   written = raw_written_and_read_back header32_laws;
   writes_back = raw_writes_back header32_laws 52 (λ order. refl);
+  zeros = λ h is. grind (arith, common_steps);
   -- (each of the fourteen fields is equal to itself)
   derived = (λ x y. (search rules, λ same. rw (← same) (search (and_from, comparing, rules) depth 20)), search rules);
 }
