@@ -1,9 +1,9 @@
 //! Notes: System V gABI, "Note Section".
 ghost use Rattle.std.specs.Int.{next_multiple_of};
-ghost use Rattle.std.specs.Prelude.{⊤, ◌⊎◌, ◌≡◌, ◌+◌, ◌≤◌, ◌<◌, ◌^◌, ◌↔◌, ◌++◌, IsTrue, IfOk, IfSome, length, min, [], ◌∷◌, take, drop};
+ghost use Rattle.std.specs.Prelude.{⊤, ◌⊎◌, ◌≡◌, ◌+◌, ◌≤◌, ◌<◌, ◌^◌, ◌++◌, IfOk, IfSome, length, min, [], ◌∷◌, take, drop};
 ghost use Rattle.std.specs.Iterator.{MakesProgress, UpTo, YieldsFirstBy, at_most};
 ghost use Rattle.std.specs.Iterator.SizeHint.{IsWithinCount};
-ghost use Rattle.goblin_base.specs.Refusal.{Returns};
+ghost use Rattle.goblin_base.specs.Common.{ComparesAndClones, Returns};
 ghost use Rattle.goblin.specs.Notes.{NoteByNote, NotesAdvance, FewNotes, PlacesLieWithin, WholeIsNote};
 ghost use Rattle.goblin.specs.NoteType.{note_type_name};
 ghost use Rattle.goblin.specs.Note.{FindsParts, bytes_at, note_at, text_at, whole_places, with_part};
@@ -19,7 +19,6 @@ pub use goblin_records::note::{
     NT_FILE, NT_GNU_ABI_TAG, NT_GNU_BUILD_ID, NT_GNU_GOLD_VERSION, NT_GNU_HWCAP,
     NT_GNU_PROPERTY_TYPE_0, NT_PRPSINFO, NT_PRSTATUS, NT_SIGINFO, Nhdr32, Nhdr64,
 };
-use std::alloc::AllocError;
 use std::result;
 
 /// An iterator over the notes of a range of bytes.
@@ -403,35 +402,14 @@ pub fn constants()
 {}
 
 /// Laws of notes: how the items of a range follow one another, where the parts of a note are, where
-/// it ends, how many items a range has, and which note is a whole note.
+/// it ends, how many items a range has, and which note is a whole note. `==` is true exactly if two
+/// places or two parts are the same. `clone` returns the value, and never fails.
 pub fn laws()
     ensures items { NoteByNote }
     ensures places { PlacesLieWithin }
     ensures advance { NotesAdvance }
     ensures few { FewNotes }
     ensures whole { WholeIsNote }
+    ensures derived_places { ComparesAndClones ⟦<NotePlaces as PartialEq>⟧ ⟦<NotePlaces as Clone>⟧ }
+    ensures derived_part { ComparesAndClones ⟦<NotePart as PartialEq>⟧ ⟦<NotePart as Clone>⟧ }
 {}
-
-/// Laws: `==` is true exactly if all fields of two `NotePlaces` are equal. `clone` returns the
-/// places, and never fails. A call returns both.
-pub fn derived_places(
-    places: &NotePlaces,
-    other: &NotePlaces,
-) -> (bool, result::Result<NotePlaces, AllocError>)
-    ensures equal { IsTrue result.0 ↔ (places.now ≡ other.now) }
-    ensures clone { result.1 ≡ Ok places.now }
-{
-    (*places == *other, Clone::clone(places))
-}
-
-/// Laws: `==` is true exactly if two parts are the same. `clone` returns the part, and never fails.
-/// A call returns both.
-pub fn derived_part(
-    part: &NotePart,
-    other: &NotePart,
-) -> (bool, result::Result<NotePart, AllocError>)
-    ensures equal { IsTrue result.0 ↔ (part.now ≡ other.now) }
-    ensures clone { result.1 ≡ Ok part.now }
-{
-    (*part == *other, Clone::clone(part))
-}
