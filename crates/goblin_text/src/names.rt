@@ -2,6 +2,7 @@
 //! stores of the file's blocks how far text goes on from each.
 ghost use Rattle.std.specs.Prelude.{◌≡◌, ◌↔◌, ◌+◌, ◌*◌, ◌<◌, ◌≤◌, ◌⊎◌, ◌-◌, ◌/◌, IfSome, IsTrue, OnOk, length, min, slice_range};
 ghost use Rattle.std.specs.Str.{IsUtf8};
+ghost use Rattle.goblin_base.specs.Derives.{Clones};
 ghost use Rattle.goblin.specs.declared.options.ParseMode.{ParseMode};
 ghost use Rattle.goblin.specs.Refusal.{Returns};
 ghost use Rattle.goblin.specs.Strtab.{strtab_of, table_of};
@@ -14,7 +15,7 @@ use crate::block_runs::{BLOCK, BLOCKS, Kind, none_known, run_end};
 use crate::looks::{
     after_continuation, char_start, end_of_string, end_of_text, is_text, refuse_unless_text, text,
 };
-use goblin::error::{Cloned, Result};
+use goblin::error::Result;
 use goblin::options::ParseOptions;
 use goblin::strtab::range_of;
 use goblin_base::counted_bytes::CountedBytes;
@@ -27,12 +28,10 @@ pub struct Strings {
     pub end: usize,
 }
 
-/// Law: `clone` returns the strings, and never fails.
-pub fn derived(strings: &Strings) -> Cloned<Strings>
-    ensures { result ≡ Ok strings.now }
-{
-    Clone::clone(strings)
-}
+/// A law: `clone` returns the strings, and never fails.
+pub fn laws()
+    ensures derived { Clones ⟦<Strings as Clone>⟧ }
+{}
 
 /// The bytes of a file, and what is known of its blocks: where the run of text from each one on ends, and where the run
 /// of text with no zero byte does.

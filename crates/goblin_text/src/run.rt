@@ -1,6 +1,7 @@
 //! A run: from the bytes that a reader gives to the text that a writer holds.
-ghost use Rattle.std.specs.Prelude.{◌≡◌, ◌≢◌, ℕ, ◌+◌, ◌*◌, ◌↔◌, ◌≤◌, List, IsTrue, OnOk, OnErr, length};
+ghost use Rattle.std.specs.Prelude.{◌≡◌, ◌≢◌, ℕ, ◌+◌, ◌*◌, ◌≤◌, List, IsTrue, OnOk, OnErr, length};
 ghost use Rattle.std.specs.Io.KnownBytes.{Appends};
+ghost use Rattle.goblin_base.specs.Derives.{ComparesAndClones};
 ghost use Rattle.goblin_text.specs.Common.{refusal_of, refusal_text};
 ghost use Rattle.goblin_text.specs.Looks.{IsShort, IsUnread, LooksAtMost, ReadsNames, line_looks, lines_in, section_count, shown_looks, table_looks, tables_looks};
 ghost use Rattle.goblin_text.specs.RunOutcome.{HasRun, IsReasonOf, WritesRefusal, input_limit, read_limit, status_of};
@@ -16,7 +17,7 @@ use crate::targets::{Buffered, Target};
 use crate::text::write_text;
 use goblin::error::Error;
 use goblin::options::ParseOptions;
-use std::alloc::{AllocError, Global};
+use std::alloc::Global;
 use std::io;
 
 /// How a run ended.
@@ -180,11 +181,7 @@ pub fn constants()
     ensures table_looks { table_looks ≡ 1040 }
 {}
 
-/// Laws: `==` is true exactly if two outcomes are the same. `clone` returns the outcome, and never
-/// fails. A call returns both.
-pub fn derived(outcome: &Outcome, other: &Outcome) -> (bool, Result<Outcome, AllocError>)
-    ensures equal { IsTrue result.0 ↔ (outcome.now ≡ other.now) }
-    ensures clone { result.1 ≡ Ok outcome.now }
-{
-    (*outcome == *other, Clone::clone(outcome))
-}
+/// A law: `==` is true exactly if two outcomes are the same. `clone` returns the outcome, and never fails.
+pub fn laws()
+    ensures derived { ComparesAndClones ⟦<Outcome as PartialEq>⟧ ⟦<Outcome as Clone>⟧ }
+{}
