@@ -114,9 +114,6 @@ pub enum Error {
 /// The result of reading or writing.
 pub type Result<T> = result::Result<T, Error>;
 
-/// What `clone` returns: the copy, or that there is no memory for it.
-pub type Cloned<T> = result::Result<T, AllocError>;
-
 impl From<TryFromIntError> for Error {
     ghost use Rattle.goblin_base.specs.declared.error.Error.TheVariants.{Malformed};
     ghost use Rattle.goblin_base.specs.declared.error.Fault.TheVariants.{IntegerFit};
