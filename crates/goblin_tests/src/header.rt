@@ -106,7 +106,7 @@ fn default_headers_are_zeros(rt: HostRuntime) {
     let zeros = header32::Header::default();
     assert!(rt; is(rt, zeros.e_ident, [0; 16]));
     let zeros = header64::Header::default();
-    assert!(rt; is(rt, (zeros.e_ident, zeros.e_entry), ([0; 16], 0)));
+    assert!(rt; is(rt, zeros.e_ident, [0; 16]) && is(rt, zeros.e_entry, 0));
 }
 
 // Copies of a header, each with the default in one field.
