@@ -1,5 +1,5 @@
 //! Numbers as text. Nothing is allocated.
-ghost use Rattle.std.specs.Prelude.{◌≡◌, ◌^◌, ◌<◌, ◌≤◌, IsAscii, decimal, false};
+ghost use Rattle.std.specs.Prelude.{◌≡◌, ◌^◌, ◌<◌, ◌≤◌, IsAscii, decimal, false, length};
 ghost use Rattle.std.specs.Fmt.{digit_glyph, digits};
 ghost use Rattle.goblin_base.specs.Texts.{hexadecimal};
 ghost use Rattle.goblin_base.specs.Digited.{digits_text};
@@ -59,7 +59,8 @@ impl Digits {
     pub fn as_str(&self) -> &str
         requires ascii { IsAscii (digits_text self.now) }
         requires start { self.now.start < 20 }
-        ensures { result.now ≡ digits_text self.now }
+        ensures value { result.now ≡ digits_text self.now }
+        ensures bound { length result.now ≤ 20 }
     {
         // The digits are ASCII, as is required.
         unsafe { std::str::from_utf8_unchecked(&self.bytes[self.start..]) }

@@ -42,21 +42,19 @@ pub use Rattle.goblin_headers.proofs.WholeTrips.{reads_back, was_read}
 pub use Rattle.std.proofs.Common.{Bool, Err, IsTrue, List, None, Ok, Option, Result, Some, [], ap, append_assoc, arith}
 pub use Rattle.std.proofs.Common.{codes, drop, false, find, get_or, if◌then◌else◌, inl, inr, length, length-append, map}
 pub use Rattle.std.proofs.Common.{max, min, nat_le, nat_lt, position, refl, rules, slice_get, slice_index, subst, suc}
-pub use Rattle.std.proofs.Common.{sym, take, true, true≢false, zero, ℕ, ◌%◌, ◌&&◌, ◌*◌, ◌++◌, ◌+◌, ◌-◌, ◌/◌, ◌<◌, ◌==◌}
+pub use Rattle.std.proofs.Common.{sym, take, true, true≢false, zero, ℕ, ◌&&◌, ◌*◌, ◌++◌, ◌+◌, ◌-◌, ◌/◌, ◌<◌, ◌==◌}
 pub use Rattle.std.proofs.Common.{◌^◌, ◌∙◌, ◌∷◌, ◌≡◌, ◌≤◌, ◌⊎◌}
 pub use Rattle.std.proofs.Math.ListN.{set}
 pub use Rattle.std.proofs.Math.Nat.{div-mul-le_self, mod-eq_of_lt, mul-le-mul_right}
 pub use Rattle.std.proofs.Math.Seq.{take-append_seam, take-nil, take-take}
 pub use Rattle.std.proofs.lemmas.Bool.{and_parts, cases_lt, leb-false, leb-true}
 pub use Rattle.std.proofs.lemmas.Bool.Decides.{nat_tests}
-pub use Rattle.std.proofs.lemmas.List.{drop-drop, drop-set, drop-set-lt, drop-take, drop_all, drop_at, get_or-drop}
-pub use Rattle.std.proofs.lemmas.List.{get_or-take, get_or_past, length-drop, length-map, length-set, length-take}
+pub use Rattle.std.proofs.lemmas.List.{drop-drop, drop-set-lt, drop-take, drop_all, drop_at, get_or-drop}
+pub use Rattle.std.proofs.lemmas.List.{get_or-take, get_or_past, length-drop, length-map, length-take}
 pub use Rattle.std.proofs.lemmas.List.{length-take-le, map-append, set-get_or, take-append-drop, take_all, take_min}
 pub use Rattle.std.proofs.lemmas.List.{take_more, take_more_set, take_rest}
 pub use Rattle.std.proofs.lemmas.Option.{get_or_from_slice_get, slice_get-get_or, slice_get-map, slice_get_past}
 pub use Rattle.std.proofs.lemmas.Option.{slice_get_within}
 pub use Rattle.std.specs.Bool.{Decides}
-pub use Rattle.std.specs.Fmt.{digit_glyph, digits_onto}
-unfoldable pub use Rattle.std.specs.Fmt.{digits}
 pub use Rattle.std.specs.List.{before_first, position_or_len}
 pub use Rattle.std.specs.Option.{option_map}

@@ -4,7 +4,6 @@ pub mod ListedLemmas
 pub mod NumberLemmas
 pub mod OffsetLemmas
 pub mod CountLemmas
-pub mod DigitLemmas
 pub mod EachLemmas
 pub mod FitLemmas
 pub mod HeaderPutLemmas

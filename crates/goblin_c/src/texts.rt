@@ -1,6 +1,6 @@
 //! The text of a refusal, written into a buffer of the caller's.
-ghost use Rattle.std.specs.Prelude.{◌≡◌, ◌+◌, ◌≤◌, ◌<◌, ◌^◌, ◌++◌, IsTrue, false, drop, length, take};
-ghost use Rattle.std.specs.Fmt.{digit_glyph, digits};
+ghost use Rattle.std.specs.Prelude.{◌≡◌, ◌+◌, ◌≤◌, ◌<◌, ◌++◌, IsAscii, IsTrue, drop, length, take};
+ghost use Rattle.goblin_base.specs.Digited.{digits_text};
 ghost use Rattle.goblin_base.specs.Texts.{facts_of, is_short, facts_text, part_text, word_of};
 ghost use Rattle.goblin_c.specs.FilledBuffer.{WritesText, laid};
 ghost use Rattle.goblin_c.specs.Texts.{converted_text, facts_from, item_text, TextIsSame};
@@ -8,50 +8,19 @@ ghost use Rattle.goblin_c.specs.Texts.{converted_text, facts_from, item_text, Te
 use crate::kinds;
 use crate::types::GoblinRefusal;
 use crate::writer::{write_after, write_text};
+use goblin_base::digits::Digits;
 use goblin_base::texts::{Kind, Part, Report};
 
-// Returns the digit of a number below 16.
-fn digit(n: u64) -> u8
-    requires { n < 16 }
-    ensures { result ≡ digit_glyph false n }
-{
-    if n < 10 {
-        b'0' + n as u8
-    } else {
-        b'a' + (n as u8 - 10)
-    }
-}
-
-// Writes the digits of a number at the end of a buffer. Returns the index of the first digit.
-fn write_digits(n: u64, base: u64, buffer: &mut [u8; 64]) -> usize
-    requires base { (2 ≤ base) × (base ≤ 16) }
-    ensures bound { result ≤ 64 }
-    ensures written { drop result buffer.new ≡ digits base false n }
-{
-    let mut i = 64;
-    let mut rest = n;
-    while i > 0 {
-        i -= 1;
-        buffer[i] = digit(rest % base);
-        rest /= base;
-        if rest == 0 {
-            break;
-        }
-    }
-    i
-}
-
-// Writes a number after the bytes so far. Returns how many bytes there are then, if none is cut.
-fn write_number(n: u64, base: u64, len: u64, buffer: &mut [u8]) -> u64
-    requires base { (2 ≤ base) × (base ≤ 16) }
+// Writes digits after the bytes so far. Returns how many bytes there are then, if none is cut.
+fn write_digits(digits: &Digits, len: u64, buffer: &mut [u8]) -> u64
+    requires ascii { IsAscii (digits_text digits.now) }
+    requires start { digits.now.start < 20 }
     requires len { len ≤ 1000000 }
-    ensures written { buffer.new ≡ take len buffer.old ++ laid (digits base false n) (drop len buffer.old) }
-    ensures value { result ≡ len + length (digits base false n) }
-    ensures bound { result ≤ len + 64 }
+    ensures written { buffer.new ≡ take len buffer.old ++ laid (digits_text digits.now) (drop len buffer.old) }
+    ensures value { result ≡ len + length (digits_text digits.now) }
+    ensures bound { result ≤ len + 20 }
 {
-    let mut spelled = [0; 64];
-    let start = write_digits(n, base, &mut spelled);
-    write_after(&spelled[start..], len, buffer)
+    write_after(digits.as_str().as_bytes(), len, buffer)
 }
 
 // Returns a truth value as a word.
@@ -86,10 +55,10 @@ fn write_part(report: &Report, part: &Part, len: u64, buffer: &mut [u8]) -> u64
 {
     match part {
         Part::Text(text) => write_after(text.as_bytes(), len, buffer),
-        Part::First => write_number(report.first, 10, len, buffer),
-        Part::Second => write_number(report.second, 10, len, buffer),
-        Part::Third => write_number(report.third, 10, len, buffer),
-        Part::Hexadecimal => write_number(report.first, 16, len, buffer),
+        Part::First => write_digits(&Digits::decimal(report.first), len, buffer),
+        Part::Second => write_digits(&Digits::decimal(report.second), len, buffer),
+        Part::Third => write_digits(&Digits::decimal(report.third), len, buffer),
+        Part::Hexadecimal => write_digits(&Digits::hexadecimal(report.first), len, buffer),
         Part::Item => write_after(report.item.as_bytes(), len, buffer),
         Part::Overflow => write_after(word_of(report.overflow).as_bytes(), len, buffer),
     }
