@@ -1,7 +1,6 @@
 //! Notes of little-endian files whose names are short and ASCII, as most are. They are read at once, without the steps
 //! that prepare a refusal.
-ghost use Rattle.std.specs.Int.{next_multiple_of};
-ghost use Rattle.std.specs.Prelude.{◌⊎◌, ◌≡◌, ◌≤◌, ◌<◌, ◌^◌, Ok, Some, IfSome, IsTrue, drop, false, length};
+ghost use Rattle.std.specs.Prelude.{◌⊎◌, ◌≡◌, ◌≤◌, ◌<◌, Ok, Some, IfSome, IsTrue, drop, false, length};
 ghost use Rattle.std.specs.Str.{IsAscii};
 ghost use Rattle.goblin.specs.Note.{read_places};
 ghost use Rattle.goblin.specs.Notes.{LieWithin};
@@ -30,22 +29,6 @@ fn is_short_ascii(name: &[u8]) -> bool
     }
 }
 
-// Returns the least multiple of an alignment of 4 or 8 that is at least an offset.
-#[inline(always)]
-fn aligned(offset: usize, alignment: usize) -> usize
-    requires known { (alignment ≡ 4) ⊎ (alignment ≡ 8) }
-    requires fits { next_multiple_of offset alignment < 2 ^ 64 }
-    ensures { result ≡ next_multiple_of offset alignment }
-{
-    if alignment == 4 {
-        let past = offset + 3;
-        past - past % 4
-    } else {
-        let past = offset + 7;
-        past - past % 8
-    }
-}
-
 // Returns the places of the parts of the note at the start of some bytes, if they hold it and its name is short and ASCII.
 #[inline(always)]
 #[tactic(auto, using(goblin_base::proofs::TextTests::ascii_tests), unfolding(goblin::specs::Note::read_places))]
@@ -54,30 +37,21 @@ fn usual_places(bytes: &[u8], alignment: usize) -> Option<NotePlaces>
     ensures value { IfSome result (λ places. read_places alignment endian.Little bytes.now ≡ Ok places) }
     ensures within { IfSome result (LieWithin (length bytes.now) 0) }
 {
-    let Ok((header, start)) = Nhdr32::try_from_ctx(bytes, Endian::Little) else {
+    let Ok((header, _)) = Nhdr32::try_from_ctx(bytes, Endian::Little) else {
         return None;
     };
-    let name_size = header.n_namesz as usize;
-    let text_size = name_size.saturating_sub(1);
-    if room(bytes.len(), start, text_size).is_err() {
+    let places = NotePlaces::of(&header, alignment);
+    let (name, name_size) = (places.name, places.name_size);
+    if room(bytes.len(), name, name_size).is_err() {
         return None;
     }
-    if !is_short_ascii(&bytes[start..start + text_size]) {
+    if !is_short_ascii(&bytes[name..name + name_size]) {
         return None;
     }
-    let desc = aligned(start + name_size, alignment);
-    let desc_size = header.n_descsz as usize;
-    if room(bytes.len(), desc, desc_size).is_err() {
+    if room(bytes.len(), places.desc, places.desc_size).is_err() {
         return None;
     }
-    Some(NotePlaces {
-        n_type: header.n_type,
-        name: start,
-        name_size: text_size,
-        desc,
-        desc_size,
-        next: aligned(desc + desc_size, alignment),
-    })
+    Some(places)
 }
 
 /// Returns the note at an offset, among those of a range, if it is a usual one.

@@ -8,7 +8,7 @@ ghost use Rattle.goblin.specs.Notes.{NoteByNote, NotesAdvance, FewNotes, PlacesL
 ghost use Rattle.goblin.specs.NoteType.{note_type_name};
 ghost use Rattle.goblin.specs.Note.{FindsParts, bytes_at, note_at, text_at, whole_places, with_part};
 
-use goblin_base::container::Ctx;
+use goblin_base::container::{Ctx, LE};
 use goblin_base::error::{Error, Fault, Result};
 use goblin_base::room::room;
 use goblin_base::scroll;
@@ -170,7 +170,28 @@ pub struct NotePlaces {
 }
 
 impl NotePlaces {
+    ghost use Rattle.goblin.specs.Note.{places_of};
     ghost use Rattle.goblin.specs.Notes.{LieWithin};
+
+    /// Returns the parts of the note with a header, for an alignment of 4 or 8.
+    #[inline(always)]
+    pub fn of(header: &Nhdr32, alignment: usize) -> NotePlaces
+        requires { (alignment ≡ 4) ⊎ (alignment ≡ 8) }
+        ensures { result ≡ places_of alignment header.now }
+    {
+        let name = Nhdr32::size_with(&LE);
+        let name_size = header.n_namesz as usize;
+        let desc = aligned(name + name_size, alignment);
+        let desc_size = header.n_descsz as usize;
+        NotePlaces {
+            n_type: header.n_type,
+            name,
+            name_size: name_size.saturating_sub(1),
+            desc,
+            desc_size,
+            next: aligned(desc + desc_size, alignment),
+        }
+    }
 
     /// Finds the parts of the note at the start of the bytes, whose name need not be UTF-8. `name_size` is the size of
     /// the whole name, as the header has it, with the zero byte that closes it.
@@ -194,20 +215,18 @@ impl NotePlaces {
                 error: Error::Malformed(Fault::NoteAlign(align)),
             });
         }
-        let (header, start) = about(NotePart::Header, Nhdr32::try_from_ctx(bytes, ctx.le))?;
+        let (header, _) = about(NotePart::Header, Nhdr32::try_from_ctx(bytes, ctx.le))?;
         let name_size = header.n_namesz as usize;
-        about(NotePart::Name, bytes_at(bytes, start, name_size))?;
-        let desc = aligned(start + name_size, align);
-        let desc_size = header.n_descsz as usize;
-        about(NotePart::Desc, bytes_at(bytes, desc, desc_size))?;
-        Ok(NotePlaces {
-            n_type: header.n_type,
-            name: start,
+        let places = NotePlaces {
             name_size,
-            desc,
-            desc_size,
-            next: aligned(desc + desc_size, align),
-        })
+            ..NotePlaces::of(&header, align)
+        };
+        about(NotePart::Name, bytes_at(bytes, places.name, name_size))?;
+        about(
+            NotePart::Desc,
+            bytes_at(bytes, places.desc, places.desc_size),
+        )?;
+        Ok(places)
     }
 }
 
@@ -288,20 +307,11 @@ impl<'a> Note<'a> {
         if alignment != 4 && alignment != 8 {
             return Err(Error::Malformed(Fault::NoteAlign(alignment)));
         }
-        let (header, start) = Nhdr32::try_from_ctx(bytes, ctx.le)?;
-        let name_size = header.n_namesz as usize;
-        let name = text_at(bytes, start, name_size.saturating_sub(1))?;
-        let place = aligned(start + name_size, alignment);
-        let desc = bytes_at(bytes, place, header.n_descsz as usize)?;
+        let (header, _) = Nhdr32::try_from_ctx(bytes, ctx.le)?;
+        let places = NotePlaces::of(&header, alignment);
+        let name = text_at(bytes, places.name, places.name_size)?;
+        let desc = bytes_at(bytes, places.desc, places.desc_size)?;
         let n_type = header.n_type;
-        let places = NotePlaces {
-            n_type,
-            name: start,
-            name_size: name.len(),
-            desc: place,
-            desc_size: desc.len(),
-            next: aligned(place + desc.len(), alignment),
-        };
         Ok((Note { n_type, name, desc }, places))
     }
 
