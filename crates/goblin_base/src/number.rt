@@ -1,7 +1,7 @@
 //! Numbers in bytes, in either byte order: System V gABI, "Data Representation" and "Data Encoding".
 #![tactic(auto, using(crate::proofs::ByteorderLemmas::numbers))]
 
-ghost use Rattle.std.specs.Prelude.{◌≡◌, ◌≤◌, ◌+◌, length};
+ghost use Rattle.std.specs.Prelude.{◌≡◌, ◌≤◌, ◌+◌, ◌↔◌, ◌<◌, ◌^◌, IsTrue, length};
 ghost use Rattle.goblin_base.specs.declared.container.Endian.{Endian};
 ghost use Rattle.goblin_base.specs.Number.{number_at, ReadsSpelling, SpellsBack, SpellsWidth};
 ghost use Rattle.goblin_base.specs.Place.{with_number, ReadsWhatWasPut};
@@ -11,6 +11,14 @@ ghost use Rattle.goblin_base.specs.Signed.{ReadsSignedThere};
 use crate::container::Endian;
 pub use crate::room::room;
 use byteorder::{BigEndian, ByteOrder, LittleEndian};
+
+/// Reports whether a number fits into four bytes.
+#[inline]
+pub fn is_word(number: u64) -> bool
+    ensures { IsTrue result ↔ (number < 256 ^ 4) }
+{
+    number <= u64::from(u32::MAX)
+}
 
 /// Returns the number in the byte at `place`. It is the same in both byte orders.
 pub fn get_u8(bytes: &[u8], place: usize) -> u8

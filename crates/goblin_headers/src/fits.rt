@@ -9,13 +9,7 @@ use crate::header::Header;
 use crate::program_header::ProgramHeader;
 use crate::section_header::SectionHeader;
 use goblin_base::container::{Container, Ctx};
-
-// Reports whether a number fits into four bytes.
-fn is_word(number: u64) -> bool
-    ensures { IsTrue result ↔ (number < 256 ^ 4) }
-{
-    number <= u64::from(u32::MAX)
-}
+use goblin_base::number::is_word;
 
 // Reports that a number fits into four bytes, as each number of this type does.
 fn is_u32(_number: u32) -> bool

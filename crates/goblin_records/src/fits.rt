@@ -7,13 +7,7 @@ ghost use Rattle.goblin_records.specs.Sym.{sym_layout};
 use crate::reloc::{Reloc, RelocCtx};
 use crate::sym::Sym;
 use goblin_base::container::{Container, Ctx};
-
-// Reports whether a number fits into four bytes.
-fn is_word(number: u64) -> bool
-    ensures { IsTrue result ↔ (number < 256 ^ 4) }
-{
-    number <= u64::from(u32::MAX)
-}
+use goblin_base::number::is_word;
 
 // Reports whether each field of a symbol is in the range that a class has for it.
 fn fits_class(sym: Sym, ctx: Ctx) -> bool
