@@ -4,7 +4,6 @@ pub use Rattle.goblin.specs.Strtab.{IsRange, table_of}
 unfoldable pub use Rattle.goblin.specs.Strtab.{walked}
 pub use Rattle.goblin.specs.TextLaws.{texts-join}
 pub use Rattle.goblin.specs.Utf8.{invalid_utf8}
-pub use Rattle.goblin_base.proofs.LineLemmas.{after}
 pub use Rattle.goblin_base.specs.Entries.{CountsAtLeast, Reads}
 pub use Rattle.goblin_text.specs.Accepted.{parts_text, relocs_text, symbols_text}
 pub use Rattle.goblin_text.specs.BlockRuns.{EndsAt, IsLong, IsOfKind, IsRun, IsRunEnd, IsTextUpTo, IsZeroFree}

@@ -1,4 +1,4 @@
-use Rattle.goblin_text.proofs.Common.{◌≡◌, ◌++◌, ◌*◌, ℕ, List, drop, after, symbols_text, each_shown, symbols_shown}
+use Rattle.goblin_text.proofs.Common.{◌≡◌, ◌++◌, ◌*◌, ◌>>=◌, ℕ, List, Ok, drop, symbols_text, each_shown, symbols_shown}
 use Rattle.goblin_text.specs.Looks.{ReadsNames, table_looks}
 use Rattle.goblin_text.proofs.accept.Context.accept_all_symbols.Given as goal
 
@@ -12,5 +12,5 @@ invariant-loop-number l =
       reading : ReadsNames l.initial.file l.file 0 (table_looks * l.number);
       shown : (lines : List ℕ) × (symbols_text bytes l.parts.items ≡ symbols_text bytes l.initial.parts.items ++ lines)
           × (each_shown shows 0 context.sections.now
-          ≡ after lines (each_shown shows l.number (drop l.number context.sections.now)));
+          ≡ (each_shown shows l.number (drop l.number context.sections.now) >>= λ more. Ok (lines ++ more)));
     }
