@@ -65,7 +65,7 @@ bytes_high_first-is (suc k) x =
 part : (bytes : List ℕ) (place n : ℕ) → take (place + n - place) (drop place bytes) ≡ take n (drop place bytes)
 part bytes place n = let e : place + n - place ≡ n = omega arith in rw e refl
 
-length-part : (bytes : List ℕ) (place n : ℕ) → place + n ≤ length bytes → length (take n (drop place bytes)) ≡ n
+pub length-part : (bytes : List ℕ) (place n : ℕ) → place + n ≤ length bytes → length (take n (drop place bytes)) ≡ n
 length-part bytes place n h = length-take-le n (drop place bytes) (omega (arith, length-drop place bytes))
 
 -- what `LittleEndian` reads at an offset

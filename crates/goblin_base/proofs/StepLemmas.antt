@@ -1,6 +1,6 @@
 -- What each of several steps returned, if all of them succeeded.
-use Rattle.goblin_base.proofs.Common.{◌≡◌, Bool, true, false, not, Option, Some, None, Result, Ok, Err, refl, ◌>>=◌}
-use Rattle.goblin_base.proofs.Common.{refuse_as}
+use Rattle.goblin_base.proofs.Common.{◌≡◌, Bool, true, not, Option, Some, Result, Ok, Err, refl, ◌>>=◌}
+use Rattle.goblin_base.proofs.Common.{arith, refuse_as}
 use Rattle.goblin_base.specs.Steps.{or_refuse, refuse_if}
 
 -- the value of the first step, and the success of the steps after it
@@ -16,16 +16,13 @@ step (Err e) next y is = absurd (cc)
 
 -- a test that did not refuse
 pub passed : {E : Type 0} (test : Bool) (e : E) (u : Unit {0}) → refuse_if (not test) e ≡ Ok u → test ≡ true
-passed true e u is = refl
-passed false e u is = absurd (cc)
+passed test e u is = grind arith
 
 -- a value that was there
 pub found : {X E : Type 0} (option : Option X) (e : E) (x : X) → or_refuse option e ≡ Ok x → option ≡ Some x
-found (Some y) e x is = cc
-found None e x is = absurd (cc)
+found option e x is = grind arith
 
 -- a value that was found inside another refusal
 pub found_within : {X E F : Type 0} (within : E → F) (answer : Result X E) (x : X)
     → refuse_as within answer ≡ Ok x → answer ≡ Ok x
-found_within within (Ok y) x is = cc
-found_within within (Err e) x is = absurd (cc)
+found_within within answer x is = grind arith

@@ -123,7 +123,7 @@ pub values_at-image_low : (order : Endian) (fields : List Field)
 values_at-image_low order fields = rw append-nil at (values_at-image order fields [] [] 0 refl)
 
 -- a part of bytes is bytes
-IsBytes-part : (bytes : List ℕ) (place w : ℕ) → IsBytes bytes → IsBytes (take w (drop place bytes))
+pub IsBytes-part : (bytes : List ℕ) (place w : ℕ) → IsBytes bytes → IsBytes (take w (drop place bytes))
 IsBytes-part bytes place w h i =
     elim (cases_lt i w) [
       | inl p ↦ rw (get_or-take w (drop place bytes) i 0, get_or-drop place bytes i 0) (h (place + i))

@@ -4,15 +4,16 @@ pub use Rattle.goblin.specs.ProgramHeaders.{loads, offset_in}
 pub use Rattle.goblin.specs.Reloc.{reloc_in, reloc_size}
 pub use Rattle.goblin.specs.SectionHeader.{section_header_of, section_header_size}
 pub use Rattle.goblin.specs.Sym.{sym_of}
+pub use Rattle.goblin_base.proofs.ByteorderLemmas.{length-part}
 pub use Rattle.goblin_base.proofs.Records.{get_records, length_records, past_records}
-pub use Rattle.goblin_base.specs.FieldLaws.{number_at-lt, number_at-with_number}
-pub use Rattle.goblin_base.specs.Layout.{IsRecord, widths}
+pub use Rattle.goblin_base.proofs.StepLemmas.{found, found_within}
+pub use Rattle.goblin_base.specs.FieldLaws.{IsBytes-part, number_at-lt, number_at-with_number}
+pub use Rattle.goblin_base.specs.Layout.{IsRecord}
 pub use Rattle.goblin_base.specs.Number.{IsBytes, number_at}
 unfoldable pub use Rattle.goblin_base.specs.Number.{spelled}
 unfoldable pub use Rattle.goblin_base.specs.Pieces.{piece}
 pub use Rattle.goblin_base.specs.Record.{unless_fault}
 pub use Rattle.goblin_base.specs.RecordLaws.{fits-room_of, room_of_fits, unless_fault-is}
-pub use Rattle.goblin_base.specs.Refusal.{bad_offset}
 pub use Rattle.goblin_base.specs.Steps.{refuse_if}
 unfoldable pub use Rattle.goblin_base.specs.Table.{records}
 pub use Rattle.goblin_base.specs.TableLaws.{no_records, records-agree}
@@ -50,7 +51,7 @@ pub use Rattle.std.proofs.Math.Seq.{take-append_seam, take-nil, take-take}
 pub use Rattle.std.proofs.lemmas.Bool.{and_parts, cases_lt, leb-false, leb-true}
 pub use Rattle.std.proofs.lemmas.Bool.Decides.{nat_tests}
 pub use Rattle.std.proofs.lemmas.List.{drop-drop, drop-set-lt, drop-take, drop_all, drop_at, get_or-drop}
-pub use Rattle.std.proofs.lemmas.List.{get_or-take, get_or_past, length-drop, length-map, length-take}
+pub use Rattle.std.proofs.lemmas.List.{get_or-take, length-drop, length-map, length-take}
 pub use Rattle.std.proofs.lemmas.List.{length-take-le, map-append, set-get_or, take-append-drop, take_all, take_min}
 pub use Rattle.std.proofs.lemmas.List.{take_more, take_more_set, take_rest}
 pub use Rattle.std.proofs.lemmas.Option.{get_or_from_slice_get, slice_get-get_or, slice_get-map, slice_get_past}

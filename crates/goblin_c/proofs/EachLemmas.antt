@@ -9,7 +9,6 @@ use Rattle.goblin_c.proofs.Common.{set, drop-drop, drop-set-lt, get_or-take, len
 use Rattle.goblin_c.proofs.Common.{take_more, take_more_set, get_or_from_slice_get, slice_get-get_or, slice_get-map}
 use Rattle.goblin_c.proofs.Common.{slice_get_past, slice_get_within, option_map, RefusalAt, FillsEach, StopsAt}
 use Rattle.goblin_c.proofs.Common.{GoblinRefusal, Stores}
-use Rattle.std.proofs.Common.{Err}
 use Rattle.goblin_c.proofs.TextLemmas.{kinds-are-answers}
 
 -- one item more
@@ -72,18 +71,13 @@ fills_each {X = X} results old was status new filled why next within are rest st
 pub stored_item : {X : Type 0} (expected : Result (Option X) RefusalAt) (old x : X) (was why : GoblinRefusal)
     (status : ℕ)
     → Stores expected old was status x why → status ≡ 0 → (expected ≡ Ok (Some x)) × (why ≡ was)
-stored_item (Ok (Some y)) old x was why status (_, is, same) ok = (ap (λ z. Ok (Some z)) (sym is), same)
-stored_item (Ok None) old x was why status (end, _, _) ok = absurd (omega (arith, end, ok))
-stored_item (Err refusal) old x was why status (kind, _, _) ok =
-    absurd (omega (arith, kind, ok, kinds-are-answers refusal))
+stored_item expected old x was why status h ok = grind (arith, kinds-are-answers)
 
 -- one that returns another number has stored none, and stops there
 pub stored_none : {X : Type 0} (expected : Result (Option X) RefusalAt) (old x : X) (was why : GoblinRefusal)
     (status : ℕ)
     → Stores expected old was status x why → (status ≡ 0 → ⊥) → (x ≡ old) × StopsAt (Some expected) was status why
-stored_none (Ok (Some y)) old x was why status (ok, _, _) not = absurd (not ok)
-stored_none (Ok None) old x was why status (end, same, kept) not = (same, (end, kept))
-stored_none (Err refusal) old x was why status (kind, same, stored) not = (same, (kind, stored))
+stored_none expected old x was why status h not = grind arith
 
 module _ {X Y : Type 0} (f : Y → Result (Option X) RefusalAt) (n : ℕ) (xs : List Y) (old : List X) (was : GoblinRefusal)
     (status : ℕ) (new : List X) (filled : ℕ) (why : GoblinRefusal) where

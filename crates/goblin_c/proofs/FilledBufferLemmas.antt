@@ -58,7 +58,7 @@ laid-item {X = X} all first i old now x found is room =
     ∙ laid-step i (drop first all) old now x is (omega (arith, length-drop first all)) room
 
 -- a list ends before an index at which it has no item
-ends-before : {X : Type 0} (items : List X) (i : ℕ) → slice_get items i ≡ None → length items ≤ i
+pub ends-before : {X : Type 0} (items : List X) (i : ℕ) → slice_get items i ≡ None → length items ≤ i
 ends-before [] i none = omega arith
 ends-before (x ∷ items) zero none = absurd (some-within (x ∷ items) zero (omega arith) (sym none))
 ends-before (x ∷ items) (suc i) none = omega (arith, ends-before items i none)

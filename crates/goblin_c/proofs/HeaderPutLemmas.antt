@@ -1,20 +1,16 @@
 -- A header that is put is read again.
-use Rattle.goblin_c.proofs.Common.{◌≡◌, ◌≤◌, ℕ, true, List, ◌++◌, length, take, drop, Option, Some, None, Result, Ok}
-use Rattle.goblin_c.proofs.Common.{refl, ap, subst, arith, nat_tests, length-drop, length-take-le, Container, Little}
-use Rattle.goblin_c.proofs.Common.{Big, Ctx, Endian, Error, fits-room_of, refusal_of, room_of, ◌>>=◌, refuse_as, Header}
-use Rattle.goblin_c.proofs.Common.{reads_back, ctx_of, header_expected, refused_at, header_converted, GoblinHeader}
+use Rattle.goblin_c.proofs.Common.{found, found_within, ◌≡◌, ◌≤◌, ℕ, true, List, ◌++◌, length, take, drop, Some}
+use Rattle.goblin_c.proofs.Common.{Result, Ok, refl, ap, subst, arith, nat_tests, length-drop, length-take-le}
+use Rattle.goblin_c.proofs.Common.{Container, Ctx, Endian, Error, fits-room_of, refusal_of, room_of, ◌>>=◌}
+use Rattle.goblin_c.proofs.Common.{refuse_as, Header, reads_back, ctx_of, header_expected, refused_at, header_converted}
+use Rattle.goblin_c.proofs.Common.{GoblinHeader}
 use Rattle.goblin_base.specs.declared.error.Error.TheVariants.{Scroll}
 use Rattle.goblin_base.specs.declared.error.Fault.TheVariants.{Data, InvalidClass}
-use Rattle.goblin_base.specs.Steps.{or_refuse}
 use Rattle.goblin.specs.Header.{HeaderFits, class_named, class_of, header_layout, header_size, order_named, order_of}
 use Rattle.goblin.specs.Header.{Identifies}
 use Rattle.goblin_c.specs.Write.{FitsClass, header_of, ident_of, named_ctx, put_if}
 use Rattle.goblin_c.specs.WriteLaws.{HeadersAreRead}
-use Rattle.goblin_c.proofs.ListedLemmas.{bind_ok, refuse_as_ok, refused_at_ok}
-
-named_by : {X E : Type 0} (found : Option X) (e : E) (x : X) → or_refuse found e ≡ Ok x → found ≡ Some x
-named_by (Some y) e x is = cc
-named_by None e x is = absurd (cc)
+use Rattle.goblin_c.proofs.ListedLemmas.{bind_ok, refused_at_ok}
 
 -- a header that names a class and a byte order, and whose bytes there are
 record Named (bytes : List ℕ) (h : GoblinHeader) (ctx : Ctx) : Type 0 where
@@ -39,10 +35,10 @@ named bytes h ctx is =
     let first = bind_ok (class_of InvalidClass ident) next ctx is in
     let second = bind_ok (order_of Data ident) (λ order. last first.0 order) ctx first.2 in
     let third = bind_ok (room first.0) (λ _. Ok (ctx_with first.0 second.0)) ctx second.2 in
-    let there = refuse_as_ok Scroll (room_of (length bytes) 0 (header_size first.0)) third.0 third.1 in
+    let there = found_within Scroll (room_of (length bytes) 0 (header_size first.0)) third.0 third.1 in
     let own : Named bytes h (ctx_with first.0 second.0) = record {
-      class_is = named_by (class_named h.ei_class) _ first.0 first.1;
-      order_is = named_by (order_named h.ei_data) _ second.0 second.1;
+      class_is = found (class_named h.ei_class) _ first.0 first.1;
+      order_is = found (order_named h.ei_data) _ second.0 second.1;
       room = room_from (length bytes) (header_size first.0) third.0 there;
     } in
     let same : ctx_with first.0 second.0 ≡ ctx = (let end = third.2 in cc) in
@@ -55,15 +51,13 @@ ident_long bytes h room =
     omega (arith, padding)
 
 header_room : (class : Container) → 16 ≤ header_size class
-header_room Little = omega arith
-header_room Big = omega arith
+header_room class = grind (arith, nat_tests)
 
 same_class : (h : GoblinHeader) (class : Container) → class_named h.ei_class ≡ Some class → (ctx_of h).container ≡ class
 same_class h class is = grind (arith, nat_tests)
 
 fits_in : (class : Container) (order : Endian) (h : Header) → HeaderFits class h → (header_layout class order).Fits h
-fits_in Little order h fits = fits
-fits_in Big order h fits = fits
+fits_in class order h fits = grind (arith, nat_tests)
 
 is_read : (bytes : List ℕ) (h : GoblinHeader) (ctx : Ctx)
     → FitsClass bytes h → Named bytes h ctx
@@ -93,7 +87,7 @@ headers_are_read bytes new h fits put =
     (header_layout ctx.container ctx.le).image (header_of bytes h) ++ drop (header_size ctx.container) bytes in
     let answer = refuse_as refusal_of (named_ctx bytes h) in
     let parts = bind_ok (refused_at 0 answer) (λ ctx. put_if true 0 (after ctx)) (Some new) put in
-    let found = refuse_as_ok refusal_of (named_ctx bytes h) parts.0 (refused_at_ok 0 answer parts.0 parts.1) in
+    let found = found_within refusal_of (named_ctx bytes h) parts.0 (refused_at_ok 0 answer parts.0 parts.1) in
     let is : after parts.0 ≡ new = (let last = parts.2 in cc) in
     subst (λ (xs : List ℕ). header_expected xs ≡ Ok (Some h)) is
     (is_read bytes h parts.0 fits (named bytes h parts.0 found))

@@ -13,7 +13,7 @@ use Rattle.goblin_c.proofs.Common.{sections_expected, sections_converted, segmen
 use Rattle.goblin_c.proofs.Common.{header_converted, reloc_converted, section_converted, segment_converted}
 use Rattle.goblin_c.proofs.Common.{symbol_converted, symbols_converted, table_at}
 use Rattle.goblin.specs.Header.{class_named, order_named}
-use Rattle.goblin.specs.SectionHeaders.{is_table, link_of, linked, names_index}
+use Rattle.goblin.specs.SectionHeaders.{link_of, linked, names_index}
 use Rattle.goblin_c.specs.Laws.{ContextIsTheHeaders, FilledByIndex, GivenFrom, HasHeader, NamesByIndex, NamesContext}
 use Rattle.goblin_c.specs.Laws.{RelocsByIndex, SectionsByIndex, SegmentsByIndex, SymbolsByIndex, TablesByIndex}
 use Rattle.goblin_c.specs.Laws.{ReturnsCount, ReturnsEach, table_converted, section_if_table}
@@ -111,8 +111,7 @@ given items first false is =
 
 from : {X : Type 0} (all : Result (List X) RefusalAt) (first : ℕ)
     → GivenFrom {Y = X} first (item_of all) (items_from all first)
-from (Ok items) first = given items first (nat_le (length items) first) refl
-from (Err refusal) first = λ index. refl
+from all first = grind (arith, nat_tests, given)
 
 pub filled_by_index : FilledByIndex
 filled_by_index = record {
@@ -122,16 +121,9 @@ filled_by_index = record {
 }
 
 -- the table at an index is the section that is stored there
-converted_if : (test : Bool) (s : SectionHeader)
-    → option_map section_converted (if test then Some s else None)
-    ≡ (if test then Some (section_converted s) else None)
-converted_if true s = refl
-converted_if false s = refl
-
 converted_table : (index : ℕ) (found : Option SectionHeader)
     → option_map section_converted (linked index found) ≡ section_if_table index (option_map section_converted found)
-converted_table index None = refl
-converted_table index (Some s) = converted_if (is_table index s.sh_type) s
+converted_table index found = grind (arith, nat_tests)
 
 table_there : (all : Result (List SectionHeader) RefusalAt) (index : ℕ)
     → (all >>= λ items. Ok (table_at items index))
@@ -149,8 +141,7 @@ in_header : (all : Result (List SectionHeader) RefusalAt) (index : ℕ)
     → (index == 0xffff) ≡ false
     → (all >>= λ items. Ok (table_at items (names_index index (slice_get items 0))))
     ≡ (all >>= λ items. Ok (table_at items index))
-in_header (Ok items) index other = rw other refl
-in_header (Err refusal) index other = refl
+in_header all index other = grind (arith, nat_tests)
 
 in_first : (all : Result (List SectionHeader) RefusalAt) (first : GoblinSection)
     → item_of (each_converted section_converted all) 0 ≡ Ok (Some first)

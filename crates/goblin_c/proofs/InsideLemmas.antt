@@ -15,8 +15,8 @@ use Rattle.goblin.specs.SectionHeaders.{count_asked, section_headers_from, secti
 use Rattle.goblin.specs.Symtab.{symbols_at, symtab_of}
 use Rattle.goblin_c.specs.Expected.{section_expected}
 use Rattle.goblin_c.specs.Write.{reloc_ctx}
-use Rattle.goblin_c.proofs.Common.{◌≡◌, ◌≤◌, ◌<◌, ◌+◌, ◌-◌, ◌*◌, ◌/◌, ◌^◌, ◌==◌, ℕ, Bool, false, nat_le, nat_lt}
-use Rattle.goblin_c.proofs.Common.{List, [], length, take, drop, max, codes, Option, Some, Result, Ok, Err}
+use Rattle.goblin_c.proofs.Common.{◌≡◌, ◌≤◌, ◌<◌, ◌+◌, ◌-◌, ◌*◌, ◌/◌, ◌^◌, ◌==◌, ℕ, Bool, false, nat_lt}
+use Rattle.goblin_c.proofs.Common.{List, [], length, take, drop, max, codes, Option, Some, Result, Ok}
 use Rattle.goblin_c.proofs.Common.{if◌then◌else◌, refl, sym, ap, subst, ◌∙◌, arith, div-mul-le_self, mul-le-mul_right}
 use Rattle.goblin_c.proofs.Common.{nat_tests, drop-drop, slice_get-map, option_map, Ctx}
 use Rattle.goblin_c.proofs.Common.{unless_fault, room_of_fits, buffer_too_short, misplaced, refusal_of, room_of, ◌>>=◌}
@@ -50,19 +50,11 @@ listed_item {R = R} {Y = Y} convert size read bytes start count index all x are 
     ∙ ap (λ (y : R). Ok (Some (convert y))) (sym is)
 
 -- the symbols of a range in the file
-accepted : {A E : Type 0} (first second third : Bool) (a b c : E) (x : A)
-    → first ≡ false → second ≡ false → third ≡ false
-    → (if first then Err a else if second then Err b else if third then Err c else Ok x) ≡ Ok x
-accepted first second third a b c x p q r = rw (p, q, r) refl
-
 symbols_inside : (bytes : List ℕ) (start count : ℕ) (ctx : Ctx)
     → start < length bytes → start + count * sym_size ctx.container ≤ length bytes
     → count * sym_size ctx.container < 2 ^ 64
     → symtab_of bytes start count ctx ≡ Ok (symbols_at bytes start count ctx)
-symbols_inside bytes start count ctx there fits bound =
-    let all = count * sym_size ctx.container in
-    accepted (nat_le (length bytes) start) (nat_le (2 ^ 64) all) (nat_lt (length bytes - start) all) _ _ _ _
-    (grind (arith, nat_tests)) (grind (arith, nat_tests)) (grind (arith, nat_tests))
+symbols_inside bytes start count ctx there fits bound = grind (arith, nat_tests)
 
 -- some records in a range take their size
 own-le : (size own index : ℕ) → (index + 1) * own ≤ size → own ≤ size
@@ -112,10 +104,7 @@ records_inside size read bytes start count some fits =
 -- the section headers, whose number the header states
 module _ (bytes : List ℕ) (start count : ℕ) (ctx : Ctx) where
   asked_is : 0 < count → count_asked bytes start count ctx ≡ count
-  asked_is some =
-      let stated : (count == 0) ≡ false = grind (arith, nat_tests) in
-      let first = section_header_of ctx.container ctx.le (drop start bytes) in
-      ap (λ (none : Bool). if none then first.sh_size else count) stated
+  asked_is some = grind (arith, nat_tests)
 
   sections_tested : 0 < count → start + count * section_header_size ctx.container ≤ length bytes
       → section_headers_from_tested bytes start count ctx ≡ Ok tt

@@ -5,7 +5,6 @@ pub mod NumberLemmas
 pub mod OffsetLemmas
 pub mod CountLemmas
 pub mod EachLemmas
-pub mod FitLemmas
 pub mod HeaderPutLemmas
 pub mod IndexLemmas
 pub mod InsideLemmas

@@ -2,13 +2,13 @@
 --
 -- A list that was read passed the test of room for each of its records, so all of them lie in the bytes (`each_fits`).
 -- The record with an index is then the one that its own bytes are read as (`item_at`).
-use Rattle.goblin_c.proofs.Common.{◌≡◌, ◌≤◌, ◌<◌, ◌+◌, ◌-◌, ◌*◌, ◌/◌, ◌^◌, ◌==◌, ℕ, zero, suc, Bool, true, false}
-use Rattle.goblin_c.proofs.Common.{nat_le, nat_lt, List, [], length, take, drop, max, slice_get, Some, None, Result, Ok}
-use Rattle.goblin_c.proofs.Common.{Err, if◌then◌else◌, codes, refl, sym, ap, ◌∙◌, arith, mul-le-mul_right, nat_tests}
-use Rattle.goblin_c.proofs.Common.{drop-drop, Ctx, fits-room_of, Refusal, buffer_too_short, misplaced, refusal_of}
-use Rattle.goblin_c.proofs.Common.{refused_at, room_of, ◌>>=◌, refuse_as, refuse_if, records, no_records, get_records}
-use Rattle.goblin_c.proofs.Common.{past_records, section_header_of, section_header_size, section_headers_of, sym_of}
-use Rattle.goblin_c.proofs.Common.{sym_size, SectionHeader, Sym}
+use Rattle.goblin_c.proofs.Common.{found_within, ◌≡◌, ◌≤◌, ◌<◌, ◌+◌, ◌-◌, ◌*◌, ◌/◌, ◌^◌, ◌==◌, ℕ, zero, suc, Bool, true}
+use Rattle.goblin_c.proofs.Common.{false, nat_le, nat_lt, List, [], length, take, drop, max, slice_get, Some, None}
+use Rattle.goblin_c.proofs.Common.{Result, Ok, Err, if◌then◌else◌, codes, refl, sym, ap, ◌∙◌, arith, mul-le-mul_right}
+use Rattle.goblin_c.proofs.Common.{nat_tests, drop-drop, Ctx, fits-room_of, Refusal, buffer_too_short, misplaced}
+use Rattle.goblin_c.proofs.Common.{refusal_of, refused_at, room_of, ◌>>=◌, refuse_as, refuse_if, records, no_records}
+use Rattle.goblin_c.proofs.Common.{get_records, past_records, section_header_of, section_header_size}
+use Rattle.goblin_c.proofs.Common.{section_headers_of, sym_of, sym_size, SectionHeader, Sym}
 use Rattle.goblin_base.specs.Eager.{records_from, records_in, room_of_each}
 use Rattle.goblin.specs.SectionHeaders.{count_asked, section_headers_from, section_headers_from_tested}
 use Rattle.goblin.specs.Symtab.{symtab_of}
@@ -16,18 +16,11 @@ use Rattle.goblin.specs.Symtab.{symtab_of}
 -- the value of a step that went on
 pub bind_ok : {A B E : Type 0} (first : Result A E) (next : A → Result B E) (y : B)
     → (first >>= next) ≡ Ok y → (x : A) × (first ≡ Ok x) × (next x ≡ Ok y)
-bind_ok (Ok x) next y is = (x, refl, is)
-bind_ok (Err e) next y is = absurd (cc)
-
-pub refuse_as_ok : {A E F : Type 0} (within : E → F) (answer : Result A E) (y : A)
-    → refuse_as within answer ≡ Ok y → answer ≡ Ok y
-refuse_as_ok within (Ok x) y is = cc
-refuse_as_ok within (Err e) y is = absurd (cc)
+bind_ok first next y is = grind (arith, nat_tests)
 
 pub refused_at_ok : {A : Type 0} (offset : ℕ) (answer : Result A Refusal) (y : A)
     → refused_at offset answer ≡ Ok y → answer ≡ Ok y
-refused_at_ok offset (Ok x) y is = cc
-refused_at_ok offset (Err e) y is = absurd (cc)
+refused_at_ok offset answer y is = grind (arith, nat_tests)
 
 -- records that pass the test of room one by one lie in the bytes
 pub each_fits : (len start size count : ℕ) (u : Unit {0})
@@ -46,10 +39,7 @@ each_fits len start size (suc (suc count)) u is some =
 accepted : {A E : Type 0} (first second third : Bool) (a b c : E) (x y : A)
     → (if first then Err a else if second then Err b else if third then Err c else Ok x) ≡ Ok y
     → (first ≡ false) × (third ≡ false) × (y ≡ x)
-accepted true second third a b c x y is = absurd (cc)
-accepted false true third a b c x y is = absurd (cc)
-accepted false false true a b c x y is = absurd (cc)
-accepted false false false a b c x y is = (refl, refl, cc)
+accepted first second third a b c x y is = grind (arith, nat_tests)
 
 -- a list has so many records of a size, which lie in the bytes from an offset on
 pub record IsListed
@@ -86,7 +76,7 @@ listed_in size read bytes start count items is =
     let room = refuse_as misplaced (room_of_each (length bytes) start size count) in
     let all = records size read count (drop start bytes) in
     let parts = bind_ok room (λ _. Ok all) items is in
-    let each = refuse_as_ok misplaced (room_of_each (length bytes) start size count) parts.0 parts.1 in
+    let each = found_within misplaced (room_of_each (length bytes) start size count) parts.0 parts.1 in
     record {
       are = (let same = parts.2 in cc);
       fit = each_fits (length bytes) start size count parts.0 each;
@@ -137,7 +127,7 @@ module _ (bytes : List ℕ) (start count : ℕ) (ctx : Ctx) where
   symbols_listed items is =
       let read = refuse_as refusal_of (symtab_of bytes start count ctx) in
       let parts = bind_ok (refused_at start read) (λ table. Ok table.symbols) items is in
-      let table = refuse_as_ok refusal_of (symtab_of bytes start count ctx) parts.0
+      let table = found_within refusal_of (symtab_of bytes start count ctx) parts.0
       (refused_at_ok start read parts.0 parts.1) in
       let tests = accepted (nat_le (length bytes) start) (nat_le (2 ^ 64) (count * sym_size ctx.container))
       (nat_lt (length bytes - start) (count * sym_size ctx.container)) _ _ _ _ parts.0 table in

@@ -3,10 +3,10 @@
 -- What a call stores is one step of the definition of a range's items: the note at the offset, and the items from the
 -- next offset on (`items_there`). So several calls, each at the offset that the last one stored, store as many items
 -- (`in_a_row`). The parts of a note lie in the file because its places do (`notes_lie_in_file`).
-use Rattle.goblin_c.proofs.Common.{◌≡◌, ◌+◌, ◌-◌, ◌<◌, ◌≤◌, ℕ, zero, suc, Bool, true, false, nat_le, if◌then◌else◌}
+use Rattle.goblin_c.proofs.Common.{◌≡◌, ◌+◌, ◌-◌, ◌<◌, ◌≤◌, ℕ, zero, suc, Bool, false, nat_le, if◌then◌else◌}
 use Rattle.goblin_c.proofs.Common.{List, [], ◌∷◌, length, take, drop, Option, Some, None, Result, Ok, Err, refl, sym}
-use Rattle.goblin_c.proofs.Common.{ap, subst, ◌∙◌, arith, leb-false, drop-take, take-nil, Ctx, Refusal, bad_offset}
-use Rattle.goblin_c.proofs.Common.{◌>>=◌, refuse_if, RefusalAt, refused_at, GoblinHeader, GoblinRange, ctx_of}
+use Rattle.goblin_c.proofs.Common.{ap, subst, ◌∙◌, arith, leb-false, drop-take, take-nil, Ctx, Refusal}
+use Rattle.goblin_c.proofs.Common.{◌>>=◌, RefusalAt, refused_at, GoblinHeader, GoblinRange, ctx_of}
 use Rattle.goblin_c.proofs.Common.{note_converted, Endian, nat_tests, ◌==◌}
 use Rattle.std.proofs.Math.Seq.{drop-drop}
 use Rattle.goblin.specs.declared.elf.note.NotePlaces.{NotePlaces}
@@ -40,9 +40,7 @@ items_of : (past : Bool) (bytes : List ℕ) (answer : Result NotePlaces Refusal)
     (λ len. rest (offset + len)))
     ≡ items_reported bytes
     (if past then Ok None else (refused_at offset answer >>= λ places. Ok (Some (note_converted offset places)))) rest
-items_of true bytes answer offset rest = refl
-items_of false bytes (Ok places) offset rest = λ j. Ok (note_same bytes offset places j) ∷ rest (offset + places.next)
-items_of false bytes (Err refusal) offset rest = refl
+items_of past bytes answer offset rest = grind (arith, nat_tests, note_same)
 
 items_there : (bytes : List ℕ) (h : GoblinHeader) (range : GoblinRange) (alignment offset : ℕ)
     → note_items bytes (range.offset + range.size) offset (alignment, ctx_of h)
@@ -93,17 +91,10 @@ notes_lie_in_file bytes h range alignment offset note is =
     (within.name, within.desc, omega (arith, within.least))
 
 -- a note that is read at an offset is read from there on
-read_there : (past : Bool) (refusal : Refusal) (answer : Result NotePlaces Refusal) (places : NotePlaces)
-    → (refuse_if past refusal >>= λ _. answer) ≡ Ok places → answer ≡ Ok places
-read_there true refusal answer places is = absurd (cc)
-read_there false refusal answer places is = is
-
 read_at : (bytes : List ℕ) (offset : ℕ) (ctx : ℕ × Ctx) (places : NotePlaces)
     → places_at bytes offset ctx ≡ Ok places → read_places ctx.0 ctx.1.le (drop offset bytes) ≡ Ok places
 unfolding places_at
-read_at bytes offset ctx places is =
-    read_there (nat_le (length bytes) offset) (bad_offset offset) (read_places ctx.0 ctx.1.le (drop offset bytes))
-    places is
+read_at bytes offset ctx places is = grind (arith, nat_tests)
 
 pub whole_notes_are_notes : WholeNotesAreNotes
 whole_notes_are_notes bytes h range alignment offset note is within =

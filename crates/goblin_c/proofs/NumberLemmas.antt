@@ -2,15 +2,15 @@
 use Rattle.goblin_c.proofs.Common.{◌≡◌, ◌≤◌, ◌<◌, ◌+◌, ◌^◌, ℕ, true, List, ◌++◌, length, take, drop, Some, Ok, refl}
 use Rattle.goblin_c.proofs.Common.{sym, ap, subst, ◌∙◌, arith, mod-eq_of_lt, Endian, number_at-lt}
 use Rattle.goblin_c.proofs.Common.{number_at-with_number, number_at, spelled, fits-room_of, room_of_fits, is_width}
-use Rattle.goblin_c.proofs.Common.{number_expected, ctx_of, GoblinHeader}
+use Rattle.goblin_c.proofs.Common.{number_expected, ctx_of, GoblinHeader, IsBytes-part, length-part}
 use Rattle.goblin_base.specs.NumberLaws.{length-spelled, spelled-number}
 use Rattle.goblin_base.specs.Place.{with_number}
 use Rattle.goblin_c.specs.Write.{with_bytes}
 use Rattle.goblin_c.specs.WriteLaws.{ChangesOnly, NumbersArePut}
-use Rattle.goblin_c.proofs.PutLemmas.{IsBytes_part, others_stay, own_length, put_found, rewritten}
+use Rattle.goblin_c.proofs.PutLemmas.{others_stay, put_found, rewritten}
 
 -- a number that is read has a width, and lies in the file
-read_there : (bytes : List ℕ) (h : GoblinHeader) (offset width value : ℕ)
+pub read_there : (bytes : List ℕ) (h : GoblinHeader) (offset width value : ℕ)
     → number_expected bytes h offset width ≡ Ok (Some value)
     → (is_width width ≡ true) × (offset + width ≤ length bytes)
     × (value ≡ number_at (ctx_of h).le bytes offset width)
@@ -64,13 +64,13 @@ numbers_are_put = record {
       let order = (ctx_of h).le in
       let there = read_there bytes h offset width value found in
       let own = take width (drop offset bytes) in
-      let long = own_length bytes offset width there.1 in
+      let long = length-part bytes offset width there.1 in
       let below : value < 256 ^ width = (
       let small = number_at-lt order bytes offset width are there.1 in omega (arith, small, there.2)) in
       let same : spelled order width value ≡ own =
       ap (spelled order width) there.2
       ∙ ap (λ (n : ℕ). spelled order n (number_at order bytes offset width)) (sym long)
-      ∙ spelled-number order own (IsBytes_part bytes offset width are) in (
+      ∙ spelled-number order own (IsBytes-part bytes offset width are) in (
         below,
         rw found (ap (λ (xs : List ℕ). Ok (Some xs))
             (with_number-is order bytes offset width value ∙ ap (with_bytes bytes offset) same

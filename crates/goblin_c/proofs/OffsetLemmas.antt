@@ -4,12 +4,13 @@
 -- is read only after the tests of room for its range and for itself (`number_by`). The library's search stops at the
 -- first segment that passes its test (`first_loads`, `none_loads`), and the test is the one that is stated for C
 -- (`loads-Decides`).
-use Rattle.goblin_c.proofs.Common.{◌≡◌, ◌≤◌, ◌<◌, ◌+◌, ◌-◌, ◌^◌, ◌==◌, ◌&&◌, ℕ, zero, suc, Bool, true, false}
-use Rattle.goblin_c.proofs.Common.{true≢false, nat_le, nat_lt, min, List, [], ◌∷◌, length, take, drop, find, slice_get}
-use Rattle.goblin_c.proofs.Common.{Option, Some, None, Result, Ok, Err, inl, inr, if◌then◌else◌, refl, sym, ap, subst}
-use Rattle.goblin_c.proofs.Common.{◌∙◌, arith, and_parts, leb-false, leb-true, nat_tests, drop_all, length-drop}
-use Rattle.goblin_c.proofs.Common.{take_min, slice_get-map, Decides, option_map, misplaced, RefusalAt, refused_at}
-use Rattle.goblin_c.proofs.Common.{fits-room_of, room_of_fits, room_of, ◌>>=◌, refuse_as, loaded_from, loads, offset_in}
+use Rattle.goblin_c.proofs.Common.{get_or_from_slice_get, position_or_len, slice_get_within, found_within, ◌≡◌, ◌≤◌}
+use Rattle.goblin_c.proofs.Common.{◌<◌, ◌+◌, ◌-◌, ◌^◌, ◌==◌, ◌&&◌, ℕ, Bool, true, false, true≢false, nat_le}
+use Rattle.goblin_c.proofs.Common.{nat_lt, min, List, [], length, take, drop, find, slice_get, Option, Some, None}
+use Rattle.goblin_c.proofs.Common.{Result, Ok, Err, inl, inr, if◌then◌else◌, refl, sym, ap, subst, ◌∙◌, arith}
+use Rattle.goblin_c.proofs.Common.{and_parts, leb-false, leb-true, nat_tests, drop_all, length-drop, take_min}
+use Rattle.goblin_c.proofs.Common.{slice_get-map, Decides, option_map, misplaced, RefusalAt, refused_at, fits-room_of}
+use Rattle.goblin_c.proofs.Common.{room_of_fits, room_of, ◌>>=◌, refuse_as, loaded_from, loads, offset_in}
 use Rattle.goblin_c.proofs.Common.{ProgramHeader, GoblinHeader, GoblinRange, segment_expected, segments_expected}
 use Rattle.goblin_c.proofs.Common.{segment_converted, is_width, number_expected, range_expected}
 use Rattle.goblin_base.specs.declared.scroll.Error.{Error as Misplaced}
@@ -18,12 +19,14 @@ use Rattle.goblin_c.specs.Laws.{LiesIn, bytes_in}
 use Rattle.goblin_c.specs.PlaceLaws.{AddressesAreLoaded, IsOffsetOf, IsSlice, LoadsByte, LoadsFirst, NumbersLieInRange}
 use Rattle.goblin_c.specs.PlaceLaws.{PartsLieInFile}
 use Rattle.goblin_c.specs.Places.{cut_range, in_file}
-use Rattle.goblin_c.proofs.ListedLemmas.{bind_ok, refuse_as_ok, refused_at_ok}
-use Rattle.goblin_c.proofs.SearchLemmas.{converted_one}
+use Rattle.goblin_c.proofs.ListedLemmas.{bind_ok, refused_at_ok}
+use Rattle.goblin_c.proofs.FilledBufferLemmas.{ends-before}
+use Rattle.goblin_c.proofs.SearchLemmas.{converted_one, fails_at}
+use Rattle.std.proofs.lemmas.List.Folds.{find_at}
+use Rattle.std.proofs.lemmas.List.Sums.{fails_before_first, passes_at_first}
 
 take_none : (n : ℕ) → ◌≡◌ {A = List ℕ} (take n []) []
-take_none zero = refl
-take_none (suc n) = refl
+take_none n = grind (arith, nat_tests)
 
 -- the part of a range has the same bytes of the file
 same_bytes : (bytes : List ℕ) (range : GoblinRange) (inside : Bool)
@@ -75,10 +78,10 @@ number_by bytes h range offset width value true is =
     let room = bind_ok (refused_at range.offset whole) (λ _. Ok (Some range)) first.0 first.1 in
     let second = bind_ok (refused_at place part) (λ _. number) (Some value) first.2 in (
       fits-room_of (length bytes) range.offset range.size room.0
-          (refuse_as_ok misplaced (room_of (length bytes) range.offset range.size) room.0
+          (found_within misplaced (room_of (length bytes) range.offset range.size) room.0
           (refused_at_ok range.offset whole room.0 room.1)),
       fits-room_of range.size offset width second.0
-          (refuse_as_ok misplaced (room_of range.size offset width) second.0
+          (found_within misplaced (room_of range.size offset width) second.0
           (refused_at_ok place part second.0 second.1)),
       second.2,
     )
@@ -94,50 +97,31 @@ FirstLoads address items s =
     (index : ℕ) × ((slice_get items index ≡ Some s) × (loads address s ≡ true)
     × ((k : ℕ) (x : ProgramHeader) → k < index → slice_get items k ≡ Some x → loads address x ≡ false))
 
-some_same : {X : Type 0} (x y : X) → ◌≡◌ {A = Option X} (Some x) (Some y) → x ≡ y
-some_same x y is = cc
-
-earlier_fails : (address : ℕ) (x : ProgramHeader) (items : List ProgramHeader) (index : ℕ)
-    → loads address x ≡ false
-    → ((k : ℕ) (y : ProgramHeader) → k < index → slice_get items k ≡ Some y → loads address y ≡ false)
-    → (k : ℕ) (y : ProgramHeader) → k < suc index → slice_get (x ∷ items) k ≡ Some y → loads address y ≡ false
-earlier_fails address x items index hit rest zero y before found =
-    ap (loads address) (sym (some_same x y found)) ∙ hit
-earlier_fails address x items index hit rest (suc k) y before found = rest k y (omega (arith, before)) found
-
-first_by : (address : ℕ) (x : ProgramHeader) (items : List ProgramHeader) (s : ProgramHeader) (hit : Bool)
-    → loads address x ≡ hit → (find (loads address) items ≡ Some s → FirstLoads address items s)
-    → (if hit then Some x else find (loads address) items) ≡ Some s → FirstLoads address (x ∷ items) s
-first_by address x items s true hit rest is = (
-  zero,
-  (is, ap (loads address) (sym (some_same x s is)) ∙ hit, λ k y before found. absurd (omega (arith, before))),
-)
-first_by address x items s false hit rest is =
-    let later = rest is in (
-      suc later.0,
-      (later.1.0, later.1.1, λ k y before found. earlier_fails address x items later.0 hit later.1.2 k y before found),
-    )
-
 first_loads : (address : ℕ) (items : List ProgramHeader) (s : ProgramHeader)
     → find (loads address) items ≡ Some s → FirstLoads address items s
-first_loads address [] s is = absurd (cc)
-first_loads address (x ∷ items) s is =
-    first_by address x items s (loads address x) refl (first_loads address items s) is
-
-none_by : (address : ℕ) (x : ProgramHeader) (items : List ProgramHeader) (hit : Bool)
-    → loads address x ≡ hit → (if hit then Some x else find (loads address) items) ≡ None
-    → (loads address x ≡ false) × (find (loads address) items ≡ None)
-none_by address x items true hit is = absurd (cc)
-none_by address x items false hit is = (hit, is)
+first_loads address items s is =
+    let index = position_or_len (loads address) items in
+    let there : slice_get items index ≡ Some s = sym (find_at (loads address) items) ∙ is in
+    let inside = slice_get_within items index s there in (
+      index,
+      (
+        there,
+        ap (loads address) (sym (get_or_from_slice_get items index s s there))
+            ∙ passes_at_first (loads address) items s inside,
+        λ k x before found.
+            fails_at (loads address) items k x found (fails_before_first (loads address) items k x before),
+      ),
+    )
 
 none_loads : (address : ℕ) (items : List ProgramHeader)
     → find (loads address) items ≡ None
     → (k : ℕ) (y : ProgramHeader) → slice_get items k ≡ Some y → loads address y ≡ false
-none_loads address [] none k y found = absurd (cc)
-none_loads address (x ∷ items) none zero y found =
-    ap (loads address) (sym (some_same x y found)) ∙ (none_by address x items (loads address x) refl none).0
-none_loads address (x ∷ items) none (suc k) y found =
-    none_loads address items (none_by address x items (loads address x) refl none).1 k y found
+none_loads address items none k y found =
+    let index = position_or_len (loads address) items in
+    let past = ends-before items index (sym (find_at (loads address) items) ∙ none) in
+    let inside = slice_get_within items k y found in
+    fails_at (loads address) items k y found
+    (fails_before_first (loads address) items k y (omega (arith, past, inside)))
 
 -- the library's test is the one for C
 loads-Decides : (address : ℕ) (x : ProgramHeader)

@@ -3,22 +3,22 @@
 -- The item that a call stores is read from the bytes at its place (`found_at`). After a put these are the record's
 -- image (`own_bytes`), which is read as the record. The call finds one there if the list has as many items as before
 -- (`still_there`).
-use Rattle.goblin_c.proofs.Common.{◌≡◌, ◌≤◌, ◌<◌, ◌+◌, ◌*◌, ℕ, Bool, true, false, List, ◌++◌, length, take, drop}
-use Rattle.goblin_c.proofs.Common.{get_or, slice_get, Option, Some, None, Result, Ok, Err, refl, sym, ap, subst, inl}
-use Rattle.goblin_c.proofs.Common.{inr, ◌∙◌, arith, append_assoc, length-append, take-append_seam, drop-drop, drop_at}
-use Rattle.goblin_c.proofs.Common.{get_or-drop, get_or-take, get_or_past, length-take, length-take-le, take-append-drop}
-use Rattle.goblin_c.proofs.Common.{take_all, cases_lt, slice_get-get_or, slice_get_within, IsRecord, Layout, IsBytes}
+use Rattle.goblin_c.proofs.Common.{◌≡◌, ◌≤◌, ◌<◌, ◌+◌, ◌*◌, ℕ, Bool, true, List, ◌++◌, length, take, drop}
+use Rattle.goblin_c.proofs.Common.{get_or, slice_get, Option, Some, Result, Ok, Err, refl, sym, ap, subst}
+use Rattle.goblin_c.proofs.Common.{◌∙◌, arith, append_assoc, length-append, take-append_seam, drop-drop, drop_at}
+use Rattle.goblin_c.proofs.Common.{length-take-le, take-append-drop}
+use Rattle.goblin_c.proofs.Common.{take_all, slice_get-get_or, slice_get_within, IsRecord, Layout, IsBytes}
 use Rattle.goblin_c.proofs.Common.{count_of, each_converted, item_of, RefusalAt, ProgramHeader, Reloc, SectionHeader}
 use Rattle.goblin_c.proofs.Common.{Sym, reloc_converted, section_converted, segment_converted, symbol_converted, ctx_of}
 use Rattle.goblin_c.proofs.Common.{relocs_expected, sections_expected, segments_expected, symbols_expected}
+use Rattle.goblin_c.proofs.Common.{IsBytes-part, length-part, number_expected, reloc_expected, segment_expected}
+use Rattle.goblin_c.proofs.Common.{symbol_expected}
 use Rattle.std.proofs.Common.{length-drop}
-use Rattle.goblin_c.specs.Bytes.{number_expected}
-use Rattle.goblin_c.specs.Expected.{reloc_expected, section_expected, segment_expected, symbol_expected}
+use Rattle.goblin_c.specs.Expected.{section_expected}
 use Rattle.goblin_c.specs.Write.{put_at, put_if, put_if_there, with_bytes, reloc_ctx, reloc_layout, reloc_of}
 use Rattle.goblin_c.specs.Write.{section_layout, section_of, segment_layout, segment_of, symbol_layout, symbol_of}
 use Rattle.goblin_c.specs.Write.{unfit}
 use Rattle.goblin_c.specs.WriteLaws.{ChangesOnly, IsUnfit, PutsAreRead, PutsChangeOne, ReadsArePut, UnfitAreRefused}
-use Rattle.goblin_c.proofs.FitLemmas.{section_fits, segment_fits, symbol_fits}
 use Rattle.std.specs.Prelude.{ℤ}
 use Rattle.goblin_c.specs.declared.types.GoblinReloc.{GoblinReloc}
 use Rattle.goblin_c.proofs.ReadLemmas.{Lists, found_at, lists_relocs, lists_sections, lists_segments, lists_symbols}
@@ -60,26 +60,12 @@ module _ (bytes : List ℕ) (place : ℕ) (own : List ℕ) where
         after = drop_at (front ++ own) rest (place + length own) start;
       }
 
--- so many bytes at an offset
-pub own_length : (bytes : List ℕ) (place size : ℕ)
-    → place + size ≤ length bytes → length (take size (drop place bytes)) ≡ size
-own_length bytes place size room = length-take-le size (drop place bytes) (omega (arith, room, length-drop place bytes))
-
-pub IsBytes_part : (bytes : List ℕ) (place size : ℕ) → IsBytes bytes → IsBytes (take size (drop place bytes))
-IsBytes_part bytes place size are i =
-    elim (cases_lt i size) [
-      | inl p ↦ rw (get_or-take size (drop place bytes) i 0, get_or-drop place bytes i 0) (are (place + i))
-      | inr p ↦ let q : length (take size (drop place bytes)) ≤ i =
-          omega (arith, length-take size (drop place bytes)) in
-          rw (get_or_past (take size (drop place bytes)) i 0) (omega arith)
-    ]
-
 -- written over themselves they don't change
 pub rewritten : (bytes : List ℕ) (place size : ℕ)
     → place + size ≤ length bytes → with_bytes bytes place (take size (drop place bytes)) ≡ bytes
 rewritten bytes place size room =
     let own = take size (drop place bytes) in
-    let long = own_length bytes place size room in
+    let long = length-part bytes place size room in
     ap (λ (n : ℕ). take place bytes ++ own ++ drop (place + n) bytes) long
     ∙ append_assoc (take place bytes) own (drop (place + size) bytes)
     ∙ ap (λ (xs : List ℕ). take place bytes ++ (own ++ xs)) (sym (drop-drop size place bytes))
@@ -90,10 +76,7 @@ rewritten bytes place size room =
 pub put_found : {Y : Type 0} (found : Result (Option Y) RefusalAt) (fits : Bool) (place : ℕ) (put new : List ℕ)
     → put_if_there found (put_if fits place put) ≡ Ok (Some new)
     → (y : Y) × (found ≡ Ok (Some y)) × (new ≡ put)
-put_found (Ok (Some y)) true place put new is = (y, refl, cc)
-put_found (Ok (Some y)) false place put new is = absurd (cc)
-put_found (Ok None) fits place put new is = absurd (cc)
-put_found (Err e) fits place put new is = absurd (cc)
+put_found found fits place put new is = grind arith
 
 -- a list of as many items has one at the same index
 there_in : {X : Type 0} (items others : List X) (index : ℕ) (x : X)
@@ -166,26 +149,25 @@ module _ {R Y : Type 0} (l : Layout R) (laws : IsRecord l) (convert : R → Y) (
       let place = start + index * l.size in
       let read = found_at convert l.size l.read bytes start index (list bytes) y (lists bytes) found in
       let own = take l.size (drop place bytes) in
-      let long : length own ≡ l.size = own_length bytes place l.size read.0 in
+      let long : length own ≡ l.size = length-part bytes place l.size read.0 in
       let record_is : back y ≡ l.read own = ap back read.1 ∙ same (l.read own) in
       let image_is : l.image (back y) ≡ own =
-      ap l.image record_is ∙ laws.writes_back own (IsBytes_part bytes place l.size are) (omega (arith, long))
+      ap l.image record_is ∙ laws.writes_back own (IsBytes-part bytes place l.size are) (omega (arith, long))
       ∙ take_all l.size own (omega (arith, long)) in
       rw found (ap (λ (xs : List ℕ). Ok (Some xs))
       (ap (with_bytes bytes place) image_is ∙ rewritten bytes place l.size read.0))
 
   pub read_fits : (bytes : List ℕ) (y : Y) (back : Y → R)
       → ((x : R) → back (convert x) ≡ x) → IsBytes bytes
-      → ((own : List ℕ) → IsBytes own → l.size ≤ length own → l.Fits (l.read own))
       → item_of (each_converted convert (list bytes)) index ≡ Ok (Some y) → l.Fits (back y)
-  read_fits bytes y back same are fit found =
+  read_fits bytes y back same are found =
       let place = start + index * l.size in
       let read = found_at convert l.size l.read bytes start index (list bytes) y (lists bytes) found in
       let own = take l.size (drop place bytes) in
-      let long : length own ≡ l.size = own_length bytes place l.size read.0 in
+      let long : length own ≡ l.size = length-part bytes place l.size read.0 in
       let record_is : l.read own ≡ back y = sym (ap back read.1 ∙ same (l.read own)) in
       let P : R → Type 0 = l.Fits in
-      subst P record_is (fit own (IsBytes_part bytes place l.size are) (omega (arith, long)))
+      subst P record_is (laws.reads_fit own (IsBytes-part bytes place l.size are) (omega (arith, long)))
 
 section_back : (x : SectionHeader) → section_of (section_converted x) ≡ x
 section_back x = refl
@@ -199,8 +181,7 @@ symbol_back x = refl
 addend_back : (offset symbol typ : ℕ) (addend : Option ℤ)
     → let x : Reloc = record { r_offset = offset; r_addend = addend; r_sym = symbol; r_type = typ } in
     reloc_of (reloc_converted x) ≡ x
-addend_back offset symbol typ None = refl
-addend_back offset symbol typ (Some addend) = refl
+addend_back offset symbol typ addend = grind arith
 
 reloc_back : (x : Reloc) → reloc_of (reloc_converted x) ≡ x
 reloc_back x = addend_back x.r_offset x.r_sym x.r_type x.r_addend
@@ -210,21 +191,21 @@ reads_are_put = record {
   section = λ bytes h index s are found. (
     read_fits (section_layout h) (section_header_laws (ctx_of h).container (ctx_of h).le) section_converted h.e_shoff
         index (λ xs. sections_expected xs h) (λ xs. lists_sections xs h) bytes s section_of section_back are
-        (section_fits (ctx_of h).container (ctx_of h).le) found,
+        found,
     read_is_put (section_layout h) (section_header_laws (ctx_of h).container (ctx_of h).le) section_converted h.e_shoff
         index (λ xs. sections_expected xs h) (λ xs. lists_sections xs h) section_of bytes s section_back are found,
   );
   segment = λ bytes h index s are found. (
     read_fits (segment_layout h) (program_header_laws (ctx_of h).container (ctx_of h).le) segment_converted h.e_phoff
         index (λ xs. segments_expected xs h) (λ xs. lists_segments xs h) bytes s segment_of segment_back are
-        (segment_fits (ctx_of h).container (ctx_of h).le) found,
+        found,
     read_is_put (segment_layout h) (program_header_laws (ctx_of h).container (ctx_of h).le) segment_converted h.e_phoff
         index (λ xs. segments_expected xs h) (λ xs. lists_segments xs h) segment_of bytes s segment_back are found,
   );
   symbol = λ bytes h table index s are found. (
     read_fits (symbol_layout h) (sym_laws (ctx_of h).container (ctx_of h).le) symbol_converted table.offset index
         (λ xs. symbols_expected xs h table) (λ xs. lists_symbols xs h table) bytes s symbol_of symbol_back are
-        (symbol_fits (ctx_of h).container (ctx_of h).le) found,
+        found,
     read_is_put (symbol_layout h) (sym_laws (ctx_of h).container (ctx_of h).le) symbol_converted table.offset index
         (λ xs. symbols_expected xs h table) (λ xs. lists_symbols xs h table) symbol_of bytes s symbol_back are found,
   );
@@ -271,9 +252,7 @@ puts_change_one = record {
 -- what doesn't fit is refused where it would be put
 unfit_put : {X : Type 0} (found : Result (Option X) RefusalAt) (x : X) (place : ℕ)
     → found ≡ Ok (Some x) → IsUnfit place (put_if_there found (Err (unfit place)))
-unfit_put (Ok (Some y)) x place is = (refl, refl)
-unfit_put (Ok None) x place is = absurd (cc)
-unfit_put (Err why) x place is = absurd (cc)
+unfit_put found x place is = grind arith
 
 pub unfit_are_refused : UnfitAreRefused
 unfit_are_refused = record {

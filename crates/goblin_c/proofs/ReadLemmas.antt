@@ -2,19 +2,19 @@
 --
 -- The records of a list that isn't refused stand one after another in the file (`IsListed`). So an item that a call
 -- stores was read from its own bytes, which lie in the file (`found_at`).
-use Rattle.goblin_c.proofs.Common.{◌≡◌, ◌≤◌, ◌+◌, ◌*◌, ◌/◌, ◌==◌, ℕ, Bool, true, false, nat_le, List, [], length, take}
-use Rattle.goblin_c.proofs.Common.{drop, map, slice_get, Some, Result, Ok, Err, if◌then◌else◌, refl, sym, ap, ◌∙◌}
-use Rattle.goblin_c.proofs.Common.{arith, leb-false, leb-true, slice_get-map, option_map, refusal_of, refuse_as}
-use Rattle.goblin_c.proofs.Common.{program_header_of, program_header_size, program_headers_from, section_header_of}
-use Rattle.goblin_c.proofs.Common.{section_header_size, section_headers_of, sym_of, sym_size, segment_count, reloc_in}
-use Rattle.goblin_c.proofs.Common.{reloc_size, relocs_of, unless_fault, fits-room_of, unless_fault-is, room_of, records}
-use Rattle.goblin_c.proofs.Common.{no_records, records-agree, div-mul-le_self, is_mips64el, relocs_expected, Refused}
-use Rattle.goblin_c.proofs.Common.{GoblinHeader, GoblinRange, ctx_of, each_converted, item_of, sections_expected}
-use Rattle.goblin_c.proofs.Common.{segments_expected, symbols_expected, Returns, RefusalAt, refusal_at, refused_at}
-use Rattle.goblin_c.proofs.Common.{converted_list}
+use Rattle.goblin_c.proofs.Common.{found_within, ◌≡◌, ◌≤◌, ◌+◌, ◌*◌, ◌/◌, ◌==◌, ℕ, Bool, true, false, nat_le, List, []}
+use Rattle.goblin_c.proofs.Common.{length, take, drop, map, slice_get, Some, Result, Ok, Err, if◌then◌else◌, refl, sym}
+use Rattle.goblin_c.proofs.Common.{ap, ◌∙◌, arith, leb-false, leb-true, slice_get-map, option_map, refusal_of}
+use Rattle.goblin_c.proofs.Common.{refuse_as, program_header_of, program_header_size, program_headers_from}
+use Rattle.goblin_c.proofs.Common.{section_header_of, section_header_size, section_headers_of, sym_of, sym_size}
+use Rattle.goblin_c.proofs.Common.{segment_count, reloc_in, reloc_size, relocs_of, unless_fault, fits-room_of}
+use Rattle.goblin_c.proofs.Common.{unless_fault-is, room_of, records, no_records, records-agree, div-mul-le_self}
+use Rattle.goblin_c.proofs.Common.{is_mips64el, relocs_expected, Refused, GoblinHeader, GoblinRange, ctx_of}
+use Rattle.goblin_c.proofs.Common.{each_converted, item_of, sections_expected, segments_expected, symbols_expected}
+use Rattle.goblin_c.proofs.Common.{Returns, RefusalAt, refusal_at, refused_at, converted_list}
 use Rattle.std.proofs.lemmas.List.{take-take}
 use Rattle.goblin_c.specs.Write.{reloc_ctx}
-use Rattle.goblin_c.proofs.ListedLemmas.{IsListed, bind_ok, item_at, listed_from, none_at, refuse_as_ok, refused_at_ok}
+use Rattle.goblin_c.proofs.ListedLemmas.{IsListed, bind_ok, item_at, listed_from, none_at, refused_at_ok}
 use Rattle.goblin_c.proofs.ListedLemmas.{sections_listed, symbols_listed}
 
 -- a list that is not refused has so many records
@@ -53,18 +53,12 @@ pub converted_is : {L R Y : Type 0} (convert : R → Y) (view : L → List R) (a
     (expected : Result (List R) RefusalAt)
     → Returns view answer expected
     → converted_list (λ list. map convert (view list)) answer ≡ each_converted convert expected
-converted_is convert view (Ok list) expected is = rw is refl
-converted_is convert view (Err e) expected is = rw is refl
+converted_is convert view answer expected is = grind arith
 
 -- the result that is expected of a call is its own, with refusals for errors
 pub expected_is : {X : Type 0} (answer : Result X Refused) (expected : Result X RefusalAt)
     → Returns (λ found. found) answer expected → refuse_as refusal_at answer ≡ expected
-expected_is (Ok x) expected is = sym is
-expected_is (Err e) expected is = sym is
-
-pub refuse_as_some : {X : Type 0} (answer : Result X Refused) (x : X)
-    → answer ≡ Ok x → refuse_as refusal_at answer ≡ Ok x
-refuse_as_some answer x is = rw is refl
+expected_is answer expected is = grind arith
 
 -- the lists of the calls
 pub lists_sections : (bytes : List ℕ) (h : GoblinHeader)
@@ -121,6 +115,6 @@ pub lists_relocs : (bytes : List ℕ) (h : GoblinHeader) (table : GoblinRange) (
     (relocs_expected bytes h table is_rela)
 lists_relocs bytes h table is_rela items is =
     let found = relocs_of bytes table.offset table.size is_rela (ctx_of h) (is_mips64el h) in
-    let read = refuse_as_ok refusal_of found items (refused_at_ok table.offset (refuse_as refusal_of found) items is) in
+    let read = found_within refusal_of found items (refused_at_ok table.offset (refuse_as refusal_of found) items is) in
     in_range (reloc_size is_rela (ctx_of h).container) (reloc_in (reloc_ctx h is_rela)) bytes table.offset table.size
     items (table.size == 0) read

@@ -22,7 +22,7 @@ first_passes test (x ∷ items) i is =
     let found = position-Some test (x ∷ items) i x is in
     (get_or (x ∷ items) i x, slice_get-get_or (x ∷ items) i x found.0, found.1)
 
-fails_at : {X : Type 0} (test : X → Bool) (items : List X) (k : ℕ) (x : X)
+pub fails_at : {X : Type 0} (test : X → Bool) (items : List X) (k : ℕ) (x : X)
     → slice_get items k ≡ Some x → test (get_or items k x) ≡ false → test x ≡ false
 fails_at test items k x found fails = ap test (sym (get_or_from_slice_get items k x x found)) ∙ fails
 
@@ -54,8 +54,7 @@ there items first i x after found =
 
 -- from the first item on an index is what it is
 pub from_none : (found : Option ℕ) → option_map (λ place. 0 + place) found ≡ found
-from_none (Some place) = ap Some (omega arith)
-from_none None = refl
+from_none found = grind (arith, nat_tests)
 
 -- the items for C from an index on that pass a test
 module _ {X Y : Type 0} (convert : X → Y) (IsSo : Y → Type 0) (test : X → Bool)

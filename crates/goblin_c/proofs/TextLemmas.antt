@@ -2,17 +2,15 @@
 use Rattle.goblin_c.proofs.Common.{◌≡◌, ◌+◌, ◌<◌, ◌≤◌, ℕ, zero, suc, IsTrue, nat_le, List, [], ◌∷◌, ◌++◌, length}
 use Rattle.goblin_c.proofs.Common.{get_or, take, drop, sym, ap, ◌∙◌, length-append, arith, and_parts, leb-true}
 use Rattle.goblin_c.proofs.Common.{are_short, each_short, is_short, laid}
-use Rattle.goblin_c.proofs.Common.{Endian, Err, GoblinHeader, GoblinRange, Ok, Refusal, Result, bad_offset}
+use Rattle.goblin_c.proofs.Common.{Endian, Err, Ok, Refusal, Result}
 use Rattle.goblin_c.proofs.Common.{buffer_too_short, ctx_of, misplaced, refuse_as, room_of}
 use Rattle.goblin_base.specs.declared.texts.Part.{Part}
 use Rattle.goblin_base.specs.Record.{read_within}
-use Rattle.goblin_base.specs.Refusal.{bad_input, bad_magic, malformed, out_of_memory, too_big}
+use Rattle.goblin_base.specs.Refusal.{bad_input}
 use Rattle.goblin.specs.Note.{PartRefusal, whole_places}
-use Rattle.goblin_c.specs.Common.{refusal_text}
 use Rattle.goblin_c.specs.Laws.{KindsAreAnswers}
-use Rattle.goblin_c.specs.Notes.{bytes_from, note_bytes_expected, part_converted}
+use Rattle.goblin_c.specs.Notes.{bytes_from, note_bytes_expected}
 use Rattle.goblin_c.specs.TextLaws.{PartHasSameText, PartsHaveSameText}
-use Rattle.goblin_c.specs.Texts.{converted_text}
 use Rattle.std.specs.Bool.{⊤}
 use Rattle.goblin_c.proofs.FilledBufferLemmas.{laid-appended}
 
@@ -52,11 +50,7 @@ kinds-are-answers refusal = grind arith
 abbrev Itemless : Refusal → Type 0
 Itemless (bad_input size msg) = ⊥
 Itemless (buffer_too_short count item) = ⊥
-Itemless (malformed f) = ⊤
-Itemless (bad_magic magic) = ⊤
-Itemless (too_big size len) = ⊤
-Itemless (bad_offset offset) = ⊤
-Itemless out_of_memory = ⊤
+Itemless _ = ⊤
 
 abbrev IsItemless : {X : Type 0} → Result X Refusal → Type 0
 IsItemless (Ok x) = ⊤

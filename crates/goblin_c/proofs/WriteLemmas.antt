@@ -1,23 +1,15 @@
 -- Puts: a record that is found is put at its place, in range, and the library's test decides whether it fits.
-use Rattle.goblin_c.proofs.Common.{◌≡◌, ◌≤◌, ◌<◌, ◌+◌, ◌*◌, ◌^◌, ◌⊎◌, ℕ, Bool, true, false, true≢false, List, [], ◌∷◌}
-use Rattle.goblin_c.proofs.Common.{◌++◌, length, drop, IsTrue, map, Option, Some, Result, Ok, Err, inl, inr, refl, sym}
-use Rattle.goblin_c.proofs.Common.{ap, subst, ◌∙◌, arith, fits-room_of, ◌>>=◌, refuse_as, number_expected, ctx_of}
+use Rattle.goblin_c.proofs.Common.{◌≡◌, ◌≤◌, ◌<◌, ◌+◌, ◌*◌, ◌^◌, ◌⊎◌, ℕ, Bool, List, [], ◌∷◌}
+use Rattle.goblin_c.proofs.Common.{◌++◌, length, drop, map, Option, Some, Result, Ok, Err, inl, refl, sym}
+use Rattle.goblin_c.proofs.Common.{ap, subst, ◌∙◌, arith, ◌>>=◌, refuse_as, number_expected, ctx_of}
 use Rattle.goblin_c.proofs.Common.{item_of, Returns, RefusalAt, refusal_at, refused_at, Stores, converted_list}
 use Rattle.goblin_c.proofs.Common.{refusal_converted, Container, Little, Big, Ctx, Error, refusal_of, Header, cases_lt}
 use Rattle.goblin_c.proofs.Common.{Refused, GoblinHeader, GoblinRefusal}
-use Rattle.std.proofs.Math.Logic.{◌↔◌}
 use Rattle.goblin_c.specs.Write.{FitsClass, Puts, header_of, header_put_expected, named_ctx, put_if}
 use Rattle.goblin_base.specs.Fields.{Field, FieldsFit}
 use Rattle.goblin.specs.Header.{HeaderFits, as32, as64, header32, header64, header_layout, header_size}
+use Rattle.goblin_c.proofs.NumberLemmas.{read_there}
 use Rattle.goblin_c.proofs.ReadLemmas.{Lists, converted_is, expected_is, found_at}
-
--- what is expected by the test is put, or refused, as the record fits
-pub puts_by : (Fits : Type 0) (expected : Bool → Result (Option (List ℕ)) RefusalAt) (fits : Bool)
-    (old : List ℕ) (was : GoblinRefusal) (status : ℕ) (new : List ℕ) (why : GoblinRefusal)
-    → IsTrue fits ↔ Fits → Stores (expected fits) old was status new why → Puts Fits expected old was status new why
-puts_by Fits expected true old was status new why decides stores = inl (decides.0 refl, stores)
-puts_by Fits expected false old was status new why decides stores =
-    inr (λ fits. true≢false (sym (decides.1 fits)), stores)
 
 -- an item that a call found in a list lies in the file
 pub room_for : {L R Y : Type 0} (convert : R → Y) (view : L → List R) (size : ℕ) (read : List ℕ → R)
@@ -35,26 +27,19 @@ room_for {Y = Y} convert view size read bytes start index answer expected found 
     (sym same ∙ sym own ∙ ap (refuse_as refusal_at) there)).0
 
 -- a number that a call found lies in the file
-there_by : (bytes : List ℕ) (h : GoblinHeader) (offset width : ℕ) (value : ℕ)
-    → number_expected bytes h offset width ≡ Ok (Some value) → offset + width ≤ length bytes
-there_by bytes h offset width value is = grind (arith, fits-room_of (length bytes) offset width)
-
 pub number_there : (bytes : List ℕ) (h : GoblinHeader) (offset width value : ℕ) (answer : Result (Option ℕ) Refused)
     → Returns (λ found. found) answer (number_expected bytes h offset width) → answer ≡ Ok (Some value)
     → offset + width ≤ length bytes
 number_there bytes h offset width value answer is found =
-    there_by bytes h offset width value
-    (sym (expected_is answer (number_expected bytes h offset width) is) ∙ ap (refuse_as refusal_at) found)
+    (read_there bytes h offset width value
+    (sym (expected_is answer (number_expected bytes h offset width) is) ∙ ap (refuse_as refusal_at) found)).1
 
 -- of two facts that hold or not, both hold or not
 both : (A B : Type 0) → A ⊎ (¬ A) → B ⊎ (¬ B) → (A × B) ⊎ (¬ (A × B))
-both A B (inl a) (inl b) = inl (a, b)
-both A B (inl a) (inr b) = inr (λ all. b all.1)
-both A B (inr a) b = inr (λ all. a all.0)
+both A B h b = grind arith
 
 below_by : (m n : ℕ) → (m < n) ⊎ (n ≤ m) → (m < n) ⊎ (¬ (m < n))
-below_by m n (inl below) = inl below
-below_by m n (inr past) = inr (λ below. omega (arith, past, below))
+below_by m n h = grind arith
 
 -- fields fit, or not
 fields_decided : (fields : List Field) → FieldsFit fields ⊎ (¬ (FieldsFit fields))
@@ -71,15 +56,13 @@ header_decided Big h = fields_decided (header64.fields (as64 h))
 refused_first : {Y : Type 0} (answer : Result Ctx Error) (e : Error) (next : Ctx → Result Y RefusalAt)
     → answer ≡ Err e
     → (refused_at 0 (refuse_as refusal_of answer) >>= next) ≡ Err (record { refusal = refusal_of e; offset = 0 })
-refused_first (Ok ctx) e next is = absurd (cc)
-refused_first (Err d) e next is = let same : d ≡ e = cc in rw same refl
+refused_first answer e next is = grind arith
 
 either : (Fits : Type 0) (expected : Bool → Result (Option (List ℕ)) RefusalAt)
     (old : List ℕ) (was : GoblinRefusal) (status : ℕ) (new : List ℕ) (why : GoblinRefusal)
     → Fits ⊎ (¬ Fits) → ((fits : Bool) → Stores (expected fits) old was status new why)
     → Puts Fits expected old was status new why
-either Fits expected old was status new why (inl fits) stores = inl (fits, stores true)
-either Fits expected old was status new why (inr unfit) stores = inr (unfit, stores false)
+either Fits expected old was status new why h stores = grind arith
 
 pub header_refused : (bytes : List ℕ) (h : GoblinHeader) (e : Error) (was : GoblinRefusal) (status : ℕ)
     (why : GoblinRefusal)

@@ -136,7 +136,7 @@ SegmentsByIndex =
     × ReturnsCount (segments_in bytes h ctx) (segment_count_expected bytes (header_converted h))
 
 -- with another header a call isn't refused, and stores what it stores with the plain one if that isn't refused
-abbrev pub KeepsWhatIsRead : {Y : Type 0} → Result (Option Y) RefusalAt → Result (Option Y) RefusalAt → Type 0
+abbrev pub KeepsWhatIsRead : {Y : Type 0} → Result Y RefusalAt → Result Y RefusalAt → Type 0
 KeepsWhatIsRead plain other = IsOk other × (IsOk plain → other ≡ plain)
 
 -- so it is with the header that counts only what lies whole in the file, for each call that reads headers

@@ -1,5 +1,5 @@
 -- Each refusal of each call has the library's text when it is converted for C.
-use Rattle.std.proofs.Common.{◌≡◌, ◌+◌, ℕ, zero, suc, Bool, true, false, List, codes, Option, Some, None, Result, Ok}
+use Rattle.std.proofs.Common.{◌≡◌, ◌+◌, ℕ, zero, suc, Bool, List, codes, Option, Result, Ok}
 use Rattle.std.proofs.Common.{Err, inl, inr, refl, arith}
 use Rattle.std.specs.Bool.{⊤}
 use Rattle.goblin_base.specs.declared.container.Container.TheVariants.{Little, Big}
@@ -18,13 +18,12 @@ use Rattle.goblin_c.specs.Expected.{section_count_expected, section_names_expect
 use Rattle.goblin_c.specs.Expected.{sections_from_expected, sections_expected, segment_count_expected, segment_expected}
 use Rattle.goblin_c.specs.Expected.{segments_expected, string_expected, strings_expected, symbol_by_address_expected}
 use Rattle.goblin_c.specs.Expected.{symbol_by_name_expected, symbol_count_expected, symbol_expected}
-use Rattle.goblin_c.specs.Expected.{symbols_from_expected, symbols_expected, count_of, each_converted, item_of}
-use Rattle.goblin_c.specs.Expected.{items_from, table_expected}
+use Rattle.goblin_c.specs.Expected.{symbols_from_expected, symbols_expected}
+use Rattle.goblin_c.specs.Expected.{table_expected}
 use Rattle.goblin_c.specs.Bytes.{number_expected, section_bytes_expected, segment_bytes_expected, string_bytes_expected}
 use Rattle.goblin_c.specs.Notes.{note_bytes_expected, note_expected, part_converted}
 use Rattle.goblin_c.specs.Places.{address_to_offset_expected, number_in_expected}
-use Rattle.goblin_c.specs.Types.{refusal_converted, reloc_converted, section_converted, segment_converted}
-use Rattle.goblin_c.specs.Types.{symbol_converted}
+use Rattle.goblin_c.specs.Types.{refusal_converted}
 use Rattle.goblin_c.specs.Write.{header_put_expected, number_put_expected, put_if, put_if_there, reloc_put_expected}
 use Rattle.goblin_c.specs.Write.{section_put_expected, segment_put_expected, symbol_put_expected}
 use Rattle.goblin_c.specs.Texts.{NamesKnown, TextIsSame, converted_text}
@@ -57,8 +56,7 @@ KnownAt (Ok x) = ⊤
 KnownAt (Err why) = NamesKnown why.refusal
 
 same_text : {X : Type 0} (answer : Result X RefusalAt) → KnownAt answer → HasSameText answer
-same_text (Ok x) known = tt
-same_text (Err why) known = text-same why known
+same_text answer known = grind (arith, text-same)
 
 -- what the library refuses: a place without room, a header
 known_room : (len offset size : ℕ) → Known (refuse_as misplaced (room_of len offset size))
@@ -108,14 +106,6 @@ known_strings : (bytes : List ℕ) (range : GoblinRange) → KnownAt (strings_ex
 unfolding range_in
 known_strings bytes range = grind arith
 
-known_string :
-    (bytes : List ℕ) (range : GoblinRange) (offset : ℕ) → KnownAt (string_expected bytes range offset)
-known_string bytes range offset = grind (arith, known_strings bytes range)
-
-known_string_bytes :
-    (bytes : List ℕ) (range : GoblinRange) (offset : ℕ) → KnownAt (string_bytes_expected bytes range offset)
-known_string_bytes bytes range offset = grind (arith, known_strings bytes range)
-
 known_note : (bytes : List ℕ) (offset : ℕ) (ctx : ℕ × Ctx) → Known (places_at bytes offset ctx)
 unfolding places_at read_places read_within
 known_note bytes offset ctx = grind (arith, known_room)
@@ -123,30 +113,7 @@ known_note bytes offset ctx = grind (arith, known_room)
 -- what is put, and the header
 known_put : {X : Type 0} (found : Result (Option X) RefusalAt) (fits : Bool) (place : ℕ) (put : List ℕ)
     → KnownAt found → KnownAt (put_if_there found (put_if fits place put))
-known_put (Ok (Some x)) true place put known = tt
-known_put (Ok (Some x)) false place put known = grind arith
-known_put (Ok None) fits place put known = tt
-known_put (Err why) fits place put known = known
-
-known_header_put : (bytes : List ℕ) (h : GoblinHeader) (fits : Bool) → KnownAt (header_put_expected bytes h fits)
-known_header_put bytes h fits = grind (arith, known_room)
-
--- the items of a list for C, one, many or how many, are refused as the list is
-module _ {X Y : Type 0} (convert : X → Y) where
-  counted : (list : Result (List X) RefusalAt) → HasSameText list → HasSameText (count_of (each_converted convert list))
-  counted (Ok items) same = tt
-  counted (Err refusal) same = same
-
-  one : (list : Result (List X) RefusalAt) (index : ℕ)
-      → HasSameText list → HasSameText (item_of (each_converted convert list) index)
-  one (Ok items) index same = tt
-  one (Err refusal) index same = same
-
-  many :
-      (list : Result (List X) RefusalAt) (first : ℕ)
-      → HasSameText list → HasSameText (items_from (each_converted convert list) first)
-  many (Ok items) first same = grind arith
-  many (Err refusal) first same = same
+known_put found fits place put known = grind arith
 
 -- so does the refusal of each call with these arguments
 pub record HaveSameText
@@ -198,52 +165,49 @@ pub refusals_have_same_text : RefusalsHaveSameText
 refusals_have_same_text bytes h range names name is_rela index offset address alignment width sh_type value s p y r
     fits =
     let sections = known_sections bytes h in
-    let segments = same_text (segments_expected bytes h) (known_segments bytes h) in
+    let segments = known_segments bytes h in
     let symbols = known_symbols bytes h range in
-    let relocs = same_text (relocs_expected bytes h range is_rela) (known_relocs bytes h range is_rela) in
+    let relocs = known_relocs bytes h range is_rela in
     let strings = known_strings bytes names in
-    let same_sections = same_text (sections_expected bytes h) sections in
-    let same_symbols = same_text (symbols_expected bytes h range) symbols in
     record {
       header = same_text (header_expected bytes) (grind (arith, known_header bytes));
-      section_count = counted section_converted (sections_expected bytes h) same_sections;
-      section = one section_converted (sections_expected bytes h) index same_sections;
-      sections = many section_converted (sections_expected bytes h) index same_sections;
+      section_count = same_text (section_count_expected bytes h) (grind (arith, sections));
+      section = same_text (section_expected bytes h index) (grind (arith, sections));
+      sections = same_text (sections_from_expected bytes h index) (grind (arith, sections));
       section_names = same_text (section_names_expected bytes h) (grind (arith, sections));
       table = same_text (table_expected bytes h index) (grind (arith, sections));
-      segment = one segment_converted (segments_expected bytes h) index segments;
-      symbol = one symbol_converted (symbols_expected bytes h range) index same_symbols;
-      symbols = many symbol_converted (symbols_expected bytes h range) index same_symbols;
-      reloc = one reloc_converted (relocs_expected bytes h range is_rela) index relocs;
-      relocs = many reloc_converted (relocs_expected bytes h range is_rela) index relocs;
-      string = same_text (string_expected bytes range offset) (known_string bytes range offset);
+      segment = same_text (segment_expected bytes h index) (grind (arith, segments));
+      symbol = same_text (symbol_expected bytes h range index) (grind (arith, symbols));
+      symbols = same_text (symbols_from_expected bytes h range index) (grind (arith, symbols));
+      reloc = same_text (reloc_expected bytes h range is_rela index) (grind (arith, relocs));
+      relocs = same_text (relocs_from_expected bytes h range is_rela index) (grind (arith, relocs));
+      string = same_text (string_expected bytes range offset) (grind (arith, known_strings bytes range));
       note = same_text (note_expected bytes h range alignment offset)
           (grind (arith, known_note bytes offset (alignment, ctx_of h)));
       section_by_name = same_text (section_by_name_expected bytes h names name index)
           (grind (arith, sections, strings));
       symbol_by_name = same_text (symbol_by_name_expected bytes h range names name) (grind (arith, symbols, strings));
-      segment_count = counted segment_converted (segments_expected bytes h) segments;
-      symbol_count = counted symbol_converted (symbols_expected bytes h range) same_symbols;
-      reloc_count = counted reloc_converted (relocs_expected bytes h range is_rela) relocs;
+      segment_count = same_text (segment_count_expected bytes h) (grind (arith, segments));
+      symbol_count = same_text (symbol_count_expected bytes h range) (grind (arith, symbols));
+      reloc_count = same_text (reloc_count_expected bytes h range is_rela) (grind (arith, relocs));
       symbol_by_address = same_text (symbol_by_address_expected bytes h range address) (grind (arith, symbols));
       section_by_type = same_text (section_by_type_expected bytes h sh_type index) (grind (arith, sections));
       section_bytes = same_text (section_bytes_expected bytes s) (grind (arith, known_room));
       segment_bytes = same_text (segment_bytes_expected bytes p) (grind (arith, known_room));
-      string_bytes = same_text (string_bytes_expected bytes range offset) (known_string_bytes bytes range offset);
+      string_bytes = same_text (string_bytes_expected bytes range offset) (grind (arith, known_strings bytes range));
       number = same_text (number_expected bytes h offset width) (grind (arith, known_room));
       number_in = same_text (number_in_expected bytes h range offset width) (grind (arith, known_room));
       address_to_offset = same_text (address_to_offset_expected bytes h address)
-          (grind (arith, known_segments bytes h, known_room));
-      put_header = same_text (header_put_expected bytes h fits) (known_header_put bytes h fits);
+          (grind (arith, segments, known_room));
+      put_header = same_text (header_put_expected bytes h fits) (grind (arith, known_room));
       put_section = same_text (section_put_expected bytes h index s fits)
           (known_put (section_expected bytes h index) fits _ _ (grind (arith, sections)));
       put_segment = same_text (segment_put_expected bytes h index p fits)
-          (known_put (segment_expected bytes h index) fits _ _ (grind (arith, known_segments bytes h)));
+          (known_put (segment_expected bytes h index) fits _ _ (grind (arith, segments)));
       put_symbol = same_text (symbol_put_expected bytes h range index y fits)
           (known_put (symbol_expected bytes h range index) fits _ _ (grind (arith, symbols)));
       put_reloc = same_text (reloc_put_expected bytes h range is_rela index r fits)
-          (known_put (reloc_expected bytes h range is_rela index) fits _ _
-          (grind (arith, known_relocs bytes h range is_rela)));
+          (known_put (reloc_expected bytes h range is_rela index) fits _ _ (grind (arith, relocs)));
       put_number = same_text (number_put_expected bytes h offset width value fits)
           (known_put (number_expected bytes h offset width) fits _ _ (grind (arith, known_room)));
     }

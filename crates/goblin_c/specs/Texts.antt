@@ -1,9 +1,9 @@
 -- The text of a refusal that C has.
 use Rattle.std.specs.Prelude.{◌≡◌, ◌⊎◌, ⊤, ℕ, ◌==◌, not, if◌then◌else◌, List, [], codes, Option, Some, None}
 use Rattle.goblin_base.specs.declared.texts.Kind.{Kind}
-use Rattle.goblin_c.specs.Common.{Refusal, malformed, buffer_too_short, Facts, facts_text, kind_with, refusal_text}
+use Rattle.goblin_c.specs.Common.{Refusal, buffer_too_short, Facts, facts_text, kind_with, refusal_text}
 use Rattle.goblin_c.specs.Common.{INVALID_UTF8, SECTION_HEADERS, PROGRAM_HEADERS, GoblinRefusal}
-use Rattle.goblin_base.specs.Refusal.{bad_magic, too_big, bad_offset, bad_input, out_of_memory}
+use Rattle.goblin_base.specs.Refusal.{bad_input}
 use Rattle.goblin_c.specs.Refused.{RefusalAt}
 use Rattle.goblin_c.specs.Types.{refusal_converted}
 
@@ -38,11 +38,7 @@ converted_text why = text_from why (kind_with why.kind)
 abbrev pub NamesKnown : Refusal → Type 0
 NamesKnown (bad_input size msg) = msg ≡ codes "invalid utf8"
 NamesKnown (buffer_too_short count item) = (item ≡ codes "section headers") ⊎ (item ≡ codes "program headers")
-NamesKnown (malformed f) = ⊤
-NamesKnown (bad_magic magic) = ⊤
-NamesKnown (too_big size len) = ⊤
-NamesKnown (bad_offset offset) = ⊤
-NamesKnown out_of_memory = ⊤
+NamesKnown _ = ⊤
 
 -- a refusal converted for C has the text of the refusal
 abbrev pub TextIsSame : Type 0

@@ -1,9 +1,8 @@
 -- If `goblin_string` returns 0, it stored the result at the loop's index (`stored_item`, `result_at`), so there is one
 -- item more (`each-step`, `rest-step`). Else it stored none (`stored_none`), and the call stops there (`fills_before`).
 use Rattle.goblin_c.proofs.Common.{◌≡◌, length, map, take, slice_get, Some, Ok, refl, ap, subst, ◌∙◌, arith}
-use Rattle.goblin_c.proofs.Common.{string_expected, get_or, StopsAt}
+use Rattle.goblin_c.proofs.Common.{string_expected, get_or, StopsAt, set-get_or}
 use Rattle.std.proofs.Common.{slice_set}
-use Rattle.std.proofs.lemmas.List.{set-get_or}
 use Rattle.goblin_c.proofs.EachLemmas.{each-step, fills_all, fills_before, rest-step, result_at, stored_item}
 use Rattle.goblin_c.proofs.EachLemmas.{stored_none}
 use Rattle.goblin_c.proofs.strings.goblin_strings.Goals as goal
