@@ -3,7 +3,7 @@
 -- How near a symbol is makes one number (`rank_of`). A search keeps the first symbol with the highest such number
 -- (`IsSoFar`, `one_more`), and that one is what the law says (`found_comes_first`). The definition has what the law
 -- says, too (`at_is`), since no symbol before it passes its test.
-use Rattle.std.proofs.Common.{◌≡◌, ◌≤◌, ◌<◌, ◌+◌, ◌*◌, ◌&&◌, ◌||◌, not, ℕ, zero, suc, Bool, true, false, ltb, leb, eqb}
+use Rattle.std.proofs.Common.{◌≡◌, ◌≤◌, ◌<◌, ◌+◌, ◌*◌, ◌&&◌, ◌||◌, not, ℕ, zero, suc, Bool, true, false, ltb, leb}
 use Rattle.std.proofs.Common.{◌==◌, if◌then◌else◌, List, [], ◌∷◌, length, get_or, slice_get, Option, Some, None, inl}
 use Rattle.std.proofs.Common.{inr, refl, sym, ap, subst, ◌∙◌, arith, position}
 use Rattle.std.proofs.lemmas.Bool.{and_parts, and_from, cases_lt, lt-ltb, le-ltb, ltb-true, ltb-false, leb-true}
@@ -30,32 +30,19 @@ rank address false false value = 2 * value
 abbrev rank_of : ℕ → Sym → ℕ
 rank_of address s = rank address (reaches address s) (s.st_size == 0) s.st_value
 
--- how ranks compare
-near_rank : (address : ℕ) (x y p q : Bool) (a b : ℕ)
-    → a ≤ address → b ≤ address
-    → (if x then not y || ltb b a else not y && (ltb b a || (eqb b a && p && not q)))
-    ≡ ltb (rank address y q b) (rank address x p a)
-near_rank address true true p q a b ha hb = grind (arith, nat_tests)
-near_rank address true false p true a b ha hb = grind (arith, nat_tests)
-near_rank address true false p false a b ha hb = grind (arith, nat_tests)
-near_rank address false true true q a b ha hb = grind (arith, nat_tests)
-near_rank address false true false q a b ha hb = grind (arith, nat_tests)
-near_rank address false false true true a b ha hb = grind (arith, nat_tests)
-near_rank address false false true false a b ha hb = grind (arith, nat_tests)
-near_rank address false false false true a b ha hb = grind (arith, nat_tests)
-near_rank address false false false false a b ha hb = grind (arith, nat_tests)
-
 not_above : (address : ℕ) (s : Sym) → is_below address s ≡ true → s.st_value ≤ address
 not_above address s below =
     let parts = and_parts (has_place s) (leb s.st_value address) below in
     leb-true s.st_value address parts.1
 
+-- how ranks compare
 by_rank : (address : ℕ) (s other : Sym)
     → is_below address s ≡ true → is_below address other ≡ true
     → is_nearer address s other ≡ ltb (rank_of address other) (rank_of address s)
 by_rank address s other below other_below =
-    near_rank address (reaches address s) (reaches address other) (s.st_size == 0) (other.st_size == 0) s.st_value
-    other.st_value (not_above address s below) (not_above address other other_below)
+    let low = not_above address s below in
+    let other_low = not_above address other other_below in
+    grind (arith, nat_tests)
 
 -- ---- a search through the symbols, one after another
 -- this one, with its index, is what is found among the first i
@@ -152,56 +139,8 @@ found_up_to address symbols (suc i) all =
     ]
 
 -- ---- which is what the law says
--- a symbol that contains the address has a higher rank than those that don't
-inside_high : (address : ℕ) (y : Bool) (p q : Bool) (a b : ℕ)
-    → a ≤ address → rank address y q b ≤ rank address false p a → y ≡ false
-inside_high address true true q a b ha low = absurd (omega arith)
-inside_high address true false q a b ha low = absurd (omega arith)
-inside_high address false p q a b ha low = refl
-
--- of two that contain it the one of the higher rank is higher
-inside_le : (address : ℕ) (x y p q : Bool) (a b : ℕ)
-    → x ≡ true → y ≡ true → rank address y q b ≤ rank address x p a → b ≤ a
-inside_le address true true p q a b is other_is low = omega arith
-inside_le address false y p q a b is other_is low = absurd (cc)
-inside_le address true false p q a b is other_is low = absurd (cc)
-
-inside_lt : (address : ℕ) (x y p q : Bool) (a b : ℕ)
-    → x ≡ true → y ≡ true → rank address y q b < rank address x p a → b < a
-inside_lt address true true p q a b is other_is low = omega arith
-inside_lt address false y p q a b is other_is low = absurd (cc)
-inside_lt address true false p q a b is other_is low = absurd (cc)
-
--- and so for labels
-outside_le : (address : ℕ) (x y p q : Bool) (a b : ℕ)
-    → x ≡ false → y ≡ false → rank address y q b ≤ rank address x p a → b ≤ a
-outside_le address false false true true a b is other_is low = omega arith
-outside_le address false false true false a b is other_is low = omega arith
-outside_le address false false false true a b is other_is low = omega arith
-outside_le address false false false false a b is other_is low = omega arith
-outside_le address true y p q a b is other_is low = absurd (cc)
-outside_le address false true p q a b is other_is low = absurd (cc)
-
-outside_lt : (address : ℕ) (x y p q : Bool) (a b : ℕ)
-    → x ≡ false → y ≡ false → q ≡ true → rank address y q b < rank address x p a → b < a
-outside_lt address false false true true a b is other_is empty low = omega arith
-outside_lt address false false false true a b is other_is empty low = omega arith
-outside_lt address false false p false a b is other_is empty low = absurd (cc)
-outside_lt address true y p q a b is other_is empty low = absurd (cc)
-outside_lt address false true p q a b is other_is empty low = absurd (cc)
-
--- one of size 0 that isn't above one of another size is lower
-outside_below : (address : ℕ) (x y p q : Bool) (a b : ℕ)
-    → x ≡ false → y ≡ false → p ≡ false → q ≡ true → rank address y q b ≤ rank address x p a → b < a
-outside_below address false false false true a b is other_is some empty low = omega arith
-outside_below address false false true q a b is other_is some empty low = absurd (cc)
-outside_below address false false false false a b is other_is some empty low = absurd (cc)
-outside_below address true y p q a b is other_is some empty low = absurd (cc)
-outside_below address false true p q a b is other_is some empty low = absurd (cc)
-
 and_false : (x y : Bool) → (x ≡ true → y ≡ false) → (x && y) ≡ false
-and_false true y h = h refl
-and_false false y h = refl
+and_false x y h = grind (arith, nat_tests)
 
 module _ (address : ℕ) (symbols : List Sym) where
   module _ (found : ℕ × Sym) (so : IsSoFar address symbols (length symbols) found) where
@@ -223,9 +162,10 @@ module _ (address : ℕ) (symbols : List Sym) where
     none_contains : inside s ≡ false → NoneContains address symbols
     none_contains outside k other g =
         and_false (is_below address other) (inside other)
-        (λ b. inside_high address (inside other) (empty s) (empty other) s.st_value other.st_value
-        (not_above address s so.below)
-        (subst (λ (x : Bool). rank_of address other ≤ rank address x (empty s) s.st_value) outside (low k other g b)))
+        (λ b.
+        let l = low k other g b in
+        let m = not_above address s so.below in
+        grind (arith, nat_tests))
 
     outside_of : inside s ≡ false → (k : ℕ) (other : Sym)
         → slice_get symbols k ≡ Some other → is_below address other ≡ true → inside other ≡ false
@@ -240,15 +180,14 @@ module _ (address : ℕ) (symbols : List Sym) where
         inside = and_from _ _ so.below is;
         high = λ k other g c.
             let parts = and_parts (is_below address other) (inside other) c in
-            inside_le address (inside s) (inside other) (empty s) (empty other) s.st_value other.st_value is parts.1
-            (low k other g parts.0);
+            let l = low k other g parts.0 in
+            grind (arith, nat_tests, parts.1);
         early = λ k other g c same.
             elim (cases_lt k found.0) [
               | inl l ↦
                   let parts = and_parts (is_below address other) (inside other) c in
-                  let lower = inside_lt address (inside s) (inside other) (empty s) (empty other) s.st_value
-                  other.st_value is parts.1 (so.first k other l g parts.0) in
-                  absurd (omega (arith, lower, same))
+                  let lower = so.first k other l g parts.0 in
+                  grind (arith, nat_tests, parts.1)
               | inr l ↦ l
             ];
       }),
@@ -261,29 +200,25 @@ module _ (address : ℕ) (symbols : List Sym) where
         below = so.below;
         empty = eqb-true s.st_size 0 size;
         high = λ k other g b.
-            outside_le address (inside s) (inside other) (empty s) (empty other) s.st_value other.st_value is
-            (outside_of is k other g b) (low k other g b);
+            let outside = outside_of is k other g b in
+            let l = low k other g b in
+            grind (arith, nat_tests);
         early = λ k other g b same none.
             elim (cases_lt k found.0) [
               | inl l ↦
-                  let lower = outside_lt address (inside s) (inside other) (empty s) (empty other) s.st_value
-                  other.st_value is (outside_of is k other g b) (eq-eqb other.st_size 0 none)
-                  (so.first k other l g b) in
-                  absurd (omega (arith, lower, same))
+                  let outside = outside_of is k other g b in
+                  let lower = so.first k other l g b in
+                  grind (arith, nat_tests)
               | inr l ↦ l
             ];
       }),
     )
     final false false is size = record {
       none = none_contains is;
-      higher = λ k other g b none. (
-        found.0,
-        s,
-        so.there,
-        so.below,
-        outside_below address (inside s) (inside other) (empty s) (empty other) s.st_value other.st_value is
-            (outside_of is k other g b) size (eq-eqb other.st_size 0 none) (low k other g b),
-      );
+      higher = λ k other g b none.
+          let outside = outside_of is k other g b in
+          let l = low k other g b in
+          (found.0, s, so.there, so.below, grind (arith, nat_tests));
     }
 
   found_comes_first : (found : Option (ℕ × Sym))
@@ -323,14 +258,6 @@ no_position : (test : Sym → Bool) (symbols : List Sym)
 no_position test symbols none =
     rw (none_passes test symbols none, le-ltb (length symbols) (length symbols) (omega arith)) refl
 
-not_higher : (x : Bool) (a b : ℕ) → (x ≡ true → b ≤ a) → (x && ltb a b) ≡ false
-not_higher true a b low = le-ltb _ _ (low refl)
-not_higher false a b low = refl
-
-passed_over : (x any : Bool) → any ≡ true → (x && not any) ≡ false
-passed_over true any h = ap not h
-passed_over false any h = refl
-
 module _ (test : Sym → Bool) (symbols : List Sym) (s : Sym) where
   highest_is : test s ≡ true
       → ((k : ℕ) (other : Sym)
@@ -341,8 +268,8 @@ module _ (test : Sym → Bool) (symbols : List Sym) (s : Sym) where
       and_from _ _ passes (ap not (list_any_none higher symbols
       (All-from_get_or (λ x. higher x ≡ false) symbols s
       (λ k l. let other = get_or symbols k s in
-      not_higher (test other) s.st_value other.st_value
-      (λ t. high k other (slice_get-get_or symbols k s l) t)))))
+      let lower = high k other (slice_get-get_or symbols k s l) in
+      grind (arith, nat_tests)))))
 
   highest_is_not : (i : ℕ) (other : Sym)
       → slice_get symbols i ≡ Some other → test other ≡ true → s.st_value < other.st_value
@@ -351,15 +278,8 @@ module _ (test : Sym → Bool) (symbols : List Sym) (s : Sym) where
       let higher = λ (x : Sym). test x && ltb s.st_value x.st_value in
       let within = slice_get_within symbols i other got in
       let there = get_or_from_slice_get symbols i other s got in
-      passed_over (test s) (list_any higher symbols)
-      (list_any_at higher symbols i s within (ap higher there ∙ and_from _ _ passes (lt-ltb _ _ lower)))
-
-label_by : (below empty highest : Bool)
-    → (below ≡ true → empty ≡ true → (below && highest) ≡ false) → ((below && highest) && empty) ≡ false
-label_by true true highest lower = ap (λ b. b && true) (lower refl refl)
-label_by true false true lower = refl
-label_by true false false lower = refl
-label_by false empty highest lower = refl
+      let hit = list_any_at higher symbols i s within (ap higher there ∙ and_from _ _ passes (lt-ltb _ _ lower)) in
+      grind (arith, nat_tests)
 
 module _ (address : ℕ) (symbols : List Sym) where
   abbrev is_label : Sym → Bool
@@ -374,10 +294,7 @@ module _ (address : ℕ) (symbols : List Sym) where
   not_label : (s : Sym)
       → (is_below address s ≡ true → s.st_size ≡ 0 → is_highest (is_below address) symbols s ≡ false)
       → is_label s ≡ false
-  not_label s lower =
-      label_by (has_place s && leb s.st_value address) (s.st_size == 0)
-      (not (list_any (λ other. is_below address other && ltb s.st_value other.st_value) symbols))
-      (λ b e. lower b (eqb-true s.st_size 0 e))
+  not_label s lower = grind (arith, nat_tests)
 
   contains_first : (i : ℕ) (s : Sym)
       → slice_get symbols i ≡ Some s → ContainsFirst address symbols i s → symbol_at address symbols ≡ Some i
@@ -390,11 +307,8 @@ module _ (address : ℕ) (symbols : List Sym) where
       (not (list_any (λ x. contains address x && ltb other.st_value x.st_value) symbols))
       (λ c.
       let high = first.high k other g c in
-      let lower : other.st_value < s.st_value =
-      elim (cases_lt other.st_value s.st_value) [
-        | inl l ↦ l
-        | inr same ↦ let late = first.early k other g c (omega (arith, high, same)) in absurd (omega (arith, late, l))
-      ] in
+      let early = first.early k other g c in
+      let lower : other.st_value < s.st_value = grind (arith, nat_tests) in
       sym (ap (λ (b : Bool). b && not (list_any (λ x. contains address x && ltb other.st_value x.st_value) symbols)) c)
       ∙ highest_is_not (contains address) symbols other i s got first.inside lower)) in
       let at = first_passes (is_highest (contains address) symbols) symbols i s got
@@ -409,12 +323,8 @@ module _ (address : ℕ) (symbols : List Sym) where
       (λ k other l g.
       not_label other (λ b empty.
       let high = first.high k other g b in
-      let lower : other.st_value < s.st_value =
-      elim (cases_lt other.st_value s.st_value) [
-        | inl l ↦ l
-        | inr same ↦
-            let late = first.early k other g b (omega (arith, high, same)) empty in absurd (omega (arith, late, l))
-      ] in
+      let early = first.early k other g b in
+      let lower : other.st_value < s.st_value = grind (arith, nat_tests) in
       highest_is_not (is_below address) symbols other i s got first.below lower)) in
       let at = first_passes is_label symbols i s got
       (and_from _ _ (highest_is (is_below address) symbols s first.below first.high) (eq-eqb s.st_size 0 first.empty))

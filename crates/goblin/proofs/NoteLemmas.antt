@@ -93,8 +93,7 @@ note_items-some bytes size offset ctx before =
   where
     one_at_least : (answer : Result (NoteParts × ℕ) Refusal) (rest : ℕ → List (Result NoteParts Refusal))
         → 0 < length (item_and_rest answer rest)
-    one_at_least (Ok note) rest = omega arith
-    one_at_least (Err e) rest = omega arith
+    one_at_least answer rest = grind arith
 
 -- a range has at most as many items left as headers fit into it
 pub few_left : (it : NoteDataIterator) → length (items_left it) ≤ most_left it

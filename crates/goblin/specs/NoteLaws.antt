@@ -1,5 +1,5 @@
 -- Laws of notes and of the notes of a range.
-use Rattle.std.proofs.Common.{◌≡◌, ◌+◌, ◌-◌, ◌<◌, ◌≤◌, ℕ, zero, suc, Bool, true, false, nat_le, List, [], ◌∷◌, length}
+use Rattle.std.proofs.Common.{◌≡◌, ◌+◌, ◌-◌, ◌<◌, ◌≤◌, ℕ, zero, suc, Bool, false, nat_le, List, [], length}
 use Rattle.std.proofs.Common.{take, drop, Result, Ok, Err, IfOk, inl, inr, refl, sym, ap, subst, ◌∙◌, arith}
 use Rattle.std.proofs.lemmas.Bool.{cases_lt, le-leb, lt-leb, leb-false}
 use Rattle.std.proofs.lemmas.Bool.Decides.{nat_tests}
@@ -26,14 +26,12 @@ use Rattle.goblin.specs.Notes.{LieWithin, PlacesLieWithin, WholeIsNote, NoteByNo
 -- a property that holds after each value of the first step holds after both
 if_ok_then : {A B E : Type 0} (first : Result A E) (next : A → Result B E) (P : B → Type 0)
     → ((x : A) → first ≡ Ok x → IfOk (next x) P) → IfOk (first >>= next) P
-if_ok_then (Ok x) next P h = h x refl
-if_ok_then (Err e) next P h = tt
+if_ok_then first next P h = grind (arith, nat_tests)
 
 -- a property that follows from one that holds
 if_ok_more : {A E : Type 0} (answer : Result A E) (P Q : A → Type 0)
     → IfOk answer P → ((x : A) → P x → Q x) → IfOk answer Q
-if_ok_more (Ok x) P Q h more = more x h
-if_ok_more (Err e) P Q h more = tt
+if_ok_more answer P Q h more = grind (arith, nat_tests)
 
 -- an alignment is at least 4 and at most 8
 align_range : (alignment align : ℕ) → note_align alignment ≡ Ok align → (4 ≤ align) × (align ≤ 8)
@@ -42,8 +40,7 @@ align_range alignment align is = grind (arith, nat_tests)
 -- bytes that were read were there
 had_room : (room : Result (Unit {0}) Misplaced) (part other : List ℕ)
     → (refuse_as misplaced room >>= λ _. Ok other) ≡ Ok part → room ≡ Ok tt
-had_room (Ok u) part other is = refl
-had_room (Err e) part other is = absurd (cc)
+had_room room part other is = grind (arith, nat_tests)
 
 -- bytes that are read are inside the bytes
 bytes_at-fits : (bytes : List ℕ) (place size : ℕ) (part : List ℕ)
@@ -91,9 +88,7 @@ read_places-fits alignment order bytes =
 -- what was read of a note
 read_last : (text desc : Result (List ℕ) Refusal) (p places : NotePlaces)
     → (text >>= λ _. desc >>= λ _. Ok p) ≡ Ok places → (places ≡ p) × ((part : List ℕ) × (desc ≡ Ok part))
-read_last (Ok t) (Ok part) p places is = (cc, (part, refl))
-read_last (Ok t) (Err e) p places is = absurd (cc)
-read_last (Err e) desc p places is = absurd (cc)
+read_last text desc p places is = grind (arith, nat_tests)
 
 read_steps : (align : Result ℕ Refusal) (room : Result (Unit {0}) Misplaced) (header : Nhdr32) (bytes : List ℕ)
     (places : NotePlaces)
@@ -169,8 +164,7 @@ at_ok answer x P is h = rw is at h
 -- a property that holds if a test passes holds after the test
 after_test : (test : Bool) (refusal : Refusal) (answer : Result NotePlaces Refusal) (P : NotePlaces → Type 0)
     → (test ≡ false → IfOk answer P) → IfOk (refuse_if test refusal >>= λ _. answer) P
-after_test true refusal answer P h = tt
-after_test false refusal answer P h = h refl
+after_test test refusal answer P h = grind (arith, nat_tests)
 
 -- the places of a note lie within the bytes that it is read from
 pub places_lie_within : PlacesLieWithin
@@ -201,15 +195,13 @@ notes_advance bytes offset ctx =
 -- nothing is left from the end of a range on
 items_past : (k : ℕ) (bytes : List ℕ) (size offset : ℕ) (ctx : ℕ × Ctx)
     → size ≤ offset → items_within k bytes size offset ctx ≡ []
-items_past zero bytes size offset ctx past = refl
-items_past (suc k) bytes size offset ctx past = rw (le-leb size offset past) refl
+items_past k bytes size offset ctx past = grind (arith, nat_tests, le-leb)
 
 -- the items from an offset on are the same if the items after each note are
 same_items : (answer : Result (NoteParts × ℕ) Refusal) (f g : ℕ → List (Result NoteParts Refusal))
     → ((note : NoteParts × ℕ) → answer ≡ Ok note → f note.1 ≡ g note.1)
     → item_and_rest answer f ≡ item_and_rest answer g
-same_items (Ok note) f g h = ap (λ (rest : List (Result NoteParts Refusal)). Ok note.0 ∷ rest) (h note refl)
-same_items (Err e) f g h = refl
+same_items answer f g h = grind (arith, nat_tests)
 
 -- the number of bytes that may be read makes no difference if it is large enough
 items_enough : (k j : ℕ) (bytes : List ℕ) (size offset : ℕ) (ctx : ℕ × Ctx)
@@ -243,8 +235,7 @@ note_by_note bytes size offset ctx =
 few_items : (answer : Result (NoteParts × ℕ) Refusal) (rest : ℕ → List (Result NoteParts Refusal)) (most : ℕ)
     → 0 < most → ((note : NoteParts × ℕ) → answer ≡ Ok note → length (rest note.1) < most)
     → length (item_and_rest answer rest) ≤ most
-few_items (Ok note) rest most some h = let fewer = h note refl in omega arith
-few_items (Err e) rest most some h = omega arith
+few_items answer rest most some h = grind (arith, nat_tests)
 
 few_within : (k : ℕ) (bytes : List ℕ) (size offset : ℕ) (ctx : ℕ × Ctx)
     → length (items_within k bytes size offset ctx) ≤ div_ceil (size - offset) nhdr32_size

@@ -1,5 +1,5 @@
 -- Laws of symbol tables.
-use Rattle.std.proofs.Common.{◌≡◌, ◌<◌, ◌≤◌, ◌*◌, ◌-◌, ◌/◌, ◌^◌, min, ℕ, Bool, true, false, nat_le, nat_lt}
+use Rattle.std.proofs.Common.{◌≡◌, ◌<◌, ◌≤◌, ◌*◌, ◌-◌, ◌/◌, ◌^◌, min, ℕ, Bool, false, nat_le, nat_lt}
 use Rattle.std.proofs.Common.{if◌then◌else◌, List, length, take, drop, Result, Ok, Err, refl, ap, arith}
 use Rattle.std.proofs.Math.Nat.{le-div_iff_mul-le, min-eq_left}
 use Rattle.std.proofs.lemmas.Bool.Decides.{nat_tests}
@@ -26,8 +26,7 @@ permissive_keeps_strict bytes offset count ctx table is = grind (arith, nat_test
 -- results after a test are the same, if they are when the test passes
 after_test : (test : Bool) (e : Error) (a b : Result Symbols Error)
     → (test ≡ false → a ≡ b) → (if test then Err e else a) ≡ (if test then Err e else b)
-after_test true e a b h = refl
-after_test false e a b h = h refl
+after_test test e a b h = grind (arith, nat_tests)
 
 -- symbols from an offset on depend only on their range
 symbols-agree : (bytes others : List ℕ) (offset count : ℕ) (ctx : Ctx)

@@ -21,10 +21,7 @@ lane d b = bit_or (cond (eqb b d) 255 0) (cond (leb 128 b) 255 0)
 
 -- its top bit is set if either test holds
 either : (x y : Bool) → top 7 (bit_or (cond x 255 0) (cond y 255 0)) ≡ (x || y)
-either true true = refl
-either true false = refl
-either false true = refl
-either false false = refl
+either x y = grind arith
 
 -- the mask of the lanes' top bits is that of the bytes that end the run
 mask_is : (d : ℕ) (v z : List ℕ)

@@ -4,8 +4,7 @@ use Rattle.goblin_base.proofs.Common.{arith, digits_within}
 use Rattle.goblin_base.specs.Search.{digits}
 
 within_zero : (n : ℕ) → digits_within n 0 ≡ 0
-within_zero zero = refl
-within_zero (suc n) = refl
+within_zero n = grind arith
 
 -- a larger bound on the steps changes nothing
 within_more : (n m k : ℕ) → k ≤ n → k ≤ m → digits_within n k ≡ digits_within m k

@@ -134,8 +134,7 @@ all_fit len offset size count some before h =
 -- the first error is the result
 refused_first : (room : Result (Unit {0}) Misplaced) (rest : Result (Unit {0}) Misplaced)
     → (room ≡ Ok tt → ⊥) → (room >>= (λ _. rest)) ≡ room
-refused_first (Ok u) rest fails = absurd (fails refl)
-refused_first (Err e) rest fails = refl
+refused_first room rest fails = grind (arith, nat_tests)
 
 -- otherwise the first record that doesn't is the one after those that do
 pub first_without : (len offset size count : ℕ)

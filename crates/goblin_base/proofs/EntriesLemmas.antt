@@ -3,14 +3,11 @@
 -- A stored place stands for the bytes from it up to one before the next place. A place is added where the last entry
 -- closed, so the entries before it stay the same (`between_push`), and in the walk it is the next entry of the
 -- definition (`walked_text`, `walked_empty`).
-use Rattle.std.proofs.Common.{◌≡◌, ℕ, zero, suc, ◌+◌, ◌-◌, ◌<◌, ◌≤◌, true, false, take, drop, List, [], ◌∷◌, ◌++◌}
-use Rattle.std.proofs.Common.{length, get_or, refl, sym, ap, subst, ◌∙◌, arith}
-use Rattle.std.specs.List.{slice_range}
-use Rattle.std.specs.Str.{is_utf8}
-use Rattle.goblin_base.specs.Entries.{places_of, text_of, next_of, entries_between, IsText, AreTexts}
-use Rattle.goblin_base.specs.Search.{IsRising}
-use Rattle.std.proofs.lemmas.Str.{is_utf8-from_IsUtf8, IsUtf8-nil}
-use Rattle.goblin_base.specs.Pieces.{piece_end, is_readable, entries_from}
+use Rattle.goblin_base.proofs.Common.{◌≡◌, ℕ, zero, suc, ◌+◌, ◌-◌, ◌<◌, ◌≤◌, true, false, take, drop, List, [], ◌∷◌}
+use Rattle.goblin_base.proofs.Common.{◌++◌, length, get_or, refl, sym, ap, subst, ◌∙◌, arith, slice_range, is_utf8}
+use Rattle.goblin_base.proofs.Common.{places_of, text_of, IsRising, is_utf8-from_IsUtf8, IsUtf8-nil, piece_end}
+use Rattle.goblin_base.proofs.Common.{is_readable, entries_from}
+use Rattle.goblin_base.specs.Entries.{next_of, entries_between, IsText, AreTexts}
 use Rattle.goblin_base.proofs.WalkLemmas.{entries_more_bad}
 use Rattle.goblin_base.proofs.WalkProgressLemmas.{found_more, text_from_readable, entry_of_text}
 use Rattle.goblin_base.specs.Scan.{IsWalkedTo}
@@ -72,8 +69,7 @@ module _ (bytes : List ℕ) where
   places_rise (p ∷ ps) c a (suc i) (suc j) l h = places_rise ps c a.1 i j (omega arith) (omega arith)
 
   next_of-push : (ps : List ℕ) (q c : ℕ) → next_of (ps ++ q ∷ []) c ≡ next_of ps q
-  next_of-push [] q c = refl
-  next_of-push (p ∷ ps) q c = refl
+  next_of-push ps q c = grind arith
 
   -- one more entry begins where the last one closed
   pub between_push : (ps : List ℕ) (q c : ℕ)

@@ -1,5 +1,5 @@
 -- The digits of a number in some base.
-use Rattle.goblin_base.proofs.Common.{◌≡◌, ℕ, zero, suc, ◌/◌, ◌%◌, ◌^◌, ◌<◌, ◌≤◌, Bool, true, false, if◌then◌else◌}
+use Rattle.goblin_base.proofs.Common.{◌≡◌, ℕ, zero, suc, ◌/◌, ◌%◌, ◌^◌, ◌<◌, ◌≤◌, Bool, false, if◌then◌else◌}
 use Rattle.goblin_base.proofs.Common.{List, [], ◌∷◌, ap, arith, eqb, subst, div-eq_of_lt, mod-lt, pow-suc, eq-eqb}
 use Rattle.goblin_base.proofs.Common.{nat_tests, div_below, le-div, digit_glyph, digits, digits_onto, IsAscii}
 use Rattle.std.proofs.lemmas.Str.Ascii.{IsAscii-cons, IsAscii-nil}
@@ -43,8 +43,7 @@ digits_are_ascii base (suc k) n acc some most h =
         → IsAscii (digits_onto k base false (n / base) (digit_glyph false (n % base) ∷ acc))
         → IsAscii (if b then digit_glyph false (n % base) ∷ acc
         else digits_onto k base false (n / base) (digit_glyph false (n % base) ∷ acc))
-    by_test true more = first_digit
-    by_test false more = more
+    by_test b more = grind (arith, first_digit)
 
 pub digits-ascii : (base n : ℕ) → 0 < base → base ≤ 16 → IsAscii (digits base false n)
 unfolding digits

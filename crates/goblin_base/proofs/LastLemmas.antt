@@ -16,12 +16,10 @@ use Rattle.goblin_base.proofs.PiecesLemmas.{start_after_delim, start_more}
 
 -- ---- the digits of a mask
 not_set : (b : Bool) → cond b 1 zero ≡ zero → b ≡ false
-not_set true e = absurd (omega arith)
-not_set false e = refl
+not_set b e = grind arith
 
 is_set : (b : Bool) → cond b 1 zero ≡ suc zero → b ≡ true
-is_set true e = refl
-is_set false e = absurd (omega arith)
+is_set b e = grind arith
 
 -- a mask of r binary digits: no bit is set from r on, and the one before is
 module _ (ms : List Bool) (r : ℕ) (below : mask_l ms < 2 ^ r) (above : 2 ^ r ≤ 2 * mask_l ms + 1) where

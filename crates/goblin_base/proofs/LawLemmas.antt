@@ -83,9 +83,7 @@ strict_range file o n d t h =
 uncut : (b c : Bool) (f g : Fault) (x y z r : List ℕ)
     → ◌≡◌ {A = Result (List ℕ) Fault} (cond b (Err f) (cond c (Err g) (Ok z))) (Ok r)
     → ◌≡◌ {A = Result (List ℕ) Fault} (cond b (Ok x) (cond c (Ok y) (Ok z))) (Ok r)
-uncut true c f g x y z r h = cc
-uncut false true f g x y z r h = cc
-uncut false false f g x y z r h = h
+uncut b c f g x y z r h = grind arith
 
 range_alike : (file : List ℕ) (o n : ℕ) (r : List ℕ)
     → range_in Strict file o n ≡ Ok r → range_in Permissive file o n ≡ Ok r
@@ -102,9 +100,7 @@ strict_is_permissive file o n d t h =
 
 some_range : (b c : Bool) (x y z : List ℕ)
     → (r : List ℕ) × (◌≡◌ {A = Result (List ℕ) Fault} (cond b (Ok x) (cond c (Ok y) (Ok z))) (Ok r))
-some_range true c x y z = (x, refl)
-some_range false true x y z = (y, refl)
-some_range false false x y z = (z, refl)
+some_range b c x y z = (cond b x (cond c y z), grind arith)
 
 permissive_range : (file : List ℕ) (o n : ℕ) → (r : List ℕ) × (range_in Permissive file o n ≡ Ok r)
 unfolding range_in
@@ -127,8 +123,7 @@ readable_if_plain bytes d o text h = by_test (is_utf8 (piece bytes d o)) refl h
         → ◌≡◌ {A = Result (List ℕ) Refusal} (cond b (Ok (piece bytes d o)) (Err (invalid_utf8 (length bytes - o))))
         (Ok text)
         → (is_utf8 (piece bytes d o) ≡ true) × (piece bytes d o ≡ text)
-    by_test true e h = (e, cc)
-    by_test false e h = cc
+    by_test b e h = grind arith
 
 pub look_up_has_plain : LookUpHasPlain
 look_up_has_plain t o text parsed l h =

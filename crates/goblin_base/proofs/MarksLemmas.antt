@@ -15,8 +15,7 @@ use Rattle.goblin_base.specs.declared.marks.Marks.{Marks}
 use Rattle.goblin_base.proofs.PiecesLemmas.{at_end, end_from, end_same}
 
 half_of : (m : Bool) (ms : List Bool) → mask_l (m ∷ ms) / 2 ^ 1 ≡ mask_l ms
-half_of true ms = omega arith
-half_of false ms = omega arith
+half_of m ms = grind arith
 
 -- a mask shifted down is that of the lanes above
 pub mask_down : (s : ℕ) (ms : List Bool) → mask_l ms / 2 ^ s ≡ mask_l (drop s ms)

@@ -1,5 +1,5 @@
 -- An attempt to read a piece as UTF-8: what is known at each byte.
-use Rattle.goblin_base.proofs.Common.{◌≡◌, ℕ, zero, suc, ◌+◌, ◌<◌, ◌≤◌, true, false, eqb, List, [], ◌∷◌, length, get_or}
+use Rattle.goblin_base.proofs.Common.{◌≡◌, ℕ, ◌+◌, ◌<◌, ◌≤◌, true, false, eqb, List, [], ◌∷◌, length, get_or}
 use Rattle.goblin_base.proofs.Common.{max, refl, sym, ap, ◌∙◌, subst, ⊎_elim, arith, Some, None, ne_eqb, cases_lt}
 use Rattle.goblin_base.proofs.Common.{cases_eq, both_ways, false_from_ne_true, cond-true, cond-false}
 use Rattle.goblin_base.proofs.Common.{IsUtf8-from_is_utf8, is_utf8-from_IsUtf8, Awaited, awaits_first, after_byte}
@@ -136,8 +136,7 @@ module _ {bytes : List ℕ} {d o p : ℕ} {s : Awaited} where
       (cases_eq s.more 0)
     where
       none_missing : (n lo hi : ℕ) → Completes n lo hi [] → n ≡ 0
-      none_missing zero lo hi v = refl
-      none_missing (suc n) lo hi v = absurd v
+      none_missing n lo hi v = grind arith
 
       missing : (s.more ≡ 0 → ⊥) → CompletesFrom s [] → ⊥
       missing e v = e (none_missing s.more s.least s.most v)

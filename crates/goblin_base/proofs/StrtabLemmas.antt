@@ -17,16 +17,13 @@ use Rattle.goblin_base.proofs.WalkLemmas.{entries_past}
 
 pub look_up_past : (t : StringTable) (o : ℕ) → length t.bytes ≤ o → look_up t o ≡ None
 look_up_past t o h =
-    elim t.is_parsed as (λ b. cond b (text_at t.bytes t.delim o) None ≡ None) [
-      | true ↦ text_at_past t.bytes t.delim o h
-      | false ↦ refl
-    ]
+    let none = text_at_past t.bytes t.delim o h in
+    grind arith
 
 -- a walk returns all entries
 ok_only : (b : Bool) (e : Refusal) (es fs : List (ℕ × List ℕ))
     → ◌≡◌ {A = Result (List (ℕ × List ℕ)) Refusal} (cond b (Err e) (Ok es)) (Ok fs) → fs ≡ es
-ok_only true e es fs h = cc
-ok_only false e es fs h = cc
+ok_only b e es fs h = grind arith
 
 pub walked_entries : (mode : ParseMode) (bytes : List ℕ) (d : ℕ) (es : List (ℕ × List ℕ))
     → walked mode bytes d ≡ Ok es → es ≡ entries bytes d

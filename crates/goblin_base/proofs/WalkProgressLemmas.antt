@@ -5,7 +5,7 @@
 -- piece at i that isn't text is the first bad one, where strict mode fails (`walked_fault`).
 use Rattle.goblin_base.proofs.Common.{◌≡◌, ℕ, ◌+◌, ◌-◌, ◌<◌, ◌≤◌, ⊎_elim, true, false, cond, ltb, List, [], ◌∷◌, ◌++◌}
 use Rattle.goblin_base.proofs.Common.{length, refl, sym, ap, ◌∙◌, arith, Ok, Err, append_assoc, append-nil, cases_lt}
-use Rattle.goblin_base.proofs.Common.{both_ways, cond-true, cond-false, lt-ltb, le-ltb, false≢true, is_utf8-from_IsUtf8}
+use Rattle.goblin_base.proofs.Common.{both_ways, cond-true, cond-false, lt-ltb, le-ltb, is_utf8-from_IsUtf8}
 use Rattle.goblin_base.proofs.Common.{slice_range, IsUtf8, is_utf8, piece_end, piece_start, is_readable, entries_from}
 use Rattle.goblin_base.proofs.Common.{entries, is_bad_start, first_bad, walked, invalid_utf8, ParseMode, Strict}
 use Rattle.goblin_base.proofs.Common.{Permissive}
@@ -119,5 +119,4 @@ module _ (bytes : List ℕ) (d : ℕ) where
       cond-false _ _ _ (le-ltb (first_bad bytes d) (length bytes) (omega arith))
 
 pub strict_if_not_permissive : (mode : ParseMode) → (mode ≡ Permissive → IsTrue false) → mode ≡ Strict
-strict_if_not_permissive Strict h = refl
-strict_if_not_permissive Permissive h = absurd (false≢true (h refl))
+strict_if_not_permissive mode h = grind arith

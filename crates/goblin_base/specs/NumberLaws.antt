@@ -80,8 +80,7 @@ IsBytes-low_bytes (suc n) x (suc i) = IsBytes-low_bytes n (x / 256) i
 -- the bytes of a number are bytes
 pub IsBytes-spelled : (order : Endian) (n x : ℕ) → IsBytes (spelled order n x)
 unfolding spelled
-IsBytes-spelled Little n x = IsBytes-low_bytes n x
-IsBytes-spelled Big n x = IsBytes-reverse (low_bytes n x) (IsBytes-low_bytes n x)
+IsBytes-spelled order n x = grind (arith, IsBytes-low_bytes, IsBytes-reverse)
 
 -- bytes before bytes are bytes
 pub IsBytes-append : (front back : List ℕ) → IsBytes front → IsBytes back → IsBytes (front ++ back)
@@ -92,8 +91,7 @@ IsBytes-append (x ∷ front) back f b (suc i) = IsBytes-append front back (λ j.
 -- the bytes of a number are as many as the width
 pub length-spelled : (order : Endian) (n x : ℕ) → length (spelled order n x) ≡ n
 unfolding spelled
-length-spelled Little n x = length-low_bytes n x
-length-spelled Big n x = length-reverse (low_bytes n x) ∙ length-low_bytes n x
+length-spelled order n x = grind (arith, length-low_bytes, length-reverse {A = ℕ})
 
 -- the number of n bytes is below 256 ^ n
 pub number-lt : (order : Endian) (bytes : List ℕ) → IsBytes bytes → number order bytes < 256 ^ length bytes
@@ -131,14 +129,12 @@ low_bytes-mod (suc n) x =
 -- so do its bytes
 pub spelled-mod : (order : Endian) (n x : ℕ) → spelled order n (x % 256 ^ n) ≡ spelled order n x
 unfolding spelled
-spelled-mod Little n x = low_bytes-mod n x
-spelled-mod Big n x = ap reverse (low_bytes-mod n x)
+spelled-mod order n x = grind (arith, low_bytes-mod)
 
 -- the number of one byte is the byte
 pub number-one : (order : Endian) (b : ℕ) → number order (b ∷ []) ≡ b
 unfolding number
-number-one Little b = omega arith
-number-one Big b = omega arith
+number-one order b = grind arith
 
 -- a byte is written as itself
 pub spelled-one : (order : Endian) (b : ℕ) → b < 256 → spelled order 1 b ≡ b ∷ []

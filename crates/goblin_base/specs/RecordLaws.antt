@@ -33,14 +33,12 @@ read_within-err size s read bytes e same is = rw (← same, ← is) refl
 -- if a value was read, the test of room passed, and it is that value
 pub unless_fault-is : {X : Type 0} (room : Result (Unit {0}) Misplaced) (x y : X)
     → Ok x ≡ unless_fault room y → (room ≡ Ok tt) × (x ≡ y)
-unless_fault-is (Ok _) x y e = (refl, cc)
-unless_fault-is (Err d) x y e = absurd (cc)
+unless_fault-is room x y e = grind (arith, nat_tests)
 
 -- if an error was returned, it is that of room
 pub unless_fault-err : {X : Type 0} (room : Result (Unit {0}) Misplaced) (e : Error) (y : X)
     → Err e ≡ unless_fault room y → (d : Misplaced) × (room ≡ Err d) × (e ≡ Scroll d)
-unless_fault-err (Ok _) e y is = absurd (cc)
-unless_fault-err (Err d) e y is = (d, refl, cc)
+unless_fault-err room e y is = grind (arith, nat_tests)
 
 -- if the test of room passes, the image is written to the start
 pub Writes-ok : (size s : ℕ) (image old new : List ℕ) (u : Unit {0})

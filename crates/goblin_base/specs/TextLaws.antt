@@ -116,9 +116,7 @@ text_is_taken mode file offset size d range ascii is u =
 text_or_nothing : (readable entry : Bool) (piece : List ℕ) (e : Refusal)
     → unwrap_or (if readable then Some piece else (if entry then Some [] else None)) []
     ≡ unwrap_or (result_ok (if readable then Ok piece else Err e)) []
-text_or_nothing true entry piece e = refl
-text_or_nothing false true piece e = refl
-text_or_nothing false false piece e = refl
+text_or_nothing readable entry piece e = grind arith
 
 name-plain : (bytes : List ℕ) (d o : ℕ)
     → o < length bytes → unwrap_or (text_at bytes d o) [] ≡ unwrap_or (result_ok (plain bytes d o)) []

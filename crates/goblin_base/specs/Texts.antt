@@ -194,12 +194,7 @@ joined e (p ∷ q ∷ rest) = part_text e p & joined e (q ∷ rest)
 -- a part isn't a text of more than 100 bytes
 abbrev pub is_short : Part → Bool
 is_short (part.Text text) = nat_le (length text.now) 100
-is_short part.First = true
-is_short part.Second = true
-is_short part.Third = true
-is_short part.Hexadecimal = true
-is_short part.Item = true
-is_short part.Overflow = true
+is_short _ = true
 
 -- there are at most 16 parts, and none is such a text
 abbrev pub each_short : List Part → Bool

@@ -71,8 +71,7 @@ whole_is_listed size read bytes start (suc count) name some whole =
 
 -- a result that is no refusal has a value
 value_of : {A E : Type 0} (answer : Result A E) → IsOk answer → (x : A) × (answer ≡ Ok x)
-value_of (Ok x) fine = (x, refl)
-value_of (Err e) fine = absurd (cc)
+value_of answer fine = grind (arith, nat_tests)
 
 is_ok : {A E : Type 0} (answer : Result A E) (x : A) → answer ≡ Ok x → IsOk answer
 is_ok answer x is = rw is refl

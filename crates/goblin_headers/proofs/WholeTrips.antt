@@ -5,7 +5,7 @@
 -- the class byte are read as they were written (`reads_back`). A header that was read names the class and the byte
 -- order of its bytes (`was_read`), so it is written as it was read (`writes_back`).
 use Rattle.goblin_headers.proofs.Common.{◌≡◌, ◌≤◌, ℕ, true, nat_eq, List, [], ◌++◌, length, take, drop, slice_index}
-use Rattle.goblin_headers.proofs.Common.{Some, Result, Ok, refl, sym, ap, ◌∙◌, arith, rules, false, nat_lt, not, Err}
+use Rattle.goblin_headers.proofs.Common.{Some, Result, Ok, refl, sym, ap, ◌∙◌, arith, false, nat_lt, not, Err}
 use Rattle.goblin_headers.proofs.Common.{Container, Endian, Error, with_size, Layout, number_at, refuse_if, Header}
 use Rattle.goblin_headers.proofs.Common.{header_layout, order_named, class_of, WritesHeader, WritesInOrder, nat_tests}
 use Rattle.std.specs.List.{starts_with}
@@ -204,17 +204,14 @@ writes_back h bytes new size answer are read so =
 
 -- a new header names its class and its byte order, and fits its class
 class_is_named : (class : Container) → class_named (class_byte class) ≡ Some class
-class_is_named class.Little = refl
-class_is_named class.Big = refl
+class_is_named class = grind (arith, nat_tests)
 
 order_is_named : (order : Endian) → order_named (data_byte order) ≡ Some order
-order_is_named endian.Little = refl
-order_is_named endian.Big = refl
+order_is_named order = grind (arith, nat_tests)
 
 new_fits : (class : Container) (order : Endian)
     → (header_layout class order).Fits (new_header (record { container = class; le = order }))
-new_fits class.Little order = search (rules, arith)
-new_fits class.Big order = search (rules, arith)
+new_fits class order = grind (arith, nat_tests)
 
 pub new_is_of_context : NewIsOfContext
 new_is_of_context ctx = (

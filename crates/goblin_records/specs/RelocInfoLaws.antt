@@ -1,6 +1,6 @@
 -- Laws of the parts of an `r_info`: they can be joined again, and the decoding of MIPS64 can be undone.
 use Rattle.std.proofs.Common.{◌≡◌, ◌<◌, ◌*◌, ◌^◌, ℕ, List, refl, ◌∙◌, arith, ◌+◌, ◌/◌, ◌%◌, reverse, sym, ap}
-use Rattle.goblin_records.specs.Common.{Container, number, spelled, Little, Big}
+use Rattle.goblin_records.specs.Common.{Container, number, spelled}
 use Rattle.std.proofs.lemmas.List.{reverse-reverse}
 use Rattle.goblin_base.specs.declared.container.Endian.TheVariants as order
 use Rattle.goblin_base.specs.NumberLaws.{IsBytes-spelled, number-lt, number-spelled, length-spelled, spelled-number}
@@ -12,13 +12,11 @@ use Rattle.goblin_records.specs.RelocInfo.{words_of, joined, mips64el_info, mips
 pub info_of-parts : (class : Container) (symbol typ : ℕ) → let info = info_of class symbol typ in
     (info < symbols class * types class) × (symbol_in class info ≡ symbol % symbols class)
     × (type_in class info ≡ typ % types class)
-info_of-parts Little symbol typ = (omega arith, omega arith, omega arith)
-info_of-parts Big symbol typ = (omega arith, omega arith, omega arith)
+info_of-parts class symbol typ = grind arith
 
 -- and it is the one of its parts
 pub joins_its_parts : (class : Container) → JoinsItsParts class
-joins_its_parts Little info h = omega arith
-joins_its_parts Big info h = omega arith
+joins_its_parts class info h = grind arith
 
 -- the four big-endian bytes of a number are its little-endian ones reversed
 spelled-big : (word : ℕ) → spelled order.Big 4 word ≡ reverse (spelled order.Little 4 word)

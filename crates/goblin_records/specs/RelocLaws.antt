@@ -2,7 +2,7 @@
 -- and relocations that were read are written back.
 use Rattle.std.specs.Prelude.{ℤ, pos, unwrap_or, IsSomeAnd}
 use Rattle.std.proofs.Common.{refl, lit<, ◌≡◌, ◌<◌, ◌*◌, ◌^◌, ℕ, ◌∙◌, arith, Bool, true, false, Option, Some}
-use Rattle.std.proofs.Common.{None, subst, sym}
+use Rattle.std.proofs.Common.{subst, sym}
 use Rattle.goblin_records.specs.Common.{Container, Endian, IsRecord, shaped, number_at, Little, Big}
 use Rattle.goblin_records.specs.Common.{FitsSigned, Reloc, RelocCtx}
 use Rattle.std.proofs.Math.Nat.{mod-eq_of_lt}
@@ -68,8 +68,7 @@ fits_parts is_rela class r fits =
 some_fits : (width : ℕ) (addend : Option ℤ)
     → IsSomeAnd addend (FitsSigned width)
     → FitsSigned width (unwrap_or addend (pos 0)) × (Some (unwrap_or addend (pos 0)) ≡ addend)
-some_fits width None h = absurd h
-some_fits width (Some z) h = (h, refl)
+some_fits width addend h = grind arith
 
 -- a relocation whose offset, `r_info` and addend are in range fits
 split_fits : (is_rela : Bool) (class : Container) {offset info : ℕ} {addend : Option ℤ}

@@ -46,10 +46,8 @@ after_continuation_is bytes p = tested (leb 128 (get_or bytes p 0)) (ltb (get_or
 
 after_continuation_bounds : (bytes : List ℕ) (p : ℕ)
     → (p ≤ after_continuation bytes p) × (after_continuation bytes p ≤ p + 1)
-after_continuation_bounds bytes p = elim (after_continuation_is bytes p) [
-  | over e on ↦ (omega (arith, e), omega (arith, e))
-  | stays e off ↦ (omega (arith, e), omega (arith, e))
-]
+unfolding after_continuation
+after_continuation_bounds bytes p = grind (arith, nat_tests)
 
 -- what is passed over goes on with a character
 passed : (bytes : List ℕ) (p q : ℕ) → p ≤ q → q < after_continuation bytes p → IsContinuation (get_or bytes q 0)
@@ -155,8 +153,7 @@ cut_of_chars (c ∷ cs) i s l =
     (cases_lt i 1)
   where
     rest_of : (b : Bool) → (b && scalars cs) ≡ true → scalars cs ≡ true
-    rest_of true e = e
-    rest_of false e = cc
+    rest_of b e = grind (arith, nat_tests)
 
 cut_near : (text : List ℕ) (i : ℕ) → IsUtf8 text → i ≤ length text → Cut text i
 cut_near text i u l = subst (λ x. Cut x i) u.1.1 (cut_of_chars u.0 i u.1.0 (omega (arith, ap length u.1.1)))

@@ -1,5 +1,5 @@
 -- The names that look-ups find.
-use Rattle.goblin_text.proofs.Common.{◌≡◌, ◌∙◌, ℕ, ◌+◌, ◌-◌, ◌<◌, ◌≤◌, if◌then◌else◌, Bool, true, false, List, []}
+use Rattle.goblin_text.proofs.Common.{◌≡◌, ◌∙◌, ℕ, ◌+◌, ◌-◌, ◌<◌, ◌≤◌, if◌then◌else◌, Bool, false, List, []}
 use Rattle.goblin_text.proofs.Common.{length, drop, refl, sym, ap, arith, slice_range, get_or, lit<, Ok, Err}
 use Rattle.goblin_text.proofs.Common.{false_from_ne_true, IsUtf8-from_is_utf8, is_utf8-from_IsUtf8, IsUtf8, is_utf8}
 use Rattle.goblin_text.proofs.Common.{invalid_utf8, text_table, LacksText, after_continuation, up_to_zero, name_at}
@@ -28,8 +28,7 @@ name_here bytes o l = sym (names_are_plain (text_table bytes) o refl l ∙ by (i
     by : (b : Bool)
         → unwrap_or (result_ok (if b then Ok (up_to_zero (drop o bytes)) else Err (invalid_utf8 (length bytes - o)))) []
         ≡ (if b then up_to_zero (drop o bytes) else [])
-    by true = refl
-    by false = refl
+    by b = grind arith
 
 -- a name in a range of a file
 pub name_in_range : (bytes : List ℕ) (i j o : ℕ)

@@ -1,8 +1,8 @@
 -- The looks that names in a text take: those of its lines, and what is left of them.
-use Rattle.goblin_text.proofs.Common.{◌≡◌, ◌∙◌, ℕ, ◌+◌, ◌*◌, ◌≤◌, eqb, cond, true, false, List, [], ◌∷◌, ◌++◌, ap}
-use Rattle.goblin_text.proofs.Common.{arith, length, length-append, subst, sym, length-map, CountsAtLeast, StringTable}
-use Rattle.goblin_text.proofs.Common.{vec_items, Header, SectionHeader, parts_text, relocs_text, symbols_text}
-use Rattle.goblin_text.proofs.Common.{strings_in, name_at, section_lines, printable, printed}
+use Rattle.goblin_text.proofs.Common.{◌≡◌, ◌∙◌, ℕ, ◌+◌, ◌*◌, ◌≤◌, List, [], ◌∷◌, ◌++◌, ap}
+use Rattle.goblin_text.proofs.Common.{arith, nat_tests, length, length-append, subst, sym, length-map, CountsAtLeast}
+use Rattle.goblin_text.proofs.Common.{StringTable, vec_items, Header, SectionHeader, parts_text, relocs_text}
+use Rattle.goblin_text.proofs.Common.{symbols_text, strings_in, name_at, section_lines, printable, printed}
 use Rattle.goblin.specs.Texts.{◌&◌}
 use Rattle.goblin_text.specs.declared.accept.Parts.{Parts}
 use Rattle.goblin_text.specs.declared.accept.SymbolPart.{SymbolPart}
@@ -13,10 +13,8 @@ use Rattle.goblin_text.specs.Looks.{names_looks, table_looks}
 pub lines-append : (a b : List ℕ) → lines_in (a ++ b) ≡ lines_in a + lines_in b
 lines-append [] b = omega arith
 lines-append (x ∷ a) b =
-    elim (eqb x 10) as (λ t. cond t 1 0 + lines_in (a ++ b) ≡ cond t 1 0 + lines_in a + lines_in b) [
-      | true ↦ omega (arith, lines-append a b)
-      | false ↦ omega (arith, lines-append a b)
-    ]
+    let rest = lines-append a b in
+    grind (arith, nat_tests)
 
 pub looks-append : (a b : List ℕ) → names_looks (a ++ b) ≡ names_looks a + names_looks b
 unfolding names_looks

@@ -1,6 +1,6 @@
 -- The ends of runs that are stored of a file's blocks.
 use Rattle.goblin_text.proofs.Common.{◌≡◌, ◌∙◌, ℕ, zero, suc, eqb, [], ◌∷◌, refl, ◌+◌, ◌<◌, ◌≤◌, ◌≢◌, set, replicate}
-use Rattle.goblin_text.proofs.Common.{length-set, get_or-set_other, get_or-set_same, true, false, cond, List, length}
+use Rattle.goblin_text.proofs.Common.{length-set, get_or-set_other, get_or-set_same, true, false, List, length}
 use Rattle.goblin_text.proofs.Common.{get_or, sym, ap, subst, ⊎_elim, arith, cases_eq, cases_lt, nat_tests}
 use Rattle.goblin_text.proofs.Common.{get_or-replicate, length-replicate, Kind, AreRunEnds, IsRunEnd, IsRun, unknown}
 
@@ -19,10 +19,8 @@ unfolding unknown
 unknown_most zero ends = omega arith
 unknown_most (suc n) [] = omega arith
 unknown_most (suc n) (end ∷ ends) =
-    elim (eqb end 0) as (λ b. cond b 1 0 + unknown n ends ≤ suc n) [
-      | true ↦ omega (arith, unknown_most n ends)
-      | false ↦ omega (arith, unknown_most n ends)
-    ]
+    let rest = unknown_most n ends in
+    grind (arith, nat_tests)
 
 -- an end that is stored
 pub end_known : (kind : Kind) (bytes ends : List ℕ) (k : ℕ)
@@ -55,10 +53,7 @@ unknown_less (suc n) (end ∷ ends) zero v l m z p =
     rw (now, before) (omega arith)
 unknown_less (suc n) (end ∷ ends) (suc i) v l m z p =
     let rest = unknown_less n ends i v (omega arith) (omega arith) z p in
-    elim (eqb end 0) as (λ b. cond b 1 0 + unknown n (set ends i v) + 1 ≤ cond b 1 0 + unknown n ends) [
-      | true ↦ omega (arith, rest)
-      | false ↦ omega (arith, rest)
-    ]
+    grind (arith, nat_tests)
 
 -- a run goes on to where the run ends that goes on from it
 pub end_after : (kind : Kind) (bytes : List ℕ) (first k end : ℕ)

@@ -1,8 +1,8 @@
 -- The text in the two modes.
-use Rattle.goblin_text.proofs.Common.{◌≡◌, ◌+◌, ◌/◌, ℕ, Bool, true, false, not, if◌then◌else◌, List, [], ◌∷◌, length}
-use Rattle.goblin_text.proofs.Common.{slice_get, Option, None, Some, Result, Ok, Err, refl, Header, SectionHeader}
+use Rattle.goblin_text.proofs.Common.{◌≡◌, ◌+◌, ◌/◌, ℕ, Bool, not, if◌then◌else◌, List, [], ◌∷◌, length}
+use Rattle.goblin_text.proofs.Common.{slice_get, Option, None, Some, Result, Ok, refl, Header, SectionHeader}
 use Rattle.goblin_text.proofs.Common.{Strict, Permissive, Refusal, refusal_of, ◌>>=◌, refuse_as, each_shown}
-use Rattle.goblin_text.proofs.Common.{sizes_checked, symbols_shown}
+use Rattle.goblin_text.proofs.Common.{arith, sizes_checked, symbols_shown}
 use Rattle.goblin.specs.declared.container.Ctx.{Ctx}
 use Rattle.goblin.specs.Header.{names_index_of, ctx_of}
 use Rattle.goblin.specs.ReadHeader.{read_header}
@@ -25,18 +25,15 @@ same r a h = h
 -- steps keep values, where each of them does
 steps : {A B E : Type 0} (r s : Result A E) (f g : A → Result B E)
     → Keeps r s → ((a : A) → Keeps (f a) (g a)) → Keeps (r >>= f) (s >>= g)
-steps (Ok a) s f g first next b h = rw (first a refl) (next a b h)
-steps (Err e) s f g first next b h = cc
+steps r s f g first next b h = grind arith
 
 within : {A E F : Type 0} (inside : E → F) (r s : Result A E)
     → Keeps r s → Keeps (refuse_as inside r) (refuse_as inside s)
-within inside (Ok x) s first a h = rw (first x refl) h
-within inside (Err e) s first a h = cc
+within inside r s first a h = grind arith
 
 otherwise : {A E : Type 0} (test : Bool) (x r s : Result A E)
     → Keeps r s → Keeps (if test then x else r) (if test then x else s)
-otherwise true x r s rest a h = h
-otherwise false x r s rest a h = rest a h
+otherwise test x r s rest a h = grind arith
 
 -- a permissive check passes
 passes : (len : ℕ) (sections : List SectionHeader) → sizes_checked Permissive len sections ≡ Ok tt

@@ -1,5 +1,5 @@
 -- What of a text was put into a target, and what is left of it.
-use Rattle.goblin_text.proofs.Common.{◌≡◌, ◌∙◌, ◌++◌, ◌∷◌, ◌≤◌, ℕ, List, [], Option, None, Some, ap, append_assoc}
+use Rattle.goblin_text.proofs.Common.{◌≡◌, ◌∙◌, ◌++◌, ◌∷◌, ◌≤◌, ℕ, List, [], Option, ap, append_assoc}
 use Rattle.goblin_text.proofs.Common.{get_or, set, append-nil, arith, length, min, refl, subst, sym, take, ⊎_elim, ◌<◌}
 use Rattle.goblin_text.proofs.Common.{Appends-trans, append_known-grown, append_known-moved, cases_lt, take_all}
 use Rattle.goblin_text.proofs.Common.{Appends, Keeps, append_known, State, held}
@@ -24,8 +24,7 @@ more_put a b c all line rest next w e p = record {
 
 -- an empty room before a writer
 pub held-none : (known : Option (List ℕ)) → append_known known [] ≡ known
-held-none None = refl
-held-none (Some xs) = ap Some (append-nil xs)
+held-none known = grind (arith, append-nil)
 
 -- as many bytes of a list as it has
 pub take-most : (xs : List ℕ) (n m : ℕ) → length xs ≡ m → take (min n m) xs ≡ take n xs
@@ -37,10 +36,7 @@ take-most xs n m e = ⊎_elim
     (cases_lt n m)
 
 pub appends_kept : (a b c : Option (List ℕ)) (text : List ℕ) → Keeps a b → Appends b c text → Appends a c text
-appends_kept None b c text p q = tt
-appends_kept (Some x) None c text p q = absurd p
-appends_kept (Some x) (Some y) None text p q = absurd q
-appends_kept (Some x) (Some y) (Some z) text p q = q ∙ ap (λ l. l ++ text) p
+appends_kept a b c text p q = grind arith
 
 -- what filled the room was written
 pub passed_on : (a b : Option (List ℕ)) (room : List ℕ) (filled m : ℕ)

@@ -2,10 +2,9 @@
 -- exactly if its rest completes the state. At the delimiter or at the end the rest is empty, so the state decides
 -- (`scan_ends`). A byte that may not come there excludes each start up to it (`scan_faults`). A look changes the count
 -- only, so the view's bytes are those of the call (`same`).
-use Rattle.std.proofs.Common.{◌≡◌, ◌+◌, max, length, get_or, slice_index, false, eqb, sym, ap, subst, ◌∙◌, refl, arith}
-use Rattle.std.proofs.lemmas.Bool.{eq-eqb, ne_eqb}
-use Rattle.goblin_base.specs.Utf8.{after_byte}
-use Rattle.goblin_base.specs.Scan.{IsScan}
+use Rattle.goblin_base.proofs.Common.{◌≡◌, ◌+◌, max, length, get_or, slice_index, false, eqb, sym, ap, subst, ◌∙◌, refl}
+use Rattle.goblin_base.proofs.Common.{arith, eq-eqb, after_byte, IsScan}
+use Rattle.std.proofs.lemmas.Bool.{ne_eqb}
 use Rattle.goblin_base.specs.declared.walk.Found.TheVariants.{Fault}
 use Rattle.goblin_base.proofs.ScanLemmas.{scan_starts, scan_steps, scan_faults, scan_ends}
 use Rattle.goblin_base.proofs.walk.scan.Goals as goal

@@ -1,5 +1,4 @@
-use Rattle.std.proofs.Common.{◌≡◌, ◌+◌, ◌-◌, ◌≤◌, length}
-use Rattle.goblin_base.specs.Entries.{CountsAtLeast}
+use Rattle.goblin_base.proofs.Common.{◌≡◌, ◌+◌, ◌-◌, ◌≤◌, length, CountsAtLeast}
 use Rattle.goblin_base.proofs.ScanLemmas.{IsScanned}
 use Rattle.goblin_base.proofs.walk.scan.Given as goal
 

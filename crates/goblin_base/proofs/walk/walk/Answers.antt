@@ -2,19 +2,12 @@
 -- `walk_damaged` for any other in permissive mode. In strict mode a piece that isn't text is the first such one,
 -- because all before it are text (`strict`, `walked_fault`). A piece of ASCII is text (`no_fault`), so ASCII bytes
 -- never reach these last two cases.
-use Rattle.std.proofs.Common.{rules, ◌≡◌, ◌+◌, ◌-◌, ◌<◌, ◌≤◌, ℕ, List, false, true, length, slice_index, refl, sym, ap}
-use Rattle.std.proofs.Common.{subst, ⊎_elim, ◌∙◌, Ok, Err, arith, zero, suc}
-use Rattle.std.proofs.lemmas.Bool.{both_ways, cases_lt, false≢true}
-use Rattle.std.proofs.lemmas.List.{take_all}
+use Rattle.goblin_base.proofs.Common.{rules, ◌≡◌, ◌+◌, ◌-◌, ◌<◌, ◌≤◌, ℕ, List, false, true, length, slice_index, refl}
+use Rattle.goblin_base.proofs.Common.{sym, ap, subst, ⊎_elim, ◌∙◌, Ok, Err, arith, both_ways, cases_lt, false≢true, take_all}
+use Rattle.goblin_base.proofs.Common.{IsAscii, IsUtf8, slice_range, HaveMarks, piece_end, is_readable, walked, invalid_utf8}
 use Rattle.std.specs.Bool.{IsTrue}
-use Rattle.std.specs.Str.{IsAscii, IsUtf8}
-use Rattle.std.specs.List.{slice_range}
 use Rattle.goblin_base.specs.Entries.{entries_between}
-use Rattle.goblin_base.specs.Marks.{HaveMarks}
-use Rattle.goblin_base.specs.Pieces.{piece_end, is_readable}
 use Rattle.goblin_base.specs.Scan.{IsWalkedTo}
-use Rattle.goblin_base.specs.Strtab.{walked}
-use Rattle.goblin_base.specs.Utf8.{invalid_utf8}
 use Rattle.goblin_base.proofs.EntriesLemmas.{walked_none, walked_text}
 use Rattle.goblin_base.proofs.MarksLemmas.{low_is_text}
 use Rattle.goblin_base.proofs.WalkProgressLemmas.{IsTextSoFar, readable_from_text, bad_from_fault, bad_here}
@@ -54,8 +47,7 @@ of_same_places {bytes = bytes} {d = d} {i = i} walked same = subst (λ p. IsWalk
 -- no piece ends before the first one
 first_ends : (bytes : List ℕ) (d i e : ℕ)
     → (0 < i → piece_end bytes d 0 ≤ i) → i ≤ e → e ≡ piece_end bytes d i → piece_end bytes d 0 ≤ e
-first_ends bytes d zero e passed ordered is = omega (arith, is)
-first_ends bytes d (suc i) e passed ordered is = omega (arith, passed (omega arith), ordered)
+first_ends bytes d i e passed ordered is = grind arith
 
 pub loop-i-init : goal.loop-i-init
 loop-i-init c = let unread = c.default-marks.ensures.0 in record {

@@ -1,12 +1,8 @@
 -- The entries stored so far and those from i on are all entries (`walked`), and strict mode found only text before i
 -- (`strict`). The marks reach at most sixteen bytes past i, as `next_end` requires (`near`).
-use Rattle.std.proofs.Common.{◌≡◌, ◌+◌, ◌-◌, ◌*◌, ◌<◌, ◌≤◌, length, max, min}
-use Rattle.std.specs.Str.{IsAscii}
-use Rattle.goblin_base.specs.Entries.{CountsAtLeast}
-use Rattle.goblin_base.specs.Marks.{HaveMarks}
-use Rattle.goblin_base.specs.Pieces.{piece_end}
+use Rattle.goblin_base.proofs.Common.{◌≡◌, ◌+◌, ◌-◌, ◌*◌, ◌<◌, ◌≤◌, length, max, min, IsAscii, CountsAtLeast, HaveMarks}
+use Rattle.goblin_base.proofs.Common.{piece_end, Strict}
 use Rattle.goblin_base.specs.Scan.{IsWalkedTo}
-use Rattle.goblin_base.specs.declared.options.ParseMode.TheVariants.{Strict}
 use Rattle.goblin_base.proofs.WalkProgressLemmas.{IsTextSoFar}
 use Rattle.goblin_base.proofs.walk.walk.Given as goal
 

@@ -1,9 +1,7 @@
 -- The offsets before i have their entries (`walked`), and i still lies in the piece that ends at `end` (`ends`). An
 -- attempt that fails takes at most two looks for each byte that it passes, and the next one begins where it stopped: so
 -- all together take at most two for each byte before i.
-use Rattle.std.proofs.Common.{◌≡◌, ◌+◌, ◌-◌, ◌*◌, ◌≤◌}
-use Rattle.goblin_base.specs.Entries.{CountsAtLeast}
-use Rattle.goblin_base.specs.Pieces.{piece_end}
+use Rattle.goblin_base.proofs.Common.{◌≡◌, ◌+◌, ◌-◌, ◌*◌, ◌≤◌, CountsAtLeast, piece_end}
 use Rattle.goblin_base.specs.Scan.{IsWalkedTo}
 use Rattle.goblin_base.proofs.walk.walk_damaged.Given as goal
 

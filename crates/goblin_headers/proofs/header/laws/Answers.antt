@@ -1,5 +1,5 @@
-use Rattle.goblin_headers.proofs.Common.{◌≡◌, ℕ, List, and_from, comparing, refl, rules, take}
-use Rattle.goblin_headers.specs.Common.{Container, Endian, Little, Big}
+use Rattle.goblin_headers.proofs.Common.{◌≡◌, ℕ, List, and_from, arith, comparing, refl, rules, take}
+use Rattle.goblin_headers.specs.Common.{Container, Endian}
 use Rattle.goblin_headers.specs.Header.{header_layout}
 use Rattle.goblin_headers.proofs.WholeTrips.{each_fits, one_image, reads_back, written_and_read_back, image_of_read}
 use Rattle.goblin_headers.proofs.WholeTrips.{new_is_of_context, new_is_read_back, writes_back}
@@ -7,8 +7,7 @@ use Rattle.goblin_headers.proofs.header.laws.Goals as goal
 
 ident : (class : Container) (order : Endian) (bytes : List ℕ)
     → ((header_layout class order).read bytes).e_ident ≡ take 16 bytes
-ident Little order bytes = refl
-ident Big order bytes = refl
+ident class order bytes = grind arith
 
 pub returns : goal.returns
 returns c = record {

@@ -1,4 +1,4 @@
-use Rattle.std.proofs.Common.{◌∙◌}
+use Rattle.goblin_base.proofs.Common.{◌∙◌}
 use Rattle.goblin_base.proofs.EntriesLemmas.{entry_between}
 use Rattle.goblin_base.proofs.entries.Entries.text.Goals as goal
 

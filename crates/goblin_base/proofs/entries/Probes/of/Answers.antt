@@ -1,6 +1,4 @@
-use Rattle.std.proofs.Common.{sym, ap, subst, ◌∙◌}
-use Rattle.goblin_base.specs.Entries.{places_of}
-use Rattle.goblin_base.specs.Search.{IsRising}
+use Rattle.goblin_base.proofs.Common.{sym, ap, subst, ◌∙◌, places_of, IsRising}
 use Rattle.goblin_base.proofs.EntriesLemmas.{places_rise, places_between}
 use Rattle.goblin_base.proofs.entries.Probes.of.Goals as goal
 
