@@ -3,8 +3,9 @@
 -- because all before it are text (`strict`, `walked_fault`). A piece of ASCII is text (`no_fault`), so ASCII bytes
 -- never reach these last two cases.
 use Rattle.goblin_base.proofs.Common.{rules, ◌≡◌, ◌+◌, ◌-◌, ◌<◌, ◌≤◌, ℕ, List, false, true, length, slice_index, refl}
-use Rattle.goblin_base.proofs.Common.{sym, ap, subst, ⊎_elim, ◌∙◌, Ok, Err, arith, both_ways, cases_lt, false≢true, take_all}
-use Rattle.goblin_base.proofs.Common.{IsAscii, IsUtf8, slice_range, HaveMarks, piece_end, is_readable, walked, invalid_utf8}
+use Rattle.goblin_base.proofs.Common.{sym, ap, subst, ⊎_elim, ◌∙◌, Ok, Err, arith, both_ways, cases_lt, false≢true}
+use Rattle.goblin_base.proofs.Common.{IsAscii, IsUtf8, slice_range, HaveMarks, piece_end, is_readable, walked}
+use Rattle.goblin_base.proofs.Common.{invalid_utf8, take_all}
 use Rattle.std.specs.Bool.{IsTrue}
 use Rattle.goblin_base.specs.Entries.{entries_between}
 use Rattle.goblin_base.specs.Scan.{IsWalkedTo}
