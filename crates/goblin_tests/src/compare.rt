@@ -2,6 +2,15 @@
 use goblin_base::error::{Error, Result};
 use std::fmt::Debug;
 
+// A table of rows, each of which ends with `;`.
+macro_rules! rows {
+    ($($($cell:expr),+;)*) => {
+        [$(($($cell),+)),*]
+    };
+}
+
+pub(crate) use rows;
+
 // Shows what was found and what was expected, and reports that they differ.
 pub(crate) fn differs<A: Debug, B: Debug>(rt: HostRuntime, found: &A, expected: &B) -> bool {
     let _ = eprintln!(rt; "found:    {found:?}\nexpected: {expected:?}");

@@ -1,5 +1,5 @@
 //! Cases with their results: texts of errors.
-use crate::compare::{differs, has_message, holds, is};
+use crate::compare::{differs, has_message, holds, is, rows};
 use goblin_base::error::{Error, Fault};
 use goblin_base::scroll;
 use std::alloc::{AllocError, AllocFailed};
@@ -14,134 +14,44 @@ const NEAR: u64 = 18446744073709551566;
 
 // Errors and their texts. Each text that has a number has one of 10 or more, so that it differs in decimal and
 // hexadecimal digits.
-static ERRORS: [(Error, &str); 24] = [
-    (
-        Error::Malformed(Fault::InvalidClass(200)),
-        "Malformed entity: Invalid class in Header: 200",
-    ),
-    (
-        Error::Malformed(Fault::InvalidEndianness(200)),
-        "Malformed entity: Invalid endianness in Header: 200",
-    ),
-    (
-        Error::Malformed(Fault::TooSmall),
-        "Malformed entity: Too small",
-    ),
-    (
-        Error::Malformed(Fault::ElfClass(200)),
-        "Malformed entity: invalid ELF class c8",
-    ),
-    (
-        Error::Malformed(Fault::ElfClass(9)),
-        "Malformed entity: invalid ELF class 9",
-    ),
-    (
-        Error::Malformed(Fault::DataType(200)),
-        "Malformed entity: invalid ELF endianness DATA type c8",
-    ),
-    (
-        Error::Malformed(Fault::Data(200)),
-        "Malformed entity: invalid ELF DATA type c8",
-    ),
-    (
-        Error::Malformed(Fault::NoteAlign(16)),
-        "Malformed entity: Notes has unimplemented alignment requirement: 0x10",
-    ),
-    (
-        Error::Malformed(Fault::NoteAlign(0xab)),
-        "Malformed entity: Notes has unimplemented alignment requirement: 0xab",
-    ),
-    (
-        Error::Malformed(Fault::SymtabOffset {
-            offset: 48,
-            len: 47,
-        }),
-        "Malformed entity: Symbol table offset (48) is beyond file boundary (47)",
-    ),
-    (
-        Error::Malformed(Fault::TooManySymbols {
-            offset: 47,
-            count: 18446744073709551615,
-        }),
-        "Malformed entity: Too many ELF symbols (offset 0x2f, count 18446744073709551615)",
-    ),
-    (
-        Error::Malformed(Fault::SymtabPast {
-            requested: 72,
-            available: 48,
-        }),
-        "Malformed entity: Symbol table extends beyond file boundary (requested: 72, available: 48)",
-    ),
-    (
-        Error::Malformed(Fault::StrtabOffset {
-            offset: 45,
-            len: 34,
-        }),
-        "Malformed entity: String table offset (45) is beyond file boundary (34)",
-    ),
-    (
-        Error::Malformed(Fault::StrtabRange {
-            size: 33,
-            offset: 12,
-            len: 44,
-            overflow: false,
-        }),
-        "Malformed entity: Strtable size (33) + offset (12) is out of bounds for 44 #bytes. Overflowed: false",
-    ),
-    (
-        Error::Malformed(Fault::SectionOffset {
-            name: 7,
-            size: 50,
-            offset: 100,
-            overflow: false,
-        }),
-        "Malformed entity: Section 7 size (50) + offset (100) is out of bounds. Overflowed: false",
-    ),
-    (
-        Error::Malformed(Fault::SectionOffset {
-            name: 12,
-            size: 50,
-            offset: 100,
-            overflow: false,
-        }),
-        "Malformed entity: Section 12 size (50) + offset (100) is out of bounds. Overflowed: false",
-    ),
-    (
-        Error::Malformed(Fault::SectionAddr {
-            name: 7,
-            size: 50,
-            addr: NEAR,
-            overflow: true,
-        }),
-        "Malformed entity: Section 7 size (50) + addr (18446744073709551566) is out of bounds. Overflowed: true",
-    ),
-    (
-        Error::Malformed(Fault::SectionAddr {
-            name: 10,
-            size: 50,
-            addr: NEAR,
-            overflow: true,
-        }),
-        "Malformed entity: Section 10 size (50) + addr (18446744073709551566) is out of bounds. Overflowed: true",
-    ),
-    (Error::BadMagic(0xabc), "Invalid magic number: 0xabc"),
-    (
-        Error::BufferTooShort(17, "symbols"),
-        "Buffer is too short for 17 symbols",
-    ),
-    (
-        Error::Scroll(scroll::Error::TooBig { size: 64, len: 52 }),
-        "type is too big (64) for 52",
-    ),
-    (Error::Scroll(scroll::Error::BadOffset(20)), "bad offset 20"),
-    (
-        Error::Scroll(scroll::Error::BadInput {
-            size: 30,
-            msg: "invalid utf8",
-        }),
-        "bad input invalid utf8 (30)",
-    ),
-    (Error::Memory(AllocError), "Out of memory"),
+static ERRORS: [(Error, &str); 24] = rows![
+    Error::Malformed(Fault::InvalidClass(200)), "Malformed entity: Invalid class in Header: 200";
+    Error::Malformed(Fault::InvalidEndianness(200)),
+        "Malformed entity: Invalid endianness in Header: 200";
+    Error::Malformed(Fault::TooSmall), "Malformed entity: Too small";
+    Error::Malformed(Fault::ElfClass(200)), "Malformed entity: invalid ELF class c8";
+    Error::Malformed(Fault::ElfClass(9)), "Malformed entity: invalid ELF class 9";
+    Error::Malformed(Fault::DataType(200)), "Malformed entity: invalid ELF endianness DATA type c8";
+    Error::Malformed(Fault::Data(200)), "Malformed entity: invalid ELF DATA type c8";
+    Error::Malformed(Fault::NoteAlign(16)),
+        "Malformed entity: Notes has unimplemented alignment requirement: 0x10";
+    Error::Malformed(Fault::NoteAlign(0xab)),
+        "Malformed entity: Notes has unimplemented alignment requirement: 0xab";
+    Error::Malformed(Fault::SymtabOffset { offset: 48, len: 47 }),
+        "Malformed entity: Symbol table offset (48) is beyond file boundary (47)";
+    Error::Malformed(Fault::TooManySymbols { offset: 47, count: 18446744073709551615 }),
+        "Malformed entity: Too many ELF symbols (offset 0x2f, count 18446744073709551615)";
+    Error::Malformed(Fault::SymtabPast { requested: 72, available: 48 }),
+        "Malformed entity: Symbol table extends beyond file boundary (requested: 72, available: 48)";
+    Error::Malformed(Fault::StrtabOffset { offset: 45, len: 34 }),
+        "Malformed entity: String table offset (45) is beyond file boundary (34)";
+    Error::Malformed(Fault::StrtabRange { size: 33, offset: 12, len: 44, overflow: false }),
+        "Malformed entity: Strtable size (33) + offset (12) is out of bounds for 44 #bytes. Overflowed: false";
+    Error::Malformed(Fault::SectionOffset { name: 7, size: 50, offset: 100, overflow: false }),
+        "Malformed entity: Section 7 size (50) + offset (100) is out of bounds. Overflowed: false";
+    Error::Malformed(Fault::SectionOffset { name: 12, size: 50, offset: 100, overflow: false }),
+        "Malformed entity: Section 12 size (50) + offset (100) is out of bounds. Overflowed: false";
+    Error::Malformed(Fault::SectionAddr { name: 7, size: 50, addr: NEAR, overflow: true }),
+        "Malformed entity: Section 7 size (50) + addr (18446744073709551566) is out of bounds. Overflowed: true";
+    Error::Malformed(Fault::SectionAddr { name: 10, size: 50, addr: NEAR, overflow: true }),
+        "Malformed entity: Section 10 size (50) + addr (18446744073709551566) is out of bounds. Overflowed: true";
+    Error::BadMagic(0xabc), "Invalid magic number: 0xabc";
+    Error::BufferTooShort(17, "symbols"), "Buffer is too short for 17 symbols";
+    Error::Scroll(scroll::Error::TooBig { size: 64, len: 52 }), "type is too big (64) for 52";
+    Error::Scroll(scroll::Error::BadOffset(20)), "bad offset 20";
+    Error::Scroll(scroll::Error::BadInput { size: 30, msg: "invalid utf8" }),
+        "bad input invalid utf8 (30)";
+    Error::Memory(AllocError), "Out of memory";
 ];
 
 // A text, as std formats it.
@@ -239,29 +149,45 @@ fn writes_nothing_after_a_refusal(rt: HostRuntime) {
     }
 }
 
+// Whether an error that was made of another has this message.
+fn is_made(rt: HostRuntime, error: Error, text: &str) -> bool {
+    has_messages(rt, &error, text)
+}
+
 #[test]
 fn makes_errors_of_others(rt: HostRuntime) {
-    let place = Error::from(scroll::Error::BadOffset(20));
-    assert!(rt; has_messages(rt, &place, "bad offset 20"));
-    let long = Error::from(scroll::Error::TooBig { size: 64, len: 52 });
-    assert!(rt; has_messages(rt, &long, "type is too big (64) for 52"));
-    let no_text = Error::from(scroll::Error::BadInput {
-        size: 30,
-        msg: "invalid utf8",
-    });
-    assert!(rt; has_messages(rt, &no_text, "bad input invalid utf8 (30)"));
-    assert!(rt; has_messages(rt, &Error::from(AllocError), "Out of memory"));
-    let failed = Error::from(AllocFailed { value: 5u8 });
-    assert!(rt; has_messages(rt, &failed, "Out of memory"));
+    assert!(rt;
+        is_made(
+            rt,
+            Error::from(scroll::Error::BadOffset(20)),
+            "bad offset 20"
+        )
+    );
+    let long = scroll::Error::TooBig { size: 64, len: 52 };
+    assert!(rt; is_made(rt, Error::from(long), "type is too big (64) for 52"));
+    let (size, msg) = (30, "invalid utf8");
+    let no_text = scroll::Error::BadInput { size, msg };
+    assert!(rt; is_made(rt, Error::from(no_text), "bad input invalid utf8 (30)"));
+    assert!(rt; is_made(rt, Error::from(AllocError), "Out of memory"));
+    assert!(rt; is_made(rt, Error::from(AllocFailed { value: 5u8 }), "Out of memory"));
+}
+
+// Whether the error of a conversion that fails has its message, made by `From` and as a fault.
+fn misfits(rt: HostRuntime, text: &str) -> bool {
+    match (u8::try_from(256u16), u8::try_from(256u16)) {
+        (Err(one), Err(other)) => {
+            let fault = Error::Malformed(Fault::IntegerFit(other));
+            is_made(rt, Error::from(one), text) && is_made(rt, fault, text)
+        }
+        (one, other) => differs(rt, &one, &other),
+    }
+}
+
+#[test]
+fn makes_errors_of_conversions(rt: HostRuntime) {
     let text =
         "Malformed entity: Integer do not fit: out of range integral type conversion attempted";
-    let misfit = u8::try_from(256u16).err().map(Error::from);
-    assert!(rt; matches!(misfit, Some(error) if has_messages(rt, &error, text)));
-    let misfit = u8::try_from(256u16)
-        .err()
-        .map(Fault::IntegerFit)
-        .map(Error::Malformed);
-    assert!(rt; matches!(misfit, Some(error) if has_messages(rt, &error, text)));
+    assert!(rt; misfits(rt, text));
 }
 
 // Whether an error has the message.
@@ -272,123 +198,73 @@ fn says(rt: HostRuntime, error: Error, text: Formatted) -> bool {
     }
 }
 
-fn fault_says(rt: HostRuntime, fault: Fault, text: Formatted) -> bool {
-    match text {
-        Ok(text) => says(
-            rt,
-            Error::Malformed(fault),
-            format!(in rt.alloc(); "{MALFORMED}{text}"),
-        ),
-        Err(e) => differs(rt, &e, &fault),
-    }
+// Whether each of these errors has the message after it.
+macro_rules! all_say {
+    ($rt:expr; $($error:expr => $text:literal;)+) => {
+        $(says($rt, $error, format!(in $rt.alloc(); $text)))&&+
+    };
 }
 
 // Whether each error of a byte has its message.
 fn errors_of_a_byte_say(rt: HostRuntime, n: u8) -> bool {
-    let class = format!(in rt.alloc(); "Invalid class in Header: {n}");
-    let order = format!(in rt.alloc(); "Invalid endianness in Header: {n}");
-    let elf_class = format!(in rt.alloc(); "invalid ELF class {n:x}");
-    let data_type = format!(in rt.alloc(); "invalid ELF endianness DATA type {n:x}");
-    let data = format!(in rt.alloc(); "invalid ELF DATA type {n:x}");
-    fault_says(rt, Fault::InvalidClass(n), class)
-        && fault_says(rt, Fault::InvalidEndianness(n), order)
-        && fault_says(rt, Fault::ElfClass(n), elf_class)
-        && fault_says(rt, Fault::DataType(n), data_type)
-        && fault_says(rt, Fault::Data(n), data)
+    all_say![rt;
+        Error::Malformed(Fault::InvalidClass(n)) => "Malformed entity: Invalid class in Header: {n}";
+        Error::Malformed(Fault::InvalidEndianness(n)) => "Malformed entity: Invalid endianness in Header: {n}";
+        Error::Malformed(Fault::ElfClass(n)) => "Malformed entity: invalid ELF class {n:x}";
+        Error::Malformed(Fault::DataType(n)) => "Malformed entity: invalid ELF endianness DATA type {n:x}";
+        Error::Malformed(Fault::Data(n)) => "Malformed entity: invalid ELF DATA type {n:x}";
+    ]
 }
 
 // The same of each other error with this number as each of its numbers.
 fn errors_of_places_say(rt: HostRuntime, n: u64) -> bool {
-    let size = n as usize;
-    let magic = format!(in rt.alloc(); "Invalid magic number: 0x{n:x}");
-    let big = format!(in rt.alloc(); "type is too big ({n}) for {n}");
-    let offset = format!(in rt.alloc(); "bad offset {n}");
-    let input = format!(in rt.alloc(); "bad input invalid utf8 ({n})");
-    let msg = "invalid utf8";
-    says(rt, Error::BadMagic(n), magic)
-        && says(
-            rt,
-            Error::Scroll(scroll::Error::TooBig { size, len: size }),
-            big,
-        )
-        && says(rt, Error::Scroll(scroll::Error::BadOffset(size)), offset)
-        && says(
-            rt,
-            Error::Scroll(scroll::Error::BadInput { size, msg }),
-            input,
-        )
+    let (size, len, msg) = (n as usize, n as usize, "invalid utf8");
+    all_say![rt;
+        Error::BadMagic(n) => "Invalid magic number: 0x{n:x}";
+        Error::Scroll(scroll::Error::TooBig { size, len }) => "type is too big ({n}) for {n}";
+        Error::Scroll(scroll::Error::BadOffset(size)) => "bad offset {n}";
+        Error::Scroll(scroll::Error::BadInput { size, msg }) => "bad input invalid utf8 ({n})";
+    ]
 }
 
 fn errors_of_items_say(rt: HostRuntime, n: u64, item: &'static str) -> bool {
-    let text = format!(in rt.alloc(); "Buffer is too short for {n} {item}");
-    says(rt, Error::BufferTooShort(n as usize, item), text)
+    let count = n as usize;
+    all_say![rt; Error::BufferTooShort(count, item) => "Buffer is too short for {n} {item}";]
 }
 
 fn faults_of_symbols_say(rt: HostRuntime, n: u64) -> bool {
-    let size = n as usize;
-    let align = format!(in rt.alloc(); "Notes has unimplemented alignment requirement: 0x{n:x}");
-    let offset = format!(in rt.alloc(); "Symbol table offset ({n}) is beyond file boundary ({n})");
-    let many = format!(in rt.alloc(); "Too many ELF symbols (offset 0x{n:x}, count {n})");
-    let past = format!(in rt.alloc();
-        "Symbol table extends beyond file boundary (requested: {n}, available: {n})"
-    );
-    let start = Fault::SymtabOffset {
-        offset: size,
-        len: size,
-    };
-    let count = Fault::TooManySymbols {
-        offset: size,
-        count: size,
-    };
-    let end = Fault::SymtabPast {
-        requested: size,
-        available: size,
-    };
-    fault_says(rt, Fault::NoteAlign(size), align)
-        && fault_says(rt, start, offset)
-        && fault_says(rt, count, many)
-        && fault_says(rt, end, past)
+    let (offset, len, count) = (n as usize, n as usize, n as usize);
+    let (requested, available) = (n as usize, n as usize);
+    all_say![rt;
+        Error::Malformed(Fault::NoteAlign(len)) =>
+            "Malformed entity: Notes has unimplemented alignment requirement: 0x{n:x}";
+        Error::Malformed(Fault::SymtabOffset { offset, len }) =>
+            "Malformed entity: Symbol table offset ({n}) is beyond file boundary ({n})";
+        Error::Malformed(Fault::TooManySymbols { offset, count }) =>
+            "Malformed entity: Too many ELF symbols (offset 0x{n:x}, count {n})";
+        Error::Malformed(Fault::SymtabPast { requested, available }) =>
+            "Malformed entity: Symbol table extends beyond file boundary (requested: {n}, available: {n})";
+    ]
 }
 
 fn faults_of_strings_say(rt: HostRuntime, n: u64, overflow: bool) -> bool {
-    let size = n as usize;
-    let offset = format!(in rt.alloc(); "String table offset ({n}) is beyond file boundary ({n})");
-    let range = format!(in rt.alloc();
-        "Strtable size ({n}) + offset ({n}) is out of bounds for {n} #bytes. Overflowed: {overflow}"
-    );
-    let start = Fault::StrtabOffset {
-        offset: size,
-        len: size,
-    };
-    let end = Fault::StrtabRange {
-        size,
-        offset: size,
-        len: size,
-        overflow,
-    };
-    fault_says(rt, start, offset) && fault_says(rt, end, range)
+    let (size, offset, len) = (n as usize, n as usize, n as usize);
+    all_say![rt;
+        Error::Malformed(Fault::StrtabOffset { offset, len }) =>
+            "Malformed entity: String table offset ({n}) is beyond file boundary ({n})";
+        Error::Malformed(Fault::StrtabRange { size, offset, len, overflow }) =>
+            "Malformed entity: Strtable size ({n}) + offset ({n}) is out of bounds for {n} #bytes. Overflowed: {overflow}";
+    ]
 }
 
 fn faults_of_sections_say(rt: HostRuntime, n: u64, overflow: bool) -> bool {
-    let offset = format!(in rt.alloc();
-        "Section {n} size ({n}) + offset ({n}) is out of bounds. Overflowed: {overflow}"
-    );
-    let addr = format!(in rt.alloc();
-        "Section {n} size ({n}) + addr ({n}) is out of bounds. Overflowed: {overflow}"
-    );
-    let bytes = Fault::SectionOffset {
-        name: n as usize,
-        size: n,
-        offset: n,
-        overflow,
-    };
-    let addresses = Fault::SectionAddr {
-        name: n as usize,
-        size: n,
-        addr: n,
-        overflow,
-    };
-    fault_says(rt, bytes, offset) && fault_says(rt, addresses, addr)
+    let (name, size, offset, addr) = (n as usize, n, n, n);
+    all_say![rt;
+        Error::Malformed(Fault::SectionOffset { name, size, offset, overflow }) =>
+            "Malformed entity: Section {n} size ({n}) + offset ({n}) is out of bounds. Overflowed: {overflow}";
+        Error::Malformed(Fault::SectionAddr { name, size, addr, overflow }) =>
+            "Malformed entity: Section {n} size ({n}) + addr ({n}) is out of bounds. Overflowed: {overflow}";
+    ]
 }
 
 // Whether each error with this number has its message.
