@@ -1,7 +1,7 @@
 //! Cases with their results: contexts.
 use crate::compare::is;
 use crate::record::is_apart;
-use goblin_base::container::{BE, CONTAINER, Container, Ctx, Endian, LE, constants};
+use goblin_base::container::{BE, CONTAINER, Container, Ctx, Endian, LE};
 
 // The contexts of both classes in either byte order.
 pub(crate) const LITTLE32: Ctx = Ctx {
@@ -24,34 +24,23 @@ pub(crate) const BIG64: Ctx = Ctx {
     le: BE,
 };
 
-// The class of a context by both calls that report it, with the size of an address there.
-fn class_of(ctx: Ctx) -> (bool, bool, usize) {
-    (ctx.is_big(), ctx.container.is_big(), ctx.size())
-}
+pub(crate) static CONTEXTS: [Ctx; 4] = [LITTLE32, BIG32, LITTLE64, BIG64];
 
-// Whether a context is little endian, by both calls that report it.
-fn is_little(ctx: Ctx) -> (bool, bool) {
-    (ctx.is_little_endian(), ctx.le.is_little())
+// Whether a new context is 64-bit and little endian, by both calls that report each, and how many bytes an address has there.
+fn parts(container: Container, order: Endian) -> ([bool; 2], [bool; 2], usize) {
+    let ctx = Ctx::new(container, order);
+    let is_little = [ctx.is_little_endian(), ctx.le.is_little()];
+    (
+        [ctx.is_big(), ctx.container.is_big()],
+        is_little,
+        ctx.size(),
+    )
 }
 
 #[test]
 fn makes_contexts(rt: HostRuntime) {
-    let big = Ctx::new(Container::Big, BE);
-    assert!(rt;
-        is(
-            rt,
-            (class_of(big), is_little(big)),
-            ((true, true, 8), (false, false))
-        )
-    );
-    let little = Ctx::new(Container::Little, LE);
-    assert!(rt;
-        is(
-            rt,
-            (class_of(little), is_little(little)),
-            ((false, false, 4), (true, true))
-        )
-    );
+    assert!(rt; is(rt, parts(Container::Big, BE), ([true; 2], [false; 2], 8)));
+    assert!(rt; is(rt, parts(Container::Little, LE), ([false; 2], [true; 2], 4)));
 }
 
 #[test]
@@ -69,9 +58,4 @@ fn compares_contexts(rt: HostRuntime) {
     assert!(rt; is(rt, Ctx::default(), LITTLE64));
     let default = (Container::default(), Endian::default());
     assert!(rt; is(rt, default, (Container::Big, LE)));
-}
-
-#[test]
-fn calls_the_laws_of_contexts() {
-    constants();
 }
