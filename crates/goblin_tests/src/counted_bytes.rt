@@ -91,12 +91,8 @@ fn finds_last_bytes(rt: HostRuntime) {
     for row in FOUND_LAST {
         assert!(rt; holds(rt, row, finds_last(rt, row)));
     }
-    assert!(rt;
-        finds_each(
-            rt,
-            b"0123456789abcdefghijklmnopqrstuvwxyzABCDEFGHIJKLMNOPQRSTUVWXYZ"
-        )
-    );
+    let all = b"0123456789abcdefghijklmnopqrstuvwxyzABCDEFGHIJKLMNOPQRSTUVWXYZ";
+    assert!(rt; finds_each(rt, all));
 }
 
 // Reports whether the bytes of a range are this text, at a look for each.
