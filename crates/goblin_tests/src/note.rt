@@ -2,18 +2,17 @@
 ghost use Rattle.std.specs.Prelude.{◌≡◌, length};
 ghost use Rattle.goblin.specs.Notes.{items_left};
 
-use crate::compare::{are_alike, differs, holds, is, number, reports, returns};
+use crate::compare::{are_alike, differs, holds, is, number, reports, returns, rows};
 use crate::container::{BIG32, LITTLE64};
 use crate::record::{is_apart, refuses, with_each_default, writes};
 use goblin::elf::note::{
     NT_GNU_BUILD_ID, Note, NoteDataIterator, NoteIterator, NotePart, NotePlaces,
 };
-use goblin::{elf, elf32, elf64};
+use goblin::{elf32, elf64};
 use goblin_base::container::{BE, Ctx, Endian, LE};
 use goblin_base::error::{Error, Fault, Result};
 use goblin_base::scroll;
 use goblin_base::scroll::{SizeWith, TryFromCtx};
-use goblin_records::note;
 use goblin_records::note::{Nhdr32, Nhdr64};
 use std::alloc::{AllocError, Global};
 use std::result;
@@ -27,17 +26,40 @@ const HEADER_LITTLE64: &[u8] = b"\x04\0\0\0\0\0\0\0\x14\0\0\0\0\0\0\0\x03\0\0\0\
 
 const HEADER_BIG64: &[u8] = b"\0\0\0\0\0\0\0\x04\0\0\0\0\0\0\0\x14\0\0\0\0\0\0\0\x03";
 
+const HEADER32: Nhdr32 = Nhdr32 {
+    n_namesz: 4,
+    n_descsz: 20,
+    n_type: 3,
+};
+
+const HEADER64: Nhdr64 = Nhdr64 {
+    n_namesz: 4,
+    n_descsz: 20,
+    n_type: 3,
+};
+
+// Whether the fields of a header are these.
+fn is32(rt: HostRuntime, header: &Nhdr32) -> bool {
+    is(
+        rt,
+        (header.n_namesz, header.n_descsz, header.n_type),
+        (4, 20, 3),
+    )
+}
+
+fn is64(rt: HostRuntime, header: &Nhdr64) -> bool {
+    is(
+        rt,
+        (header.n_namesz, header.n_descsz, header.n_type),
+        (4, 20, 3),
+    )
+}
+
 // Whether the 32-bit header is read from these bytes and written as them.
 fn is_header32(rt: HostRuntime, order: Endian, bytes: &'static [u8]) -> bool {
-    let header = Nhdr32 {
-        n_namesz: 4,
-        n_descsz: 20,
-        n_type: 3,
-    };
     match Nhdr32::try_from_ctx(bytes, order) {
         Ok((read, size)) => {
-            let parts = (read.n_namesz, read.n_descsz, read.n_type);
-            is(rt, (parts, size), ((4, 20, 3), 12)) && writes(rt, header, order, bytes)
+            is32(rt, &read) && is(rt, size, 12) && writes(rt, HEADER32, order, bytes)
         }
         Err(e) => differs(rt, &e, &12),
     }
@@ -45,15 +67,9 @@ fn is_header32(rt: HostRuntime, order: Endian, bytes: &'static [u8]) -> bool {
 
 // The same of the 64-bit one.
 fn is_header64(rt: HostRuntime, order: Endian, bytes: &'static [u8]) -> bool {
-    let header = Nhdr64 {
-        n_namesz: 4,
-        n_descsz: 20,
-        n_type: 3,
-    };
     match Nhdr64::try_from_ctx(bytes, order) {
         Ok((read, size)) => {
-            let parts = (read.n_namesz, read.n_descsz, read.n_type);
-            is(rt, (parts, size), ((4, 20, 3), 24)) && writes(rt, header, order, bytes)
+            is64(rt, &read) && is(rt, size, 24) && writes(rt, HEADER64, order, bytes)
         }
         Err(e) => differs(rt, &e, &24),
     }
@@ -68,33 +84,9 @@ fn reads_and_writes_note_headers(rt: HostRuntime) {
 }
 
 #[test]
-fn calls_the_laws_of_notes() {
-    note::constants();
-    note::laws();
-    elf::note::constants();
-    elf::note::laws();
-}
-
-#[test]
 fn clones_note_headers(rt: HostRuntime) {
-    let header = Nhdr32 {
-        n_namesz: 4,
-        n_descsz: 20,
-        n_type: 3,
-    };
-    let parts = header
-        .clone()
-        .map(|it| (it.n_namesz, it.n_descsz, it.n_type));
-    assert!(rt; is(rt, parts, Ok((4, 20, 3))));
-    let header = Nhdr64 {
-        n_namesz: 4,
-        n_descsz: 20,
-        n_type: 3,
-    };
-    let parts = header
-        .clone()
-        .map(|it| (it.n_namesz, it.n_descsz, it.n_type));
-    assert!(rt; is(rt, parts, Ok((4, 20, 3))));
+    assert!(rt; matches!(HEADER32.clone(), Ok(header) if is32(rt, &header)));
+    assert!(rt; matches!(HEADER64.clone(), Ok(header) if is64(rt, &header)));
 }
 
 // The places of the second note.
@@ -213,26 +205,18 @@ const MOST: &str =
     "Malformed entity: Notes has unimplemented alignment requirement: 0xffffffffffffffff";
 
 // Bytes and an alignment that are refused: another alignment, too few bytes, or a name that is not UTF-8.
-const REFUSED: &[(&[u8], usize, &str)] = &[
-    (BUILD, 16, SIXTEEN),
-    (BUILD, 5, FIVE),
-    (b"", 5, FIVE),
-    (BUILD, usize::MAX, MOST),
-    (
-        b"\x04\0\0\0\x04\0\0\0\x03\0\0",
-        4,
-        "type is too big (12) for 11",
-    ),
-    (b"", 4, "bad offset 0"),
-    (CUT_NAME, 4, "bad offset 20"),
-    (NO_TEXT, 4, "bad input invalid utf8 (2)"),
-    (
-        b"\x02\0\0\0\0\0\0\0\x01\0\0\0\xFF\0\0\0more",
-        4,
-        "bad input invalid utf8 (8)",
-    ),
-    (LONG_NAME, 4, "type is too big (4294967294) for 4"),
-    (LONG_DESC, 4, "type is too big (4294967295) for 4"),
+const REFUSED: &[(&[u8], usize, &str)] = &rows![
+    BUILD, 16, SIXTEEN;
+    BUILD, 5, FIVE;
+    b"", 5, FIVE;
+    BUILD, usize::MAX, MOST;
+    b"\x04\0\0\0\x04\0\0\0\x03\0\0", 4, "type is too big (12) for 11";
+    b"", 4, "bad offset 0";
+    CUT_NAME, 4, "bad offset 20";
+    NO_TEXT, 4, "bad input invalid utf8 (2)";
+    b"\x02\0\0\0\0\0\0\0\x01\0\0\0\xFF\0\0\0more", 4, "bad input invalid utf8 (8)";
+    LONG_NAME, 4, "type is too big (4294967294) for 4";
+    LONG_DESC, 4, "type is too big (4294967295) for 4";
 ];
 
 #[test]
@@ -351,25 +335,13 @@ fn ends_with(rt: HostRuntime, mut notes: NoteDataIterator, text: &str) -> bool {
 }
 
 // The bytes of a range, its offset, size and alignment, and the text of its fault.
-const FAULTS: &[(&[u8], usize, usize, usize, &str)] = &[
-    (CUT_NAME, 0, 16, 4, "bad offset 20"),
-    (b"", 0, 5, 4, "bad offset 0"),
-    (
-        b"\x04\0\0\0\x10\0\0\0",
-        0,
-        132,
-        4,
-        "type is too big (12) for 8",
-    ),
+const FAULTS: &[(&[u8], usize, usize, usize, &str)] = &rows![
+    CUT_NAME, 0, 16, 4, "bad offset 20";
+    b"", 0, 5, 4, "bad offset 0";
+    b"\x04\0\0\0\x10\0\0\0", 0, 132, 4, "type is too big (12) for 8";
     // At the end of the bytes the alignment isn't looked at.
-    (THREE, 132, 133, 5, "bad offset 132"),
-    (
-        THREE,
-        usize::MAX - 1,
-        usize::MAX,
-        4,
-        "bad offset 18446744073709551614",
-    ),
+    THREE, 132, 133, 5, "bad offset 132";
+    THREE, usize::MAX - 1, usize::MAX, 4, "bad offset 18446744073709551614";
 ];
 
 #[test]
@@ -558,7 +530,7 @@ fn agrees(rt: HostRuntime, mut notes: NoteDataIterator) -> bool {
     differs(rt, &"more than 8 items", &"an end")
 }
 
-const ALIGNMENTS: [usize; 12] = [0, 1, 2, 3, 4, 5, 6, 7, 8, 9, 16, usize::MAX];
+static ALIGNMENTS: [usize; 12] = [0, 1, 2, 3, 4, 5, 6, 7, 8, 9, 16, usize::MAX];
 
 // Whether the notes of these bytes agree in each context, from each of some offsets up to each of some
 // sizes, by each alignment.
@@ -572,16 +544,17 @@ fn agree(rt: HostRuntime, bytes: &[u8], ctx: Ctx) -> bool {
         len.saturating_add(1),
         usize::MAX,
     ];
-    for offset in ends {
-        for size in ends {
-            for alignment in ALIGNMENTS {
+    for offset in &ends {
+        for size in &ends {
+            for alignment in &ALIGNMENTS {
                 let notes = NoteDataIterator {
                     bytes,
-                    size,
-                    offset,
-                    ctx: (alignment, ctx),
+                    size: *size,
+                    offset: *offset,
+                    ctx: (*alignment, ctx),
                 };
-                if !holds(rt, &(bytes, offset, size, alignment), agrees(rt, notes)) {
+                let row = (bytes, *offset, *size, *alignment);
+                if !holds(rt, &row, agrees(rt, notes)) {
                     return false;
                 }
             }
