@@ -3,7 +3,7 @@ use crate::compare::is;
 use goblin_base::container::{BE, Endian, LE};
 use goblin_base::number::{
     get_i32, get_i64, get_u8, get_u16, get_u32, get_u64, put_i32, put_i64, put_u8, put_u16,
-    put_u32, put_u64, signed_spellings, spellings,
+    put_u32, put_u64,
 };
 
 const COUNTED: &[u8; 9] = b"\xff\x01\x02\x03\x04\x05\x06\x07\x08";
@@ -46,12 +46,6 @@ fn puts(rt: HostRuntime, order: Endian, want: &[u8; 10]) -> bool {
 fn puts_numbers(rt: HostRuntime) {
     assert!(rt; puts(rt, LE, b"\xff\x22\x21\x12\x11\x04\x03\x02\x01\x31"));
     assert!(rt; puts(rt, BE, b"\xff\x21\x22\x13\x14\x05\x06\x07\x08\x31"));
-}
-
-#[test]
-fn calls_the_laws_of_numbers() {
-    spellings();
-    signed_spellings();
 }
 
 // Whether a signed number of eight bytes, with one of four put into its middle, leaves these bytes.
