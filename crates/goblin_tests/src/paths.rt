@@ -47,12 +47,10 @@ fn leads_to_the_records_below_each_module(rt: HostRuntime) {
     assert!(rt; takes::<elf::section_header::section_header64::SectionHeader>(rt, 64));
     assert!(rt; takes::<elf::sym::sym32::Sym>(rt, 16));
     assert!(rt; takes::<elf::sym::sym64::Sym>(rt, 24));
-    assert!(rt;
-        takes::<elf::reloc::reloc32::Rel>(rt, 8) && takes::<elf::reloc::reloc32::Rela>(rt, 12)
-    );
-    assert!(rt;
-        takes::<elf::reloc::reloc64::Rel>(rt, 16) && takes::<elf::reloc::reloc64::Rela>(rt, 24)
-    );
+    assert!(rt; takes::<elf::reloc::reloc32::Rel>(rt, 8));
+    assert!(rt; takes::<elf::reloc::reloc32::Rela>(rt, 12));
+    assert!(rt; takes::<elf::reloc::reloc64::Rel>(rt, 16));
+    assert!(rt; takes::<elf::reloc::reloc64::Rela>(rt, 24));
     assert!(rt; takes::<elf::note::Nhdr32>(rt, 12) && takes::<elf::note::Nhdr64>(rt, 24));
 }
 
@@ -90,13 +88,8 @@ fn leads_to_the_names_of_headers(rt: HostRuntime) {
         elf32::header::machine_to_str(62),
         elf64::header::machine_to_str(62),
     ];
-    assert!(rt;
-        is(
-            rt,
-            [classes, types, machines],
-            [["ELF64"; 3], ["EXEC"; 3], ["X86_64"; 3]]
-        )
-    );
+    let names = [["ELF64"; 3], ["EXEC"; 3], ["X86_64"; 3]];
+    assert!(rt; is(rt, [classes, types, machines], names));
 }
 
 #[test]
@@ -171,13 +164,8 @@ fn leads_to_the_parts_of_relocations(rt: HostRuntime) {
     assert!(rt; is(rt, elf32::reloc::r_info(0x123456, 0x1ff), info));
     assert!(rt; is(rt, elf::reloc::reloc32::r_sym(info), 0x123456));
     let info = 0x2A_0000_0007;
-    assert!(rt;
-        is(
-            rt,
-            (elf64::reloc::r_sym(info), elf64::reloc::r_type(info)),
-            (42, 7)
-        )
-    );
+    let parts = (elf64::reloc::r_sym(info), elf64::reloc::r_type(info));
+    assert!(rt; is(rt, parts, (42, 7)));
     assert!(rt; is(rt, elf64::reloc::r_info(42, 7), info));
     assert!(rt; is(rt, elf::reloc::reloc64::r_sym(info), 42));
     let (info, turned) = (0x0102030400000005, 0x0000000504030201);
@@ -197,14 +185,15 @@ fn leads_to_the_tables(rt: HostRuntime) {
 
 #[test]
 fn leads_to_what_all_modules_share(rt: HostRuntime) {
+    let orders = [LE, scroll::LE, BE, scroll::BE];
     assert!(rt;
         is(
             rt,
-            (LE, BE, CONTAINER),
-            (Endian::Little, Endian::Big, Container::Big)
+            orders,
+            [Endian::Little, Endian::Little, Endian::Big, Endian::Big]
         )
     );
-    assert!(rt; is(rt, (scroll::LE, scroll::BE), (Endian::Little, Endian::Big)));
+    assert!(rt; is(rt, CONTAINER, Container::Big));
     assert!(rt; ParseOptions::permissive().parse_mode == ParseMode::Permissive);
     let small = elf::header::Header::try_from_ctx(&[], LE);
     assert!(rt; matches!(small, Err(Error::Malformed(Fault::TooSmall))));
@@ -232,25 +221,10 @@ fn leads_to_the_headers_of_each_class(rt: HostRuntime) {
         elf::header::Header::size(LITTLE32),
     ];
     assert!(rt; is(rt, sizes, [52, 64, 52, 64, 52]));
-    assert!(rt;
-        is(
-            rt,
-            (elf32::header::ELFCLASS, elf64::header::ELFCLASS),
-            (1, 2)
-        )
-    );
-    assert!(rt;
-        is(
-            rt,
-            elf32::header::Header::from_bytes(&[0u8; 52]).e_entry,
-            0u32
-        )
-    );
-    assert!(rt;
-        is(
-            rt,
-            elf64::header::Header::from_bytes(&[0u8; 64]).e_entry,
-            0u64
-        )
-    );
+    let classes = (elf32::header::ELFCLASS, elf64::header::ELFCLASS);
+    assert!(rt; is(rt, classes, (1, 2)));
+    let header = elf32::header::Header::from_bytes(&[0u8; 52]);
+    assert!(rt; is(rt, header.e_entry, 0u32));
+    let header = elf64::header::Header::from_bytes(&[0u8; 64]);
+    assert!(rt; is(rt, header.e_entry, 0u64));
 }
