@@ -51,16 +51,9 @@ fn refuses_program_headers_without_room(rt: HostRuntime) {
     assert!(rt; lacks_room(rt, ProgramHeader::new(), LITTLE32, &SHORT[..31], text));
     let text = "type is too big (56) for 55";
     assert!(rt; lacks_room(rt, ProgramHeader::new(), BIG64, &SHORT[..55], text));
-    assert!(rt;
-        lacks_room(
-            rt,
-            ProgramHeader::new(),
-            LITTLE32,
-            &SHORT[..0],
-            "bad offset 0"
-        )
-    );
-    assert!(rt; lacks_room(rt, ProgramHeader::new(), BIG64, &SHORT[..0], "bad offset 0"));
+    let text = "bad offset 0";
+    assert!(rt; lacks_room(rt, ProgramHeader::new(), LITTLE32, &SHORT[..0], text));
+    assert!(rt; lacks_room(rt, ProgramHeader::new(), BIG64, &SHORT[..0], text));
 }
 
 #[test]
@@ -104,14 +97,8 @@ fn allows(header: &ProgramHeader) -> [bool; 3] {
 #[test]
 fn makes_program_headers(rt: HostRuntime) {
     let new = ProgramHeader::new();
-    let parts = (new.p_type, new.p_flags, new.p_align);
-    assert!(rt;
-        is(
-            rt,
-            (parts, allows(&new)),
-            ((1, 0, 2_097_152), [false, false, false])
-        )
-    );
+    let parts = (new.p_type, new.p_flags, new.p_align, allows(&new));
+    assert!(rt; is(rt, parts, (1, 0, 2_097_152, [false; 3])));
     let default = ProgramHeader::default();
     assert!(rt; is(rt, default.p_align, 0));
     assert!(rt; reads(rt, &[0; 56], BIG64, &default));
@@ -235,17 +222,19 @@ fn reads_raw_program_headers_up_to_the_end(rt: HostRuntime) {
 }
 
 #[test]
-fn reads_raw_program_headers_of_zeros(rt: HostRuntime) {
+fn reads_32_bit_program_headers_of_zeros(rt: HostRuntime) {
     let zeros = program_header32::ProgramHeader::default();
-    assert!(rt; is(rt, zeros.p_align, 0));
     let two = program_header32::ProgramHeader::parse(rt.alloc(), &[0; 64], 0, 2, LE);
-    assert!(rt; returns_list(rt, two, &[zeros, zeros]));
+    assert!(rt; zeros.p_align == 0 && returns_list(rt, two, &[zeros, zeros]));
     let two = program_header32::ProgramHeader::from_bytes(rt.alloc(), &[0; 64], 2);
     assert!(rt; returns_list(rt, two, &[zeros, zeros]));
+}
+
+#[test]
+fn reads_64_bit_program_headers_of_zeros(rt: HostRuntime) {
     let zeros = program_header64::ProgramHeader::default();
-    assert!(rt; is(rt, zeros.p_align, 0));
     let two = program_header64::ProgramHeader::parse(rt.alloc(), &[0; 112], 0, 2, BE);
-    assert!(rt; returns_list(rt, two, &[zeros, zeros]));
+    assert!(rt; zeros.p_align == 0 && returns_list(rt, two, &[zeros, zeros]));
     let two = program_header64::ProgramHeader::from_bytes(rt.alloc(), &[0; 112], 2);
     assert!(rt; returns_list(rt, two, &[zeros, zeros]));
 }
@@ -259,31 +248,30 @@ fn passes_on_the_names(rt: HostRuntime) {
     assert!(rt; is(rt, program_header::program_header64::SIZEOF_PHDR, 56));
 }
 
-// A segment whose bytes in the file are loaded at an address.
-fn loaded(p_type: u32, p_vaddr: u64, p_offset: u64, p_filesz: u64) -> ProgramHeader {
-    ProgramHeader {
-        p_type,
-        p_offset,
-        p_vaddr,
-        p_filesz,
-        ..segment()
-    }
-}
+// Segments by type, address, offset and file size: one that isn't loaded, two that overlap, and one past all offsets.
+static SEGMENTS: [(u32, u64, u64, u64); 4] = [
+    (2, 0x1000, 0x700, 0x100),
+    (PT_LOAD, 0x1000, 0x40, 0x10),
+    (PT_LOAD, 0x1008, 0x80, 0x20),
+    (PT_LOAD, 0x9000, u64::MAX - 1, 9),
+];
 
-// Appends the bytes of a segment.
-fn append(bytes: &mut Vec<u8>, segment: ProgramHeader) -> Answer<()> {
-    let mut written = [0; 56];
-    let _ = segment.try_into_ctx(&mut written, BIG64)?;
-    Ok(bytes.extend_from_slice(&written)?)
-}
-
-// The bytes of four segments: one that isn't loaded, two that overlap, and one past all offsets.
+// The bytes of these segments.
 fn segments(alloc: Global) -> Answer<Vec<u8>> {
     let mut bytes = Vec::new(alloc);
-    append(&mut bytes, loaded(2, 0x1000, 0x700, 0x100))?;
-    append(&mut bytes, loaded(PT_LOAD, 0x1000, 0x40, 0x10))?;
-    append(&mut bytes, loaded(PT_LOAD, 0x1008, 0x80, 0x20))?;
-    append(&mut bytes, loaded(PT_LOAD, 0x9000, u64::MAX - 1, 9))?;
+    for row in &SEGMENTS {
+        let (p_type, p_vaddr, p_offset, p_filesz) = *row;
+        let mut written = [0; 56];
+        let _ = ProgramHeader {
+            p_type,
+            p_offset,
+            p_vaddr,
+            p_filesz,
+            ..segment()
+        }
+        .try_into_ctx(&mut written, BIG64)?;
+        bytes.extend_from_slice(&written)?;
+    }
     Ok(bytes)
 }
 
@@ -294,22 +282,21 @@ fn loaded_from(rt: HostRuntime, address: u64) -> Answer<Option<usize>> {
     Ok(ProgramHeader::loaded_from(&table, address))
 }
 
-#[test]
-fn finds_offsets_by_addresses(rt: HostRuntime) {
-    assert!(rt; returns(rt, loaded_from(rt, 0xfff), None));
-    assert!(rt; returns(rt, loaded_from(rt, 0x1000), Some(0x40)));
-    assert!(rt; returns(rt, loaded_from(rt, 0x100f), Some(0x4f)));
-    assert!(rt; returns(rt, loaded_from(rt, 0x1010), Some(0x88)));
-    assert!(rt; returns(rt, loaded_from(rt, 0x1027), Some(0x9f)));
-    assert!(rt; returns(rt, loaded_from(rt, 0x1028), None));
-    assert!(rt; returns(rt, loaded_from(rt, 0x9001), Some(usize::MAX)));
-    assert!(rt; returns(rt, loaded_from(rt, 0x9008), Some(usize::MAX)));
-}
+// Addresses, and the offset of the byte at each.
+static OFFSETS: [(u64, Option<usize>); 8] = [
+    (0xfff, None),
+    (0x1000, Some(0x40)),
+    (0x100f, Some(0x4f)),
+    (0x1010, Some(0x88)),
+    (0x1027, Some(0x9f)),
+    (0x1028, None),
+    (0x9001, Some(usize::MAX)),
+    (0x9008, Some(usize::MAX)),
+];
 
 #[test]
-fn calls_the_laws_of_program_headers() {
-    program_header::constants();
-    program_header32::constants();
-    program_header64::constants();
-    program_header::laws();
+fn finds_offsets_by_addresses(rt: HostRuntime) {
+    for row in &OFFSETS {
+        assert!(rt; holds(rt, row, returns(rt, loaded_from(rt, row.0), row.1)));
+    }
 }
