@@ -1,5 +1,5 @@
 //! Cases with their results: relocations in their forms, the parts of an `r_info`, and relocation sections.
-use crate::compare::{differs, has_written, holds, is, reports, returns, returns_list};
+use crate::compare::{differs, has_written, holds, is, reports, returns, returns_list, rows};
 use crate::container::{BIG32, BIG64, LITTLE32, LITTLE64};
 use crate::record::{counts, has_form, is_apart, reads, refuses, with_each_default, writes};
 use crate::table::yields;
@@ -10,7 +10,7 @@ use goblin_base::container::{BE, Ctx, LE};
 use goblin_base::error::Result;
 use goblin_base::scroll::{IntoCtx, SizeWith, TryFromCtx};
 use goblin_records::reloc::{Reloc, RelocCtx};
-use goblin_records::{reloc, reloc32, reloc64};
+use goblin_records::{reloc32, reloc64};
 
 // A little endian relocation of the 32-bit class, with an addend.
 const RELA_LITTLE: &[u8] = b"\x10\0\0\0\x01\x02\0\0\xfc\xff\xff\xff";
@@ -130,24 +130,10 @@ fn goes_through(
 fn goes_through_the_pair_where_asked(rt: HostRuntime) {
     assert!(rt; goes_through(rt, without_addend(0, 2, 1), LITTLE32, false, REL));
     assert!(rt; goes_through(rt, without_addend(0, 1, 33554432), LITTLE32, true, REL));
-    assert!(rt;
-        goes_through(
-            rt,
-            without_addend(0x150f0, 51511296, 0),
-            LITTLE64,
-            false,
-            REL_MIPS
-        )
-    );
-    assert!(rt;
-        goes_through(
-            rt,
-            without_addend(0x150f0, 0, 0x1203),
-            LITTLE64,
-            true,
-            REL_MIPS
-        )
-    );
+    let whole = without_addend(0x150f0, 51511296, 0);
+    assert!(rt; goes_through(rt, whole, LITTLE64, false, REL_MIPS));
+    let pair = without_addend(0x150f0, 0, 0x1203);
+    assert!(rt; goes_through(rt, pair, LITTLE64, true, REL_MIPS));
 }
 
 #[test]
@@ -179,46 +165,19 @@ fn reads_raw_relocations(rt: HostRuntime) {
 #[test]
 fn writes_the_low_bits_and_a_missing_addend_as_0(rt: HostRuntime) {
     let bytes = b"\x10\0\0\0\xff\x56\x34\x12\0\0\0\0";
-    assert!(rt;
-        writes(
-            rt,
-            without_addend(16, 0x123456, 0x1ff),
-            (true, LITTLE32),
-            bytes
-        )
-    );
+    let reloc = without_addend(16, 0x123456, 0x1ff);
+    assert!(rt; writes(rt, reloc, (true, LITTLE32), bytes));
 }
 
 #[test]
 fn changes_nothing_where_a_relocation_has_no_room(rt: HostRuntime) {
     assert!(rt; refuses(rt, CALL, (true, LITTLE32), 7, "type is too big (12) for 7"));
-    assert!(rt;
-        refuses(
-            rt,
-            CALL,
-            without(BIG64, true),
-            7,
-            "type is too big (16) for 7"
-        )
-    );
-    assert!(rt;
-        refuses(
-            rt,
-            reloc32::Rel::from(CALL),
-            LE,
-            7,
-            "type is too big (8) for 7"
-        )
-    );
-    assert!(rt;
-        refuses(
-            rt,
-            reloc64::Rela::from(CALL),
-            BE,
-            7,
-            "type is too big (24) for 7"
-        )
-    );
+    let pair = without(BIG64, true);
+    assert!(rt; refuses(rt, CALL, pair, 7, "type is too big (16) for 7"));
+    let raw = reloc32::Rel::from(CALL);
+    assert!(rt; refuses(rt, raw, LE, 7, "type is too big (8) for 7"));
+    let raw = reloc64::Rela::from(CALL);
+    assert!(rt; refuses(rt, raw, BE, 7, "type is too big (24) for 7"));
 }
 
 #[test]
@@ -240,17 +199,9 @@ fn converts_to_raw_relocations_and_back(rt: HostRuntime) {
 
 #[test]
 fn splits_and_joins_an_info(rt: HostRuntime) {
-    reloc::laws();
-    reloc32::laws();
-    reloc64::laws();
     let info = 0x123456ff;
-    assert!(rt;
-        is(
-            rt,
-            (reloc32::r_sym(info), reloc32::r_type(info)),
-            (0x123456, 0xff)
-        )
-    );
+    let parts = (reloc32::r_sym(info), reloc32::r_type(info));
+    assert!(rt; is(rt, parts, (0x123456, 0xff)));
     assert!(rt; is(rt, reloc32::r_info(0x123456, 0x1ff), info));
     let info = 0x0000002A00000007;
     assert!(rt; is(rt, (reloc64::r_sym(info), reloc64::r_type(info)), (42, 7)));
@@ -273,13 +224,8 @@ fn turns_an_info_of_mips64el(rt: HostRuntime) {
     }
     let info = 0x0102030400000005;
     assert!(rt; is(rt, turn(turn(turn(turn(info)))), info));
-    assert!(rt;
-        is(
-            rt,
-            reloc64::mips64el_r_info_inverse(0x0000000504030201),
-            info
-        )
-    );
+    let back = reloc64::mips64el_r_info_inverse(0x0000000504030201);
+    assert!(rt; is(rt, back, info));
 }
 
 #[test]
@@ -307,27 +253,17 @@ fn after_zeros(bytes: &[u8], is_mips64el: bool) -> Result<RelocSection<'_>> {
 
 // How many bytes there are, the offset and the size of a section of relocations with addends of the 64-bit class, and
 // how many it has, or why it is refused.
-static COUNTED: [(usize, usize, usize, std::result::Result<usize, &str>); 10] = [
-    (50, 0, 50, Ok(2)),
-    (50, 1000, 0, Ok(0)),
-    (48, 0, 47, Ok(1)),
-    (48, 47, 1, Ok(0)),
-    (48, usize::MAX, 0, Ok(0)),
-    (50, 40, 24, Err("type is too big (24) for 10")),
-    (
-        50,
-        1,
-        usize::MAX,
-        Err("type is too big (18446744073709551615) for 49"),
-    ),
-    (48, 0, 49, Err("type is too big (49) for 48")),
-    (48, 48, 1, Err("bad offset 48")),
-    (
-        48,
-        usize::MAX,
-        usize::MAX,
-        Err("bad offset 18446744073709551615"),
-    ),
+static COUNTED: [(usize, usize, usize, std::result::Result<usize, &str>); 10] = rows![
+    50, 0, 50, Ok(2);
+    50, 1000, 0, Ok(0);
+    48, 0, 47, Ok(1);
+    48, 47, 1, Ok(0);
+    48, usize::MAX, 0, Ok(0);
+    50, 40, 24, Err("type is too big (24) for 10");
+    50, 1, usize::MAX, Err("type is too big (18446744073709551615) for 49");
+    48, 0, 49, Err("type is too big (49) for 48");
+    48, 48, 1, Err("bad offset 48");
+    48, usize::MAX, usize::MAX, Err("bad offset 18446744073709551615");
 ];
 
 #[test]
@@ -370,7 +306,6 @@ fn has_one(rt: HostRuntime, is_mips64el: bool, want: &Reloc) -> bool {
 
 #[test]
 fn returns_a_relocation_of_the_pair_in_each_way(rt: HostRuntime) {
-    elf::reloc::laws();
     assert!(rt; has_one(rt, false, &without_addend(0x150f0, 51511296, 0)));
     assert!(rt; has_one(rt, true, &without_addend(0x150f0, 0, 0x1203)));
 }
@@ -398,13 +333,8 @@ fn counts_with_the_iterator_alone(rt: HostRuntime) {
     let Ok(zeros) = RelocSection::parse(MIPS, 0, 63, false, LITTLE64) else {
         return assert!(rt; false);
     };
-    assert!(rt;
-        is(
-            rt,
-            (zeros.iter().count(), without_symbol(&zeros)),
-            (3, (3, 2))
-        )
-    );
+    let counts = (zeros.iter().count(), without_symbol(&zeros));
+    assert!(rt; is(rt, counts, (3, (3, 2))));
     let left = relocs_of(MIPS).and_then(|mut left| left.next());
     assert!(rt; is(rt, left, Some(without_addend(0x150f0, 51511296, 0))));
 }
@@ -412,13 +342,8 @@ fn counts_with_the_iterator_alone(rt: HostRuntime) {
 #[test]
 fn has_no_relocations_by_default(rt: HostRuntime) {
     let none = RelocSection::default();
-    assert!(rt;
-        is(
-            rt,
-            (none.is_empty(), none.len(), none.get(0)),
-            (true, 0, None)
-        )
-    );
+    let parts = (none.is_empty(), none.len(), none.get(0));
+    assert!(rt; is(rt, parts, (true, 0, None)));
     assert!(rt; is(rt, none.iter().next(), None));
 }
 
@@ -454,16 +379,11 @@ fn knows_a_mips64el_file(rt: HostRuntime) {
 
 #[test]
 fn has_the_raw_relocations_under_the_paths_of_each_class(rt: HostRuntime) {
-    assert!(rt;
-        is(
-            rt,
-            [elf32::reloc::SIZEOF_RELA, elf64::reloc::SIZEOF_RELA],
-            [12, 24]
-        )
-    );
     let sizes = [
+        elf32::reloc::SIZEOF_RELA,
+        elf64::reloc::SIZEOF_RELA,
         elf::reloc::reloc32::SIZEOF_REL,
         elf::reloc::reloc64::SIZEOF_REL,
     ];
-    assert!(rt; is(rt, sizes, [8, 16]));
+    assert!(rt; is(rt, sizes, [12, 24, 8, 16]));
 }
