@@ -1,9 +1,9 @@
 //! Cases of string tables with their results.
-use crate::compare::{differs, holds, is, reports, returns, returns_list};
+use crate::compare::{differs, holds, is, reports, returns, returns_list, rows};
 use goblin_base::error::Result;
 use goblin_base::options::{ParseMode, ParseOptions};
 use goblin_base::strtab::{
-    Strtab, WantedName, bytes_in_range, is_piece, laws, range_of, starts_piece, string_at,
+    Strtab, WantedName, bytes_in_range, is_piece, range_of, starts_piece, string_at,
 };
 
 // "\nƒoo\nmemmove\n🅱️usta\n"
@@ -36,11 +36,6 @@ fn lists_the_strings(rt: HostRuntime) {
     assert!(rt; returns_list(rt, Strtab::new(NAMES, 0).to_vec(rt.alloc()), SECTIONS));
     assert!(rt; splits(rt, b"\0printf\0memmove\0busta", 0, &BUSTA));
     assert!(rt; splits(rt, b"printf\0memmove\0busta", 0, &BUSTA[1..]));
-}
-
-#[test]
-fn calls_the_laws_of_string_tables() {
-    laws();
 }
 
 // Whether these bytes, between newlines, are refused as a table with this line.
@@ -192,40 +187,18 @@ fn compares_strings_with_names(rt: HostRuntime) {
 }
 
 // Ranges of four bytes that are no tables, by offset and length, and why.
-const REFUSED: &[(usize, usize, &str)] = &[
-    (
-        5,
-        0,
-        "Malformed entity: String table offset (5) is beyond file boundary (4)",
-    ),
-    (
-        2,
-        3,
-        "Malformed entity: Strtable size (3) + offset (2) is out of bounds for 4 #bytes. Overflowed: false",
-    ),
-    (
-        4,
-        1,
-        "Malformed entity: Strtable size (1) + offset (4) is out of bounds for 4 #bytes. Overflowed: false",
-    ),
-    (
-        0,
-        usize::MAX,
-        "Malformed entity: Strtable size (18446744073709551615) + offset (0) is out of bounds for 4 #bytes. \
-        Overflowed: false",
-    ),
-    (
-        1,
-        usize::MAX,
-        "Malformed entity: Strtable size (18446744073709551615) + offset (1) is out of bounds for 4 #bytes. \
-        Overflowed: true",
-    ),
-    (
-        4,
-        usize::MAX,
-        "Malformed entity: Strtable size (18446744073709551615) + offset (4) is out of bounds for 4 #bytes. \
-        Overflowed: true",
-    ),
+const REFUSED: &[(usize, usize, &str)] = &rows![
+    5, 0, "Malformed entity: String table offset (5) is beyond file boundary (4)";
+    2, 3,
+        "Malformed entity: Strtable size (3) + offset (2) is out of bounds for 4 #bytes. Overflowed: false";
+    4, 1,
+        "Malformed entity: Strtable size (1) + offset (4) is out of bounds for 4 #bytes. Overflowed: false";
+    0, usize::MAX,
+        "Malformed entity: Strtable size (18446744073709551615) + offset (0) is out of bounds for 4 #bytes. Overflowed: false";
+    1, usize::MAX,
+        "Malformed entity: Strtable size (18446744073709551615) + offset (1) is out of bounds for 4 #bytes. Overflowed: true";
+    4, usize::MAX,
+        "Malformed entity: Strtable size (18446744073709551615) + offset (4) is out of bounds for 4 #bytes. Overflowed: true";
 ];
 
 // Whether the piece at an offset is this text, and whether it begins with it.
