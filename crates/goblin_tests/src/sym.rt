@@ -6,7 +6,6 @@ use crate::record::{
     SHORT, has_form, is_apart, lacks_room, lists, refuses, with_each_default, writes,
 };
 use crate::table::yields;
-use goblin::elf;
 use goblin::elf::sym::Symtab;
 use goblin_base::container::{BE, Ctx, LE};
 use goblin_base::error::Result;
@@ -17,7 +16,7 @@ use goblin_base::table::Table;
 use goblin_records::sym::{
     STB_GLOBAL, STB_WEAK, STT_FUNC, Sym, get_type, is_import, st_bind, st_type, st_visibility,
 };
-use goblin_records::{sym, sym32, sym64};
+use goblin_records::{sym32, sym64};
 
 // A symbol of zeros.
 pub(crate) const ZERO: Sym = Sym {
@@ -130,14 +129,8 @@ const LOW: sym32::Sym = sym32::Sym {
 #[test]
 fn writes_the_low_bits(rt: HostRuntime) {
     assert!(rt; is(rt, sym32::Sym::from(FAR), LOW));
-    assert!(rt;
-        writes(
-            rt,
-            FAR,
-            LITTLE32,
-            b"\x02\0\0\0\x07\0\0\0\x09\0\0\0\x03\x04\x05\0"
-        )
-    );
+    let low = b"\x02\0\0\0\x07\0\0\0\x09\0\0\0\x03\x04\x05\0";
+    assert!(rt; writes(rt, FAR, LITTLE32, low));
     // A section whose number passes two bytes.
     let far = Sym {
         st_shndx: 0x12345,
@@ -148,24 +141,10 @@ fn writes_the_low_bits(rt: HostRuntime) {
 
 #[test]
 fn refuses_and_changes_nothing(rt: HostRuntime) {
-    assert!(rt;
-        lacks_room(
-            rt,
-            FUNCTION,
-            LITTLE32,
-            &SHORT[..15],
-            "type is too big (16) for 15"
-        )
-    );
-    assert!(rt;
-        lacks_room(
-            rt,
-            FUNCTION,
-            BIG64,
-            &SHORT[..23],
-            "type is too big (24) for 23"
-        )
-    );
+    let text = "type is too big (16) for 15";
+    assert!(rt; lacks_room(rt, FUNCTION, LITTLE32, &SHORT[..15], text));
+    let text = "type is too big (24) for 23";
+    assert!(rt; lacks_room(rt, FUNCTION, BIG64, &SHORT[..23], text));
     assert!(rt; lacks_room(rt, FUNCTION, BIG32, &SHORT[..0], "bad offset 0"));
     let raw = sym32::Sym::from(FUNCTION);
     assert!(rt; refuses(rt, raw, BE, 15, "type is too big (16) for 15"));
@@ -183,8 +162,11 @@ const NONE_AT_MAX: &str = "bad offset 18446744073709551615";
 
 const MANY: &str = "Buffer is too short for 18446744073709551615 symbols";
 
+// How many there are, or why there are none.
+type Counted = std::result::Result<usize, &'static str>;
+
 // From where on and how many symbols are read from 48 bytes, and how many they are or why there are none.
-static READ: [(usize, usize, std::result::Result<usize, &str>); 10] = [
+static READ: [(usize, usize, Counted); 10] = [
     (0, 2, Ok(2)),
     (24, 1, Ok(1)),
     (48, 0, Ok(0)),
@@ -270,30 +252,12 @@ fn imports(rt: HostRuntime, info: u8, value: u64, wanted: bool) -> bool {
 }
 
 #[test]
-fn calls_the_laws_of_symbols() {
-    sym::constants();
-    sym32::constants();
-    sym64::constants();
-    elf::sym::constants();
-    sym::laws();
-    sym32::laws();
-    sym64::laws();
-    elf::sym::laws();
-    elf::sym::addresses();
-}
-
-#[test]
 fn reads_the_parts_of_symbols(rt: HostRuntime) {
-    for (info, bind, typ) in [(0x12, 1, 2), (0x30, 3, 0), (0xfe, 15, 14)] {
-        assert!(rt; has_parts(rt, info, bind, typ));
-    }
-    assert!(rt;
-        is(
-            rt,
-            (st_visibility(0x0b), sym32::st_visibility(0xf8)),
-            (3, 0)
-        )
-    );
+    assert!(rt; has_parts(rt, 0x12, 1, 2));
+    assert!(rt; has_parts(rt, 0x30, 3, 0));
+    assert!(rt; has_parts(rt, 0xfe, 15, 14));
+    let free = (st_visibility(0x0b), sym32::st_visibility(0xf8));
+    assert!(rt; is(rt, free, (3, 0)));
     assert!(rt; is(rt, (FUNCTION.st_visibility(), WIDE.st_visibility()), (0, 3)));
 }
 
@@ -311,13 +275,8 @@ fn finds_imports(rt: HostRuntime) {
         assert!(rt; holds(rt, row, imports(rt, row.0, row.1, row.2)));
     }
     // The free function counts global symbols alone.
-    assert!(rt;
-        is(
-            rt,
-            (is_import(0x12, 0), sym64::is_import(0x10, 0)),
-            (true, true)
-        )
-    );
+    let imports = [is_import(0x12, 0), sym64::is_import(0x10, 0)];
+    assert!(rt; is(rt, imports, [true; 2]));
     let others = [
         is_import(0x22, 0),
         is_import(0x12, 1),
@@ -362,7 +321,7 @@ fn is_accepted(
     offset: usize,
     asked: usize,
     opts: &ParseOptions,
-    wanted: &std::result::Result<usize, &str>,
+    wanted: &Counted,
 ) -> bool {
     match (
         Symtab::parse_with_opts(&ZEROS[..len.min(50)], offset, asked, LITTLE64, opts),
@@ -393,12 +352,7 @@ const LAST: &str =
     "Malformed entity: Symbol table extends beyond file boundary (requested: 24, available: 1)";
 
 // How many bytes there are, the offset and the count of a table, and how many symbols it has, or the line.
-type Asked = (
-    usize,
-    usize,
-    usize,
-    std::result::Result<usize, &'static str>,
-);
+type Asked = (usize, usize, usize, Counted);
 
 static STRICT: [Asked; 8] = [
     (48, 0, 2, Ok(2)),
