@@ -3,7 +3,7 @@
 ghost use Rattle.std.specs.Prelude.{◌≡◌, ◌≤◌, length};
 
 use crate::compare::{are_alike, differs, holds, is, number, reports, returns_list};
-use crate::container::{BIG32, BIG64, LITTLE32, LITTLE64};
+use crate::container::{CONTEXTS, LITTLE64};
 use crate::sym::{FUNCTION, WIDE, ZERO};
 use goblin::elf::program_header::{ProgramHeader, program_header32, program_header64};
 use goblin::elf::reloc::{Reloc, RelocCtx, RelocSection};
@@ -93,18 +93,15 @@ fn tabulates(rt: HostRuntime, ctx: Ctx) -> bool {
 
 #[test]
 fn returns_symbols_by_index_as_a_vector_and_in_turn(rt: HostRuntime) {
-    for ctx in [LITTLE32, BIG32, LITTLE64, BIG64] {
-        assert!(rt; tabulates(rt, ctx));
+    for ctx in &CONTEXTS {
+        assert!(rt; tabulates(rt, *ctx));
     }
+    // The laws of all records hold of these too.
+    read_back::<Sym, Ctx>();
+    same_range::<Sym, Ctx>();
     // Of just so many bytes, and of none.
     assert!(rt; has_all(rt, &Table::of(&[0; 48], 2, LITTLE64), &[ZERO, ZERO]));
     assert!(rt; has_all(rt, &Table::of(&[], 0, LITTLE64), &[]));
-}
-
-#[test]
-fn calls_the_laws_of_tables() {
-    read_back::<Sym, Ctx>();
-    same_range::<Sym, Ctx>();
 }
 
 static ZEROS: [u8; 262_272] = [0; 262_272];
@@ -124,40 +121,47 @@ fn lists<T: Debug + Drop>(rt: HostRuntime, name: &str, list: Result<Vec<T>>, cou
     }
 }
 
+// Whether each of these calls gives a list of so many items.
+macro_rules! all_list {
+    ($rt:expr, $count:expr; $($name:literal => $list:expr;)+) => {
+        $(lists($rt, $name, $list, $count))&&+
+    };
+}
+
 // Whether each call that takes memory gives a list of so many items: of program headers, and below of others.
 fn lists_segments(rt: HostRuntime, count: usize) -> bool {
-    let list = ProgramHeader::parse(rt.alloc(), zeros(), 0, count, LITTLE64);
-    let list32 = program_header32::ProgramHeader::parse(rt.alloc(), zeros(), 0, count, LE);
-    let list64 = program_header64::ProgramHeader::parse(rt.alloc(), zeros(), 0, count, LE);
-    lists(rt, "segments", list, count)
-        && lists(rt, "32-bit segments", list32, count)
-        && lists(rt, "64-bit segments", list64, count)
+    all_list![rt, count;
+        "segments" => ProgramHeader::parse(rt.alloc(), zeros(), 0, count, LITTLE64);
+        "32-bit segments" => program_header32::ProgramHeader::parse(rt.alloc(), zeros(), 0, count, LE);
+        "64-bit segments" => program_header64::ProgramHeader::parse(rt.alloc(), zeros(), 0, count, LE);
+    ]
 }
 
 // Section headers that none are asked of are one, whose size says how many there are.
 fn lists_sections(rt: HostRuntime, count: usize) -> bool {
-    let list = SectionHeader::parse(rt.alloc(), zeros(), 64, count, LITTLE64);
-    let from = SectionHeader::parse_from(rt.alloc(), zeros(), 0, count, LITTLE64);
-    lists(rt, "sections", list, count.max(1))
-        && lists(rt, "sections from the first", from, count.max(1))
+    let most = count.max(1);
+    all_list![rt, most;
+        "sections" => SectionHeader::parse(rt.alloc(), zeros(), 64, count, LITTLE64);
+        "sections from the first" => SectionHeader::parse_from(rt.alloc(), zeros(), 0, count, LITTLE64);
+    ]
 }
 
 fn lists_segments_of_bytes(rt: HostRuntime, count: usize) -> bool
     requires { count ≤ 4097 }
 {
-    let list32 = program_header32::ProgramHeader::from_bytes(rt.alloc(), zeros(), count);
-    let list64 = program_header64::ProgramHeader::from_bytes(rt.alloc(), zeros(), count);
-    lists(rt, "32-bit segments of bytes", list32, count)
-        && lists(rt, "64-bit segments of bytes", list64, count)
+    all_list![rt, count;
+        "32-bit segments of bytes" => program_header32::ProgramHeader::from_bytes(rt.alloc(), zeros(), count);
+        "64-bit segments of bytes" => program_header64::ProgramHeader::from_bytes(rt.alloc(), zeros(), count);
+    ]
 }
 
 fn lists_sections_of_bytes(rt: HostRuntime, count: usize) -> bool
     requires { count ≤ 4097 }
 {
-    let list32 = section_header32::SectionHeader::from_bytes(rt.alloc(), zeros(), count);
-    let list64 = section_header64::SectionHeader::from_bytes(rt.alloc(), zeros(), count);
-    lists(rt, "32-bit sections of bytes", list32, count)
-        && lists(rt, "64-bit sections of bytes", list64, count)
+    all_list![rt, count;
+        "32-bit sections of bytes" => section_header32::SectionHeader::from_bytes(rt.alloc(), zeros(), count);
+        "64-bit sections of bytes" => section_header64::SectionHeader::from_bytes(rt.alloc(), zeros(), count);
+    ]
 }
 
 fn symtab_of_zeros(rt: HostRuntime, count: usize) -> Result<Vec<Sym>> {
@@ -173,15 +177,12 @@ fn relocations_of_zeros(rt: HostRuntime, count: usize) -> Result<Vec<Reloc>>
 fn lists_records(rt: HostRuntime, count: usize) -> bool
     requires { count ≤ 4097 }
 {
-    let records = Table::<Sym, Ctx>::of(zeros(), count, LITTLE64).to_vec(rt.alloc());
-    lists(
-        rt,
-        "symbols",
-        Sym::parse(rt.alloc(), zeros(), 0, count, LITTLE64),
-        count,
-    ) && lists(rt, "a symbol table", symtab_of_zeros(rt, count), count)
-        && lists(rt, "relocations", relocations_of_zeros(rt, count), count)
-        && lists(rt, "records", records, count)
+    all_list![rt, count;
+        "symbols" => Sym::parse(rt.alloc(), zeros(), 0, count, LITTLE64);
+        "a symbol table" => symtab_of_zeros(rt, count);
+        "relocations" => relocations_of_zeros(rt, count);
+        "records" => Table::<Sym, Ctx>::of(zeros(), count, LITTLE64).to_vec(rt.alloc());
+    ]
 }
 
 // The strings of a table that was parsed. Each of so many zeros ends a string.
@@ -200,15 +201,11 @@ fn lists_strings(rt: HostRuntime, count: usize) -> bool
     requires { count ≤ 4097 }
 {
     let bytes = &zeros()[..count];
-    lists(rt, "strings", strings_of(rt, bytes), count)
-        && lists(
-            rt,
-            "strings of no parse",
-            Strtab::new(bytes, 0).to_vec(rt.alloc()),
-            count,
-        )
-        && walks(rt, bytes, ParseMode::Strict)
-        && walks(rt, bytes, ParseMode::Permissive)
+    let are_listed = all_list![rt, count;
+        "strings" => strings_of(rt, bytes);
+        "strings of no parse" => Strtab::new(bytes, 0).to_vec(rt.alloc());
+    ];
+    are_listed && walks(rt, bytes, ParseMode::Strict) && walks(rt, bytes, ParseMode::Permissive)
 }
 
 fn lists_headers(rt: HostRuntime, count: usize) -> bool
@@ -680,14 +677,11 @@ fn agrees(rt: HostRuntime, call: Call, case: &Case) -> bool {
 // The same for each offset and count that is tried with these bytes.
 fn agrees_at_ends(rt: HostRuntime, name: &str, call: Call, bytes: &[u8], ctx: Ctx) -> bool {
     let ends = ends_of(bytes.len());
-    for offset in ends {
-        for count in ends {
-            let case = (bytes, offset, count, ctx);
-            if !holds(
-                rt,
-                &(name, bytes.len(), offset, count, ctx),
-                agrees(rt, call, &case),
-            ) {
+    for offset in &ends {
+        for count in &ends {
+            let case = (bytes, *offset, *count, ctx);
+            let row = (name, bytes.len(), *offset, *count, ctx);
+            if !holds(rt, &row, agrees(rt, call, &case)) {
                 return false;
             }
         }
@@ -697,12 +691,12 @@ fn agrees_at_ends(rt: HostRuntime, name: &str, call: Call, bytes: &[u8], ctx: Ct
 
 // The same for each length, class and byte order.
 fn keeps_its_rule(rt: HostRuntime, name: &str, call: Call) -> bool {
-    for len in LENGTHS {
-        let Some(bytes) = BYTES.get(..len) else {
+    for len in &LENGTHS {
+        let Some(bytes) = BYTES.get(..*len) else {
             return false;
         };
-        for ctx in [LITTLE32, BIG32, LITTLE64, BIG64] {
-            if !agrees_at_ends(rt, name, call, bytes, ctx) {
+        for ctx in &CONTEXTS {
+            if !agrees_at_ends(rt, name, call, bytes, *ctx) {
                 return false;
             }
         }
