@@ -1,6 +1,6 @@
 //! Cases of the walk and the search with their counts, and all short strings against a plain walk that tries
 //! the whole piece at every byte.
-use crate::compare::{differs, holds, is};
+use crate::compare::{differs, holds, is, rows};
 use goblin_base::entries::{Entries, Looked, Probes};
 use goblin_base::error::{Error, Result};
 use goblin_base::find::find;
@@ -64,30 +64,15 @@ fn refuses(rt: HostRuntime, bytes: &[u8], delim: u8, bad: usize) -> bool {
 }
 
 // Damaged pieces, their delimiter, the most looks, and their entries.
-const DAMAGED: &[(&[u8], u8, u128, &[(usize, &str)])] = &[
-    (b"a\xFFb\0", 0, 20, &[(0, ""), (1, ""), (2, "b")]),
-    (
-        b"\xE1\x80\xC2\xA2",
-        0,
-        20,
-        &[(0, ""), (1, ""), (2, "\u{a2}")],
-    ),
-    (b"\xE2\x82\xAC", 0x82, 15, &[(0, ""), (1, ""), (2, "")]),
-    (
-        b"\xF0\x9F\x85 ",
-        0,
-        20,
-        &[(0, ""), (1, ""), (2, ""), (3, " ")],
-    ),
-    (
-        b"\xF4\x90\x80\x80",
-        0,
-        20,
-        &[(0, ""), (1, ""), (2, ""), (3, "")],
-    ),
-    (b"\xED\xA0\x80", 0, 15, &[(0, ""), (1, ""), (2, "")]),
-    (b"\xED\x90\x80 ", 0, 20, &[(0, "\u{d400} ")]),
-    (b"\xC2a", b'a', 10, &[(0, ""), (1, "")]),
+const DAMAGED: &[(&[u8], u8, u128, &[(usize, &str)])] = &rows![
+    b"a\xFFb\0", 0, 20, &[(0, ""), (1, ""), (2, "b")];
+    b"\xE1\x80\xC2\xA2", 0, 20, &[(0, ""), (1, ""), (2, "\u{a2}")];
+    b"\xE2\x82\xAC", 0x82, 15, &[(0, ""), (1, ""), (2, "")];
+    b"\xF0\x9F\x85 ", 0, 20, &[(0, ""), (1, ""), (2, ""), (3, " ")];
+    b"\xF4\x90\x80\x80", 0, 20, &[(0, ""), (1, ""), (2, ""), (3, "")];
+    b"\xED\xA0\x80", 0, 15, &[(0, ""), (1, ""), (2, "")];
+    b"\xED\x90\x80 ", 0, 20, &[(0, "\u{d400} ")];
+    b"\xC2a", b'a', 10, &[(0, ""), (1, "")];
 ];
 
 #[test]
@@ -412,9 +397,11 @@ fn agrees_on_all(rt: HostRuntime, len: usize, count: usize) -> bool {
 
 #[test]
 fn agrees_on_all_short_strings(rt: HostRuntime) {
-    for (len, count) in [(0, 1), (1, 13), (2, 169), (3, 2197), (4, 28561)] {
-        assert!(rt; agrees_on_all(rt, len, count));
-    }
+    assert!(rt; agrees_on_all(rt, 0, 1));
+    assert!(rt; agrees_on_all(rt, 1, 13));
+    assert!(rt; agrees_on_all(rt, 2, 169));
+    assert!(rt; agrees_on_all(rt, 3, 2197));
+    assert!(rt; agrees_on_all(rt, 4, 28561));
 }
 
 // Whether it holds of so many repetitions of some bytes.
@@ -430,9 +417,10 @@ fn agrees_repeated(rt: HostRuntime, part: &[u8], count: usize) -> bool {
 
 #[test]
 fn agrees_on_long_strings(rt: HostRuntime) {
-    for count in [9, 10, 100, 4096] {
-        assert!(rt; agrees_repeated(rt, b"\x80", count));
-    }
+    assert!(rt; agrees_repeated(rt, b"\x80", 9));
+    assert!(rt; agrees_repeated(rt, b"\x80", 10));
+    assert!(rt; agrees_repeated(rt, b"\x80", 100));
+    assert!(rt; agrees_repeated(rt, b"\x80", 4096));
     assert!(rt; agrees_repeated(rt, b"\xE1\x80", 2048));
     assert!(rt; agrees_repeated(rt, b"\xF0\x9F\x85", 1365));
 }
