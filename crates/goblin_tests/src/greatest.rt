@@ -9,7 +9,8 @@ use goblin::elf::section_header::SectionHeader;
 use goblin::elf::sym::Sym;
 use goblin::{elf32, elf64};
 use goblin_base::container::{BE, Container, Ctx, Endian, LE};
-use goblin_base::scroll::{TryFromCtx, TryIntoCtx};
+use goblin_base::scroll::{SizeWith, TryFromCtx, TryIntoCtx};
+use std::fmt::Debug;
 
 // The greatest numbers of one, two, three, four and eight bytes.
 const BYTE: u8 = 255;
@@ -24,6 +25,21 @@ const LONG: u64 = 18_446_744_073_709_551_615;
 
 // As many bytes of all ones as the largest record has.
 static ONES: [u8; 64] = [0xff; 64];
+
+// Whether a raw record's bytes are so many in either byte order, all ones.
+fn has_ones<
+    'a,
+    R: TryFromCtx<'a, Endian>
+        + TryIntoCtx<Endian>
+        + SizeWith<Endian>
+        + Copy
+        + PartialEq
+        + Debug
+        + Drop,
+>(rt: HostRuntime, raw: R, size: usize) -> bool {
+    let ones = &ONES[..size.min(64)];
+    has_form(rt, raw, LE, ones) && has_form(rt, raw, BE, ones)
+}
 
 fn symbol(word: u64) -> Sym {
     Sym {
@@ -46,24 +62,8 @@ fn greatest_symbols(rt: HostRuntime) {
     let word = u64::from(WORD);
     assert!(rt; has_symbol(rt, word, LITTLE32, 16) && has_symbol(rt, word, BIG32, 16));
     assert!(rt; has_symbol(rt, LONG, LITTLE64, 24) && has_symbol(rt, LONG, BIG64, 24));
-    let raw = elf32::sym::Sym {
-        st_name: WORD,
-        st_value: WORD,
-        st_size: WORD,
-        st_info: BYTE,
-        st_other: BYTE,
-        st_shndx: HALF,
-    };
-    assert!(rt; has_form(rt, raw, LE, &ONES[..16]) && has_form(rt, raw, BE, &ONES[..16]));
-    let raw = elf64::sym::Sym {
-        st_name: WORD,
-        st_info: BYTE,
-        st_other: BYTE,
-        st_shndx: HALF,
-        st_value: LONG,
-        st_size: LONG,
-    };
-    assert!(rt; has_form(rt, raw, LE, &ONES[..24]) && has_form(rt, raw, BE, &ONES[..24]));
+    assert!(rt; has_ones(rt, elf32::sym::Sym::from(symbol(word)), 16));
+    assert!(rt; has_ones(rt, elf64::sym::Sym::from(symbol(LONG)), 24));
 }
 
 fn section(word: u64) -> SectionHeader {
@@ -90,32 +90,10 @@ fn greatest_section_headers(rt: HostRuntime) {
     let word = u64::from(WORD);
     assert!(rt; has_section(rt, word, LITTLE32, 40) && has_section(rt, word, BIG32, 40));
     assert!(rt; has_section(rt, LONG, LITTLE64, 64) && has_section(rt, LONG, BIG64, 64));
-    let raw = elf32::section_header::SectionHeader {
-        sh_name: WORD,
-        sh_type: WORD,
-        sh_flags: WORD,
-        sh_addr: WORD,
-        sh_offset: WORD,
-        sh_size: WORD,
-        sh_link: WORD,
-        sh_info: WORD,
-        sh_addralign: WORD,
-        sh_entsize: WORD,
-    };
-    assert!(rt; has_form(rt, raw, LE, &ONES[..40]) && has_form(rt, raw, BE, &ONES[..40]));
-    let raw = elf64::section_header::SectionHeader {
-        sh_name: WORD,
-        sh_type: WORD,
-        sh_flags: LONG,
-        sh_addr: LONG,
-        sh_offset: LONG,
-        sh_size: LONG,
-        sh_link: WORD,
-        sh_info: WORD,
-        sh_addralign: LONG,
-        sh_entsize: LONG,
-    };
-    assert!(rt; has_form(rt, raw, LE, &ONES) && has_form(rt, raw, BE, &ONES));
+    let raw = elf32::section_header::SectionHeader::from(section(word));
+    assert!(rt; has_ones(rt, raw, 40));
+    let raw = elf64::section_header::SectionHeader::from(section(LONG));
+    assert!(rt; has_ones(rt, raw, 64));
 }
 
 fn segment(word: u64) -> ProgramHeader {
@@ -140,28 +118,10 @@ fn greatest_program_headers(rt: HostRuntime) {
     let word = u64::from(WORD);
     assert!(rt; has_segment(rt, word, LITTLE32, 32) && has_segment(rt, word, BIG32, 32));
     assert!(rt; has_segment(rt, LONG, LITTLE64, 56) && has_segment(rt, LONG, BIG64, 56));
-    let raw = elf32::program_header::ProgramHeader {
-        p_type: WORD,
-        p_offset: WORD,
-        p_vaddr: WORD,
-        p_paddr: WORD,
-        p_filesz: WORD,
-        p_memsz: WORD,
-        p_flags: WORD,
-        p_align: WORD,
-    };
-    assert!(rt; has_form(rt, raw, LE, &ONES[..32]) && has_form(rt, raw, BE, &ONES[..32]));
-    let raw = elf64::program_header::ProgramHeader {
-        p_type: WORD,
-        p_flags: WORD,
-        p_offset: LONG,
-        p_vaddr: LONG,
-        p_paddr: LONG,
-        p_filesz: LONG,
-        p_memsz: LONG,
-        p_align: LONG,
-    };
-    assert!(rt; has_form(rt, raw, LE, &ONES[..56]) && has_form(rt, raw, BE, &ONES[..56]));
+    let raw = elf32::program_header::ProgramHeader::from(segment(word));
+    assert!(rt; has_ones(rt, raw, 32));
+    let raw = elf64::program_header::ProgramHeader::from(segment(LONG));
+    assert!(rt; has_ones(rt, raw, 56));
 }
 
 // Whether a relocation with the greatest offset, symbol and type fits a context, and has these bytes.
@@ -219,41 +179,19 @@ fn greatest_relocations(rt: HostRuntime) {
     assert!(rt; has_reloc(rt, LITTLE64, None, true, &ONES[..16]));
     assert!(rt; has_reloc(rt, LITTLE32, Some(2_147_483_647), false, MOST32));
     assert!(rt; has_reloc(rt, BIG32, Some(2_147_483_647), false, MOST32_BIG));
-    assert!(rt; has_reloc(rt, LITTLE64, Some(9_223_372_036_854_775_807), false, MOST64));
-    assert!(rt;
-        has_reloc(
-            rt,
-            BIG64,
-            Some(9_223_372_036_854_775_807),
-            false,
-            MOST64_BIG
-        )
-    );
-    assert!(rt; has_reloc(rt, LITTLE64, Some(9_223_372_036_854_775_807), true, MOST64));
+    let most = Some(9_223_372_036_854_775_807);
+    assert!(rt; has_reloc(rt, LITTLE64, most, false, MOST64));
+    assert!(rt; has_reloc(rt, BIG64, most, false, MOST64_BIG));
+    assert!(rt; has_reloc(rt, LITTLE64, most, true, MOST64));
 }
 
 #[test]
 fn least_addends(rt: HostRuntime) {
     assert!(rt; has_reloc(rt, LITTLE32, Some(-2_147_483_648), false, LEAST32));
     assert!(rt; has_reloc(rt, BIG32, Some(-2_147_483_648), false, LEAST32_BIG));
-    assert!(rt;
-        has_reloc(
-            rt,
-            LITTLE64,
-            Some(-9_223_372_036_854_775_808),
-            false,
-            LEAST64
-        )
-    );
-    assert!(rt;
-        has_reloc(
-            rt,
-            BIG64,
-            Some(-9_223_372_036_854_775_808),
-            false,
-            LEAST64_BIG
-        )
-    );
+    let least = Some(-9_223_372_036_854_775_808);
+    assert!(rt; has_reloc(rt, LITTLE64, least, false, LEAST64));
+    assert!(rt; has_reloc(rt, BIG64, least, false, LEAST64_BIG));
 }
 
 fn rel32() -> elf32::reloc::Rel {
