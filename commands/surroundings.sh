@@ -1,7 +1,7 @@
 #!/bin/sh
 # Tests the last commit in other surroundings, each time in a fresh clone: sh commands/surroundings.sh [NAME[+NAME ..] ..]
 # In the first one `make gate` proves all. In the others `make test` runs over these proofs, without edits, since they depend on nothing that
-# is changed here. By default there are four runs: plain, bare+locale+homeless+two, user+spaces, and all.
+# is changed here. By default there are four runs: plain, bare+homeless+two, locale+user+spaces, and all.
 #   plain     this machine as it is
 #   bare      a PATH of Debian's essential packages, git, make, awk, python3 and rt alone
 #   locale    the locale tr_TR.UTF-8, in which the capital of i isn't I, and the time zone Asia/Kathmandu
@@ -78,7 +78,7 @@ test_in() {
     [ "$names" = plain ] || rm -rf "${clone:?}" "$temporary"
 }
 
-[ $# -gt 0 ] || set -- plain bare+locale+homeless+two user+spaces all
+[ $# -gt 0 ] || set -- plain bare+homeless+two locale+user+spaces all
 for name in $(echo "$*" | tr + ' '); do
     case $name in
     plain | bare | locale | homeless | user | spaces | two | all) ;;
