@@ -46,16 +46,16 @@ bytes_at bytes place size = do
   Ok (take size (drop place bytes))
 
 -- `size` bytes from an offset on that must be UTF-8, or else the refusal
-abbrev pub text_at : List ℕ → ℕ → ℕ → Result (List ℕ) Refusal
-text_at bytes place size = do
+abbrev pub utf8_at : List ℕ → ℕ → ℕ → Result (List ℕ) Refusal
+utf8_at bytes place size = do
   text ← bytes_at bytes place size
   text_or_fault text (length bytes - place)
 
 -- The offsets and sizes of the parts of a note with a header; offsets count from the note's start. The name follows the
 -- header. Its size includes the closing byte, unless it is 0. The descriptor starts at the next multiple of the
 -- alignment, and the next note at the next multiple after the descriptor.
-abbrev pub places_of : ℕ → Nhdr32 → NotePlaces
-places_of align header =
+abbrev pub note_places : ℕ → Nhdr32 → NotePlaces
+note_places align header =
     let desc = next_multiple_of (nhdr32_size + header.n_namesz) align in
     record {
       n_type = header.n_type;
@@ -71,8 +71,8 @@ unfoldable pub read_places : ℕ → Endian → List ℕ → Result NotePlaces R
 read_places alignment order bytes = do
   align ← note_align alignment
   header ← refuse_as refusal_of (read_within nhdr32_size (nhdr32_of order) bytes)
-  places ← Ok (places_of align header)
-  _ ← text_at bytes places.name places.name_size
+  places ← Ok (note_places align header)
+  _ ← utf8_at bytes places.name places.name_size
   _ ← bytes_at bytes places.desc places.desc_size
   Ok places
 
@@ -91,8 +91,8 @@ with_part part (Ok x) = Ok x
 with_part part (Err e) = Err (record { part = part; error = e })
 
 -- the places of the parts of a note with a header, with all of its name: the closing byte belongs to it
-abbrev pub whole_places_of : ℕ → Nhdr32 → NotePlaces
-whole_places_of align header = record (places_of align header) { name_size = header.n_namesz }
+abbrev pub whole_note_places : ℕ → Nhdr32 → NotePlaces
+whole_note_places align header = record (note_places align header) { name_size = header.n_namesz }
 
 -- the places of the whole note at the start of some bytes, which must hold its header, its name and its descriptor; the
 -- name need not be UTF-8
@@ -100,7 +100,7 @@ unfoldable pub whole_places : ℕ → Endian → List ℕ → Result NotePlaces 
 whole_places alignment order bytes = do
   align ← of_part None (note_align alignment)
   header ← of_part (Some Header) (refuse_as refusal_of (read_within nhdr32_size (nhdr32_of order) bytes))
-  places ← Ok (whole_places_of align header)
+  places ← Ok (whole_note_places align header)
   _ ← of_part (Some Name) (bytes_at bytes places.name places.name_size)
   _ ← of_part (Some Desc) (bytes_at bytes places.desc places.desc_size)
   Ok places

@@ -19,8 +19,8 @@ use Rattle.goblin_records.specs.declared.note.Nhdr32.{Nhdr32}
 use Rattle.goblin_records.specs.Nhdr.{nhdr32_of, nhdr32_size}
 use Rattle.goblin_records.specs.NhdrLaws.{nhdr32_laws}
 use Rattle.goblin.specs.declared.elf.note.NotePlaces.{NotePlaces}
-use Rattle.goblin.specs.Note.{NoteParts, note_align, bytes_at, text_at, places_of, read_places, places_at, note_at}
-use Rattle.goblin.specs.Note.{item_and_rest, items_within, note_items, whole_places, whole_places_of}
+use Rattle.goblin.specs.Note.{NoteParts, note_align, bytes_at, utf8_at, note_places, read_places, places_at, note_at}
+use Rattle.goblin.specs.Note.{item_and_rest, items_within, note_items, whole_places, whole_note_places}
 use Rattle.goblin.specs.Notes.{LieWithin, PlacesLieWithin, WholeIsNote, NoteByNote, NotesAdvance, FewNotes}
 
 -- a property that holds after each value of the first step holds after both
@@ -55,16 +55,16 @@ multiple_range : (place align : ℕ)
 multiple_range place align h = (omega arith, omega arith)
 
 -- and so is text that is read
-text_at-fits : (bytes : List ℕ) (place size : ℕ) (text : List ℕ)
-    → text_at bytes place size ≡ Ok text → place + size ≤ length bytes
-text_at-fits bytes place size text is =
+utf8_at-fits : (bytes : List ℕ) (place size : ℕ) (text : List ℕ)
+    → utf8_at bytes place size ≡ Ok text → place + size ≤ length bytes
+utf8_at-fits bytes place size text is =
     let part = step (bytes_at bytes place size) (λ part. text_or_fault part (length bytes - place)) text is in
     bytes_at-fits bytes place size part.value part.is
 
 -- places of parts that lie inside the bytes
 places_fit : (available align : ℕ) (header : Nhdr32)
     → (4 ≤ align) × (align ≤ 8)
-    → (let p = places_of align header in
+    → (let p = note_places align header in
     (p.name + p.name_size ≤ available) → (p.desc + p.desc_size ≤ available) → LieWithin available 0 p)
 places_fit available align header range name desc =
     let place = next_multiple_of (nhdr32_size + header.n_namesz) align in
@@ -79,11 +79,11 @@ unfolding read_places
 read_places-fits alignment order bytes =
     if_ok_then (note_align alignment) _ _ λ align aligned.
     if_ok_then (refuse_as refusal_of (read_within nhdr32_size (nhdr32_of order) bytes)) _ _ λ h begins.
-    let p = places_of align h in
-    if_ok_then (text_at bytes p.name p.name_size) _ _ λ name named.
+    let p = note_places align h in
+    if_ok_then (utf8_at bytes p.name p.name_size) _ _ λ name named.
     if_ok_then (bytes_at bytes p.desc p.desc_size) _ _ λ desc described.
     places_fit (length bytes) align h (align_range alignment align aligned)
-    (text_at-fits bytes p.name p.name_size name named) (bytes_at-fits bytes p.desc p.desc_size desc described)
+    (utf8_at-fits bytes p.name p.name_size name named) (bytes_at-fits bytes p.desc p.desc_size desc described)
 
 -- what was read of a note
 read_last : (text desc : Result (List ℕ) Refusal) (p places : NotePlaces)
@@ -92,13 +92,13 @@ read_last text desc p places is = grind (arith, nat_tests)
 
 read_steps : (align : Result ℕ Refusal) (room : Result (Unit {0}) Misplaced) (header : Nhdr32) (bytes : List ℕ)
     (places : NotePlaces)
-    → (align >>= λ a. refuse_as refusal_of (unless_fault room header) >>= λ h. Ok (places_of a h) >>= λ p.
-    text_at bytes p.name p.name_size >>= λ _. bytes_at bytes p.desc p.desc_size >>= λ _. Ok p) ≡ Ok places
-    → (a : ℕ) × (align ≡ Ok a) × (places ≡ places_of a header)
+    → (align >>= λ a. refuse_as refusal_of (unless_fault room header) >>= λ h. Ok (note_places a h) >>= λ p.
+    utf8_at bytes p.name p.name_size >>= λ _. bytes_at bytes p.desc p.desc_size >>= λ _. Ok p) ≡ Ok places
+    → (a : ℕ) × (align ≡ Ok a) × (places ≡ note_places a header)
     × ((part : List ℕ) × (bytes_at bytes places.desc places.desc_size ≡ Ok part))
 read_steps (Ok a) (Ok u) header bytes places is =
-    let p = places_of a header in
-    let last = read_last (text_at bytes p.name p.name_size) (bytes_at bytes p.desc p.desc_size) p places is in (
+    let p = note_places a header in
+    let last = read_last (utf8_at bytes p.name p.name_size) (bytes_at bytes p.desc p.desc_size) p places is in (
       a,
       refl,
       last.0,
@@ -118,12 +118,12 @@ header_first order bytes size room =
 -- the whole note of some bytes that hold its parts
 whole_there : (alignment align : ℕ) (order : Endian) (bytes : List ℕ)
     → note_align alignment ≡ Ok align → nhdr32_size ≤ length bytes
-    → (let p = whole_places_of align (nhdr32_of order bytes) in
+    → (let p = whole_note_places align (nhdr32_of order bytes) in
     (p.name + p.name_size ≤ length bytes) → (p.desc + p.desc_size ≤ length bytes)
     → whole_places alignment order bytes ≡ Ok p)
 unfolding whole_places read_within
 whole_there alignment align order bytes aligned begins name desc =
-    let p = whole_places_of align (nhdr32_of order bytes) in
+    let p = whole_note_places align (nhdr32_of order bytes) in
     rw (
       aligned,
       room_of_fits (length bytes) 0 nhdr32_size begins,
@@ -137,10 +137,10 @@ whole_is_note alignment order bytes size places is room =
     let header = nhdr32_of order bytes in
     let steps =
     read_steps (note_align alignment) (room_of (length bytes) 0 nhdr32_size) header bytes places is in
-    let p = whole_places_of steps.0 header in
+    let p = whole_note_places steps.0 header in
     let range = align_range alignment steps.0 steps.1 in
     let fits = bytes_at-fits bytes places.desc places.desc_size steps.3.0 steps.3.1 in
-    let same : places ≡ places_of steps.0 header = steps.2 in
+    let same : places ≡ note_places steps.0 header = steps.2 in
     let end : p.desc + p.desc_size ≡ places.desc + places.desc_size =
     sym (ap (λ (q : NotePlaces). q.desc + q.desc_size) same) in
     let long = length-take size bytes in
@@ -149,7 +149,7 @@ whole_is_note alignment order bytes size places is room =
     let begins : nhdr32_size ≤ length (take size bytes) = omega (arith, desc, first.0) in
     let named : p.name + p.name_size ≤ length (take size bytes) = omega (arith, desc, first.0) in
     let of_first = header_first order bytes size begins in
-    let whole = subst (λ (h : Nhdr32). let q = whole_places_of steps.0 h in
+    let whole = subst (λ (h : Nhdr32). let q = whole_note_places steps.0 h in
     (q.name + q.name_size ≤ length (take size bytes)) → (q.desc + q.desc_size ≤ length (take size bytes))
     → whole_places alignment order (take size bytes) ≡ Ok q) of_first
     (whole_there alignment steps.0 order (take size bytes) steps.1 begins) named desc in (

@@ -186,10 +186,10 @@ part_text e part.Item = e.item
 part_text e part.Overflow = word_of e.overflow
 
 -- parts, one after another
-abbrev pub joined : Facts → List Part → List ℕ
-joined e [] = []
-joined e (p ∷ []) = part_text e p
-joined e (p ∷ q ∷ rest) = part_text e p & joined e (q ∷ rest)
+abbrev pub parts_text : Facts → List Part → List ℕ
+parts_text e [] = []
+parts_text e (p ∷ []) = part_text e p
+parts_text e (p ∷ q ∷ rest) = part_text e p & parts_text e (q ∷ rest)
 
 -- a part isn't a text of more than 100 bytes
 abbrev pub is_short : Part → Bool

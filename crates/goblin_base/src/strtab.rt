@@ -432,7 +432,7 @@ fn rest_of(text: &str, from: usize) -> Option<&str>
 pub fn laws()
     ensures text_is_utf8 { TextIsUtf8 }
     ensures closed_form { ClosedForm }
-    ensures joins_again { JoinsAgain }
+    ensures joins { JoinsAgain }
     ensures permissive_accepts { PermissiveAccepts }
     ensures strict_is_permissive { StrictIsPermissive }
     ensures look_up_has_plain { LookUpHasPlain }

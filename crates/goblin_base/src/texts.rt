@@ -3,7 +3,7 @@ ghost use Rattle.std.specs.Prelude.{◌≡◌, IsTrue, Some, length};
 ghost use Rattle.std.specs.Fmt.{WritesOnOk};
 ghost use Rattle.std.specs.List.{find};
 ghost use Rattle.goblin_base.specs.Derives.{ComparesAndClones};
-ghost use Rattle.goblin_base.specs.Texts.{Facts, KindsAreFound, are_short, facts_of, facts_text, is_kind, joined, kind_number, kind_text, kind_with, part_text, prefix};
+ghost use Rattle.goblin_base.specs.Texts.{Facts, KindsAreFound, are_short, facts_of, facts_text, is_kind, parts_text, kind_number, kind_text, kind_with, part_text, prefix};
 
 use Part::{First, Hexadecimal, Item, Overflow, Second, Text, Third};
 use std::fmt;
@@ -221,7 +221,7 @@ impl Kind {
 
     /// Returns the parts of the text of an error, without its prefix.
     pub fn parts(self) -> &'static [Part]
-        ensures value { (facts : Facts) → joined facts result.now ≡ kind_text self facts }
+        ensures value { (facts : Facts) → parts_text facts result.now ≡ kind_text self facts }
         ensures bound { IsTrue (are_short result.now) }
     {
         match self {

@@ -17,7 +17,7 @@ pub use Rattle.goblin_base.specs.RecordLaws.{fits-room_of, room_of_fits, unless_
 pub use Rattle.goblin_base.specs.Steps.{refuse_if}
 unfoldable pub use Rattle.goblin_base.specs.Table.{records}
 pub use Rattle.goblin_base.specs.TableLaws.{no_records, records-agree}
-pub use Rattle.goblin_base.specs.Texts.{are_short, each_short, facts_of, is_short, joined, prefix}
+pub use Rattle.goblin_base.specs.Texts.{are_short, each_short, facts_of, is_short, parts_text, prefix}
 pub use Rattle.goblin_base.specs.declared.container.Container.{Container}
 pub use Rattle.goblin_base.specs.declared.container.Container.TheVariants.{Big, Little}
 pub use Rattle.goblin_base.specs.declared.container.Endian.{Endian}
@@ -29,7 +29,7 @@ pub use Rattle.goblin_c.specs.Common.{refusal_of, refuse_as, relocs_of, section_
 pub use Rattle.goblin_c.specs.Common.{◌>>=◌}
 unfoldable pub use Rattle.goblin_c.specs.Common.{room_of}
 pub use Rattle.goblin_c.specs.Expected.{count_of, ctx_of, each_converted, first_section, header_expected, is_mips64el}
-pub use Rattle.goblin_c.specs.Expected.{is_named, item_of, items_from, reloc_count_expected, reloc_expected}
+pub use Rattle.goblin_c.specs.Expected.{is_named, item_at, items_from, reloc_count_expected, reloc_expected}
 pub use Rattle.goblin_c.specs.Expected.{relocs_converted, relocs_expected, section_at, sections_converted}
 pub use Rattle.goblin_c.specs.Expected.{sections_expected, segment_expected, segments_expected, string_expected}
 pub use Rattle.goblin_c.specs.Expected.{strings_expected, symbol_count_expected, symbol_expected, symbols_converted}

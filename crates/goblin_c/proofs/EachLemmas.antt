@@ -9,7 +9,7 @@ use Rattle.goblin_c.proofs.Common.{set, drop-drop, drop-set-lt, get_or-take, len
 use Rattle.goblin_c.proofs.Common.{take_more, take_more_set, get_or_from_slice_get, slice_get-get_or, slice_get-map}
 use Rattle.goblin_c.proofs.Common.{slice_get_past, slice_get_within, option_map, RefusalAt, FillsEach, StopsAt}
 use Rattle.goblin_c.proofs.Common.{GoblinRefusal, Stores}
-use Rattle.goblin_c.proofs.TextLemmas.{kinds-are-answers}
+use Rattle.goblin_c.proofs.TextLemmas.{kinds-are-above-one}
 
 -- one item more
 more : {X Y : Type 0} (wrap : X → Y) (results : List Y) (now : List X) (i : ℕ) (x : X)
@@ -71,7 +71,7 @@ fills_each {X = X} results old was status new filled why next within are rest st
 pub stored_item : {X : Type 0} (expected : Result (Option X) RefusalAt) (old x : X) (was why : GoblinRefusal)
     (status : ℕ)
     → Stores expected old was status x why → status ≡ 0 → (expected ≡ Ok (Some x)) × (why ≡ was)
-stored_item expected old x was why status h ok = grind (arith, kinds-are-answers)
+stored_item expected old x was why status h ok = grind (arith, kinds-are-above-one)
 
 -- one that returns another number has stored none, and stops there
 pub stored_none : {X : Type 0} (expected : Result (Option X) RefusalAt) (old x : X) (was why : GoblinRefusal)

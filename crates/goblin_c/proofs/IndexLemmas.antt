@@ -7,7 +7,7 @@ use Rattle.goblin_c.proofs.Common.{List, [], ◌∷◌, length, drop, slice_get,
 use Rattle.goblin_c.proofs.Common.{Err, refl, sym, ap, subst, ◌∙◌, arith, leb-false, leb-true, nat_tests, length-drop}
 use Rattle.goblin_c.proofs.Common.{length-map, slice_get-map, slice_get_past, option_map, Container, Ctx, Endian}
 use Rattle.goblin_c.proofs.Common.{refusal_of, ◌>>=◌, refuse_as, Header, SectionHeader, RefusalAt, refused_at}
-use Rattle.goblin_c.proofs.Common.{GoblinSection, relocs_of, was_read, count_of, ctx_of, each_converted, item_of}
+use Rattle.goblin_c.proofs.Common.{GoblinSection, relocs_of, was_read, count_of, ctx_of, each_converted, item_at}
 use Rattle.goblin_c.proofs.Common.{items_from, reloc_count_expected, reloc_expected, relocs_expected, relocs_converted}
 use Rattle.goblin_c.proofs.Common.{sections_expected, sections_converted, segments_expected, symbols_expected}
 use Rattle.goblin_c.proofs.Common.{header_converted, reloc_converted, section_converted, segment_converted}
@@ -57,7 +57,7 @@ one_context bytes h ctx has named =
 
 -- the items of a list for C by index, and how many they are
 listed : {X Y : Type 0} (convert : X → Y) (all : Result (List X) RefusalAt)
-    → ReturnsEach convert all (item_of (each_converted convert all))
+    → ReturnsEach convert all (item_at (each_converted convert all))
     × ReturnsCount all (count_of (each_converted convert all))
 listed convert (Ok items) =
     (λ index. ap Ok (slice_get-map convert items index), ap (λ (n : ℕ). Ok (Some n)) (length-map items convert))
@@ -110,7 +110,7 @@ given items first false is =
     (omega (arith, length-drop first items), λ k. ap Ok (get_drop items first k))
 
 from : {X : Type 0} (all : Result (List X) RefusalAt) (first : ℕ)
-    → GivenFrom {Y = X} first (item_of all) (items_from all first)
+    → GivenFrom {Y = X} first (item_at all) (items_from all first)
 from all first = grind (arith, nat_tests, given)
 
 pub filled_by_index : FilledByIndex
@@ -127,7 +127,7 @@ converted_table index found = grind (arith, nat_tests)
 
 table_there : (all : Result (List SectionHeader) RefusalAt) (index : ℕ)
     → (all >>= λ items. Ok (table_at items index))
-    ≡ table_converted index (item_of (each_converted section_converted all) index)
+    ≡ table_converted index (item_at (each_converted section_converted all) index)
 table_there (Ok items) index =
     let here = slice_get-map section_converted items index in
     ap Ok (converted_table index (slice_get items index) ∙ ap (section_if_table index) (sym here))
@@ -144,7 +144,7 @@ in_header : (all : Result (List SectionHeader) RefusalAt) (index : ℕ)
 in_header all index other = grind (arith, nat_tests)
 
 in_first : (all : Result (List SectionHeader) RefusalAt) (first : GoblinSection)
-    → item_of (each_converted section_converted all) 0 ≡ Ok (Some first)
+    → item_at (each_converted section_converted all) 0 ≡ Ok (Some first)
     → (all >>= λ items. Ok (table_at items (link_of (slice_get items 0))))
     ≡ (all >>= λ items. Ok (table_at items first.sh_link))
 in_first (Ok []) first is = absurd (cc)

@@ -24,7 +24,7 @@ use Rattle.goblin_c.proofs.Common.{refuse_as, refuse_if, records, records-agree,
 use Rattle.goblin_c.proofs.Common.{SectionHeader, Sym, program_header_of, program_header_size, program_headers_from}
 use Rattle.goblin_c.proofs.Common.{reloc_in, reloc_size, relocs_of, section_header_of, section_header_size}
 use Rattle.goblin_c.proofs.Common.{section_headers_of, sym_of, sym_size, segment_count, ctx_of, each_converted}
-use Rattle.goblin_c.proofs.Common.{is_mips64el, item_of, reloc_expected, relocs_expected, sections_expected}
+use Rattle.goblin_c.proofs.Common.{is_mips64el, item_at, reloc_expected, relocs_expected, sections_expected}
 use Rattle.goblin_c.proofs.Common.{segment_expected, segments_expected, symbol_expected, symbols_expected, RefusalAt}
 use Rattle.goblin_c.proofs.Common.{refused_at, Stores, reloc_converted, section_converted, segment_converted}
 use Rattle.goblin_c.proofs.Common.{symbol_converted, GoblinHeader, GoblinRange, GoblinRefusal}
@@ -40,10 +40,10 @@ listed_item : {R Y : Type 0} (convert : R → Y) (size : ℕ) (read : List ℕ �
     (all : Result (List R) RefusalAt) (x : R)
     → all ≡ Ok (records size read count (drop start bytes)) → index < count
     → x ≡ read (take size (drop (start + index * size) bytes))
-    → item_of (each_converted convert all) index ≡ Ok (Some (convert x))
+    → item_at (each_converted convert all) index ≡ Ok (Some (convert x))
 listed_item {R = R} {Y = Y} convert size read bytes start count index all x are inside is =
     let items = records size read count (drop start bytes) in
-    ap (λ (list : Result (List R) RefusalAt). item_of (each_converted convert list) index) are
+    ap (λ (list : Result (List R) RefusalAt). item_at (each_converted convert list) index) are
     ∙ ap (λ (y : Option Y). Ok y) (slice_get-map convert items index)
     ∙ ap (λ (y : Option R). Ok (option_map convert y)) (get_records size read count (drop start bytes) index inside)
     ∙ ap (λ (own : List ℕ). Ok (Some (convert (read (take size own))))) (drop-drop (index * size) start bytes)

@@ -1,7 +1,7 @@
 -- The lists of records that calls read, and the record with an index of them.
 --
 -- A list that was read passed the test of room for each of its records, so all of them lie in the bytes (`each_fits`).
--- The record with an index is then the one that its own bytes are read as (`item_at`).
+-- The record with an index is then the one that its own bytes are read as (`listed_at`).
 use Rattle.goblin_c.proofs.Common.{found_within, ◌≡◌, ◌≤◌, ◌<◌, ◌+◌, ◌-◌, ◌*◌, ◌/◌, ◌^◌, ◌==◌, ℕ, zero, suc, Bool, true}
 use Rattle.goblin_c.proofs.Common.{false, nat_le, nat_lt, List, [], length, take, drop, max, slice_get, Some, None}
 use Rattle.goblin_c.proofs.Common.{Result, Ok, Err, if◌then◌else◌, codes, refl, sym, ap, ◌∙◌, arith, mul-le-mul_right}
@@ -49,11 +49,11 @@ pub record IsListed
 
 module _ {R : Type 0} {size : ℕ} {read : List ℕ → R} {bytes : List ℕ} {start count : ℕ} {items : List R} where
   -- the record at an index is read from its own bytes
-  pub item_at : (index : ℕ)
+  pub listed_at : (index : ℕ)
       → IsListed size read bytes start count items → index < count
       → (slice_get items index ≡ Some (read (take size (drop (start + index * size) bytes))))
       × (start + index * size + size ≤ length bytes)
-  item_at index listed inside =
+  listed_at index listed inside =
       let there = listed.fit (omega (arith, inside)) in
       let before : (index + 1) * size ≤ count * size = mul-le-mul_right size (omega (arith, inside)) in (
         ap (λ (all : List R). slice_get all index) listed.are

@@ -8,7 +8,7 @@ use Rattle.goblin_c.proofs.Common.{get_or, slice_get, Option, Some, Result, Ok, 
 use Rattle.goblin_c.proofs.Common.{◌∙◌, arith, append_assoc, length-append, take-append_seam, drop-drop, drop_at}
 use Rattle.goblin_c.proofs.Common.{length-take-le, take-append-drop}
 use Rattle.goblin_c.proofs.Common.{take_all, slice_get-get_or, slice_get_within, IsRecord, Layout, IsBytes}
-use Rattle.goblin_c.proofs.Common.{count_of, each_converted, item_of, RefusalAt, ProgramHeader, Reloc, SectionHeader}
+use Rattle.goblin_c.proofs.Common.{count_of, each_converted, item_at, RefusalAt, ProgramHeader, Reloc, SectionHeader}
 use Rattle.goblin_c.proofs.Common.{Sym, reloc_converted, section_converted, segment_converted, symbol_converted, ctx_of}
 use Rattle.goblin_c.proofs.Common.{relocs_expected, sections_expected, segments_expected, symbols_expected}
 use Rattle.goblin_c.proofs.Common.{IsBytes-part, length-part, number_expected, reloc_expected, segment_expected}
@@ -86,8 +86,8 @@ there_in items others index x same found =
     (get_or others index x, slice_get-get_or others index x (omega (arith, inside, same)))
 
 still_there : {X : Type 0} (items others : Result (List X) RefusalAt) (index : ℕ) (x : X)
-    → count_of others ≡ count_of items → item_of items index ≡ Ok (Some x)
-    → (y : X) × (item_of others index ≡ Ok (Some y))
+    → count_of others ≡ count_of items → item_at items index ≡ Ok (Some x)
+    → (y : X) × (item_at others index ≡ Ok (Some y))
 still_there (Ok items) (Ok others) index x same found =
     let long : length others ≡ length items = cc in
     let own : slice_get items index ≡ Some x = cc in
@@ -103,14 +103,14 @@ module _ {R Y : Type 0} (l : Layout R) (laws : IsRecord l) (convert : R → Y) (
   -- such a call stores what was put
   pub put_is_read : (bytes new : List ℕ) (x : R)
       → l.Fits x
-      → put_if_there (item_of (each_converted convert (list bytes)) index) (put_at l bytes start index x true)
+      → put_if_there (item_at (each_converted convert (list bytes)) index) (put_at l bytes start index x true)
       ≡ Ok (Some new)
       → count_of (each_converted convert (list new)) ≡ count_of (each_converted convert (list bytes))
-      → item_of (each_converted convert (list new)) index ≡ Ok (Some (convert x))
+      → item_at (each_converted convert (list new)) index ≡ Ok (Some (convert x))
   put_is_read bytes new x fits put same =
       let place = start + index * l.size in
       let image = l.image x in
-      let found = put_found (item_of (each_converted convert (list bytes)) index) true place
+      let found = put_found (item_at (each_converted convert (list bytes)) index) true place
       (with_bytes bytes place image) new put in
       let room = (found_at convert l.size l.read bytes start index (list bytes) found.0 (lists bytes) found.1).0 in
       let long = laws.length_image x in
@@ -125,13 +125,13 @@ module _ {R Y : Type 0} (l : Layout R) (laws : IsRecord l) (convert : R → Y) (
       (read.1 ∙ ap (λ (xs : List ℕ). convert (l.read xs)) bytes_are ∙ ap convert (laws.reads_back x fits))
 
   pub put_changes_one : (bytes new : List ℕ) (x : R) (fits : Bool)
-      → put_if_there (item_of (each_converted convert (list bytes)) index) (put_at l bytes start index x fits)
+      → put_if_there (item_at (each_converted convert (list bytes)) index) (put_at l bytes start index x fits)
       ≡ Ok (Some new)
       → ChangesOnly (start + index * l.size) l.size bytes new
   put_changes_one bytes new x fits put =
       let place = start + index * l.size in
       let image = l.image x in
-      let found = put_found (item_of (each_converted convert (list bytes)) index) fits place
+      let found = put_found (item_at (each_converted convert (list bytes)) index) fits place
       (with_bytes bytes place image) new put in
       let room = (found_at convert l.size l.read bytes start index (list bytes) found.0 (lists bytes) found.1).0 in
       let long = laws.length_image x in
@@ -142,8 +142,8 @@ module _ {R Y : Type 0} (l : Layout R) (laws : IsRecord l) (convert : R → Y) (
   -- what such a call stores is put without a change, and fits if what is read does
   pub read_is_put : (back : Y → R) (bytes : List ℕ) (y : Y)
       → ((x : R) → back (convert x) ≡ x) → IsBytes bytes
-      → item_of (each_converted convert (list bytes)) index ≡ Ok (Some y)
-      → put_if_there (item_of (each_converted convert (list bytes)) index) (put_at l bytes start index (back y) true)
+      → item_at (each_converted convert (list bytes)) index ≡ Ok (Some y)
+      → put_if_there (item_at (each_converted convert (list bytes)) index) (put_at l bytes start index (back y) true)
       ≡ Ok (Some bytes)
   read_is_put back bytes y same are found =
       let place = start + index * l.size in
@@ -159,7 +159,7 @@ module _ {R Y : Type 0} (l : Layout R) (laws : IsRecord l) (convert : R → Y) (
 
   pub read_fits : (bytes : List ℕ) (y : Y) (back : Y → R)
       → ((x : R) → back (convert x) ≡ x) → IsBytes bytes
-      → item_of (each_converted convert (list bytes)) index ≡ Ok (Some y) → l.Fits (back y)
+      → item_at (each_converted convert (list bytes)) index ≡ Ok (Some y) → l.Fits (back y)
   read_fits bytes y back same are found =
       let place = start + index * l.size in
       let read = found_at convert l.size l.read bytes start index (list bytes) y (lists bytes) found in

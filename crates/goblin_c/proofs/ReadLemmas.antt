@@ -10,11 +10,11 @@ use Rattle.goblin_c.proofs.Common.{section_header_of, section_header_size, secti
 use Rattle.goblin_c.proofs.Common.{segment_count, reloc_in, reloc_size, relocs_of, unless_fault, fits-room_of}
 use Rattle.goblin_c.proofs.Common.{unless_fault-is, room_of, records, no_records, records-agree, div-mul-le_self}
 use Rattle.goblin_c.proofs.Common.{is_mips64el, relocs_expected, Refused, GoblinHeader, GoblinRange, ctx_of}
-use Rattle.goblin_c.proofs.Common.{each_converted, item_of, sections_expected, segments_expected, symbols_expected}
+use Rattle.goblin_c.proofs.Common.{each_converted, item_at, sections_expected, segments_expected, symbols_expected}
 use Rattle.goblin_c.proofs.Common.{Returns, RefusalAt, refusal_at, refused_at, converted_list}
 use Rattle.std.proofs.lemmas.List.{take-take}
 use Rattle.goblin_c.specs.Write.{reloc_ctx}
-use Rattle.goblin_c.proofs.ListedLemmas.{IsListed, bind_ok, item_at, listed_from, none_at, refused_at_ok}
+use Rattle.goblin_c.proofs.ListedLemmas.{IsListed, bind_ok, listed_at, listed_from, none_at, refused_at_ok}
 use Rattle.goblin_c.proofs.ListedLemmas.{sections_listed, symbols_listed}
 
 -- a list that is not refused has so many records
@@ -36,12 +36,12 @@ module _ {R Y : Type 0} (convert : R → Y) (size : ℕ) (read : List ℕ → R)
       let none = slice_get-map convert items index
       ∙ ap (option_map convert) (none_at index listed (leb-true count index is)) in absurd (cc)
   found_in items count false y is listed found =
-      let item = item_at index listed (leb-false count index is) in
+      let item = listed_at index listed (leb-false count index is) in
       let there = slice_get-map convert items index ∙ ap (option_map convert) item.0 in
       let same : y ≡ convert (read (take size (drop (start + index * size) bytes))) = cc in (item.1, same)
 
   pub found_at : (all : Result (List R) RefusalAt) (y : Y)
-      → Lists size read bytes start all → item_of (each_converted convert all) index ≡ Ok (Some y) → ReadAt y
+      → Lists size read bytes start all → item_at (each_converted convert all) index ≡ Ok (Some y) → ReadAt y
   found_at (Ok items) y lists is =
       let listed = lists items refl in
       let found : slice_get (map convert items) index ≡ Some y = cc in

@@ -7,7 +7,7 @@ use Rattle.goblin_c.proofs.Common.{◌≡◌, ◌≤◌, ◌<◌, ◌+◌, ◌-�
 use Rattle.goblin_c.proofs.Common.{◌∷◌, length, map, drop, get_or, slice_get, Option, Some, None, Result, Ok, Err}
 use Rattle.goblin_c.proofs.Common.{position, refl, sym, ap, subst, ◌∙◌, arith, nat_tests, get_or_from_slice_get}
 use Rattle.goblin_c.proofs.Common.{slice_get-get_or, slice_get-map, slice_get_within, Decides, option_map, ◌>>=◌}
-use Rattle.goblin_c.proofs.Common.{RefusalAt, GoblinSection, each_converted, first_section, item_of, section_at}
+use Rattle.goblin_c.proofs.Common.{RefusalAt, GoblinSection, each_converted, first_section, item_at, section_at}
 use Rattle.goblin_c.proofs.Common.{sections_expected, section_converted, SectionHeader}
 use Rattle.std.proofs.lemmas.List.Quantifiers.{position-Some}
 use Rattle.std.proofs.lemmas.List.Sums.{fails_before_first}
@@ -110,10 +110,10 @@ module _ (IsSo : GoblinSection → Type 0) (test : SectionHeader → Bool)
       (finds section_converted IsSo test decides Refuses items first (position test (drop first items)) refl)
 
   first_of_list : (all : Result (List SectionHeader) RefusalAt) (first : ℕ)
-      → let call = item_of (each_converted section_converted all) in
+      → let call = item_at (each_converted section_converted all) in
       FindsItemFrom first call IsSo (RefusesAll call) (all >>= λ items. Ok (first_section test first items))
   first_of_list (Ok items) first =
-      first_found (RefusesAll (item_of (each_converted section_converted (Ok items)))) items first
+      first_found (RefusesAll (item_at (each_converted section_converted (Ok items)))) items first
   first_of_list (Err e) first = λ index. refl
 
 -- a number equals another, or not, by its test

@@ -8,7 +8,7 @@ use Rattle.goblin_c.proofs.Common.{◌≡◌, ◌+◌, ◌-◌, ◌<◌, ◌≤�
 use Rattle.goblin_c.proofs.Common.{drop, min, map, position, slice_get, Option, Some, Result, Ok, Err, inl, inr, refl}
 use Rattle.goblin_c.proofs.Common.{sym, ap, subst, ◌∙◌, arith, and_parts, nat_tests, drop-take, length-take, take_min}
 use Rattle.goblin_c.proofs.Common.{take-take, Decides, before_first, position_or_len, piece, ◌>>=◌, RefusalAt}
-use Rattle.goblin_c.proofs.Common.{refused_at, GoblinRange, each_converted, first_section, is_named, item_of}
+use Rattle.goblin_c.proofs.Common.{refused_at, GoblinRange, each_converted, first_section, is_named, item_at}
 use Rattle.goblin_c.proofs.Common.{sections_expected, string_expected, strings_expected, symbols_expected}
 use Rattle.goblin_c.proofs.Common.{section_converted, symbol_converted, GoblinSection, SectionHeader}
 use Rattle.std.proofs.lemmas.Slice.Eq.{bytes_eq-Decides}
@@ -142,7 +142,7 @@ module _ {X Y : Type 0} (convert : X → Y) (bytes : List ℕ) (names : GoblinRa
       → strings_expected bytes names ≡ strings
       → ((read : List ℕ) → strings_expected bytes names ≡ Ok read → (x : X)
       → Decides (test read x) (HasTheName (convert x)))
-      → FindsFirst (item_of (each_converted convert all)) (string_expected bytes names) HasTheName
+      → FindsFirst (item_at (each_converted convert all)) (string_expected bytes names) HasTheName
       (all >>= λ items. strings >>= λ read. Ok (position (test read) items))
   by_name (Ok items) (Ok read) found decides =
       subst (λ (place : Option ℕ).
@@ -150,7 +150,7 @@ module _ {X Y : Type 0} (convert : X → Y) (bytes : List ℕ) (names : GoblinRa
       (Ok place))
       (from_none (position (test read) items))
       (finds convert HasTheName (test read) (decides read found)
-      (RefusesEither (item_of (each_converted convert (Ok items))) (string_expected bytes names)) items 0
+      (RefusesEither (item_at (each_converted convert (Ok items))) (string_expected bytes names)) items 0
       (position (test read) items) refl)
   by_name (Ok items) (Err e) found decides = inr (no_strings bytes names e found)
   by_name (Err e) strings found decides = inl (λ index. refl)
@@ -162,12 +162,12 @@ module _ (bytes : List ℕ) (names : GoblinRange) (HasTheName : GoblinSection �
       → strings_expected bytes names ≡ strings
       → ((read : List ℕ) → strings_expected bytes names ≡ Ok read → (s : SectionHeader)
       → Decides (test read s) (HasTheName (section_converted s)))
-      → let call = item_of (each_converted section_converted all) in
+      → let call = item_at (each_converted section_converted all) in
       FindsItemFrom first call HasTheName (RefusesEither call (string_expected bytes names))
       (all >>= λ items. strings >>= λ read. Ok (first_section (test read) first items))
   sections_named first (Ok items) (Ok read) found decides =
       first_found HasTheName (test read) (decides read found)
-      (RefusesEither (item_of (each_converted section_converted (Ok items))) (string_expected bytes names)) items
+      (RefusesEither (item_at (each_converted section_converted (Ok items))) (string_expected bytes names)) items
       first
   sections_named first (Ok items) (Err e) found decides = inr (no_strings bytes names e found)
   sections_named first (Err e) strings found decides = inl (λ index. refl)

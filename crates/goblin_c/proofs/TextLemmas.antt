@@ -8,7 +8,7 @@ use Rattle.goblin_base.specs.declared.texts.Part.{Part}
 use Rattle.goblin_base.specs.Record.{read_within}
 use Rattle.goblin_base.specs.Refusal.{bad_input}
 use Rattle.goblin.specs.Note.{PartRefusal, whole_places}
-use Rattle.goblin_c.specs.Laws.{KindsAreAnswers}
+use Rattle.goblin_c.specs.Laws.{KindsAreAboveOne}
 use Rattle.goblin_c.specs.Notes.{bytes_from, note_bytes_expected}
 use Rattle.goblin_c.specs.TextLaws.{PartHasSameText, PartsHaveSameText}
 use Rattle.std.specs.Bool.{⊤}
@@ -43,8 +43,8 @@ pub long-part : (text more part : List ℕ) (n len : ℕ)
     → more ≡ text ++ part → len ≡ length text → n ≡ len + length part → n ≡ length more
 long-part text more part n len is long sum = omega (arith, ap length is, length-append text part)
 
-pub kinds-are-answers : KindsAreAnswers
-kinds-are-answers refusal = grind arith
+pub kinds-are-above-one : KindsAreAboveOne
+kinds-are-above-one refusal = grind arith
 
 -- the text of a refusal has no item: for C the item of a whole note's refusal is the part
 abbrev Itemless : Refusal → Type 0

@@ -2,7 +2,7 @@
 use Rattle.goblin_c.proofs.Common.{◌≡◌, ◌≤◌, ◌<◌, ◌+◌, ◌*◌, ◌^◌, ◌⊎◌, ℕ, Bool, List, [], ◌∷◌}
 use Rattle.goblin_c.proofs.Common.{◌++◌, length, drop, map, Option, Some, Result, Ok, Err, inl, refl, sym}
 use Rattle.goblin_c.proofs.Common.{ap, subst, ◌∙◌, arith, ◌>>=◌, refuse_as, number_expected, ctx_of}
-use Rattle.goblin_c.proofs.Common.{item_of, Returns, RefusalAt, refusal_at, refused_at, Stores, converted_list}
+use Rattle.goblin_c.proofs.Common.{item_at, Returns, RefusalAt, refusal_at, refused_at, Stores, converted_list}
 use Rattle.goblin_c.proofs.Common.{refusal_converted, Container, Little, Big, Ctx, Error, refusal_of, Header, cases_lt}
 use Rattle.goblin_c.proofs.Common.{Refused, GoblinHeader, GoblinRefusal}
 use Rattle.goblin_c.specs.Write.{FitsClass, Puts, header_of, header_put_expected, named_ctx, put_if}
@@ -16,13 +16,13 @@ pub room_for : {L R Y : Type 0} (convert : R → Y) (view : L → List R) (size 
     (bytes : List ℕ) (start index : ℕ) (answer : Result L Refused) (expected : Result (List R) RefusalAt)
     (found : Result (Option Y) Refused) (y : Y)
     → Lists size read bytes start expected → Returns view answer expected
-    → Returns (λ x. x) found (item_of (converted_list (λ list. map convert (view list)) answer) index)
+    → Returns (λ x. x) found (item_at (converted_list (λ list. map convert (view list)) answer) index)
     → found ≡ Ok (Some y)
     → start + index * size + size ≤ length bytes
 room_for {Y = Y} convert view size read bytes start index answer expected found y lists is stored there =
-    let own = expected_is found (item_of (converted_list (λ list. map convert (view list)) answer) index) stored in
+    let own = expected_is found (item_at (converted_list (λ list. map convert (view list)) answer) index) stored in
     let list = converted_is convert view answer expected is in
-    let same = ap (λ (list : Result (List Y) RefusalAt). item_of list index) list in
+    let same = ap (λ (list : Result (List Y) RefusalAt). item_at list index) list in
     (found_at convert size read bytes start index expected y lists
     (sym same ∙ sym own ∙ ap (refuse_as refusal_at) there)).0
 

@@ -44,8 +44,8 @@ count_of list = do
   Ok (Some (length items))
 
 -- its item at an index: none past the last one
-abbrev pub item_of : {X : Type 0} → Result (List X) RefusalAt → ℕ → Result (Option X) RefusalAt
-item_of list index = do
+abbrev pub item_at : {X : Type 0} → Result (List X) RefusalAt → ℕ → Result (Option X) RefusalAt
+item_at list index = do
   items ← list
   Ok (slice_get items index)
 
@@ -60,7 +60,7 @@ abbrev pub sections_converted : List ℕ → GoblinHeader → Result (List Gobli
 sections_converted bytes h = each_converted section_converted (sections_expected bytes h)
 
 abbrev pub section_expected : List ℕ → GoblinHeader → ℕ → Result (Option GoblinSection) RefusalAt
-section_expected bytes h index = item_of (sections_converted bytes h) index
+section_expected bytes h index = item_at (sections_converted bytes h) index
 
 abbrev pub sections_from_expected : List ℕ → GoblinHeader → ℕ → Result (Option (List GoblinSection)) RefusalAt
 sections_from_expected bytes h first = items_from (sections_converted bytes h) first
@@ -88,7 +88,7 @@ abbrev pub segments_converted : List ℕ → GoblinHeader → Result (List Gobli
 segments_converted bytes h = each_converted segment_converted (segments_expected bytes h)
 
 abbrev pub segment_expected : List ℕ → GoblinHeader → ℕ → Result (Option GoblinSegment) RefusalAt
-segment_expected bytes h index = item_of (segments_converted bytes h) index
+segment_expected bytes h index = item_at (segments_converted bytes h) index
 
 abbrev pub segment_count_expected : List ℕ → GoblinHeader → Result (Option ℕ) RefusalAt
 segment_count_expected bytes h = count_of (segments_converted bytes h)
@@ -119,7 +119,7 @@ abbrev pub symbols_converted : List ℕ → GoblinHeader → GoblinRange → Res
 symbols_converted bytes h range = each_converted symbol_converted (symbols_expected bytes h range)
 
 abbrev pub symbol_expected : List ℕ → GoblinHeader → GoblinRange → ℕ → Result (Option GoblinSymbol) RefusalAt
-symbol_expected bytes h range index = item_of (symbols_converted bytes h range) index
+symbol_expected bytes h range index = item_at (symbols_converted bytes h range) index
 
 abbrev pub symbols_from_expected : List ℕ
     → GoblinHeader → GoblinRange → ℕ → Result (Option (List GoblinSymbol)) RefusalAt
@@ -143,7 +143,7 @@ abbrev pub relocs_converted : List ℕ → GoblinHeader → GoblinRange → Bool
 relocs_converted bytes h range is_rela = each_converted reloc_converted (relocs_expected bytes h range is_rela)
 
 abbrev pub reloc_expected : List ℕ → GoblinHeader → GoblinRange → Bool → ℕ → Result (Option GoblinReloc) RefusalAt
-reloc_expected bytes h range is_rela index = item_of (relocs_converted bytes h range is_rela) index
+reloc_expected bytes h range is_rela index = item_at (relocs_converted bytes h range is_rela) index
 
 abbrev pub relocs_from_expected : List ℕ
     → GoblinHeader → GoblinRange → Bool → ℕ → Result (Option (List GoblinReloc)) RefusalAt

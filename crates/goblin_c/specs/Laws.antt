@@ -79,9 +79,9 @@ NotesLieInFile =
     → note_expected bytes h range alignment offset ≡ Ok (Some found)
     → LiesIn bytes found.name × LiesIn bytes found.desc × (offset + nhdr32_size ≤ found.next)
 
--- the number of a refusal's kind, which a call returns, is neither 0 nor 1
-abbrev pub KindsAreAnswers : Type 0
-KindsAreAnswers = (refusal : RefusalAt) → 2 ≤ (refusal_converted refusal).kind
+-- the number of a refusal's kind, which a call returns, is above 1
+abbrev pub KindsAreAboveOne : Type 0
+KindsAreAboveOne = (refusal : RefusalAt) → 1 < (refusal_converted refusal).kind
 
 -- a file has this header
 abbrev pub HasHeader : List ℕ → Header → Type 0

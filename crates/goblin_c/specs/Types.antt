@@ -27,8 +27,8 @@ item_number text =
     else 0
 
 -- an error for C: its kind, its numbers and the number of its item, and where what is refused begins
-abbrev pub converted : Facts → ℕ → GoblinRefusal
-converted e offset = record {
+abbrev pub facts_converted : Facts → ℕ → GoblinRefusal
+facts_converted e offset = record {
   kind = kind_number e.kind;
   item = item_number e.item;
   first = e.first;
@@ -40,7 +40,7 @@ converted e offset = record {
 
 -- a refusal for C
 abbrev pub refusal_converted : RefusalAt → GoblinRefusal
-refusal_converted why = converted (refusal_facts why.refusal) why.offset
+refusal_converted why = facts_converted (refusal_facts why.refusal) why.offset
 
 -- a refusal whose fields have the marks from 1 on
 abbrev pub refusal_marked : GoblinRefusal

@@ -9,7 +9,7 @@ ghost use Rattle.goblin_base.specs.declared.container.Endian.TheVariants as endi
 
 use crate::headers::{ctx_of, sections_of, segments_of};
 use crate::kinds::OK;
-use crate::lists::item_of;
+use crate::lists::item_at;
 use crate::status::store;
 use crate::tables::{relocs_of, symbols_of};
 use crate::types::{
@@ -172,7 +172,7 @@ fn store_any_symbol(asked: &Asked<'_>, symbol: &mut GoblinSymbol, why: &mut Gobl
         symbol.old why.old result symbol.new why.new }
 {
     let list = symbols_of(asked.bytes, asked.header, asked.range);
-    store(item_of(list, asked.index), symbol, why)
+    store(item_at(list, asked.index), symbol, why)
 }
 
 // Returns the section header at an index of a list that lies in the file and whose number the header states.
@@ -221,7 +221,7 @@ fn store_any_section(
     ensures { Stores (section_expected bytes.now header.now index)
         section.old why.old result section.new why.new }
 {
-    store(item_of(sections_of(bytes, header), index), section, why)
+    store(item_at(sections_of(bytes, header), index), section, why)
 }
 
 // Returns the program header at an index of a list that lies in the file and whose number the header states.
@@ -270,7 +270,7 @@ fn store_any_segment(
     ensures { Stores (segment_expected bytes.now header.now index)
         segment.old why.old result segment.new why.new }
 {
-    store(item_of(segments_of(bytes, header), index), segment, why)
+    store(item_at(segments_of(bytes, header), index), segment, why)
 }
 
 // Returns the relocation at an index of a range that lies in the file, which has this class and byte order. For MIPS it
@@ -365,5 +365,5 @@ fn store_any_reloc(
         reloc.old why.old result reloc.new why.new }
 {
     let list = relocs_of(asked.bytes, asked.header, asked.range, is_rela);
-    store(item_of(list, asked.index), reloc, why)
+    store(item_at(list, asked.index), reloc, why)
 }

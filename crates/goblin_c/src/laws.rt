@@ -1,6 +1,6 @@
 //! Laws of the calls: the items that they store one by one are those that the library reads at once.
 ghost use Rattle.goblin_c.specs.TextLaws.{PartsHaveSameText, RefusalsHaveSameText};
-ghost use Rattle.goblin_c.specs.Laws.{WholeHeaderKeeps, WholeNotesAreNotes, TextIsClosed, NotesAreItems, NotesInARow, NotesLieInFile, ContextIsTheHeaders, SectionsByIndex, SegmentsByIndex, SymbolsByIndex, RelocsByIndex, FilledByIndex, BufferIsFilled, NamesByIndex, StringsAreThere, StringsLieInFile, SectionsByName, SymbolsByName, SectionsByType, BytesLieInFile, StringsAreBytes, EmptyHaveNoBytes, PartsAreNumbered, TablesByIndex, KindsAreAnswers};
+ghost use Rattle.goblin_c.specs.Laws.{WholeHeaderKeeps, WholeNotesAreNotes, TextIsClosed, NotesAreItems, NotesInARow, NotesLieInFile, ContextIsTheHeaders, SectionsByIndex, SegmentsByIndex, SymbolsByIndex, RelocsByIndex, FilledByIndex, BufferIsFilled, NamesByIndex, StringsAreThere, StringsLieInFile, SectionsByName, SymbolsByName, SectionsByType, BytesLieInFile, StringsAreBytes, EmptyHaveNoBytes, PartsAreNumbered, TablesByIndex, KindsAreAboveOne};
 
 /// Laws: calls of `goblin_note` at a range's start and then at each `next` store exactly the notes of the
 /// library's iterator over the range, in its order, up to the end or the first refusal. The ranges that
@@ -23,9 +23,9 @@ pub fn texts()
 {}
 
 /// Law: the status of a call shows whether it stored an item, is past the end or is refused: the kind of
-/// a refusal is neither 0 nor 1.
+/// a refusal is above 1.
 pub fn kinds()
-    ensures { KindsAreAnswers }
+    ensures { KindsAreAboveOne }
 {}
 
 /// Law: the header that `goblin_header` stores has, passed to any other call, the class and the byte

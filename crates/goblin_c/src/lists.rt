@@ -2,7 +2,7 @@
 //! buffer of the caller's.
 ghost use Rattle.std.specs.Prelude.{◌≡◌, ◌-◌, ◌<◌, List, drop, length, min, slice_get};
 ghost use Rattle.goblin_c.specs.Refused.{Returns};
-ghost use Rattle.goblin_c.specs.Expected.{count_of, item_of, items_from};
+ghost use Rattle.goblin_c.specs.Expected.{count_of, item_at, items_from};
 ghost use Rattle.goblin_c.specs.FilledBuffer.{laid};
 ghost use Rattle.goblin_c.specs.Status.{Fills, converted_list};
 
@@ -37,8 +37,8 @@ pub fn count_of<L: Listed>(list: Result<L>) -> Result<Option<u64>>
 
 /// Returns the item of a list at an index.
 #[inline(always)]
-pub fn item_of<L: Listed>(list: Result<L>, index: u64) -> Result<Option<L::Converted>>
-    ensures { Returns (λ found. found) result (item_of (converted_list L.listed list) index) }
+pub fn item_at<L: Listed>(list: Result<L>, index: u64) -> Result<Option<L::Converted>>
+    ensures { Returns (λ found. found) result (item_at (converted_list L.listed list) index) }
 {
     Ok(list?.converted(index as usize))
 }

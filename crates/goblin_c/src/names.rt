@@ -1,5 +1,5 @@
 //! The names of numbers, written for C.
-ghost use Rattle.goblin.specs.HeaderNames.{class_name, type_name as file_type_name};
+ghost use Rattle.goblin.specs.HeaderNames.{class_name, file_type_name};
 ghost use Rattle.goblin.specs.Machines.{machine_name};
 ghost use Rattle.goblin.specs.NoteType.{note_type_name};
 ghost use Rattle.goblin.specs.SectionNames.{section_flag_name, section_name};

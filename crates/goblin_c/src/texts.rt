@@ -32,7 +32,7 @@ fn word_of(b: bool) -> &'static str
 }
 
 // Returns the item with a number, or the empty text if no item has it.
-fn item_of(item: u32) -> &'static str
+fn item_text(item: u32) -> &'static str
     ensures value { result.now ≡ item_text item }
     ensures bound { length result.now ≤ 15 }
 {
@@ -97,7 +97,7 @@ fn report_from(why: &GoblinRefusal, kind: Kind) -> Report
 {
     Report {
         kind,
-        item: item_of(why.item),
+        item: item_text(why.item),
         first: why.first,
         second: why.second,
         third: why.third,

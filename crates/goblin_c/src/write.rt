@@ -14,7 +14,7 @@ ghost use Rattle.goblin_c.specs.Write.{FitsClass, NumberFits, Puts, RelocFits, S
 use crate::bytes::number;
 use crate::headers::{ctx_of, sections_of, segments_of};
 use crate::kinds::{END, OK};
-use crate::lists::item_of;
+use crate::lists::item_at;
 use crate::refused::{Refused, Result, unfit};
 use crate::status::refuse;
 use crate::tables::{relocs_of, symbols_of};
@@ -84,7 +84,7 @@ pub extern "C" fn goblin_put_section(
         (section_put_expected bytes.old header.now index section.now)
         bytes.old why.old result bytes.new why.new }
 {
-    let found = item_of(sections_of(bytes, header), index);
+    let found = item_at(sections_of(bytes, header), index);
     let (ctx, record) = (ctx_of(header), section_of(section));
     let fits = record.fits(ctx);
     put_found(bytes, found, header.e_shoff, index, record, ctx, fits, why)
@@ -103,7 +103,7 @@ pub extern "C" fn goblin_put_segment(
         (segment_put_expected bytes.old header.now index segment.now)
         bytes.old why.old result bytes.new why.new }
 {
-    let found = item_of(segments_of(bytes, header), index);
+    let found = item_at(segments_of(bytes, header), index);
     let (ctx, record) = (ctx_of(header), segment_of(segment));
     let fits = record.fits(ctx);
     put_found(bytes, found, header.e_phoff, index, record, ctx, fits, why)
@@ -123,7 +123,7 @@ pub extern "C" fn goblin_put_symbol(
         (symbol_put_expected bytes.old header.now table.now index symbol.now)
         bytes.old why.old result bytes.new why.new }
 {
-    let found = item_of(symbols_of(bytes, header, table), index);
+    let found = item_at(symbols_of(bytes, header, table), index);
     let (ctx, record) = (ctx_of(header), symbol_of(symbol));
     let fits = record.fits(ctx);
     put_found(bytes, found, table.offset, index, record, ctx, fits, why)
@@ -164,7 +164,7 @@ pub extern "C" fn goblin_put_reloc(
         (reloc_put_expected bytes.old header.now table.now is_rela index reloc.now)
         bytes.old why.old result bytes.new why.new }
 {
-    let found = item_of(relocs_of(bytes, header, table, is_rela), index);
+    let found = item_at(relocs_of(bytes, header, table, is_rela), index);
     let (ctx, record) = (reloc_ctx(header, is_rela), reloc_of(reloc));
     let fits = record.fits(ctx) && is_exact(reloc);
     put_found(bytes, found, table.offset, index, record, ctx, fits, why)

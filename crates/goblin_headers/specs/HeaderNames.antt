@@ -11,11 +11,11 @@ unfoldable pub class_name : ℕ → List ℕ
 class_name = name_in class_names (codes "UNKNOWN_CLASS")
 
 -- each file type that has a name, and the name
-abbrev pub type_names : List (ℕ × List ℕ)
-type_names =
+abbrev pub file_type_names : List (ℕ × List ℕ)
+file_type_names =
     (0, codes "NONE") ∷ (1, codes "REL") ∷ (2, codes "EXEC") ∷ (3, codes "DYN") ∷ (4, codes "CORE") ∷ (5, codes "NUM")
     ∷ []
 
 -- the name of a file type
-unfoldable pub type_name : ℕ → List ℕ
-type_name = name_in type_names (codes "UNKNOWN_ET")
+unfoldable pub file_type_name : ℕ → List ℕ
+file_type_name = name_in file_type_names (codes "UNKNOWN_ET")

@@ -2,7 +2,7 @@
 //! Identification", with the machine numbers that were assigned later.
 ghost use Rattle.std.specs.Prelude.{◌≡◌};
 ghost use Rattle.goblin_base.specs.Common.{name_in};
-ghost use Rattle.goblin_headers.specs.HeaderNames.{class_name, type_name};
+ghost use Rattle.goblin_headers.specs.HeaderNames.{class_name, file_type_name};
 ghost use Rattle.goblin_headers.specs.Machines.{machine_name, machine_names_from_121, machine_names_from_200, machine_names_from_63, unknown_machine};
 
 /// No file type.
@@ -694,9 +694,9 @@ pub fn class_to_str(class: u8) -> &'static str
 }
 
 /// Returns the name of a file type without its prefix `ET_`, or `UNKNOWN_ET` from 6 on.
-#[tactic(auto, unfolding(crate::specs::HeaderNames::type_name))]
+#[tactic(auto, unfolding(crate::specs::HeaderNames::file_type_name))]
 pub fn et_to_str(et: u16) -> &'static str
-    ensures { result.now ≡ type_name et }
+    ensures { result.now ≡ file_type_name et }
 {
     match et {
         ET_NONE => "NONE",

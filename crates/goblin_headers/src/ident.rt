@@ -33,7 +33,7 @@ pub(crate) fn ident_of(bytes: &[u8]) -> [u8; SIZEOF_IDENT]
 pub(crate) fn put_ident(bytes: &mut [u8], ident: &[u8; SIZEOF_IDENT])
     requires { SIZEOF_IDENT ≤ length bytes.old }
     ensures written { bytes.new ≡ ident.now ++ drop SIZEOF_IDENT bytes.old }
-    ensures long { length ident.now ≡ SIZEOF_IDENT }
+    ensures size { length ident.now ≡ SIZEOF_IDENT }
 {
     bytes[..SIZEOF_IDENT].copy_from_slice(ident);
 }

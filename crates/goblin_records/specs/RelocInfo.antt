@@ -49,16 +49,16 @@ abbrev pub words_of : ℕ → ℕ × ℕ
 words_of info = (info / 2 ^ 32, info % 2 ^ 32)
 
 -- the number of a high and a low word
-abbrev pub joined : ℕ × ℕ → ℕ
-joined words = words.0 * 2 ^ 32 + words.1
+abbrev pub from_words : ℕ × ℕ → ℕ
+from_words words = words.0 * 2 ^ 32 + words.1
 
 -- the standard `r_info` of one that was read from a little-endian MIPS64 file
 abbrev pub mips64el_info : ℕ → ℕ
-mips64el_info info = joined (mips64el_pair (words_of info))
+mips64el_info info = from_words (mips64el_pair (words_of info))
 
 -- the `r_info` that stores a standard one there
 abbrev pub mips64el_info_inverse : ℕ → ℕ
-mips64el_info_inverse info = joined (mips64el_pair_inverse (words_of info))
+mips64el_info_inverse info = from_words (mips64el_pair_inverse (words_of info))
 
 -- the two undo each other
 abbrev pub Mips64elInverse : Type 0

@@ -6,7 +6,7 @@ use Rattle.goblin_base.specs.declared.container.Endian.TheVariants as order
 use Rattle.goblin_base.specs.NumberLaws.{IsBytes-spelled, number-lt, number-spelled, length-spelled, spelled-number}
 use Rattle.goblin_records.specs.RelocInfo.{symbols, types, symbol_in, type_in, info_of, JoinsItsParts, reversed}
 use Rattle.goblin_records.specs.RelocInfo.{mips64el_info_inverse, Mips64elInverse, Mips64elOneToOne, Mips64elFourTimes}
-use Rattle.goblin_records.specs.RelocInfo.{words_of, joined, mips64el_info, mips64el_pair, mips64el_pair_inverse}
+use Rattle.goblin_records.specs.RelocInfo.{words_of, from_words, mips64el_info, mips64el_pair, mips64el_pair_inverse}
 
 -- an `r_info` of the low bits of a symbol and a type is in range, and these are its parts
 pub info_of-parts : (class : Container) (symbol typ : ℕ) → let info = info_of class symbol typ in
@@ -44,7 +44,7 @@ reversed-reversed word h =
     ∙ ap reverse (sym (spelled-big (reversed word)) ∙ again) in
     ap (number order.Big) turned ∙ number-little bytes ∙ number-spelled order.Little 4 word h
 
--- the words of joined words
+-- the words of a number of words
 high_of : (high low : ℕ) → low < 2 ^ 32 → (high * 2 ^ 32 + low) / 2 ^ 32 ≡ high
 high_of high low h = omega arith
 
@@ -64,7 +64,7 @@ mips64el_inverse info h =
     let low : info % 2 ^ 32 < 2 ^ 32 = omega arith in
     let word = reversed (info % 2 ^ 32) in
     let whole : (info / 2 ^ 32) * 2 ^ 32 + info % 2 ^ 32 ≡ info = omega arith in (
-      ap (λ words. joined (mips64el_pair_inverse words)) (words-info info)
+      ap (λ words. from_words (mips64el_pair_inverse words)) (words-info info)
           ∙ rw (reversed-reversed (info / 2 ^ 32) high) whole,
       rw (
         high_of word (info / 2 ^ 32) high,
@@ -84,7 +84,7 @@ mips64el_four_times info h =
     let whole : (info / 2 ^ 32) * 2 ^ 32 + info % 2 ^ 32 ≡ info = omega arith in
     let twice = words-info (mips64el_info info) ∙ ap mips64el_pair (words-info info) in
     let thrice = words-info (mips64el_info (mips64el_info info)) ∙ ap mips64el_pair twice in
-    ap (λ words. joined (mips64el_pair words)) thrice
+    ap (λ words. from_words (mips64el_pair words)) thrice
     ∙ rw (reversed-reversed (info / 2 ^ 32) high, reversed-reversed (info % 2 ^ 32) low) whole
 
 -- for the laws of each class

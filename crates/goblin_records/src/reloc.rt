@@ -196,7 +196,7 @@ pub fn laws()
         (λ n r. (r.r_offset ≡ n 0 8) × (r.r_sym ≡ n 8 8 / 2 ^ 32) × (r.r_type ≡ n 8 8 % 2 ^ 32)
         × (r.r_addend ≡ Some (signed_of 8 (n 16 8)))) }
     ensures zeros { (reloc : Reloc) → ⟦<Reloc as Default>⟧.is_default reloc → reloc ≡ reloc_zero }
-    ensures context { (ctx : RelocCtx) → ⟦<RelocCtx as Default>⟧.is_default ctx → ctx ≡ reloc_ctx_default }
+    ensures default_ctx { (ctx : RelocCtx) → ⟦<RelocCtx as Default>⟧.is_default ctx → ctx ≡ reloc_ctx_default }
     ensures derived { ComparesAndClones ⟦<Reloc as PartialEq>⟧ ⟦<Reloc as Clone>⟧ }
     ensures derived_ctx { ComparesAndClones ⟦<RelocCtx as PartialEq>⟧ ⟦<RelocCtx as Clone>⟧ }
 {}

@@ -4,7 +4,7 @@ use Rattle.std.specs.Prelude.{Option, None, Some}
 use Rattle.goblin_text.specs.Common.{Header, SectionHeader, Reloc, Sym, ◌&◌, hexadecimal}
 use Rattle.std.specs.Fmt.{signed_decimal}
 use Rattle.goblin.specs.Machines.{machine_name}
-use Rattle.goblin.specs.HeaderNames.{class_name, type_name as file_type_name}
+use Rattle.goblin.specs.HeaderNames.{class_name, file_type_name}
 use Rattle.goblin.specs.SectionNames.{section_name}
 use Rattle.goblin.specs.SymParts.{bind_of, type_of, visibility_of, bind_name, type_name, visibility_name}
 pub use Rattle.goblin_base.specs.Lines.{newline}

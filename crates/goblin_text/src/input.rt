@@ -67,7 +67,7 @@ fn make_room(bytes: &mut Vec<u8>, filled: usize) -> Result<(), AllocError>
 // Reads into the bytes after the first `filled` ones.
 fn read_into<R: Source>(reader: &mut R, bytes: &mut Vec<u8>, filled: usize) -> io::Result<usize>
     requires { filled < vec_len bytes.old }
-    ensures len { vec_len bytes.new ≡ vec_len bytes.old }
+    ensures size { vec_len bytes.new ≡ vec_len bytes.old }
     ensures unchanged { take filled bytes.new.items ≡ take filled bytes.old.items }
     ensures bound { ReadsAtMost result (drop filled bytes.new.items) }
     ensures bytes { ReadConsumes (R.remaining reader.old) (R.remaining reader.new) result

@@ -3,7 +3,7 @@ ghost use Rattle.std.specs.Prelude.{◌≡◌, Some, map};
 ghost use Rattle.std.specs.List.{concat};
 ghost use Rattle.goblin.specs.Texts.{◌&◌};
 ghost use Rattle.goblin_text.specs.ShownLines.{addend_text, header_line, is_control, newline, printable, printed, reloc_line, section_line, symbol_line};
-ghost use Rattle.goblin_text.specs.TargetState.{Puts};
+ghost use Rattle.goblin_text.specs.TargetState.{Prints};
 ghost use Rattle.goblin.specs.Refusal.{refusal_of};
 ghost use Rattle.goblin_base.specs.Texts.{facts_of, part_text, refusal_text};
 
@@ -20,7 +20,7 @@ use goblin_base::texts::{Part, Report};
 
 // Puts texts one after another.
 fn put_all<T: Target>(target: &mut T, texts: &[&str]) -> Result<(), T::Error>
-    ensures put { Puts (T.state target.old) (T.state target.new) result
+    ensures put { Prints (T.state target.old) (T.state target.new) result
         (concat (map (λ text. text.now) texts.now)) }
     ensures same_writer { T.writer_name target.new ≡ T.writer_name target.old }
 {
@@ -48,7 +48,7 @@ fn printable(c: char) -> char
 #[cold]
 #[inline(never)]
 fn put_replaced<T: Target>(target: &mut T, name: &str) -> Result<(), T::Error>
-    ensures put { Puts (T.state target.old) (T.state target.new) result (printed name.now) }
+    ensures put { Prints (T.state target.old) (T.state target.new) result (printed name.now) }
     ensures same_writer { T.writer_name target.new ≡ T.writer_name target.old }
 {
     for c in name.chars() {
@@ -59,7 +59,7 @@ fn put_replaced<T: Target>(target: &mut T, name: &str) -> Result<(), T::Error>
 
 // Puts a name, with a question mark for each control character.
 fn put_printed<T: Target>(target: &mut T, name: &str) -> Result<(), T::Error>
-    ensures put { Puts (T.state target.old) (T.state target.new) result (printed name.now) }
+    ensures put { Prints (T.state target.old) (T.state target.new) result (printed name.now) }
     ensures same_writer { T.writer_name target.new ≡ T.writer_name target.old }
 {
     if !name.as_bytes().iter().any(|byte| is_control(*byte)) {
@@ -70,7 +70,7 @@ fn put_printed<T: Target>(target: &mut T, name: &str) -> Result<(), T::Error>
 
 // Puts a name as it prints, and the end of its line.
 fn put_name<T: Target>(target: &mut T, name: &str) -> Result<(), T::Error>
-    ensures put { Puts (T.state target.old) (T.state target.new) result
+    ensures put { Prints (T.state target.old) (T.state target.new) result
         (printed name.now & newline) }
     ensures same_writer { T.writer_name target.new ≡ T.writer_name target.old }
 {
@@ -82,7 +82,7 @@ fn put_name<T: Target>(target: &mut T, name: &str) -> Result<(), T::Error>
 
 /// Puts the line of a header.
 pub fn put_header<T: Target>(target: &mut T, header: &Header) -> Result<(), T::Error>
-    ensures put { Puts (T.state target.old) (T.state target.new) result (header_line header.now) }
+    ensures put { Prints (T.state target.old) (T.state target.new) result (header_line header.now) }
     ensures same_writer { T.writer_name target.new ≡ T.writer_name target.old }
 {
     let order = if header.e_ident[EI_DATA] == ELFDATA2LSB {
@@ -120,7 +120,7 @@ pub fn put_section<T: Target>(
     section: &SectionHeader,
     name: &str,
 ) -> Result<(), T::Error>
-    ensures put { Puts (T.state target.old) (T.state target.new) result
+    ensures put { Prints (T.state target.old) (T.state target.new) result
         (section_line number section.now name.now) }
     ensures same_writer { T.writer_name target.new ≡ T.writer_name target.old }
 {
@@ -151,7 +151,7 @@ pub fn put_symbol<T: Target>(
     symbol: &Sym,
     name: &str,
 ) -> Result<(), T::Error>
-    ensures put { Puts (T.state target.old) (T.state target.new) result
+    ensures put { Prints (T.state target.old) (T.state target.new) result
         (symbol_line section number symbol.now name.now) }
     ensures same_writer { T.writer_name target.new ≡ T.writer_name target.old }
 {
@@ -180,7 +180,7 @@ pub fn put_symbol<T: Target>(
 
 // Puts an addend, and the end of its line.
 fn put_signed<T: Target>(target: &mut T, addend: i64) -> Result<(), T::Error>
-    ensures put { Puts (T.state target.old) (T.state target.new) result
+    ensures put { Prints (T.state target.old) (T.state target.new) result
         (addend_text (Some addend) & newline) }
     ensures same_writer { T.writer_name target.new ≡ T.writer_name target.old }
 {
@@ -195,7 +195,7 @@ fn put_signed<T: Target>(target: &mut T, addend: i64) -> Result<(), T::Error>
 
 // Puts an addend, or a dash if there is none, and the end of its line.
 fn put_addend<T: Target>(target: &mut T, addend: Option<i64>) -> Result<(), T::Error>
-    ensures put { Puts (T.state target.old) (T.state target.new) result
+    ensures put { Prints (T.state target.old) (T.state target.new) result
         (addend_text addend & newline) }
     ensures same_writer { T.writer_name target.new ≡ T.writer_name target.old }
 {
@@ -212,7 +212,7 @@ pub fn put_reloc<T: Target>(
     number: usize,
     reloc: &Reloc,
 ) -> Result<(), T::Error>
-    ensures put { Puts (T.state target.old) (T.state target.new) result
+    ensures put { Prints (T.state target.old) (T.state target.new) result
         (reloc_line section number reloc.now) }
     ensures same_writer { T.writer_name target.new ≡ T.writer_name target.old }
 {
@@ -237,7 +237,7 @@ pub fn put_reloc<T: Target>(
 
 // Puts a part of the text of an error.
 fn put_part<T: Target>(target: &mut T, report: &Report, part: &Part) -> Result<(), T::Error>
-    ensures put { Puts (T.state target.old) (T.state target.new) result
+    ensures put { Prints (T.state target.old) (T.state target.new) result
         (part_text (facts_of report.now) part.now) }
     ensures same_writer { T.writer_name target.new ≡ T.writer_name target.old }
 {
@@ -254,7 +254,7 @@ fn put_part<T: Target>(target: &mut T, report: &Report, part: &Part) -> Result<(
 
 /// Puts the text of an error.
 pub fn put_error<T: Target>(target: &mut T, e: &Error) -> Result<(), T::Error>
-    ensures put { Puts (T.state target.old) (T.state target.new) result (refusal_text (refusal_of e.now)) }
+    ensures put { Prints (T.state target.old) (T.state target.new) result (refusal_text (refusal_of e.now)) }
     ensures same_writer { T.writer_name target.new ≡ T.writer_name target.old }
 {
     let report = e.report();

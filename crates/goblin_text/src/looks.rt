@@ -117,7 +117,7 @@ pub fn refuse_unless_text(view: &mut CountedBytes<'_>, from: usize, to: usize) -
 pub fn end_of_text(view: &mut CountedBytes<'_>, from: usize, to: usize) -> Option<usize>
     requires ordered { from ≤ to }
     requires within { to ≤ length view.old.bytes }
-    ensures stop { EndsAt view.old.bytes from to result }
+    ensures end { EndsAt view.old.bytes from to result }
     ensures text { IsTextUpTo view.old.bytes from result }
     ensures reading { Reads view.old view.new 0 (2 * (to - from)) }
 {

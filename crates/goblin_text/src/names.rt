@@ -216,7 +216,7 @@ impl<'a> Names<'a> {
     fn end_of_name(&mut self, place: usize, end: usize) -> Option<usize>
         requires ordered { place ≤ end }
         requires within { end ≤ length self.old.bytes }
-        ensures stop { EndsAt self.old.bytes place end result }
+        ensures end { EndsAt self.old.bytes place end result }
         ensures cached { IsCached self.new self.old.text_start self.old.text_end }
         ensures reading { ReadsNames self.old self.new 0 (4 * BLOCK + 32) }
         ensures looks_near { IsShort self.old.bytes → IfSome result (λ stop.
@@ -238,7 +238,7 @@ impl<'a> Names<'a> {
     // not UTF-8. It is nine looks at edges, one at each byte up to the first edge, and two in the block that the string ends in.
     fn end_of_long_name(&mut self, place: usize, end: usize) -> Option<usize>
         requires { IsLong self.old.bytes place end }
-        ensures stop { EndsAt self.old.bytes place end result }
+        ensures end { EndsAt self.old.bytes place end result }
         ensures text { IsTextUpTo self.old.bytes place result }
         ensures cached { IsCached self.new self.old.text_start self.old.text_end }
         ensures reading { ReadsNames self.old self.new 0 (3 * BLOCK + 24) }

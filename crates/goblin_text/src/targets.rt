@@ -2,7 +2,7 @@
 ghost use Rattle.std.specs.Prelude.{◌≡◌, ◌↔◌, ◌+◌, ◌≤◌, ◌++◌, IsTrue, OnErr, OnOk, Some, false, length, [], string_bytes, take};
 ghost use Rattle.std.specs.Borrow.{GName};
 ghost use Rattle.std.specs.Io.KnownBytes.{Appends, Keeps};
-ghost use Rattle.goblin_text.specs.TargetState.{Puts, State, held};
+ghost use Rattle.goblin_text.specs.TargetState.{Prints, State, held};
 
 use crate::streams::Sink;
 use std::alloc::{AllocError, Global};

@@ -6,7 +6,7 @@ ghost use Rattle.goblin_text.specs.Accepted.{accepted_text, relocs_text, symbols
 ghost use Rattle.goblin_text.specs.StringRanges.{strings_in};
 ghost use Rattle.goblin_text.specs.ShownLines.{section_line, symbol_line};
 ghost use Rattle.goblin_text.specs.Looks.{ReadsNames, names_looks};
-ghost use Rattle.goblin_text.specs.TargetState.{Puts};
+ghost use Rattle.goblin_text.specs.TargetState.{Prints};
 ghost use Rattle.goblin_text.specs.Shown.{PermissiveShowsStrict, name_at, reloc_lines, section_lines, shown, symbol_lines, tested};
 
 use crate::accept::{Accepted, RelocPart, SymbolPart, accept};
@@ -33,7 +33,7 @@ fn put_named_section<T: Target>(
     section: &SectionHeader,
 ) -> Result<(), T::Error>
     ensures put { let name = name_at (strings_in names.old.bytes strings) section.now.sh_name in
-        Puts (T.state target.old) (T.state target.new) result
+        Prints (T.state target.old) (T.state target.new) result
         (section_line number section.now name) }
     ensures same_writer { T.writer_name target.new ≡ T.writer_name target.old }
     ensures reading { let name = name_at (strings_in names.old.bytes strings) section.now.sh_name in
@@ -50,7 +50,7 @@ fn put_sections<T: Target>(
     file: &Accepted<'_>,
 ) -> Result<(), T::Error>
     ensures put { let strings = strings_in names.old.bytes file.now.parts.strings in
-        Puts (T.state target.old) (T.state target.new) result
+        Prints (T.state target.old) (T.state target.new) result
         (section_lines strings 0 file.now.sections.items) }
     ensures same_writer { T.writer_name target.new ≡ T.writer_name target.old }
     ensures reading { let strings = strings_in names.old.bytes file.now.parts.strings in
@@ -74,7 +74,7 @@ fn put_named_symbol<T: Target>(
     symbol: &Sym,
 ) -> Result<(), T::Error>
     ensures put { let name = name_at (strings_in names.old.bytes part.now.strings) symbol.now.st_name in
-        Puts (T.state target.old) (T.state target.new) result
+        Prints (T.state target.old) (T.state target.new) result
         (symbol_line part.now.section number symbol.now name) }
     ensures same_writer { T.writer_name target.new ≡ T.writer_name target.old }
     ensures reading { let name = name_at (strings_in names.old.bytes part.now.strings) symbol.now.st_name in
@@ -92,7 +92,7 @@ fn put_symbols<T: Target>(
     part: &SymbolPart<'_>,
 ) -> Result<(), T::Error>
     ensures put { let strings = strings_in names.old.bytes part.now.strings in
-        Puts (T.state target.old) (T.state target.new) result
+        Prints (T.state target.old) (T.state target.new) result
         (symbol_lines strings part.now.section 0 part.now.table.symbols) }
     ensures same_writer { T.writer_name target.new ≡ T.writer_name target.old }
     ensures reading { let strings = strings_in names.old.bytes part.now.strings in
@@ -111,7 +111,7 @@ fn put_all_symbols<T: Target>(
     names: &mut Names<'_>,
     parts: &[SymbolPart<'_>],
 ) -> Result<(), T::Error>
-    ensures put { Puts (T.state target.old) (T.state target.new) result
+    ensures put { Prints (T.state target.old) (T.state target.new) result
         (symbols_text names.old.bytes parts.now) }
     ensures same_writer { T.writer_name target.new ≡ T.writer_name target.old }
     ensures reading { let text = symbols_text names.old.bytes parts.now in
@@ -129,7 +129,7 @@ fn put_relocs<T: Target>(
     section: usize,
     relocs: &RelocSection<'_>,
 ) -> Result<(), T::Error>
-    ensures put { Puts (T.state target.old) (T.state target.new) result
+    ensures put { Prints (T.state target.old) (T.state target.new) result
         (reloc_lines section 0 relocs.now) }
     ensures same_writer { T.writer_name target.new ≡ T.writer_name target.old }
 {
@@ -141,7 +141,7 @@ fn put_relocs<T: Target>(
 
 // Puts the lines of the relocations of all parts.
 fn put_all_relocs<T: Target>(target: &mut T, parts: &[RelocPart<'_>]) -> Result<(), T::Error>
-    ensures put { Puts (T.state target.old) (T.state target.new) result (relocs_text parts.now) }
+    ensures put { Prints (T.state target.old) (T.state target.new) result (relocs_text parts.now) }
     ensures same_writer { T.writer_name target.new ≡ T.writer_name target.old }
 {
     for part in parts {
@@ -158,7 +158,7 @@ fn put_text<T: Target>(
     file: &Accepted<'_>,
 ) -> Result<(), T::Error>
     ensures put { let text = accepted_text names.old.bytes file.now in
-        Puts (T.state target.old) (T.state target.new) result text }
+        Prints (T.state target.old) (T.state target.new) result text }
     ensures same_writer { T.writer_name target.new ≡ T.writer_name target.old }
     ensures reading { let text = accepted_text names.old.bytes file.now in
         ReadsNames names.old names.new 0 (names_looks text) }

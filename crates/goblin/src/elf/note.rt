@@ -6,7 +6,7 @@ ghost use Rattle.std.specs.Iterator.SizeHint.{IsWithinCount};
 ghost use Rattle.goblin_base.specs.Common.{ComparesAndClones, Returns};
 ghost use Rattle.goblin.specs.Notes.{NoteByNote, NotesAdvance, FewNotes, PlacesLieWithin, WholeIsNote};
 ghost use Rattle.goblin.specs.NoteType.{note_type_name};
-ghost use Rattle.goblin.specs.Note.{FindsParts, bytes_at, note_at, text_at, whole_places, with_part};
+ghost use Rattle.goblin.specs.Note.{FindsParts, bytes_at, note_at, utf8_at, whole_places, with_part};
 
 use goblin_base::container::{Ctx, LE};
 use goblin_base::error::{Error, Fault, Result};
@@ -170,14 +170,14 @@ pub struct NotePlaces {
 }
 
 impl NotePlaces {
-    ghost use Rattle.goblin.specs.Note.{places_of};
+    ghost use Rattle.goblin.specs.Note.{note_places};
     ghost use Rattle.goblin.specs.Notes.{LieWithin};
 
     /// Returns the parts of the note with a header, for an alignment of 4 or 8.
     #[inline(always)]
     pub fn of(header: &Nhdr32, alignment: usize) -> NotePlaces
         requires { (alignment ≡ 4) ⊎ (alignment ≡ 8) }
-        ensures { result ≡ places_of alignment header.now }
+        ensures { result ≡ note_places alignment header.now }
     {
         let name = Nhdr32::size_with(&LE);
         let name_size = header.n_namesz as usize;
@@ -285,7 +285,7 @@ impl<'a> Note<'a> {
     /// `BadOffset` if the offset is at the end of the bytes or past it, else the errors of reading
     /// a note from the offset on.
     pub fn at(bytes: &'a [u8], offset: usize, ctx: (usize, Ctx)) -> Result<(Self, NotePlaces)>
-        ensures note { Returns (λ found. (parts_of found.0, found.1.next)) result
+        ensures given { Returns (λ found. (parts_of found.0, found.1.next)) result
             (note_at bytes.now offset ctx) }
         ensures places { Returns (λ found. found.1) result (places_at bytes.now offset ctx) }
         ensures within { IfOk result (λ found. LieWithin (length bytes.now) offset found.1) }
@@ -309,7 +309,7 @@ impl<'a> Note<'a> {
         }
         let (header, _) = Nhdr32::try_from_ctx(bytes, ctx.le)?;
         let places = NotePlaces::of(&header, alignment);
-        let name = text_at(bytes, places.name, places.name_size)?;
+        let name = utf8_at(bytes, places.name, places.name_size)?;
         let desc = bytes_at(bytes, places.desc, places.desc_size)?;
         let n_type = header.n_type;
         Ok((Note { n_type, name, desc }, places))
@@ -367,8 +367,8 @@ fn bytes_at(bytes: &[u8], place: usize, size: usize) -> Result<&[u8]>
 }
 
 // Returns `size` bytes from an offset on as UTF-8, or the fault of `room`, or `BadInput`.
-fn text_at(bytes: &[u8], place: usize, size: usize) -> Result<&str>
-    ensures given { Returns (λ text. text.now) result (text_at bytes.now place size) }
+fn utf8_at(bytes: &[u8], place: usize, size: usize) -> Result<&str>
+    ensures given { Returns (λ text. text.now) result (utf8_at bytes.now place size) }
     ensures ok { IfOk result (λ text. text.now ≡ take size (drop place bytes.now)) }
 {
     let part = bytes_at(bytes, place, size)?;

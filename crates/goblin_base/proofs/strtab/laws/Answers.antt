@@ -11,7 +11,7 @@ pub returns : goal.returns
 returns c = record {
   text_is_utf8 = text_is_utf8;
   closed_form = closed_form;
-  joins_again = joins_again;
+  joins = joins_again;
   permissive_accepts = permissive_accepts;
   strict_is_permissive = strict_is_permissive;
   look_up_has_plain = look_up_has_plain;

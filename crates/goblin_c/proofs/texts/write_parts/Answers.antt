@@ -1,9 +1,9 @@
 -- After each part the buffer holds the text of the parts so far, or as much of it as fits, and `len` is the length of
--- that text (`laid-part`, `long-part`): with one part more the text goes on with that part's (`joined_more`). The
+-- that text (`laid-part`, `long-part`): with one part more the text goes on with that part's (`parts_text_more`). The
 -- length is bounded because there are at most 16 parts, each of at most 100 bytes (`short_parts`).
 use Rattle.goblin_c.proofs.Common.{ℕ, List, length, ◌≤◌, ◌++◌, ◌+◌, ◌∙◌, ap, append_assoc, arith, sym, take, facts_of}
-use Rattle.goblin_c.proofs.Common.{joined, prefix}
-use Rattle.goblin_base.proofs.PartsLemmas.{joined_more}
+use Rattle.goblin_c.proofs.Common.{parts_text, prefix}
+use Rattle.goblin_base.proofs.PartsLemmas.{parts_text_more}
 use Rattle.goblin_c.proofs.TextLemmas.{laid-part, long-part, short_parts}
 use Rattle.goblin_c.proofs.texts.write_parts.Goals as goal
 
@@ -18,13 +18,13 @@ loop-part-preserved c =
     let start = prefix c.args.report.now.kind in
     let facts = facts_of c.args.report.now in
     let parts = c.parts-parts.result.now in
-    let text : ℕ → List ℕ = λ n. start ++ joined facts (take n parts) in
+    let text : ℕ → List ℕ = λ n. start ++ parts_text facts (take n parts) in
     let now = text l.part-index in
     let then = text (l.part-index + 1) in
     let wrote = c.write_part-len.ensures in
     let more =
-    ap (λ rest. start ++ rest) (joined_more facts parts l.part-index _ c.loop-part-test.true)
-    ∙ sym (append_assoc start (joined facts (take l.part-index parts)) _) in
+    ap (λ rest. start ++ rest) (parts_text_more facts parts l.part-index _ c.loop-part-test.true)
+    ∙ sym (append_assoc start (parts_text facts (take l.part-index parts)) _) in
     record {
       written = laid-part now then _ c.args.buffer.now l.buffer c.write_part-len.new.buffer l.len more
           l.invariant.written l.invariant.value wrote.written;

@@ -1,9 +1,9 @@
-use Rattle.goblin_c.proofs.Common.{◌≡◌, ◌≤◌, ◌+◌, ◌*◌, ◌++◌, length, take, facts_of, joined, prefix, laid}
+use Rattle.goblin_c.proofs.Common.{◌≡◌, ◌≤◌, ◌+◌, ◌*◌, ◌++◌, length, take, facts_of, parts_text, prefix, laid}
 use Rattle.goblin_c.proofs.texts.write_parts.Given as goal
 
 abbrev pub invariant-loop-part : goal.invariant-loop-part
 invariant-loop-part l =
-    let text = prefix l.report.kind ++ joined (facts_of l.report) (take l.part-index l.parts) in
+    let text = prefix l.report.kind ++ parts_text (facts_of l.report) (take l.part-index l.parts) in
     record {
       written : l.buffer ≡ laid text l.fn.buffer;
       value : l.len ≡ length text;

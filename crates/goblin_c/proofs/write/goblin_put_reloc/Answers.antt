@@ -11,6 +11,6 @@ put_found-requires c =
     (λ x there.
     room_for reloc_converted (λ relocs. relocs) (reloc_size c.args.is_rela (ctx_of h).container)
     (reloc_in (reloc_ctx h c.args.is_rela)) c.args.bytes.now c.args.table.now.offset c.args.index
-    c.relocs_of.result (relocs_expected c.args.bytes.now h c.args.table.now c.args.is_rela) c.item_of-found.result x
-    (lists_relocs c.args.bytes.now h c.args.table.now c.args.is_rela) c.relocs_of.ensures c.item_of-found.ensures
+    c.relocs_of.result (relocs_expected c.args.bytes.now h c.args.table.now c.args.is_rela) c.item_at-found.result x
+    (lists_relocs c.args.bytes.now h c.args.table.now c.args.is_rela) c.relocs_of.ensures c.item_at-found.ensures
     there)

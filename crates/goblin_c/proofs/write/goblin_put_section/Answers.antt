@@ -11,5 +11,5 @@ put_found-requires c =
     (λ x there.
     room_for section_converted (λ sections. sections) (section_header_size class)
     (section_header_of class (ctx_of h).le) c.args.bytes.now h.e_shoff c.args.index c.sections_of.result
-    (sections_expected c.args.bytes.now h) c.item_of-found.result x (lists_sections c.args.bytes.now h)
-    c.sections_of.ensures c.item_of-found.ensures there)
+    (sections_expected c.args.bytes.now h) c.item_at-found.result x (lists_sections c.args.bytes.now h)
+    c.sections_of.ensures c.item_at-found.ensures there)

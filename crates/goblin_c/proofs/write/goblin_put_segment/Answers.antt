@@ -11,5 +11,5 @@ put_found-requires c =
     (λ x there.
     room_for segment_converted (λ segments. segments) (program_header_size class)
     (program_header_of class (ctx_of h).le) c.args.bytes.now h.e_phoff c.args.index c.segments_of.result
-    (segments_expected c.args.bytes.now h) c.item_of-found.result x (lists_segments c.args.bytes.now h)
-    c.segments_of.ensures c.item_of-found.ensures there)
+    (segments_expected c.args.bytes.now h) c.item_at-found.result x (lists_segments c.args.bytes.now h)
+    c.segments_of.ensures c.item_at-found.ensures there)

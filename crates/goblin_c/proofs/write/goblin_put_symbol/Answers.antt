@@ -11,5 +11,5 @@ put_found-requires c =
     rw c.ctx_of-ctx.ensures
     (λ x there.
     room_for symbol_converted (λ table. table.symbols) (sym_size class) (sym_of class (ctx_of h).le) c.args.bytes.now
-    table.offset c.args.index c.symbols_of.result (symbols_expected c.args.bytes.now h table) c.item_of-found.result x
-    (lists_symbols c.args.bytes.now h table) c.symbols_of.ensures c.item_of-found.ensures there)
+    table.offset c.args.index c.symbols_of.result (symbols_expected c.args.bytes.now h table) c.item_at-found.result x
+    (lists_symbols c.args.bytes.now h table) c.symbols_of.ensures c.item_at-found.ensures there)

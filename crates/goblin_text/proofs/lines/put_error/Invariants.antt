@@ -1,5 +1,5 @@
 use Rattle.goblin_text.proofs.Common.{◌≡◌, take, Appends}
-use Rattle.goblin_base.specs.Texts.{facts_of, joined}
+use Rattle.goblin_base.specs.Texts.{facts_of, parts_text}
 use Rattle.goblin_text.proofs.lines.put_error.Given as goal
 
 -- the parts so far are put
@@ -8,7 +8,7 @@ invariant-loop-part g l =
     let target = g.T.Target in
     record {
       appends : Appends (target.state l.initial.target).contents (target.state l.target).contents
-          (joined (facts_of l.report) (take l.part-index l.parts));
+          (parts_text (facts_of l.report) (take l.part-index l.parts));
       heeded : (target.state l.target).reported_error ≡ (target.state l.initial.target).reported_error;
       same_writer : target.writer_name l.target ≡ target.writer_name l.initial.target;
     }

@@ -8,8 +8,8 @@ use Rattle.goblin_text.proofs.LongNames.{RunsTo, ends_after, ends_in_block, lack
 use Rattle.goblin_text.proofs.names.Names.end_of_long_name.Goals.{After-end_of_text, then-run-last, else-run-last}
 use Rattle.goblin_text.proofs.names.Names.end_of_long_name.Goals as goal
 
-pub returns-then-not-is_text-clause-stop : goal.returns-then-not-is_text-clause-stop
-returns-then-not-is_text-clause-stop c =
+pub returns-then-not-is_text-clause-end : goal.returns-then-not-is_text-clause-end
+returns-then-not-is_text-clause-end c =
     let bytes = c.args.self.now.bytes in
     let head : slice_range bytes c.args.place (block_start bytes (next_block c.args.place))
     ≡ slice_range c.char_start-begin.new.view.bytes c.args.place c.char_start-begin.result =
@@ -45,21 +45,21 @@ before c =
     } in
     record { from = omega (arith, first); zero_free = zero_free_to_run bytes c.args.place c.args.end c.requires run to }
 
-pub returns-clause-stop : goal.returns-clause-stop
-returns-clause-stop c =
+pub returns-clause-end : goal.returns-clause-end
+returns-clause-end c =
     let bytes = c.args.self.now.bytes in
     let run = c.min-run.result in
     let from = block_start bytes run in
     let most : run ≤ last_block c.args.end = grind (arith, common_steps) in
     let bounds = char_start_bounds bytes (run * BLOCK) in
     let next = char_start_bounds bytes ((run + 1) * BLOCK) in
-    let front = before (goal.at.returns-clause-stop c).After-end_of_text in
+    let front = before (goal.at.returns-clause-end c).After-end_of_text in
     let found : EndsAt bytes from c.args.end c.end_of_text.result = elim c.if-run-last.branch [
       | then-run-last w ↦ grind (arith, common_steps)
       | else-run-last w ↦
           let early : run < last_block c.args.end = grind (arith, common_steps) in
           let e : IsRunEnd ZeroFree bytes (next_block c.args.place) c.run_end.result =
-          run_is_end (goal.at.returns-clause-stop c).After-end_of_text in
+          run_is_end (goal.at.returns-clause-end c).After-end_of_text in
           let ends : c.run_end.result ≡ run = grind (arith, common_steps) in
           let other : ¬ (IsBlock ZeroFree bytes run) =
           subst (λ k. ¬ (IsBlock ZeroFree bytes k)) ends (e.stops (omega (arith, early, ends, c.requires.within))) in

@@ -4,8 +4,8 @@ use Rattle.goblin_text.proofs.Common.{◌≡◌, ◌≤◌, arith, length, slice
 use Rattle.goblin_text.proofs.Strings.{string-after, string-within}
 use Rattle.goblin_text.proofs.names.Names.end_of_name.Goals as goal
 
-pub returns-then-stop-near-clause-stop : goal.returns-then-stop-near-clause-stop
-returns-then-stop-near-clause-stop c =
+pub returns-then-stop-near-clause-end : goal.returns-then-stop-near-clause-end
+returns-then-stop-near-clause-end c =
     let bytes = c.args.self.now.bytes in
     let near = c.min-near.result in
     let stop = c.end_of_string-stop in
@@ -20,8 +20,8 @@ returns-then-stop-near-clause-stop c =
           short is;
     }
 
-pub returns-then-place-last_block-clause-stop : goal.returns-then-place-last_block-clause-stop
-returns-then-place-last_block-clause-stop c =
+pub returns-then-place-last_block-clause-end : goal.returns-then-place-last_block-clause-end
+returns-then-place-last_block-clause-end c =
     let bytes = c.args.self.now.bytes in
     let near = c.min-near.result in
     let stop = c.end_of_string in

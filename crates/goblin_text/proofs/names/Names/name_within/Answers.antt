@@ -18,7 +18,7 @@ returns-then-after_continuation-place-clause-value c =
 
 pub returns-in-Some-clause-value : goal.returns-in-Some-clause-value
 returns-in-Some-clause-value c =
-    grind (arith, common_steps, ap text_or_nothing c.in-Some.ensures.stop.is)
+    grind (arith, common_steps, ap text_or_nothing c.in-Some.ensures.end.is)
     ∙ name_in_range c.args.self.now.bytes c.args.start c.args.end c.args.offset c.requires.ordered c.requires.within
     c.if-offset-end.false
 

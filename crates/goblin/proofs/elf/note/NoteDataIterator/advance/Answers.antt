@@ -16,15 +16,15 @@ returns-then-self-clause-steps c =
 pub returns-in-Ok-clause-steps : goal.returns-in-Ok-clause-steps
 returns-in-Ok-clause-steps c =
     let it = c.args.self.now in
-    note_items-note it.bytes.now it.size it.offset it.ctx _ (omega arith) c.in-Ok.ensures.note
+    note_items-note it.bytes.now it.size it.offset it.ctx _ (omega arith) c.in-Ok.ensures.given
 
 pub returns-in-Ok-clause-goes : goal.returns-in-Ok-clause-goes
 returns-in-Ok-clause-goes c =
     let it = c.args.self.now in
-    let moved = at_ok _ _ _ c.in-Ok.ensures.note (notes_advance it.bytes.now it.offset it.ctx) in
+    let moved = at_ok _ _ _ c.in-Ok.ensures.given (notes_advance it.bytes.now it.offset it.ctx) in
     record { on = λ _. (tt, tt, omega arith); keeps = tt; rests = λ _. tt }
 
 pub returns-in-Err-clause-steps : goal.returns-in-Err-clause-steps
 returns-in-Err-clause-steps c =
     let it = c.args.self.now in
-    note_items-refusal it.bytes.now it.size it.offset it.ctx _ (omega arith) c.in-Err.ensures.note
+    note_items-refusal it.bytes.now it.size it.offset it.ctx _ (omega arith) c.in-Err.ensures.given
