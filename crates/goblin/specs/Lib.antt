@@ -1,8 +1,6 @@
-pub use Rattle.goblin_base.specs.Container
 pub use Rattle.goblin_base.specs.Eager
 pub use Rattle.goblin_base.specs.Fields
 pub use Rattle.goblin_base.specs.Layout
-pub use Rattle.goblin_base.specs.Names
 pub use Rattle.goblin_base.specs.Number
 pub use Rattle.goblin_base.specs.Pieces
 pub use Rattle.goblin_base.specs.Record
@@ -12,7 +10,6 @@ pub use Rattle.goblin_base.specs.Signed
 pub use Rattle.goblin_base.specs.Steps
 pub use Rattle.goblin_base.specs.Strtab
 pub use Rattle.goblin_base.specs.StrtabLaws
-pub use Rattle.goblin_base.specs.Table
 pub use Rattle.goblin_base.specs.TableLaws
 pub use Rattle.goblin_base.specs.TextLaws
 pub use Rattle.goblin_base.specs.Texts
@@ -23,7 +20,6 @@ pub use Rattle.goblin_headers.specs.HeaderTrips
 pub use Rattle.goblin_headers.specs.Machines
 pub use Rattle.goblin_headers.specs.ProgramHeader
 pub use Rattle.goblin_headers.specs.ProgramHeaders
-pub use Rattle.goblin_headers.specs.Ranges
 pub use Rattle.goblin_headers.specs.ReadHeader
 pub use Rattle.goblin_headers.specs.SectionHeader
 pub use Rattle.goblin_headers.specs.SectionHeaders

@@ -1,7 +1,7 @@
 -- The names of note types.
 use Rattle.std.specs.Prelude.{ℕ, if◌then◌else◌, List, [], ◌∷◌, codes}
 use Rattle.std.specs.Str.{bytes_eq}
-use Rattle.goblin_base.specs.Names.{name_in}
+use Rattle.goblin_base.specs.Texts.{name_in}
 
 -- the name of the type of a note with this name: notes of core files have types of their own
 unfoldable pub note_type_name : List ℕ → ℕ → List ℕ

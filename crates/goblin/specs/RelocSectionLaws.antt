@@ -12,7 +12,7 @@ use Rattle.goblin_base.specs.Number.{IsBytes}
 use Rattle.goblin_base.specs.Record.{unless_fault}
 use Rattle.goblin_base.specs.RecordLaws.{unless_fault-is, fits-room_of}
 use Rattle.goblin_base.specs.Room.{room_of}
-use Rattle.goblin_base.specs.Table.{records}
+use Rattle.goblin_base.specs.Record.{records}
 use Rattle.goblin_base.specs.TableLaws.{no_records, first_record, records-agree}
 use Rattle.goblin_records.specs.declared.reloc.Reloc.{Reloc}
 use Rattle.goblin_records.specs.declared.reloc.RelocCtx.{RelocCtx}

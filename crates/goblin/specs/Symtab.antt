@@ -7,7 +7,7 @@ use Rattle.goblin_base.specs.declared.error.Error.TheVariants.{Malformed}
 use Rattle.goblin_base.specs.declared.error.Fault.TheVariants.{SymtabOffset, TooManySymbols, SymtabPast}
 use Rattle.goblin_base.specs.declared.options.ParseMode.{ParseMode}
 use Rattle.goblin_base.specs.declared.options.ParseMode.TheVariants.{Strict, Permissive}
-use Rattle.goblin_base.specs.Table.{records}
+use Rattle.goblin_base.specs.Record.{records}
 use Rattle.goblin_records.specs.declared.sym.Sym.{Sym}
 use Rattle.goblin_records.specs.Sym.{sym_size, sym_of}
 

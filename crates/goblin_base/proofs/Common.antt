@@ -13,7 +13,7 @@ pub use Rattle.goblin_base.specs.Search.{IsLastUpTo, IsRising, digits_within}
 pub use Rattle.goblin_base.specs.Steps.{refuse_as, ◌>>=◌}
 pub use Rattle.goblin_base.specs.Strtab.{StringTable, look_up, plain, table_of}
 unfoldable pub use Rattle.goblin_base.specs.Strtab.{range_in, strtab_of, walked}
-unfoldable pub use Rattle.goblin_base.specs.Table.{records}
+unfoldable pub use Rattle.goblin_base.specs.Record.{records}
 pub use Rattle.goblin_base.specs.Texts.{Facts, facts_of, is_kind, parts_text, part_text}
 pub use Rattle.goblin_base.specs.Utf8.{after_byte, awaits_first, invalid_utf8, text_or_fault}
 pub use Rattle.goblin_base.specs.declared.error.Error.{Error}

@@ -4,7 +4,7 @@ use Rattle.goblin_base.specs.declared.scroll.Error.{Error as Misplaced}
 use Rattle.goblin_base.specs.Refusal.{Refusal, buffer_too_short, misplaced}
 use Rattle.goblin_base.specs.Room.{room_of}
 use Rattle.goblin_base.specs.Steps.{◌>>=◌, refuse_if, refuse_as}
-use Rattle.goblin_base.specs.Table.{records}
+use Rattle.goblin_base.specs.Record.{records}
 
 -- `count` records lie in `len` bytes from an offset on, or else the error of the first one that doesn't
 abbrev pub room_of_each : ℕ → ℕ → ℕ → ℕ → Result (Unit {0}) Misplaced

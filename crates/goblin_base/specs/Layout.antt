@@ -7,8 +7,12 @@ use Rattle.goblin_base.specs.declared.error.Error.{Error}
 use Rattle.goblin_base.specs.Fields.{Field, FieldsFit, image_of_fields, values_at, fields_at, total, widths_of}
 use Rattle.goblin_base.specs.Fields.{values_of, lows_of}
 use Rattle.goblin_base.specs.Number.{IsBytes, number_at}
-use Rattle.goblin_base.specs.Record.{Writes}
-use Rattle.goblin_base.specs.Table.{records}
+use Rattle.goblin_base.specs.Record.{Writes, records}
+
+-- the size of an address in bytes (System V gABI, "Data Representation": Elf32_Addr and Elf64_Addr)
+abbrev pub word_size : Container → ℕ
+word_size Little = 4
+word_size Big = 8
 
 -- how records lie in bytes: the size of one, how it is read and written, its low bits, and which ones fit their widths
 pub record Layout (R : Type 0) : Type 1 where

@@ -1,8 +1,6 @@
 pub mod Ascii
 pub mod Common
-pub mod Container
 pub mod Derives
-pub mod Digited
 pub mod Eager
 pub mod Entries
 pub mod FieldLaws
@@ -11,7 +9,6 @@ pub mod Layout
 pub mod LayoutLaws
 pub mod Lines
 pub mod Marks
-pub mod Names
 pub mod Number
 pub mod NumberLaws
 pub mod Pieces
@@ -27,7 +24,6 @@ pub mod SignedLaws
 pub mod Steps
 pub mod Strtab
 pub mod StrtabLaws
-pub mod Table
 pub mod TableLaws
 pub mod TextLaws
 pub mod Texts

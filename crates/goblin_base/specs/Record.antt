@@ -1,5 +1,6 @@
--- Reading and writing records at the start of some bytes.
-use Rattle.std.specs.Prelude.{◌≡◌, ℕ, List, ◌++◌, length, drop, Result, Ok, Err}
+-- Reading and writing records at the start of some bytes, and one after another.
+use Rattle.std.specs.Prelude.{◌≡◌, ◌+◌, ◌*◌, ℕ, List, ◌++◌, length, drop, map, slice_range, Result, Ok, Err}
+use Rattle.std.specs.List.{range_with_len}
 use Rattle.goblin_base.specs.declared.error.Error.{Error}
 use Rattle.goblin_base.specs.declared.error.Error.TheVariants.{Scroll}
 use Rattle.goblin_base.specs.declared.scroll.Error.{Error as Misplaced}
@@ -23,3 +24,7 @@ WritesUnless (Err e) size image old answer new = (answer ≡ Err (Scroll e)) × 
 -- what writing the image of a record over old bytes returns, and the new bytes
 unfoldable pub Writes : ℕ → List ℕ → List ℕ → Result ℕ Error → List ℕ → Type 0
 Writes size image old answer new = WritesUnless (room_of (length old) 0 size) size image old answer new
+
+-- the first `count` records of the bytes: the record with index i is read from `bytes[i * size .. (i + 1) * size]`
+unfoldable pub records : {R : Type 0} → ℕ → (List ℕ → R) → ℕ → List ℕ → List R
+records size read count bytes = map (λ i. read (slice_range bytes (i * size) ((i + 1) * size))) (range_with_len 0 count)

@@ -3,7 +3,7 @@ use Rattle.std.proofs.Common.{◌≡◌, ◌<◌, ◌+◌, ◌*◌, ◌-◌, ℕ
 use Rattle.std.proofs.Common.{sym, ap, ◌∙◌, arith}
 use Rattle.std.specs.List.{All, slice_range, range_with_len, flat_map}
 use Rattle.std.proofs.lemmas.List.{take_at, drop_at, drop-drop, drop-take, take-take}
-use Rattle.goblin_base.specs.Table.{records}
+use Rattle.goblin_base.specs.Record.{records}
 
 -- the slice of the record with an index
 unfoldable pub slice : ℕ → List ℕ → ℕ → List ℕ

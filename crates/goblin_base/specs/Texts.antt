@@ -1,8 +1,9 @@
--- The texts of the errors.
+-- Texts: of numbers and truth values, of a table of names, and of the errors.
 use Rattle.std.specs.Prelude.{◌≡◌, ℕ, Bool, true, false, ◌&&◌, ◌==◌, nat_le, nat_lt, if◌then◌else◌, List, [], ◌∷◌, ◌++◌}
-use Rattle.std.specs.Prelude.{codes, length, Option, Some}
+use Rattle.std.specs.Prelude.{codes, drop, length, Option, Some}
 use Rattle.std.specs.Fmt.{decimal, digits}
 use Rattle.std.specs.List.{find}
+use Rattle.goblin_base.specs.declared.digits.Digits.{Digits}
 use Rattle.goblin_base.specs.declared.error.Fault.{Fault}
 use Rattle.goblin_base.specs.declared.error.Fault.TheVariants as fault
 use Rattle.goblin_base.specs.declared.texts.Kind.{Kind}
@@ -26,6 +27,15 @@ a & b = a ++ b
 -- a number in lower-case hexadecimal, without leading zeros
 abbrev pub hexadecimal : ℕ → List ℕ
 hexadecimal n = digits 16 false n
+
+-- the digits of a number that was written: the last bytes
+abbrev pub digits_text : Digits → List ℕ
+digits_text d = drop d.start d.bytes
+
+-- the name in the first row with a number, or `other` if no row has it
+abbrev pub name_in : List (ℕ × List ℕ) → List ℕ → ℕ → List ℕ
+name_in [] other number = other
+name_in (row ∷ rows) other number = if number == row.0 then row.1 else name_in rows other number
 
 -- a truth value as a word
 abbrev pub word_of : Bool → List ℕ

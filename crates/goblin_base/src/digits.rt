@@ -2,7 +2,7 @@
 ghost use Rattle.std.specs.Prelude.{◌≡◌, ◌^◌, ◌<◌, ◌≤◌, IsAscii, decimal, false, length};
 ghost use Rattle.std.specs.Fmt.{digit_glyph, digits};
 ghost use Rattle.goblin_base.specs.Texts.{hexadecimal};
-ghost use Rattle.goblin_base.specs.Digited.{digits_text};
+ghost use Rattle.goblin_base.specs.Texts.{digits_text};
 
 // The most digits that a number has in decimal.
 const DIGITS: usize = 20;

@@ -7,7 +7,7 @@ ghost use Rattle.goblin_base.specs.Eager.{records_from, records_in, room_of_each
 ghost use Rattle.goblin_base.specs.Record.{unless_fault};
 ghost use Rattle.goblin_base.specs.Refusal.{buffer_too_short, Returns, Gives, Refuses};
 ghost use Rattle.goblin_base.specs.Room.{room_of};
-ghost use Rattle.goblin_base.specs.Table.{records};
+ghost use Rattle.goblin_base.specs.Record.{records};
 
 use crate::error::{Error, Result};
 use crate::record::Record;
@@ -32,7 +32,7 @@ pub struct Table<'a, R: Record<C>, C: Copy> {
 // In contracts a table is the list of its records.
 impl<'a, R: Record<C>, C: Copy> Model for Table<'a, R, C> {
     ghost use Rattle.std.specs.Prelude.{◌≤◌, ◌*◌, List, length};
-    ghost use Rattle.goblin_base.specs.Table.{records};
+    ghost use Rattle.goblin_base.specs.Record.{records};
 
     ghost Value = { List R };
 

@@ -15,7 +15,7 @@ unfoldable pub use Rattle.goblin_base.specs.Pieces.{piece}
 pub use Rattle.goblin_base.specs.Record.{unless_fault}
 pub use Rattle.goblin_base.specs.RecordLaws.{fits-room_of, room_of_fits, unless_fault-is}
 pub use Rattle.goblin_base.specs.Steps.{refuse_if}
-unfoldable pub use Rattle.goblin_base.specs.Table.{records}
+unfoldable pub use Rattle.goblin_base.specs.Record.{records}
 pub use Rattle.goblin_base.specs.TableLaws.{no_records, records-agree}
 pub use Rattle.goblin_base.specs.Texts.{are_short, each_short, facts_of, is_short, parts_text, prefix}
 pub use Rattle.goblin_base.specs.declared.container.Container.{Container}

@@ -1,6 +1,6 @@
 //! The text of a refusal, written into a buffer of the caller's.
 ghost use Rattle.std.specs.Prelude.{◌≡◌, ◌+◌, ◌≤◌, ◌<◌, ◌++◌, IsAscii, IsTrue, drop, length, take};
-ghost use Rattle.goblin_base.specs.Digited.{digits_text};
+ghost use Rattle.goblin_base.specs.Texts.{digits_text};
 ghost use Rattle.goblin_base.specs.Texts.{facts_of, is_short, facts_text, part_text, word_of};
 ghost use Rattle.goblin_c.specs.FilledBuffer.{WritesText, laid};
 ghost use Rattle.goblin_c.specs.Texts.{converted_text, facts_from, item_text, TextIsSame};

@@ -12,7 +12,7 @@ use Rattle.std.proofs.Math.Nat.{le-div_iff_mul-le}
 use Rattle.goblin_base.specs.declared.scroll.Error.{Error as Misplaced}
 use Rattle.goblin_base.specs.Eager.{records_from, room_of_each}
 use Rattle.goblin_base.specs.Refusal.{buffer_too_short, misplaced, refusal_of}
-use Rattle.goblin_base.specs.Table.{records}
+use Rattle.goblin_base.specs.Record.{records}
 use Rattle.goblin_headers.specs.declared.program_header.ProgramHeader.{ProgramHeader}
 use Rattle.goblin_headers.specs.declared.whole_part.WholePart.{WholePart}
 use Rattle.goblin_headers.specs.ProgramHeader.{program_header_of, program_header_size}

@@ -7,7 +7,6 @@ pub mod Machines
 pub mod ProgramHeader
 pub mod ProgramHeaderLaws
 pub mod ProgramHeaders
-pub mod Ranges
 pub mod ReadHeader
 pub mod SectionHeader
 pub mod SectionHeaderLaws

@@ -1,6 +1,6 @@
 //! Tests whether each field of a header is in the range of its width, so that the header is read back as it was written.
 ghost use Rattle.std.specs.Prelude.{◌↔◌, ◌<◌, ◌^◌, IsTrue};
-ghost use Rattle.goblin_base.specs.Container.{word_size};
+ghost use Rattle.goblin_base.specs.Layout.{word_size};
 ghost use Rattle.goblin_headers.specs.Header.{HeaderFits};
 ghost use Rattle.goblin_headers.specs.ProgramHeader.{program_header_layout};
 ghost use Rattle.goblin_headers.specs.SectionHeader.{section_header_layout};

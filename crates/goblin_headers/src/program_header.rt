@@ -7,7 +7,7 @@ ghost use Rattle.goblin_base.specs.declared.container.Container.TheVariants as c
 ghost use Rattle.goblin_headers.specs.Constants.{segment_flag_numbers, segment_type_numbers};
 ghost use Rattle.goblin_headers.specs.ProgramHeader.{as64, program_header64, program_header_layout, program_header_size};
 ghost use Rattle.goblin_headers.specs.ProgramHeaders.{loaded_from, loads, new_program_header, program_headers_from, program_headers_tested};
-ghost use Rattle.goblin_headers.specs.Ranges.{span};
+ghost use Rattle.goblin_base.specs.Room.{span};
 
 pub use crate::{program_header32, program_header64};
 use goblin_base::container::{Container, Ctx, Endian};

@@ -4,7 +4,7 @@ use Rattle.std.specs.Prelude.{slice_index, ◌≡◌, ◌<◌, ◌^◌, ℕ, Lis
 use Rattle.goblin_records.specs.Common.{Container, Endian, field, Layout, Shape, shaped, converted, widened, low_bits}
 use Rattle.goblin_records.specs.Common.{IsSameInEachClass, Little, Big, FitsSigned, Reloc, RelocCtx}
 use Rattle.goblin_base.specs.declared.container.Endian.TheVariants as order
-use Rattle.goblin_base.specs.Container.{word_size}
+use Rattle.goblin_base.specs.Layout.{word_size}
 use Rattle.goblin_base.specs.Signed.{signed_of, complement, signed_low}
 use Rattle.goblin_records.specs.declared.reloc32.Rel.{Rel as Rel32}
 use Rattle.goblin_records.specs.declared.reloc32.Rela.{Rela as Rela32}

@@ -14,7 +14,7 @@ use Rattle.goblin_records.specs.Reloc.{rel32, rel64, rela32, rela64, rela32_layo
 use Rattle.goblin_records.specs.Reloc.{reloc_layout, reloc_layout_in, RelocFits, rel_widened32, rela_widened32}
 use Rattle.goblin_records.specs.Reloc.{rel_widened64, rela_widened64, rel_as32, rela_as32, rel_as64, rela_as64}
 use Rattle.goblin_records.specs.Reloc.{as_meant, as_stored, StoredFits, context, SameInEachClass, AddendFits, split}
-use Rattle.goblin_base.specs.Container.{word_size}
+use Rattle.goblin_base.specs.Layout.{word_size}
 use Rattle.goblin_records.specs.RelocInfo.{symbols, types, symbol_in, type_in, info_of}
 use Rattle.goblin_records.specs.RelocInfoLaws.{info_of-parts, joins_its_parts, reversed-lt, reversed-reversed}
 use Rattle.goblin_base.specs.Layout.{widths}

@@ -1,6 +1,6 @@
 //! Tests whether each field of a record is in the range of its width, so that the record is read back as it was written.
 ghost use Rattle.std.specs.Prelude.{◌↔◌, ◌<◌, ◌^◌, IsTrue, true};
-ghost use Rattle.goblin_base.specs.Container.{word_size};
+ghost use Rattle.goblin_base.specs.Layout.{word_size};
 ghost use Rattle.goblin_records.specs.Reloc.{AddendFits, RelocFits, StoredFits, reloc_layout_in};
 ghost use Rattle.goblin_records.specs.Sym.{sym_layout};
 

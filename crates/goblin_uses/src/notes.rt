@@ -3,7 +3,7 @@ ghost use Rattle.std.specs.Prelude.{◌≡◌, ◌++◌, ◌-◌, Err, IfErr, If
 ghost use Rattle.goblin.specs.Note.{note_items};
 ghost use Rattle.goblin.specs.NoteType.{note_type_name};
 ghost use Rattle.goblin.specs.Notes.{item_of, items_left};
-ghost use Rattle.goblin.specs.Ranges.{span};
+ghost use Rattle.goblin.specs.Room.{span};
 ghost use Rattle.goblin.specs.Refusal.{Refuses};
 ghost use Rattle.goblin.specs.Texts.{◌&◌};
 

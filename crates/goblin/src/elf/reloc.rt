@@ -70,7 +70,7 @@ impl<'a> RelocSection<'a> {
     ///
     /// `BadOffset` if `filesz` isn't 0 and the offset is at the end of the bytes or past it, else
     /// `TooBig` if fewer than `filesz` bytes follow the offset.
-    #[tactic(auto, unfolding(goblin_base::specs::Table::records))]
+    #[tactic(auto, unfolding(goblin_base::specs::Record::records))]
     pub fn parse_inner(
         bytes: &'a [u8],
         offset: usize,
@@ -156,7 +156,7 @@ fn count_in(size: usize, is_rela: bool, class: Container) -> usize
 impl Default for RelocSection<'_> {
     ghost is_default = { λ s. s ≡ [] };
 
-    #[tactic(auto, unfolding(goblin_base::specs::Table::records))]
+    #[tactic(auto, unfolding(goblin_base::specs::Record::records))]
     fn default() -> Self {
         RelocSection {
             table: Table::of(&[], 0, RelocCtx::default()),

@@ -71,7 +71,7 @@ impl<'a> Symtab<'a> {
     /// # Errors
     ///
     /// Strict: those of [`Symtab::parse`]. Permissive: only `TooManySymbols`.
-    #[tactic(auto, unfolding(goblin_base::specs::Table::records))]
+    #[tactic(auto, unfolding(goblin_base::specs::Record::records))]
     pub fn parse_with_opts(
         bytes: &'a [u8],
         offset: usize,
@@ -331,7 +331,7 @@ impl Default for Symtab<'_> {
       ctx = record { container = class.Big; le = order.Little };
     } };
 
-    #[tactic(auto, unfolding(goblin_base::specs::Table::records))]
+    #[tactic(auto, unfolding(goblin_base::specs::Record::records))]
     fn default() -> Self {
         Symtab {
             table: Table::of(&[], 0, Ctx::default()),
