@@ -1,5 +1,4 @@
--- The structs that calls share with C: each as it is converted from what the library reads, and one with marks, by
--- which C can check the place of each field.
+-- The structs that calls share with C, each as it is converted from what the library reads.
 use Rattle.std.specs.Prelude.{ℕ, ◌+◌, ◌-◌, ◌*◌, ◌/◌, ◌^◌, if◌then◌else◌, Bool, List, codes, slice_index, pos, unwrap_or}
 use Rattle.std.specs.Prelude.{Option}
 use Rattle.std.specs.Option.{is_some}
@@ -9,10 +8,6 @@ use Rattle.goblin_c.specs.Common.{names_index, INVALID_UTF8, SECTION_HEADERS, PR
 use Rattle.goblin_c.specs.Common.{GoblinRange, GoblinRefusal, GoblinReloc, GoblinSection, GoblinSegment, GoblinSymbol}
 use Rattle.goblin.specs.declared.elf.note.NotePlaces.{NotePlaces}
 use Rattle.goblin_c.specs.Refused.{RefusalAt}
-
--- the number of so many bytes, each of which is a mark
-abbrev pub each_byte : ℕ → ℕ → ℕ
-each_byte width mark = mark * ((256 ^ width - 1) / 255)
 
 -- 1 or 0
 abbrev pub number_of_bool : Bool → ℕ
@@ -42,22 +37,6 @@ facts_converted e offset = record {
 abbrev pub refusal_converted : RefusalAt → GoblinRefusal
 refusal_converted why = facts_converted (refusal_facts why.refusal) why.offset
 
--- a refusal whose fields have the marks from 1 on
-abbrev pub refusal_marked : GoblinRefusal
-refusal_marked = record {
-  kind = each_byte 4 1;
-  item = each_byte 4 2;
-  first = each_byte 8 3;
-  second = each_byte 8 4;
-  third = each_byte 8 5;
-  fourth = each_byte 8 6;
-  offset = each_byte 8 7;
-}
-
--- a range whose fields have a mark and the next one
-abbrev pub range_marked : ℕ → GoblinRange
-range_marked mark = record { offset = each_byte 8 mark; size = each_byte 8 (mark + 1) }
-
 -- a header for C
 abbrev pub header_converted : Header → GoblinHeader
 header_converted h = record {
@@ -85,29 +64,6 @@ header_converted h = record {
 abbrev pub names_index_of : GoblinHeader → Option SectionHeader → ℕ
 names_index_of h first = names_index h.e_shstrndx first
 
--- a header whose fields have the marks from 1 on
-abbrev pub header_marked : GoblinHeader
-header_marked = record {
-  e_entry = each_byte 8 1;
-  e_phoff = each_byte 8 2;
-  e_shoff = each_byte 8 3;
-  e_version = each_byte 4 4;
-  e_flags = each_byte 4 5;
-  e_type = each_byte 2 6;
-  e_machine = each_byte 2 7;
-  e_ehsize = each_byte 2 8;
-  e_phentsize = each_byte 2 9;
-  e_phnum = each_byte 2 10;
-  e_shentsize = each_byte 2 11;
-  e_shnum = each_byte 2 12;
-  e_shstrndx = each_byte 2 13;
-  ei_class = 14;
-  ei_data = 15;
-  ei_version = 16;
-  ei_osabi = 17;
-  ei_abiversion = 18;
-}
-
 -- a section header for C
 abbrev pub section_converted : SectionHeader → GoblinSection
 section_converted s = record {
@@ -122,20 +78,6 @@ section_converted s = record {
   sh_info = s.sh_info;
 }
 
--- a section header whose fields have the marks from 1 on
-abbrev pub section_marked : GoblinSection
-section_marked = record {
-  file = range_marked 1;
-  sh_name = each_byte 8 3;
-  sh_flags = each_byte 8 4;
-  sh_addr = each_byte 8 5;
-  sh_addralign = each_byte 8 6;
-  sh_entsize = each_byte 8 7;
-  sh_type = each_byte 4 8;
-  sh_link = each_byte 4 9;
-  sh_info = each_byte 4 10;
-}
-
 -- a program header for C
 abbrev pub segment_converted : ProgramHeader → GoblinSegment
 segment_converted s = record {
@@ -146,18 +88,6 @@ segment_converted s = record {
   p_align = s.p_align;
   p_type = s.p_type;
   p_flags = s.p_flags;
-}
-
--- a program header whose fields have the marks from 1 on
-abbrev pub segment_marked : GoblinSegment
-segment_marked = record {
-  file = range_marked 1;
-  p_vaddr = each_byte 8 3;
-  p_paddr = each_byte 8 4;
-  p_memsz = each_byte 8 5;
-  p_align = each_byte 8 6;
-  p_type = each_byte 4 7;
-  p_flags = each_byte 4 8;
 }
 
 -- a symbol for C
@@ -171,17 +101,6 @@ symbol_converted s = record {
   st_other = s.st_other;
 }
 
--- a symbol whose fields have the marks from 1 on
-abbrev pub symbol_marked : GoblinSymbol
-symbol_marked = record {
-  st_name = each_byte 8 1;
-  st_value = each_byte 8 2;
-  st_size = each_byte 8 3;
-  st_shndx = each_byte 8 4;
-  st_info = 5;
-  st_other = 6;
-}
-
 -- a relocation for C
 abbrev pub reloc_converted : Reloc → GoblinReloc
 reloc_converted r = record {
@@ -192,16 +111,6 @@ reloc_converted r = record {
   has_addend = number_of_bool (is_some r.r_addend);
 }
 
--- a relocation whose fields have the marks from 1 on
-abbrev pub reloc_marked : GoblinReloc
-reloc_marked = record {
-  r_offset = each_byte 8 1;
-  r_sym = each_byte 8 2;
-  r_addend = pos (each_byte 8 3);
-  r_type = each_byte 4 4;
-  has_addend = each_byte 4 5;
-}
-
 -- the note at an offset for C, whose parts lie at these places, counted from the offset
 abbrev pub note_converted : ℕ → NotePlaces → GoblinNote
 note_converted offset places = record {
@@ -209,13 +118,4 @@ note_converted offset places = record {
   desc = record { offset = offset + places.desc; size = places.desc_size };
   next = offset + places.next;
   n_type = places.n_type;
-}
-
--- a note whose fields have the marks from 1 on
-abbrev pub note_marked : GoblinNote
-note_marked = record {
-  name = range_marked 1;
-  desc = range_marked 3;
-  next = each_byte 8 5;
-  n_type = each_byte 4 6;
 }

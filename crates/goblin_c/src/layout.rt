@@ -1,11 +1,10 @@
 //! One of each struct that calls share with C, with numbers by which C can check the place of each field.
-ghost use Rattle.std.specs.Prelude.{◌≡◌};
-ghost use Rattle.goblin_c.specs.Layout.{layout};
+ghost use Rattle.std.specs.Prelude.{◌≡◌, ◌<◌, ◌^◌};
+ghost use Rattle.goblin_c.specs.Layout.{each_byte, header_marked, layout, note_marked, range_marked, refusal_marked, reloc_marked, section_marked, segment_marked, symbol_marked};
 
 use crate::types::{
     GoblinHeader, GoblinNote, GoblinRange, GoblinRefusal, GoblinReloc, GoblinSection,
-    GoblinSegment, GoblinSymbol, marked_header, marked_note, marked_range, marked_refusal,
-    marked_reloc, marked_section, marked_segment, marked_symbol,
+    GoblinSegment, GoblinSymbol,
 };
 
 /// The sizes of the structs in bytes, and one of each, in which each byte of the first field is 1, of
@@ -61,4 +60,148 @@ pub extern "C" fn goblin_layout(marks: &mut GoblinLayout)
     ensures { marks.new ≡ layout }
 {
     *marks = marked_layout();
+}
+
+// Returns a refusal whose fields have the marks from 1 on.
+fn marked_refusal() -> GoblinRefusal
+    ensures { result ≡ refusal_marked }
+{
+    GoblinRefusal {
+        kind: word(1),
+        item: word(2),
+        first: wide(3),
+        second: wide(4),
+        third: wide(5),
+        fourth: wide(6),
+        offset: wide(7),
+    }
+}
+
+// Returns a range whose fields have a mark and the next one.
+fn marked_range(mark: u8) -> GoblinRange
+    requires { mark < 2 ^ 7 }
+    ensures { result ≡ range_marked mark }
+{
+    GoblinRange {
+        offset: wide(mark),
+        size: wide(mark + 1),
+    }
+}
+
+// Returns a header whose fields have the marks from 1 on.
+fn marked_header() -> GoblinHeader
+    ensures { result ≡ header_marked }
+{
+    GoblinHeader {
+        e_entry: wide(1),
+        e_phoff: wide(2),
+        e_shoff: wide(3),
+        e_version: word(4),
+        e_flags: word(5),
+        e_type: half(6),
+        e_machine: half(7),
+        e_ehsize: half(8),
+        e_phentsize: half(9),
+        e_phnum: half(10),
+        e_shentsize: half(11),
+        e_shnum: half(12),
+        e_shstrndx: half(13),
+        ei_class: 14,
+        ei_data: 15,
+        ei_version: 16,
+        ei_osabi: 17,
+        ei_abiversion: 18,
+    }
+}
+
+// Returns a section header whose fields have the marks from 1 on.
+fn marked_section() -> GoblinSection
+    ensures { result ≡ section_marked }
+{
+    GoblinSection {
+        file: marked_range(1),
+        sh_name: wide(3),
+        sh_flags: wide(4),
+        sh_addr: wide(5),
+        sh_addralign: wide(6),
+        sh_entsize: wide(7),
+        sh_type: word(8),
+        sh_link: word(9),
+        sh_info: word(10),
+    }
+}
+
+// Returns a program header whose fields have the marks from 1 on.
+fn marked_segment() -> GoblinSegment
+    ensures { result ≡ segment_marked }
+{
+    GoblinSegment {
+        file: marked_range(1),
+        p_vaddr: wide(3),
+        p_paddr: wide(4),
+        p_memsz: wide(5),
+        p_align: wide(6),
+        p_type: word(7),
+        p_flags: word(8),
+    }
+}
+
+// Returns a symbol whose fields have the marks from 1 on.
+fn marked_symbol() -> GoblinSymbol
+    ensures { result ≡ symbol_marked }
+{
+    GoblinSymbol {
+        st_name: wide(1),
+        st_value: wide(2),
+        st_size: wide(3),
+        st_shndx: wide(4),
+        st_info: 5,
+        st_other: 6,
+    }
+}
+
+// Returns a relocation whose fields have the marks from 1 on.
+fn marked_reloc() -> GoblinReloc
+    ensures { result ≡ reloc_marked }
+{
+    GoblinReloc {
+        r_offset: wide(1),
+        r_sym: wide(2),
+        r_addend: wide(3) as i64,
+        r_type: word(4),
+        has_addend: word(5),
+    }
+}
+
+// Returns a note whose fields have the marks from 1 on.
+fn marked_note() -> GoblinNote
+    ensures { result ≡ note_marked }
+{
+    GoblinNote {
+        name: marked_range(1),
+        desc: marked_range(3),
+        next: wide(5),
+        n_type: word(6),
+    }
+}
+
+// Returns the number of eight bytes, each of which is a mark.
+fn wide(mark: u8) -> u64
+    ensures { result ≡ each_byte 8 mark }
+{
+    mark as u64 * 0x0101_0101_0101_0101
+}
+
+// Returns the number of four bytes, each of which is a mark.
+fn word(mark: u8) -> u32
+    ensures { result ≡ each_byte 4 mark }
+{
+    mark as u32 * 0x0101_0101
+}
+
+// Returns the number of two bytes, each of which is a mark.
+fn half(mark: u8) -> u16
+    ensures { result ≡ each_byte 2 mark }
+{
+    mark as u16 * 0x0101
 }

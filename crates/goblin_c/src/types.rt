@@ -1,10 +1,10 @@
 //! The structs that calls share with C, as `goblin.h` declares them. Each field is a number. Beside each struct stand
-//! its conversion from what the library reads, and one with marks, by which C can check the place of each field.
+//! its conversion from what the library reads, and the one from C.
 ghost use Rattle.std.specs.Prelude.{◌≡◌, ◌+◌, ◌<◌, ◌≤◌, ◌^◌, length};
 ghost use Rattle.std.specs.Option.{option_map};
 ghost use Rattle.goblin_c.specs.Write.{header_of, reloc_of, section_of, segment_of, symbol_of};
 ghost use Rattle.goblin_c.specs.Refused.{refusal_at};
-ghost use Rattle.goblin_c.specs.Types.{each_byte, header_converted, header_marked, item_number, names_index_of, note_converted, note_marked, range_marked, refusal_converted, refusal_marked, reloc_converted, reloc_marked, section_converted, section_marked, segment_converted, segment_marked, symbol_converted, symbol_marked};
+ghost use Rattle.goblin_c.specs.Types.{header_converted, item_number, names_index_of, note_converted, refusal_converted, reloc_converted, section_converted, segment_converted, symbol_converted};
 
 use crate::kinds::{INVALID_UTF8, PROGRAM_HEADERS, SECTION_HEADERS};
 use crate::refused::Refused;
@@ -60,21 +60,6 @@ pub(crate) fn convert_refusal(e: &Refused) -> GoblinRefusal
     }
 }
 
-// Returns a refusal whose fields have the marks from 1 on.
-pub(crate) fn marked_refusal() -> GoblinRefusal
-    ensures { result ≡ refusal_marked }
-{
-    GoblinRefusal {
-        kind: word(1),
-        item: word(2),
-        first: wide(3),
-        second: wide(4),
-        third: wide(5),
-        fourth: wide(6),
-        offset: wide(7),
-    }
-}
-
 /// A range of bytes of the file.
 #[repr(C)]
 #[derive(Clone, Copy, Debug)]
@@ -83,17 +68,6 @@ pub struct GoblinRange {
     pub offset: u64,
     /// The number of bytes.
     pub size: u64,
-}
-
-// Returns a range whose fields have a mark and the next one.
-pub(crate) fn marked_range(mark: u8) -> GoblinRange
-    requires { mark < 2 ^ 7 }
-    ensures { result ≡ range_marked mark }
-{
-    GoblinRange {
-        offset: wide(mark),
-        size: wide(mark + 1),
-    }
 }
 
 /// A file's header.
@@ -198,32 +172,6 @@ impl GoblinHeader {
     }
 }
 
-// Returns a header whose fields have the marks from 1 on.
-pub(crate) fn marked_header() -> GoblinHeader
-    ensures { result ≡ header_marked }
-{
-    GoblinHeader {
-        e_entry: wide(1),
-        e_phoff: wide(2),
-        e_shoff: wide(3),
-        e_version: word(4),
-        e_flags: word(5),
-        e_type: half(6),
-        e_machine: half(7),
-        e_ehsize: half(8),
-        e_phentsize: half(9),
-        e_phnum: half(10),
-        e_shentsize: half(11),
-        e_shnum: half(12),
-        e_shstrndx: half(13),
-        ei_class: 14,
-        ei_data: 15,
-        ei_version: 16,
-        ei_osabi: 17,
-        ei_abiversion: 18,
-    }
-}
-
 /// A section header.
 #[repr(C)]
 #[derive(Clone, Copy, Debug)]
@@ -278,23 +226,6 @@ pub(crate) fn section_of(own: &GoblinSection) -> SectionHeader
     }
 }
 
-// Returns a section header whose fields have the marks from 1 on.
-pub(crate) fn marked_section() -> GoblinSection
-    ensures { result ≡ section_marked }
-{
-    GoblinSection {
-        file: marked_range(1),
-        sh_name: wide(3),
-        sh_flags: wide(4),
-        sh_addr: wide(5),
-        sh_addralign: wide(6),
-        sh_entsize: wide(7),
-        sh_type: word(8),
-        sh_link: word(9),
-        sh_info: word(10),
-    }
-}
-
 /// A program header.
 #[repr(C)]
 #[derive(Clone, Copy, Debug)]
@@ -343,21 +274,6 @@ pub(crate) fn segment_of(own: &GoblinSegment) -> ProgramHeader
     }
 }
 
-// Returns a program header whose fields have the marks from 1 on.
-pub(crate) fn marked_segment() -> GoblinSegment
-    ensures { result ≡ segment_marked }
-{
-    GoblinSegment {
-        file: marked_range(1),
-        p_vaddr: wide(3),
-        p_paddr: wide(4),
-        p_memsz: wide(5),
-        p_align: wide(6),
-        p_type: word(7),
-        p_flags: word(8),
-    }
-}
-
 /// A symbol.
 #[repr(C)]
 #[derive(Clone, Copy, Debug)]
@@ -395,20 +311,6 @@ pub(crate) fn symbol_of(own: &GoblinSymbol) -> Sym
         st_shndx: own.st_shndx as usize,
         st_value: own.st_value,
         st_size: own.st_size,
-    }
-}
-
-// Returns a symbol whose fields have the marks from 1 on.
-pub(crate) fn marked_symbol() -> GoblinSymbol
-    ensures { result ≡ symbol_marked }
-{
-    GoblinSymbol {
-        st_name: wide(1),
-        st_value: wide(2),
-        st_size: wide(3),
-        st_shndx: wide(4),
-        st_info: 5,
-        st_other: 6,
     }
 }
 
@@ -454,19 +356,6 @@ pub(crate) fn reloc_of(own: &GoblinReloc) -> Reloc
     }
 }
 
-// Returns a relocation whose fields have the marks from 1 on.
-pub(crate) fn marked_reloc() -> GoblinReloc
-    ensures { result ≡ reloc_marked }
-{
-    GoblinReloc {
-        r_offset: wide(1),
-        r_sym: wide(2),
-        r_addend: wide(3) as i64,
-        r_type: word(4),
-        has_addend: word(5),
-    }
-}
-
 /// A note.
 #[repr(C)]
 #[derive(Clone, Copy, Debug)]
@@ -499,37 +388,4 @@ pub(crate) fn convert_note(offset: u64, places: &NotePlaces) -> GoblinNote
         next: offset + places.next as u64,
         n_type: places.n_type,
     }
-}
-
-// Returns a note whose fields have the marks from 1 on.
-pub(crate) fn marked_note() -> GoblinNote
-    ensures { result ≡ note_marked }
-{
-    GoblinNote {
-        name: marked_range(1),
-        desc: marked_range(3),
-        next: wide(5),
-        n_type: word(6),
-    }
-}
-
-// Returns the number of eight bytes, each of which is a mark.
-fn wide(mark: u8) -> u64
-    ensures { result ≡ each_byte 8 mark }
-{
-    mark as u64 * 0x0101_0101_0101_0101
-}
-
-// Returns the number of four bytes, each of which is a mark.
-fn word(mark: u8) -> u32
-    ensures { result ≡ each_byte 4 mark }
-{
-    mark as u32 * 0x0101_0101
-}
-
-// Returns the number of two bytes, each of which is a mark.
-fn half(mark: u8) -> u16
-    ensures { result ≡ each_byte 2 mark }
-{
-    mark as u16 * 0x0101
 }
