@@ -1,4 +1,5 @@
-//! The greatest number of every field of every record, in each class and byte order: it fits, is written, and is read back.
+//! The greatest number of every field of every record, in each class and byte order: it fits, is written, and is read
+//! back.
 use crate::container::{BIG32, BIG64, LITTLE32, LITTLE64};
 use crate::record::has_form;
 use goblin::elf::header::Header;
@@ -149,7 +150,8 @@ fn has_reloc(
         && (is_mips64el || has_form(rt, reloc, (ctx.is_rela, class), bytes))
 }
 
-// The bytes of these with the greatest and the least addend: of the 32-bit class little and big endian, then of the other.
+// The bytes of these with the greatest and the least addend: of the 32-bit class little and big endian, then of the
+// other.
 const MOST32: &[u8] = b"\xff\xff\xff\xff\xff\xff\xff\xff\xff\xff\xff\x7f";
 
 const MOST32_BIG: &[u8] = b"\xff\xff\xff\xff\xff\xff\xff\xff\x7f\xff\xff\xff";
@@ -289,7 +291,7 @@ fn header(class: u8, order: u8, word: u64) -> Header {
 
 // Whether it fits its class, is written as its identification and ones, and is read back from them; as a raw one too.
 fn has_header(container: Container, order: u8) -> bool {
-    let mut bytes = [0; 64];
+    let (mut bytes, mut again) = ([0; 64], [0; 64]);
     match container {
         Container::Little => {
             let header = header(1, order, u64::from(WORD));
@@ -297,7 +299,15 @@ fn has_header(container: Container, order: u8) -> bool {
             let read = matches!(Header::try_from_ctx(&bytes, BE), Ok((read, 52)) if read == header);
             let raw = elf32::header::Header::from(header);
             let is_read = matches!(elf32::header::Header::parse(&bytes), Ok(read) if read == raw);
-            header.fits(container) && is_written && bytes[16..52] == ONES[16..52] && read && is_read
+            let is_same = raw.try_into_ctx(&mut again, LE).is_ok()
+                && again == bytes
+                && bytes[..16] == header.e_ident;
+            header.fits(container)
+                && is_written
+                && bytes[16..52] == ONES[16..52]
+                && read
+                && is_read
+                && is_same
         }
         Container::Big => {
             let header = header(2, order, LONG);
@@ -305,7 +315,15 @@ fn has_header(container: Container, order: u8) -> bool {
             let read = matches!(Header::try_from_ctx(&bytes, BE), Ok((read, 64)) if read == header);
             let raw = elf64::header::Header::from(header);
             let is_read = matches!(elf64::header::Header::parse(&bytes), Ok(read) if read == raw);
-            header.fits(container) && is_written && bytes[16..] == ONES[16..] && read && is_read
+            let is_same = raw.try_into_ctx(&mut again, LE).is_ok()
+                && again == bytes
+                && bytes[..16] == header.e_ident;
+            header.fits(container)
+                && is_written
+                && bytes[16..] == ONES[16..]
+                && read
+                && is_read
+                && is_same
         }
     }
 }

@@ -14,7 +14,8 @@ use goblin_base::scroll::{IntoCtx, TryIntoCtx};
 use goblin_base::strtab::Strtab;
 use goblin_base::table::Table;
 use goblin_records::sym::{
-    STB_GLOBAL, STB_WEAK, STT_FUNC, Sym, get_type, is_import, st_bind, st_type, st_visibility,
+    STB_GLOBAL, STB_WEAK, STT_FUNC, Sym, bind_to_str, get_type, is_import, st_bind, st_type,
+    st_visibility, type_to_str, visibility_to_str,
 };
 use goblin_records::{sym32, sym64};
 
@@ -313,6 +314,32 @@ fn names_types_of_symbols(rt: HostRuntime) {
     assert!(rt; is(rt, names, ["FUNC", "OBJECT", "UNKNOWN_STT"]));
 }
 
+// Whether both classes name this number as a symbol of either class does, as binding, type and visibility.
+fn names_alike(number: u8) -> bool {
+    let names = [
+        bind_to_str(number),
+        type_to_str(number),
+        visibility_to_str(number),
+    ];
+    names
+        == [
+            sym32::bind_to_str(number),
+            sym32::type_to_str(number),
+            sym32::visibility_to_str(number),
+        ]
+        && names
+            == [
+                sym64::bind_to_str(number),
+                sym64::type_to_str(number),
+                sym64::visibility_to_str(number),
+            ]
+}
+
+#[test]
+fn names_are_those_of_both_classes(rt: HostRuntime) {
+    assert!(rt; (0..=u8::MAX).all(names_alike));
+}
+
 // Whether a table over the first bytes of zeros is accepted, with this offset and so many symbols, or refused with
 // this line.
 fn is_accepted(
@@ -509,8 +536,8 @@ fn finds_the_first_of_a_name(rt: HostRuntime) {
     assert!(rt; is(rt, found(b""), [None; 2]));
 }
 
-// A symbol of nothing; two functions at 0x10, of 4 bytes and of 8; at 0x20 an absolute symbol and a section's; one of no
-// type and no size at 0x30, whose section index stands elsewhere; a thread's at 0x40; a function at 0x50 that is not
+// A symbol of nothing; two functions at 0x10, of 4 bytes and of 8; at 0x20 an absolute symbol and a section's; one of
+// no type and no size at 0x30, whose section index stands elsewhere; a thread's at 0x40; a function at 0x50 that is not
 // defined; and an indirect function of 4 bytes at 8.
 const ADDRESSED: &[u8; 144] = b"\0\0\0\0\0\0\0\0\0\0\0\0\0\0\0\0\
     \x01\0\0\0\x10\0\0\0\x04\0\0\0\x12\0\x01\0\
@@ -548,8 +575,8 @@ fn finds_the_symbol_at_an_address(rt: HostRuntime) {
     }
 }
 
-// A symbol of nothing; a function of 0x30 bytes at 0x10; in it one of 4 bytes at 0x20, and two labels at 0x28; a label and
-// an object of 4 bytes at 0x50; and a function of 4 bytes at 0x60.
+// A symbol of nothing; a function of 0x30 bytes at 0x10; in it one of 4 bytes at 0x20, and two labels at 0x28; a label
+// and an object of 4 bytes at 0x50; and a function of 4 bytes at 0x60.
 const NESTED: &[u8; 128] = b"\0\0\0\0\0\0\0\0\0\0\0\0\0\0\0\0\
     \x01\0\0\0\x10\0\0\0\x30\0\0\0\x12\0\x01\0\
     \x01\0\0\0\x20\0\0\0\x04\0\0\0\x12\0\x01\0\

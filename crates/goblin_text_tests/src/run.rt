@@ -175,9 +175,9 @@ fn takes(
     })
 }
 
-// A strict table of four bytes takes four looks. A name in it takes one at its first byte, one at each byte up to and with the zero
-// byte, and one at each of its own bytes. A table that is not UTF-8 is tested once more, and then looked at from the fault back to
-// the zero byte before its last string.
+// A strict table of four bytes takes four looks. A name in it takes one at its first byte, one at each byte up to and
+// with the zero byte, and one at each of its own bytes. A table that is not UTF-8 is tested once more, and then looked
+// at from the fault back to the zero byte before its last string.
 #[test]
 fn counts_the_looks_of_a_file(rt: HostRuntime) {
     assert!(rt; takes(rt.alloc(), &STRICT, NAMES, &[], Outcome::Shown, 4 + 2 + 6));
@@ -575,9 +575,9 @@ impl Write for Slow {
     }
 }
 
-// Whether a run over these bytes ends so at such a writer, after so many write calls and flushes.
-fn writes(alloc: Global, bytes: &[u8], writer: Slow, outcome: Outcome, calls: u32) -> bool {
-    let mut reader = Counted::new(Cursor::new(bytes));
+// Whether a run over what is read ends so at such a writer, after so many write calls and flushes.
+fn writes<R: Read>(alloc: Global, reader: R, writer: Slow, outcome: Outcome, calls: u32) -> bool {
+    let mut reader = Counted::new(reader);
     let mut writer = Counted::new(writer);
     run(alloc, &mut reader, &mut writer, &STRICT) == outcome && writer.into_inner().calls == calls
 }
@@ -590,10 +590,16 @@ fn heeds(alloc: Global, file: &str, outcome: Outcome, calls: u32) -> bool {
     };
     (1..calls.saturating_add(1)).all(|call| {
         let writer = Slow::new(alloc, 1000, call);
-        writes(alloc, bytes.as_slice(), writer, Outcome::Failed, call)
+        writes(
+            alloc,
+            Cursor::new(bytes.as_slice()),
+            writer,
+            Outcome::Failed,
+            call,
+        )
     }) && writes(
         alloc,
-        bytes.as_slice(),
+        Cursor::new(bytes.as_slice()),
         Slow::new(alloc, 1000, 0),
         outcome,
         calls,
@@ -607,11 +613,35 @@ fn fails_where_a_write_or_the_flush_does(rt: HostRuntime) {
     assert!(rt; heeds(rt.alloc(), "", Outcome::Refused, 2));
 }
 
+// Whether a run over too many bytes, whose refusal is three writes and a flush, fails where one of these does, or is
+// refused where none does (0).
+fn heeds_one_of_four(alloc: Global, call: u32) -> bool {
+    let reader = Zeros::new(16_777_217, 0, ErrorKind::Other);
+    let writer = Slow::new(alloc, 1000, call);
+    match call {
+        0 => writes(alloc, reader, writer, Outcome::Refused, 4),
+        _ => writes(alloc, reader, writer, Outcome::Failed, call),
+    }
+}
+
+#[test]
+fn fails_where_a_write_of_too_long_input_does(rt: HostRuntime) {
+    assert!(rt; (0..5).all(|call| heeds_one_of_four(rt.alloc(), call)));
+}
+
 #[test]
 fn writes_all_where_a_writer_takes_a_part(rt: HostRuntime) {
     // 36 bytes in parts of 3, and a flush.
     let writer = Slow::new(rt.alloc(), 3, 0);
-    assert!(rt; writes(rt.alloc(), b"", writer, Outcome::Refused, 14));
+    assert!(rt;
+        writes(
+            rt.alloc(),
+            Cursor::new(b"".as_slice()),
+            writer,
+            Outcome::Refused,
+            14
+        )
+    );
 }
 
 // The words, where there is memory.
