@@ -135,7 +135,8 @@ pub fn laws()
     ensures derived_container { ComparesAndClones ⟦<Container as PartialEq>⟧ ⟦<Container as Clone>⟧ }
     ensures derived_ctx { ComparesAndClones ⟦<Ctx as PartialEq>⟧ ⟦<Ctx as Clone>⟧ }
     ensures default_endian { (order : Endian) → ⟦<Endian as Default>⟧.is_default order → order ≡ Endian.Little }
-    ensures default_container { (class : Container) → ⟦<Container as Default>⟧.is_default class → class ≡ Container.Big }
+    ensures default_container { (class : Container) →
+        ⟦<Container as Default>⟧.is_default class → class ≡ Container.Big }
     ensures default_ctx { (ctx : Ctx) → ⟦<Ctx as Default>⟧.is_default ctx
         → ctx ≡ record { container = Container.Big; le = Endian.Little } }
 {}

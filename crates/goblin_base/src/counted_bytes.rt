@@ -1,7 +1,8 @@
 //! Bytes that are read under a count, and are also returned.
 //!
-//! The count is that of [`Looked`](crate::entries::Looked): it never falls, and each byte that a call returns is counted
-//! once. Code that has the bytes of [`CountedBytes::bytes`] can read them again without a count. It gets no other bytes.
+//! The count is that of [`Looked`](crate::entries::Looked): it never falls, and each byte that a call returns is
+//! counted once. Code that has the bytes of [`CountedBytes::bytes`] can read them again without a count. It gets no
+//! other bytes.
 ghost use Rattle.std.specs.Prelude.{◌≡◌, ◌+◌, ◌-◌, ◌<◌, ◌≤◌, length, min, slice_get, slice_index, slice_range};
 
 use crate::count::Count;

@@ -1,8 +1,8 @@
 //! Bytes that are read under a count, and the entries of a string table that are stored as places in them.
 //!
 //! The views here have private fields and can't be copied, and no public call of theirs returns more than it counts. So
-//! code that reads through them can't read uncounted. ([`CountedBytes`](crate::counted_bytes::CountedBytes) also returns
-//! texts, which can.)
+//! code that reads through them can't read uncounted. ([`CountedBytes`](crate::counted_bytes::CountedBytes) also
+//! returns texts, which can.)
 ghost use Rattle.std.specs.Prelude.{◌≡◌, ◌↔◌, ◌+◌, ◌-◌, ◌<◌, ◌≤◌, [], min, length, IsTrue, slice_index, slice_index_or, slice_range};
 ghost use Rattle.std.specs.Str.{IsUtf8};
 ghost use Rattle.goblin_base.specs.Entries.{AreTexts, IsText, entries_between, places_of, text_of};

@@ -59,8 +59,8 @@ impl ParseOptions {
     }
 }
 
-/// Laws of modes and options: `==` is true exactly if both are the same. `clone` returns the value, and never fails. The
-/// default is strict.
+/// Laws of modes and options: `==` is true exactly if both are the same. `clone` returns the value, and never fails.
+/// The default is strict.
 pub fn laws()
     ensures derived_mode { ComparesAndClones ⟦<ParseMode as PartialEq>⟧ ⟦<ParseMode as Clone>⟧ }
     ensures derived_options { ComparesAndClones ⟦<ParseOptions as PartialEq>⟧ ⟦<ParseOptions as Clone>⟧ }

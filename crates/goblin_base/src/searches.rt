@@ -13,7 +13,8 @@ use std::simd::prelude::*;
 use std::str::Utf8Error;
 
 impl<'a> CountedBytes<'a> {
-    /// Returns the bytes from one offset up to another as a text, or how far they are text. It is a look at each of them.
+    /// Returns the bytes from one offset up to another as a text, or how far they are text. It is a look at each of
+    /// them.
     pub fn str(&mut self, from: usize, to: usize) -> result::Result<&'a str, Utf8Error>
         requires ordered { from ≤ to }
         requires within { to ≤ length self.old.bytes }
@@ -29,8 +30,8 @@ impl<'a> CountedBytes<'a> {
         std::str::from_utf8(self.bytes(from, to))
     }
 
-    /// Returns the offset at which a byte stands first from one offset up to another, or that other offset. It is a look
-    /// at each byte up to it.
+    /// Returns the offset at which a byte stands first from one offset up to another, or that other offset. It is a
+    /// look at each byte up to it.
     pub fn find(&mut self, byte: u8, from: usize, to: usize) -> usize
         requires ordered { from ≤ to }
         requires within { to ≤ length self.old.bytes }
@@ -55,8 +56,8 @@ impl<'a> CountedBytes<'a> {
         at
     }
 
-    /// Returns the offset after the one at which a byte stands last from one offset up to another, or the first of these
-    /// two. Sixteen bytes are read at a time, from the end on: it is a look at each byte that is read.
+    /// Returns the offset after the one at which a byte stands last from one offset up to another, or the first of
+    /// these two. Sixteen bytes are read at a time, from the end on: it is a look at each byte that is read.
     pub fn rfind(&mut self, byte: u8, from: usize, to: usize) -> usize
         requires ordered { from ≤ to }
         requires within { to ≤ length self.old.bytes }
@@ -103,8 +104,8 @@ fn digits_of(mask: u64) -> usize
     (u64::BITS - mask.leading_zeros()) as usize
 }
 
-// Returns the offset at which the last piece begins: after the last delimiter, or 0 if there is none. The bytes are read
-// one by one, from the end on.
+// Returns the offset at which the last piece begins: after the last delimiter, or 0 if there is none. The bytes are
+// read one by one, from the end on.
 #[tactic(auto, using(crate::proofs::LastLemmas::starts))]
 fn last_start(bytes: &[u8], delim: u8) -> usize
     ensures value { result ≡ piece_start bytes.now delim (length bytes.now) }

@@ -43,8 +43,8 @@ impl<'n> WantedName<'n> {
         }
     }
 
-    /// Reports whether the piece at an offset of these strings is the name, as [`Strtab::has_name`](crate::strtab::Strtab::has_name) does for
-    /// their table. The name is read only to compare it.
+    /// Reports whether the piece at an offset of these strings is the name, as
+    /// [`Strtab::has_name`](crate::strtab::Strtab::has_name) does for their table. The name is read only to compare it.
     #[tactic(auto, using(crate::proofs::WantedLemmas::name_is_standing))]
     pub fn is_at(&self, strings: &[u8], offset: usize) -> bool
         ensures { result ≡ has_name strings.now self.now.delim offset self.now.bytes }

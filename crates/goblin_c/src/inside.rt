@@ -74,8 +74,8 @@ pub struct Asked<'a> {
     pub index: u64,
 }
 
-// Reports whether a file is of the 64-bit class and in little endian, as most are. What is read of such a file at once asks
-// for neither again.
+// Reports whether a file is of the 64-bit class and in little endian, as most are. What is read of such a file at once
+// asks for neither again.
 #[inline(always)]
 fn is_usual(header: &GoblinHeader) -> bool
     ensures { IsTrue result → ctx_of header.now ≡ record { container = class.Big; le = endian.Little } }

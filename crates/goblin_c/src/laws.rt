@@ -4,9 +4,9 @@ ghost use Rattle.goblin_c.specs.Laws.{WholeHeaderKeeps, WholeNotesAreNotes, Text
 
 /// Laws: calls of `goblin_note` at a range's start and then at each `next` store exactly the notes of the
 /// library's iterator over the range, in its order, up to the end or the first refusal. The ranges that
-/// they store are the note's name and descriptor, and lie in the file. `next` is past the note's header. If such a note's
-/// descriptor lies in the range, `goblin_note_bytes` stores the same note with its whole name. The parts that it names
-/// have the numbers of `goblin.h`.
+/// they store are the note's name and descriptor, and lie in the file. `next` is past the note's header. If such a
+/// note's descriptor lies in the range, `goblin_note_bytes` stores the same note with its whole name. The parts that it
+/// names have the numbers of `goblin.h`.
 pub fn notes()
     ensures first { NotesAreItems }
     ensures row { NotesInARow }
@@ -78,7 +78,8 @@ pub fn strings()
 
 /// Laws: `goblin_section_by_name` and `goblin_symbol_by_name` store the index of the first item whose
 /// string, at the range that `goblin_string` stores, has the bytes of the name, and return the end if
-/// there is none. The section that is stored with the index is the one that `goblin_section` stores there. They refuse only what the calls for one item or for one string refuse at each index.
+/// there is none. The section that is stored with the index is the one that `goblin_section` stores there. They refuse
+/// only what the calls for one item or for one string refuse at each index.
 pub fn searches()
     ensures sections { SectionsByName }
     ensures symbols { SymbolsByName }

@@ -1,15 +1,15 @@
 //! Laws of the calls for numbers in a range, for offsets of addresses, and for ranges that are cut to the file.
 ghost use Rattle.goblin_c.specs.PlaceLaws.{AddressesAreLoaded, NumbersLieInRange, PartsLieInFile};
 
-/// Law: a number that `goblin_number_in` stores lies in the range, and the range in the file. `goblin_number` stores the
-/// same one at its offset in the file.
+/// Law: a number that `goblin_number_in` stores lies in the range, and the range in the file. `goblin_number` stores
+/// the same one at its offset in the file.
 pub fn numbers()
     ensures { NumbersLieInRange }
 {}
 
-/// Law: the offset that `goblin_address_to_offset` stores is that of a byte of the file, by the first segment that loads
-/// the address. The call returns the end if no segment does. If the file has no byte there, the refusal
-/// has the same offset, at most `u64::MAX`.
+/// Law: the offset that `goblin_address_to_offset` stores is that of a byte of the file, by the first segment that
+/// loads the address. The call returns the end if no segment does. If the file has no byte there, the refusal has the
+/// same offset, at most `u64::MAX`.
 pub fn addresses()
     ensures { AddressesAreLoaded }
 {}

@@ -38,8 +38,8 @@ fn cuts_ranges(rt: HostRuntime) {
     assert!(rt; in_file(208, 1) == (208, 0) && in_file(u64::MAX, u64::MAX) == (208, 0));
 }
 
-// A program header, of a segment of 16 bytes of the file from offset 32 on that is loaded at the address 0x1000, and the
-// first eight of these bytes.
+// A program header, of a segment of 16 bytes of the file from offset 32 on that is loaded at the address 0x1000, and
+// the first eight of these bytes.
 static LOADED: &[u8; 40] = b"\x01\0\0\0\x20\0\0\0\0\x10\0\0\0\0\0\0\
     \x10\0\0\0\x20\0\0\0\0\0\0\0\0\0\0\0........";
 

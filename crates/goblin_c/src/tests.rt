@@ -245,8 +245,8 @@ fn places_strings(rt: HostRuntime) {
     assert!(rt; string(4) == (1, 9, 9));
 }
 
-// A string of 17 bytes, one of 16 and a character of two, one of 16 and a byte that begins no character, and 16 bytes up
-// to the end.
+// A string of 17 bytes, one of 16 and a character of two, one of 16 and a byte that begins no character, and 16 bytes
+// up to the end.
 static LONG: &[u8; 71] = b"abcdefghijklmnopq\0\
     0123456789abcdef\xc2\xa2\0\
     0123456789abcdef\x80\0\
@@ -274,7 +274,8 @@ fn places_long_strings(rt: HostRuntime) {
     );
 }
 
-// What is stored for the strings at offsets of these: the answer, their number, and the sizes in a buffer of at most three.
+// What is stored for the strings at offsets of these: the answer, their number, and the sizes in a buffer of at most
+// three.
 fn long_strings(offsets: &[u64], places: usize) -> (u32, u64, [u64; 3]) {
     let mut found = [range(9, 9); 3];
     let (status, filled, _) = called!(
@@ -438,8 +439,8 @@ fn reads_note() -> bool {
     status == 0 && parts && found.desc.size == 4 && found.next == 20 && found.n_type == 3
 }
 
-// The status for the whole note in a range of a size, with the size of its name and the next offset, or with the item and
-// the first number of its refusal.
+// The status for the whole note in a range of a size, with the size of its name and the next offset, or with the item
+// and the first number of its refusal.
 fn whole_note(size: u64) -> (u32, u64, u64) {
     let mark = marked_layout().note;
     let (status, found, why) = called!(
@@ -598,8 +599,8 @@ fn cuts_refusals(rt: HostRuntime) {
     assert!(rt; &room == b"type" && len == 27);
 }
 
-// Each struct with its fields, in the order in which goblin.h declares them, with their marks: numbers of one, two, four
-// or eight bytes, of which each is the field's place in the struct, from 1 on.
+// Each struct with its fields, in the order in which goblin.h declares them, with their marks: numbers of one, two,
+// four or eight bytes, of which each is the field's place in the struct, from 1 on.
 static FIELDS: &[&str] = &[
     "size_of_refusal:",
     "size_of_range:",

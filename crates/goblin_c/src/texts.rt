@@ -49,7 +49,8 @@ fn write_part(report: &Report, part: &Part, len: u64, buffer: &mut [u8]) -> u64
     requires part { IsTrue (is_short part.now) }
     requires item { length report.now.item.now ≤ 15 }
     requires len { len ≤ 1000000 }
-    ensures written { buffer.new ≡ take len buffer.old ++ laid (part_text (facts_of report.now) part.now) (drop len buffer.old) }
+    ensures written { buffer.new ≡
+        take len buffer.old ++ laid (part_text (facts_of report.now) part.now) (drop len buffer.old) }
     ensures value { result ≡ len + length (part_text (facts_of report.now) part.now) }
     ensures bound { result ≤ len + 100 }
 {

@@ -29,7 +29,8 @@ fn is_short_ascii(name: &[u8]) -> bool
     }
 }
 
-// Returns the places of the parts of the note at the start of some bytes, if they hold it and its name is short and ASCII.
+// Returns the places of the parts of the note at the start of some bytes, if they hold it and its name is short and
+// ASCII.
 #[inline(always)]
 #[tactic(auto, using(goblin_base::proofs::TextTests::ascii_tests), unfolding(goblin::specs::Note::read_places))]
 fn usual_places(bytes: &[u8], alignment: usize) -> Option<NotePlaces>

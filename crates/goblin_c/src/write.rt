@@ -1,5 +1,5 @@
-//! Records and numbers that are put into the bytes of a file. A record is put where the call that reads it finds one, if
-//! it fits. Then its bytes change, and no other.
+//! Records and numbers that are put into the bytes of a file. A record is put where the call that reads it finds one,
+//! if it fits. Then its bytes change, and no other.
 ghost use Rattle.std.specs.Prelude.{◌≡◌, ◌↔◌, ◌≤◌, ◌<◌, ◌+◌, ◌*◌, ◌^◌, IsTrue, IfOk, Ok, Some, length};
 ghost use Rattle.goblin.specs.Steps.{refuse_as};
 ghost use Rattle.goblin_base.specs.Place.{with_number};
@@ -39,8 +39,8 @@ fn put_record<R: LaidOut<C>, C: Copy>(bytes: &mut [u8], place: usize, own: R, ct
     own.put(&mut bytes[place..], ctx);
 }
 
-// Puts a record at an index of a list that starts at an offset, if a call that reads found one there and the record fits.
-// Returns the status.
+// Puts a record at an index of a list that starts at an offset, if a call that reads found one there and the record
+// fits. Returns the status.
 fn put_found<T: Drop, R: LaidOut<C>, C: Copy>(
     bytes: &mut [u8],
     found: Result<Option<T>>,

@@ -12,8 +12,8 @@ pub fn puts()
     ensures counts { CountsStay }
 {}
 
-/// Laws: a number that `goblin_put_number` puts is what `goblin_number` stores then, and no other byte changes. A number
-/// that `goblin_number` stores fits, and changes no byte where it is put.
+/// Laws: a number that `goblin_put_number` puts is what `goblin_number` stores then, and no other byte changes. A
+/// number that `goblin_number` stores fits, and changes no byte where it is put.
 pub fn numbers()
     ensures { NumbersArePut }
 {}

@@ -46,8 +46,8 @@ static SECTION: &[u8; 40] =
     b"\x06\x05\0\0\x10\x0f\0\0\x08\x07\0\0\x0a\x09\0\0\x02\x01\0\0\x04\x03\0\0\
     \x12\x11\0\0\x14\x13\0\0\x0c\x0b\0\0\x0e\x0d\0\0";
 
-// Puts a section at an index of the file. Returns the status and where the refusal begins, and whether the file then has
-// these bytes at an offset, and no other changed.
+// Puts a section at an index of the file. Returns the status and where the refusal begins, and whether the file then
+// has these bytes at an offset, and no other changed.
 fn puts_section(s: &GoblinSection, index: u64, offset: usize, own: &[u8]) -> (u32, u64, bool) {
     let (mut file, mut why) = (*FILE, unread());
     let status = goblin_put_section(&mut file, &header(), index, s, &mut why);

@@ -1,4 +1,5 @@
-//! Tests whether each field of a header is in the range of its width, so that the header is read back as it was written.
+//! Tests whether each field of a header is in the range of its width, so that the header is read back as it was
+//! written.
 ghost use Rattle.std.specs.Prelude.{◌↔◌, ◌<◌, ◌^◌, IsTrue};
 ghost use Rattle.goblin_base.specs.Layout.{word_size};
 ghost use Rattle.goblin_headers.specs.Header.{HeaderFits};
@@ -29,8 +30,8 @@ fn is_in(class: Container, number: u64) -> bool
 }
 
 impl SectionHeader {
-    /// Reports whether each field is in the range that a class has for it: then the section header is read back as it was
-    /// written.
+    /// Reports whether each field is in the range that a class has for it: then the section header is read back as it
+    /// was written.
     pub fn fits(&self, ctx: Ctx) -> bool
         ensures { IsTrue result ↔ (section_header_layout ctx.container ctx.le).Fits self.now }
     {
@@ -60,8 +61,8 @@ impl SectionHeader {
 }
 
 impl ProgramHeader {
-    /// Reports whether each field is in the range that a class has for it: then the program header is read back as it was
-    /// written.
+    /// Reports whether each field is in the range that a class has for it: then the program header is read back as it
+    /// was written.
     pub fn fits(&self, ctx: Ctx) -> bool
         ensures { IsTrue result ↔ (program_header_layout ctx.container ctx.le).Fits self.now }
     {

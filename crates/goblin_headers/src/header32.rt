@@ -240,11 +240,11 @@ impl TryIntoCtx<Endian> for Header {
     }
 }
 
-/// Laws of headers: where each field lies. The image of a header is the only list of bytes that is read as that header. A
-/// header that fits is read back from its image, and from the bytes that it was written to. A
-/// header that was read is written back unchanged, and fits. A header fits exactly if the fields after its identification
-/// are their own low bits. All fields of the default header are 0. `==` is true exactly if all fields are equal. `clone`
-/// returns the header, and never fails.
+/// Laws of headers: where each field lies. The image of a header is the only list of bytes that is read as that header.
+/// A header that fits is read back from its image, and from the bytes that it was written to. A header that was read is
+/// written back unchanged, and fits. A header fits exactly if the fields after its identification are their own low
+/// bits. All fields of the default header are 0. `==` is true exactly if all fields are equal. `clone` returns the
+/// header, and never fails.
 pub fn laws()
     ensures ident { (order : Endian) (bytes : List ℕ) → ((headed header32 order).read bytes).e_ident ≡ take 16 bytes }
     ensures places { HasPlaces (headed header32) (λ n h.

@@ -222,8 +222,8 @@ impl LaidOut<Ctx> for ProgramHeader {
 }
 
 /// Laws: a list of program headers that fit both classes is read back the same in each class and byte
-/// order. Where each field of a program header lies, and of a raw one. All fields of the default one are 0. `==` is true
-/// exactly if all fields are equal. `clone` returns the program header, and never fails.
+/// order. Where each field of a program header lies, and of a raw one. All fields of the default one are 0. `==` is
+/// true exactly if all fields are equal. `clone` returns the program header, and never fails.
 #[tactic(auto, using(crate::specs::ProgramHeaderLaws::same_program_headers))]
 pub fn laws()
     ensures same { IsSameInEachClass program_header_layout }

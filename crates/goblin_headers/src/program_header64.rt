@@ -152,8 +152,8 @@ impl LaidOut<Endian> for ProgramHeader {
     ghost layout_laws = { program_header64_laws };
 }
 
-/// Laws: all fields of the default program header are 0. `==` is true exactly if all fields are equal. `clone` returns the
-/// program header, and never fails.
+/// Laws: all fields of the default program header are 0. `==` is true exactly if all fields are equal. `clone` returns
+/// the program header, and never fails.
 pub fn laws()
     ensures zeros { (h : ProgramHeader) → ⟦<ProgramHeader as Default>⟧.is_default h
         → values_of (program_header64.fields h) ≡ replicate 8 0 }

@@ -308,8 +308,8 @@ impl LaidOut<Ctx> for SectionHeader {
 }
 
 /// Laws: a list of section headers that fit both classes is read back the same in each class and byte
-/// order. Where each field of a section header lies, and of a raw one. All fields of the default one are 0. `==` is true
-/// exactly if all fields are equal. `clone` returns the section header, and never fails.
+/// order. Where each field of a section header lies, and of a raw one. All fields of the default one are 0. `==` is
+/// true exactly if all fields are equal. `clone` returns the section header, and never fails.
 #[tactic(auto, using(crate::specs::SectionHeaderLaws::same_section_headers))]
 pub fn laws()
     ensures same { IsSameInEachClass section_header_layout }

@@ -142,8 +142,8 @@ impl LaidOut<Endian> for SectionHeader {
     ghost layout_laws = { section_header32_laws };
 }
 
-/// Laws: all fields of the default section header are 0. `==` is true exactly if all fields are equal. `clone` returns the
-/// section header, and never fails.
+/// Laws: all fields of the default section header are 0. `==` is true exactly if all fields are equal. `clone` returns
+/// the section header, and never fails.
 pub fn laws()
     ensures zeros { (h : SectionHeader) → ⟦<SectionHeader as Default>⟧.is_default h
         → values_of (section_header32.fields h) ≡ replicate 10 0 }

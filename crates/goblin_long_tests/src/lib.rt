@@ -1,4 +1,5 @@
-//! Tests of `goblin_text` that take minutes if they run without a proof, with checks of each access. So they are proved first.
+//! Tests of `goblin_text` that take minutes if they run without a proof, with checks of each access. So they are proved
+//! first.
 #![tactic(auto)]
 
 #[cfg(test)]

@@ -1,5 +1,5 @@
-//! Names from tables that begin and end at the edges of the file's blocks. What is cached leads to the same names as a walk
-//! over each table, as `Strtab::parse_with_opts` makes it, or the same refusal.
+//! Names from tables that begin and end at the edges of the file's blocks. What is cached leads to the same names as a
+//! walk over each table, as `Strtab::parse_with_opts` makes it, or the same refusal.
 use goblin::error::Result;
 use goblin::options::ParseOptions;
 use goblin::strtab::Strtab;

@@ -1,4 +1,5 @@
-//! Tests whether each field of a record is in the range of its width, so that the record is read back as it was written.
+//! Tests whether each field of a record is in the range of its width, so that the record is read back as it was
+//! written.
 ghost use Rattle.std.specs.Prelude.{◌↔◌, ◌<◌, ◌^◌, IsTrue, true};
 ghost use Rattle.goblin_base.specs.Layout.{word_size};
 ghost use Rattle.goblin_records.specs.Reloc.{AddendFits, RelocFits, StoredFits, reloc_layout_in};
@@ -25,7 +26,8 @@ fn fits_class(sym: Sym, ctx: Ctx) -> bool
 }
 
 impl Sym {
-    /// Reports whether each field is in the range that a class has for it: then the symbol is read back as it was written.
+    /// Reports whether each field is in the range that a class has for it: then the symbol is read back as it was
+    /// written.
     pub fn fits(&self, ctx: Ctx) -> bool
         ensures { IsTrue result ↔ (sym_layout ctx.container ctx.le).Fits self.now }
     {

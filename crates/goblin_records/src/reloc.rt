@@ -174,10 +174,10 @@ impl LaidOut<RelocCtx> for Reloc {
     ghost layout_laws = { reloc_laws_in };
 }
 
-/// Laws of relocations: where each part of one lies. A list of relocations that fit both classes is read back the same in each
-/// class and byte order. The default relocation has all fields 0 and no addend. The default context has no addends, isn't
-/// MIPS64, and is of the default class and byte order. `==` is true exactly if all fields are equal. `clone` returns the
-/// value, and never fails.
+/// Laws of relocations: where each part of one lies. A list of relocations that fit both classes is read back the same
+/// in each class and byte order. The default relocation has all fields 0 and no addend. The default context has no
+/// addends, isn't MIPS64, and is of the default class and byte order. `==` is true exactly if all fields are equal.
+/// `clone` returns the value, and never fails.
 #[tactic(auto, using(crate::specs::RelocLaws::same_in_classes))]
 pub fn laws()
     ensures same { SameInEachClass }

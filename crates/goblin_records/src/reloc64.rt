@@ -175,8 +175,8 @@ impl LaidOut<Endian> for Rel {
 }
 
 /// Laws of relocations: the sizes; all fields of the default ones are 0; an `r_info` is the one of its
-/// symbol and its type; `mips64el_r_info` and `mips64el_r_info_inverse` undo each other. `==` is true exactly if all fields
-/// are equal. `clone` returns the relocation, and never fails.
+/// symbol and its type; `mips64el_r_info` and `mips64el_r_info_inverse` undo each other. `==` is true exactly if all
+/// fields are equal. `clone` returns the relocation, and never fails.
 #[tactic(auto, using(crate::specs::RelocInfoLaws::info_laws))]
 pub fn laws()
     ensures sizes { (SIZEOF_RELA ≡ 24) × (SIZEOF_REL ≡ 16) }

@@ -1,4 +1,5 @@
-//! Calls over large input and over little, whose results are held at once. `checks/limits.py` runs them with little memory.
+//! Calls over large input and over little, whose results are held at once. `checks/limits.py` runs them with little
+//! memory.
 use crate::answer::Answer;
 use goblin::container::{Container, Ctx, Endian};
 use goblin::elf::program_header::{ProgramHeader, program_header32, program_header64};
@@ -29,7 +30,8 @@ const RECORDS: usize = BYTES / 64;
 // The number of short lists that are held beside the long one.
 const LISTS: usize = 500;
 
-// Makes a list of so many items and the short lists, of one item each, and holds them all. Reports whether there was memory.
+// Makes a list of so many items and the short lists, of one item each, and holds them all. Reports whether there was
+// memory.
 fn hold<T: Drop, F: Fn(usize) -> Option<T>>(alloc: Global, count: usize, list: &F) -> bool
     requires { F.IsAlwaysCallable list.now }
 {

@@ -26,7 +26,8 @@ pub(crate) const BIG64: Ctx = Ctx {
 
 pub(crate) static CONTEXTS: [Ctx; 4] = [LITTLE32, BIG32, LITTLE64, BIG64];
 
-// Whether a new context is 64-bit and little endian, by both calls that report each, and how many bytes an address has there.
+// Whether a new context is 64-bit and little endian, by both calls that report each, and how many bytes an address has
+// there.
 fn parts(container: Container, order: Endian) -> ([bool; 2], [bool; 2], usize) {
     let ctx = Ctx::new(container, order);
     let is_little = [ctx.is_little_endian(), ctx.le.is_little()];

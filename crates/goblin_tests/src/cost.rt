@@ -1,6 +1,6 @@
-//! Calls over large tables of zero bytes, which are empty strings, and records whose fields are 0, and over long strings of
-//! one or two bytes a character. Each takes a time in proportion to its table: one that read for each item all that lies before it,
-//! or all of its string, would take longer than the 60 seconds that a test has.
+//! Calls over large tables of zero bytes, which are empty strings, and records whose fields are 0, and over long
+//! strings of one or two bytes a character. Each takes a time in proportion to its table: one that read for each item
+//! all that lies before it, or all of its string, would take longer than the 60 seconds that a test has.
 use crate::compare::{differs, is};
 use crate::container::LITTLE32;
 use crate::sym::ZERO;
@@ -68,7 +68,8 @@ fn repeated(
     Ok(all)
 }
 
-// Whether looking up each place of a string of so many bytes returns the rest of it, or nothing inside a character of two.
+// Whether looking up each place of a string of so many bytes returns the rest of it, or nothing inside a character of
+// two.
 fn gets_rests(rt: HostRuntime, table: &Strtab<'_>, len: usize, has_two: bool) -> bool {
     for place in 0..len {
         let expected = if has_two && place % 2 == 1 {
@@ -92,7 +93,8 @@ fn looks_up(rt: HostRuntime, bytes: &[u8], has_two: bool, opts: &ParseOptions) -
     }
 }
 
-// Whether a string of so many characters is looked up, and below whether one with a bad last byte is listed byte by byte.
+// Whether a string of so many characters is looked up, and below whether one with a bad last byte is listed byte by
+// byte.
 fn reads_a_long_string(rt: HostRuntime, character: &[u8], count: usize) -> bool {
     match repeated(rt.alloc(), character, count, 0, EMPTY) {
         Ok(bytes) => {

@@ -72,8 +72,8 @@ fn finds_last(rt: HostRuntime, row: &Found) -> bool {
     is(rt, view.rfind(0, row.0, row.1), row.2) && is(rt, view.count(), row.3)
 }
 
-// Reports whether each byte is found in some ranges that begin before it, and in all of these that end after it. No byte may
-// be there twice.
+// Reports whether each byte is found in some ranges that begin before it, and in all of these that end after it. No
+// byte may be there twice.
 fn finds_each(rt: HostRuntime, bytes: &[u8]) -> bool {
     for place in 0..bytes.len() {
         for to in place + 1..=bytes.len() {

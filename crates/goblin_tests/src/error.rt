@@ -65,7 +65,8 @@ fn is_text(rt: HostRuntime, shown: Formatted, text: &str) -> bool {
     }
 }
 
-// Whether `Display` writes an error, or a part of one, as this text, which neither the alternate form nor a width changes.
+// Whether `Display` writes an error, or a part of one, as this text, which neither the alternate form nor a width
+// changes.
 fn shows<E: Display>(rt: HostRuntime, part: &E, text: &str) -> bool {
     is_text(rt, format!(in rt.alloc(); "{part}"), text)
         && is_text(rt, format!(in rt.alloc(); "{part:#}"), text)
@@ -118,7 +119,8 @@ impl Write for Refusing {
     }
 }
 
-// Whether `Display` of an error, or of a part of one, fails at the first text that such a writer refuses, and writes no other.
+// Whether `Display` of an error, or of a part of one, fails at the first text that such a writer refuses, and writes no
+// other.
 fn ends_refused<E: Display>(rt: HostRuntime, part: &E, takes: usize) -> bool {
     let mut writer = Refusing { takes, calls: 0 };
     let is_refused = write!(writer, "{part}").is_err();

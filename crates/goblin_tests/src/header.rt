@@ -44,7 +44,8 @@ const NEW64: &[u8; 64] = b"\x7fELF\x02\x02\x01\0\0\0\0\0\0\0\0\0\
     \x00\x03\x00\x00\x00\x00\x00\x01\0\0\0\0\0\0\0\0\0\0\0\0\0\0\0\0\0\0\0\0\0\0\0\0\0\0\0\0\
     \x00\x40\x00\x38\x00\x00\x00\x40\x00\x00\x00\x00";
 
-// The first of these put as a 64-bit header, and the second as a 32-bit one: each keeps its identification and its numbers.
+// The first of these put as a 64-bit header, and the second as a 32-bit one: each keeps its identification and its
+// numbers.
 const NEW32_IN_64: &[u8; 64] = b"\x7fELF\x01\x01\x01\0\0\0\0\0\0\0\0\0\
     \x03\x00\x00\x00\x01\x00\x00\x00\0\0\0\0\0\0\0\0\0\0\0\0\0\0\0\0\0\0\0\0\0\0\0\0\0\0\0\0\
     \x34\x00\x20\x00\x00\x00\x28\x00\x00\x00\x00\x00";
@@ -308,8 +309,8 @@ fn reads_what_was_written(rt: HostRuntime) {
     assert!(rt; reads_back(rt, Ctx::new(Container::Big, LE)));
 }
 
-// The index in a header, the `sh_link` of the first section if there is one, and the index of the section that holds the
-// names.
+// The index in a header, the `sh_link` of the first section if there is one, and the index of the section that holds
+// the names.
 static NAMES_AT: [(u16, Option<u32>, usize); 4] = [
     (1, Some(7), 1),
     (0xfffe, Some(7), 0xfffe),

@@ -399,7 +399,8 @@ fn leads_to_the_headers_of_notes(rt: HostRuntime) {
     assert!(rt; is(rt, sizes, (12, 24)));
 }
 
-// A note as its layout defines it, in numbers that no sum overflows: type, name, descriptor, and how many bytes it takes.
+// A note as its layout defines it, in numbers that no sum overflows: type, name, descriptor, and how many bytes it
+// takes.
 type NaiveNote<'a> = (u128, &'a [u8], &'a [u8], u128);
 
 // The number that the four bytes at a place stand for; bytes that there aren't are zeros.

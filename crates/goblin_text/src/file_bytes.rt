@@ -1,7 +1,7 @@
 //! The bytes of a file. Records are read from them as they are, and names under a count of the bytes looked at.
 //!
-//! The bytes are private to this module, and each function here is one call of the library. So whoever accepts or shows a
-//! file reads its records by these functions, and everything else by the counted calls of [`Names`].
+//! The bytes are private to this module, and each function here is one call of the library. So whoever accepts or shows
+//! a file reads its records by these functions, and everything else by the counted calls of [`Names`].
 ghost use Rattle.std.specs.Prelude.{◌≡◌, ◌*◌, ◌<◌, ◌≤◌, IfErr, length};
 ghost use Rattle.goblin.specs.ReadHeader.{read_header};
 ghost use Rattle.goblin.specs.Refusal.{Gives, Refuses};

@@ -1,5 +1,5 @@
-//! The text that `goblin_show` shows of an ELF file: its header, sections, symbols and relocations, from bytes to a string,
-//! or from a reader to a writer.
+//! The text that `goblin_show` shows of an ELF file: its header, sections, symbols and relocations, from bytes to a
+//! string, or from a reader to a writer.
 #![tactic(auto)]
 
 mod accept;

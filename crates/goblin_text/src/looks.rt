@@ -73,8 +73,8 @@ pub fn is_text(view: &mut CountedBytes<'_>, from: usize, to: usize) -> bool
     view.str(from, to).is_ok()
 }
 
-/// Returns the bytes from one place up to another as a text, or an empty one if they are not UTF-8. It is a look at each of
-/// them.
+/// Returns the bytes from one place up to another as a text, or an empty one if they are not UTF-8. It is a look at
+/// each of them.
 pub fn text<'a>(view: &mut CountedBytes<'a>, from: usize, to: usize) -> &'a str
     requires ordered { from ≤ to }
     requires within { to ≤ length view.old.bytes }
@@ -89,8 +89,8 @@ pub fn text<'a>(view: &mut CountedBytes<'a>, from: usize, to: usize) -> &'a str
     }
 }
 
-/// Refuses the string table of the bytes from one place up to another, unless it is UTF-8. The first whole piece that is
-/// not UTF-8 is the one around the first fault: no others are looked for. It is at most two looks at each byte.
+/// Refuses the string table of the bytes from one place up to another, unless it is UTF-8. The first whole piece that
+/// is not UTF-8 is the one around the first fault: no others are looked for. It is at most two looks at each byte.
 pub fn refuse_unless_text(view: &mut CountedBytes<'_>, from: usize, to: usize) -> Result<()>
     requires ordered { from ≤ to }
     requires within { to ≤ length view.old.bytes }
@@ -112,8 +112,8 @@ pub fn refuse_unless_text(view: &mut CountedBytes<'_>, from: usize, to: usize) -
     }
 }
 
-/// Returns where the string from one place on ends, up to another, or `None` if it is not UTF-8. It is at most two looks
-/// at each byte up to the zero byte.
+/// Returns where the string from one place on ends, up to another, or `None` if it is not UTF-8. It is at most two
+/// looks at each byte up to the zero byte.
 pub fn end_of_text(view: &mut CountedBytes<'_>, from: usize, to: usize) -> Option<usize>
     requires ordered { from ≤ to }
     requires within { to ≤ length view.old.bytes }

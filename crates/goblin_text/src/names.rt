@@ -115,8 +115,8 @@ impl<'a> Names<'a> {
         Ok(Strings { start, end })
     }
 
-    // Refuses the string table of a range, unless it is text. It is read, unless it is the one that was last found to be
-    // text.
+    // Refuses the string table of a range, unless it is text. It is read, unless it is the one that was last found to
+    // be text.
     fn refuse_unless_text(&mut self, start: usize, end: usize) -> Result<()>
         requires ordered { start ≤ end }
         requires within { end ≤ length self.old.bytes }
@@ -138,8 +138,8 @@ impl<'a> Names<'a> {
         Ok(())
     }
 
-    // Reports whether a range is text. Its two ends are read, and of the blocks between them those of which it isn't known
-    // how far text goes on. Six looks find the edges:
+    // Reports whether a range is text. Its two ends are read, and of the blocks between them those of which it isn't
+    // known how far text goes on. Six looks find the edges:
     //
     //     start       begin                               rest       end
     //       |-- read ---|-- block --| .. |-- block --|------|-- read --|
@@ -235,7 +235,8 @@ impl<'a> Names<'a> {
     }
 
     // Returns where the string from a place on ends, up to another that lies some blocks after it, or `None` if it is
-    // not UTF-8. It is nine looks at edges, one at each byte up to the first edge, and two in the block that the string ends in.
+    // not UTF-8. It is nine looks at edges, one at each byte up to the first edge, and two in the block that the string
+    // ends in.
     fn end_of_long_name(&mut self, place: usize, end: usize) -> Option<usize>
         requires { IsLong self.old.bytes place end }
         ensures end { EndsAt self.old.bytes place end result }

@@ -92,8 +92,8 @@ fn write_error<W: Sink>(writer: &mut W, e: &Error) -> io::Result<()>
 /// Writes the text of a file, or one line with the reason why there is none: the bytes are refused, or memory ran out.
 /// That is decided before the first line of the text is written.
 ///
-/// Bytes looked at for names, from a fresh count: at most 5 times the file, its text, and 4,096 for each line, if the file
-/// is shown; at most 7 times the file, and 1,040 for each section header and one more, if it is refused.
+/// Bytes looked at for names, from a fresh count: at most 5 times the file, its text, and 4,096 for each line, if the
+/// file is shown; at most 7 times the file, and 1,040 for each section header and one more, if it is refused.
 pub fn show_file<W: Sink>(
     alloc: Global,
     writer: &mut W,

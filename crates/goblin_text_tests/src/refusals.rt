@@ -1,5 +1,5 @@
-//! Refusals of files for many numbers, with ample memory. Each line is what std's formatting makes of its numbers: where the
-//! program is out of memory for a single number, it writes another line.
+//! Refusals of files for many numbers, with ample memory. Each line is what std's formatting makes of its numbers:
+//! where the program is out of memory for a single number, it writes another line.
 use crate::run::{PERMISSIVE, STRICT, bytes_of, ends};
 use goblin::options::ParseOptions;
 use goblin_text::counted::Counted;
@@ -9,8 +9,8 @@ use std::alloc::{AllocError, Global};
 use std::io::Cursor;
 use std::ops::Range;
 
-// A 64-bit file of 208 bytes: a header, 16 bytes, and two section headers. The second section has the type of relocations, all
-// 16 bytes, and the names.
+// A 64-bit file of 208 bytes: a header, 16 bytes, and two section headers. The second section has the type of
+// relocations, all 16 bytes, and the names.
 const FILE: &str = "7F454C46 02010100 0000000000000000 0300 3E00 01000000 0000000000000000
     0000000000000000 5000000000000000 00000000 4000 3800 0000 4000 0200 0100
     00000000 00000000 00000000 00000000
@@ -114,8 +114,8 @@ fn refuses_cut_headers(alloc: Global) -> bool {
     true
 }
 
-// Whether a file that begins with a number is refused for it. Each of the following does so for a number of the file, if it is
-// one that is refused.
+// Whether a file that begins with a number is refused for it. Each of the following does so for a number of the file,
+// if it is one that is refused.
 fn refuses_a_magic_number(alloc: Global, n: u64) -> bool {
     let mut bytes = [0; 16];
     put(&mut bytes, (0, 8), n);
@@ -206,7 +206,8 @@ fn refuses_with_powers(alloc: Global) -> bool {
     true
 }
 
-// Whether names that are not UTF-8 are refused with so many bytes of them: a zero byte, the bad one, and zero bytes after it.
+// Whether names that are not UTF-8 are refused with so many bytes of them: a zero byte, the bad one, and zero bytes
+// after it.
 fn refuses_bad_names(alloc: Global, counts: Range<u64>) -> Option<bool> {
     let mut bytes = changed(alloc, &[(OFFSET, LEN)])?;
     bytes.push(0).ok()?;
