@@ -30,7 +30,7 @@ show:
 # that was tested before: its proofs are taken over, and edits are left out.
 test:
 	$(has_rt)
-	@python3 checks/gate.py test $(if $(OVER),--over '$(OVER)')
+	@python3 checks/gate.py test $(if $(filter command%,$(origin OVER)),--over '$(OVER)')
 
 # Tests all, and proves the tests too: they and must-fail/ are left to the toolchain's own gate, `rt ci`, which proves all from nothing once
 # more. All other edits are tried, and so is the script that tries them.

@@ -146,9 +146,11 @@ def test(room, whole, over):
     # (all kinds together take fewer checks, and each by itself ends sooner)
     for some in [','.join(kinds)] if whole else kinds:
         parts += edits(crates_with(some.split(',')), copy, '--kinds', some, what='edits' if whole else some)
-    parts += [here('refused allocations', 'sh checks/refused.sh'), here("README's commands", f'{PYTHON} checks/readme.py', 'proof of goblin_show'),
+    parts += [here('refused allocations', 'sh checks/refused.sh'),
               here('the program', f'{PYTHON} checks/program.py', 'proof of goblin_show', 'proof of goblin_uses'),
-              here('hostile files', f'{PYTHON} checks/limits.py', 'proof of goblin_show', 'proof of goblin_refused')]
+              here('hostile files', f'{PYTHON} checks/limits.py', 'proof of goblin_show', 'proof of goblin_refused'),
+              # (it builds the program once more, which these run)
+              here("README's commands", f'{PYTHON} checks/readme.py', 'the program', 'hostile files')]
     # (in this folder, which git knows)
     parts += [Part('commands', ['sh', 'checks/commands.sh'], waits)]
     return parts + [here("the edits' own test", f'{PYTHON} checks/edits/self_test.py')] * whole
@@ -255,6 +257,8 @@ def main():
         return prove(*options.crates)
     if not os.access('.', os.W_OK):
         fail('this folder is read-only, and what the parts print is left in it. Use a copy')
+    if options.over is not None and not os.path.isdir(f'{options.over}/crates'):
+        fail(f'{options.over} is no checkout of this repository, so its proofs are not taken over')
     with tempfile.TemporaryDirectory(prefix='gate-') as room:
         parts = edits_asked_for(options, room) if options.goal == 'edits' else test(room, options.goal == 'gate', options.over)
         if not parts:
@@ -263,7 +267,8 @@ def main():
         if not status and options.goal != 'edits':
             subprocess.run(['sh', 'commands/show.sh', 'built'], cwd=f'{room}/proved', check=True)
             leave(f'{room}/proved')
-    print('FAILED: the messages are above the table' if status else 'PASSED', flush=True)
+    passed = f'PASSED, without edits, over {options.over}' if options.over else 'PASSED'
+    print('FAILED: the messages are above the table' if status else passed, flush=True)
     return status
 
 

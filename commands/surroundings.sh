@@ -17,7 +17,7 @@ room=$(mktemp -d)
 trap 'rm -rf "$room"' EXIT
 trap 'exit 1' HUP INT TERM
 chmod 755 "$room"
-proved=${PROVED:-$room/plain}
+proved=$(realpath -m "${PROVED:-$room/plain}")
 said=$PWD/out/surroundings
 mkdir -p "$said"
 failed=

@@ -14,8 +14,10 @@ install_as() {
     (umask "$mask" && quietly env LIBDIR="$libdir" "$@" sh faces/install.sh "$root")
 }
 
+# (a program in place of goblin_show, which another part of a test may build meanwhile)
+printf '#!/bin/sh\ncat "%s/crates/goblin_show/stdout"\n' "$PWD" > "$folder/program"
 for mask in 077 022; do
-    (umask $mask && quietly sh faces/install.sh --archive "$folder/goblin_c.$mask.tar.gz")
+    (umask $mask && quietly env PROGRAM="$folder/program" sh faces/install.sh --archive "$folder/goblin_c.$mask.tar.gz")
 done
 quietly cmp "$folder/goblin_c.077.tar.gz" "$folder/goblin_c.022.tar.gz"
 tar -tzf "$folder/goblin_c.022.tar.gz" > "$folder/output"
@@ -24,9 +26,8 @@ python3 checks/installed.py "$folder/goblin_c.022.tar.gz"
 find_node
 python3 checks/readme.py "$folder/libgoblin_c.a" "$folder/goblin_c.022.tar.gz" "$(cat "$folder/node" 2> "$folder/output" || :)"
 
-# With another LIBDIR, a shared library, and a program in place of goblin_show.
+# With another LIBDIR and a shared library.
 multiarch=lib/x86_64-linux-gnu
-printf '#!/bin/sh\ncat "%s/crates/goblin_show/stdout"\n' "$PWD" > "$folder/program"
 install_as 077 $multiarch SHARED=1 PROGRAM="$folder/program"
 ends_with 0 '' find "$root" -mindepth 1 '(' -type f ! -perm 644 ! -path '*/bin/*' -o -path '*/bin/*' ! -perm 755 -o -type d ! -perm 755 ')'
 mkdir "$folder/packed"
