@@ -25,8 +25,8 @@ shows() {
 refuses 'margin: crates.txt has no crate nope' python3 bench/margin.py goblin nope
 refuses 'gate: no edit was found' python3 checks/gate.py edits --edit nope
 refuses "fatal: *
-gate: git doesn't list the files of this folder, for the reason above" env GIT_TEST_ASSUME_DIFFERENT_OWNER=1 \
-    python3 checks/gate.py edits --edit nope
+gate: git doesn't list the files of this folder, for the reason above" \
+    env GIT_TEST_ASSUME_DIFFERENT_OWNER=1 GIT_CONFIG_GLOBAL=/dev/null GIT_CONFIG_SYSTEM=/dev/null python3 checks/gate.py edits --edit nope
 
 chmod 755 "$folder"
 mkdir "$folder/copy" "$folder/modules"
@@ -63,7 +63,7 @@ if elsewhere rt version > "$folder/output" 2>&1 && elsewhere python3 checks/crat
     refuses "$read_only" elsewhere env PYTHONPATH="$folder/modules" sh bench/python.sh
     refuses 'gate: this folder is read-only, and what the parts print is left in it. Use a copy' elsewhere python3 checks/gate.py edits
 else
-    echo 'no user who is not root can run rt, so nothing is tried in a read-only folder'
+    left_out 'no user who is not root can run rt, so nothing is tried in a read-only folder'
 fi
 chmod -R u+w .
 printf '#!/bin/sh\nexit 1\n' > rt

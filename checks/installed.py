@@ -79,6 +79,7 @@ class Unpacked:
             self.run('cmp "$LIBDIR/libgoblin_c-shared.so" "$SHARED"')
         said = self.run('readelf -dW "$SHARED"', wanted=rf'\(SONAME\).*\[libgoblin_c\.so\.{self.interface}\]')
         need('TEXTREL' not in said, 'the code of the shared library is relocated')
+        need(re.findall(r' UND (\S+)', self.run('readelf --dyn-syms -W "$SHARED"')) == ['memcpy'], 'the shared library needs more than memcpy')
         calls = re.findall(r'^(?:uint\d+_t|void) (goblin_\w+)\(', self.header, re.MULTILINE)
         need(sorted(exported(self.shared)) == sorted(f'{call}@@GOBLIN_{self.interface}' for call in calls), 'the shared library exports other names')
 
@@ -171,6 +172,8 @@ def main(archive, *compiler):
                   'its manual page': (it.manual, has_program and has('groff')), 'C by pkg-config': (it.by_pkg_config, compiles and has('pkg-config')),
                   'CMake': (it.by_cmake, compiles and has('cmake')), 'Rust by its path': (it.by_rust, compiles and has_rust)}
         tried = {name: check for name, (check, can_be) in checks.items() if can_be}
+        for program in [program for program in ('cmake', 'groff', 'pkg-config', 'readelf') if not has(program)]:
+            print(f'left out: {program} is not installed, so the archive is not tried by it')
         for check in tried.values():
             check()
         print(f'the archive of goblin_c {it.version} for {it.target} can be used without the toolchain: {", ".join(tried)}')

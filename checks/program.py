@@ -19,7 +19,7 @@ from pathlib import Path
 sys.dont_write_bytecode = True
 from crates import text_of
 
-FILES = [path[:-len('.listed')] for path in ('checks/files/symbols.listed', *sorted(glob.glob('checks/files/made/*.listed')))]
+FILES = ['checks/files/symbols', *(path for path in sorted(glob.glob('checks/files/made/*')) if not path.endswith('.listed'))]
 PROGRAMS, EXAMPLES = ([f'crates/{crate}/out/{crate}{end}' for end in ('', '.by-rattle')] for crate in ('goblin_show', 'goblin_uses'))
 # The standard's names of what readelf says in words of its own. (EM_NONE has no name.)
 MACHINES = {'None': 'EM_UNKNOWN', 'Intel 80386': '386', 'MIPS R3000': 'MIPS', 'PowerPC': 'PPC', 'PowerPC64': 'PPC64', 'IBM S/390': 'S390',

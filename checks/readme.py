@@ -92,10 +92,9 @@ BLOCKS = {'export PATH=KIT/bin': kit, 'make try ': shown, 'rt new ': reader}
 
 
 def commands():
-    for lines in blocks():
-        for tried in [tried for start, tried in BLOCKS.items() if lines[0].startswith(start)]:
-            with tempfile.TemporaryDirectory() as folder:
-                tried(lines, folder)
+    for start, tried in BLOCKS.items():
+        with tempfile.TemporaryDirectory() as folder:
+            tried(next(lines for lines in blocks() if lines[0].startswith(start)), folder)
     print("README's commands of the toolchain and of make can be run, and make a reader of one's own")
 
 

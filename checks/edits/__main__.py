@@ -50,7 +50,8 @@ def try_crate(crate, options):
         with tempfile.TemporaryDirectory(prefix='edits-', dir='..') as room:
             trial = Trial(crate, alone(crate, room), edits, said)
             trial.run()
-        wrong = trial.wrong if trial.ways or trial.wrong else [f'{crate}: no edit was tried']
+        judged = sum(trial.ways.values()) + len(trial.wrong)
+        wrong = trial.wrong + [f'{crate}: {judged} of {len(edits)} edits were tried'] * (judged != len(edits) or not edits)
         ways = ', '.join(f'{count} {way}' for way, count in trial.ways.items())
         seconds = time.time() - start
         print(f'{crate}: {len(edits)} edits, of which {len(wrong)} are at fault: {ways}; {trial.checks} checks, {seconds:.0f} seconds')

@@ -17,7 +17,7 @@ END = re.compile(r'^logic=(proved|not-proved)', re.M)
 # that it ended with a function, whatever came of it
 CHECKED = re.compile(r'checked (\S+), \d+ of \d+')
 
-VALUES_WORD, SEARCH_WORD, ANSWER_WORD = 'with values', 'by search', 'by an answer'
+VALUES_WORD, SEARCH_WORD, ANSWER_WORD, STALE_WORD = 'with values', 'by search', 'by an answer', 'by an answer that no longer fits'
 
 # What is said of a function: whether it is proved, how a goal of its own was refused, if one was, what it waits for, and what is open of it.
 Function = namedtuple('Function', 'is_proved refused waits open')
@@ -37,7 +37,8 @@ class Said:
             if kind == 'fn':
                 answered = answers.pop(path, [])
                 open = open_of([*(line for line in lines if not ANSWER.match(line)), *answered])
-                by = VALUES_WORD if open == VALUES_WORD else SEARCH_WORD if SEARCH in verdict else ANSWER_WORD if answered else ''
+                by = (ANSWER_WORD if open else STALE_WORD) if answered else ''
+                by = VALUES_WORD if open == VALUES_WORD else SEARCH_WORD if SEARCH in verdict else by
                 # (a closure with a condition is `proved where its callers give what it asks`)
                 is_proved, by = verdict.startswith(PROVED), by if verdict.startswith(NOT_PROVED) else ''
                 self.functions[path] = Function(is_proved, by, set(re.findall(r'`([\w:]+)`', waits)), open)

@@ -60,10 +60,10 @@ check_examples() {
         sub(/^ *Example: /, "") { examples++; sub(/ \*\/$/, ""); print "    { " $0 " }" }
         END { print "    return range.size + string.size + value + note.n_type + count > 0;\n}"; exit calls == 0 || calls != examples }' \
         faces/c/goblin.h > "$folder/examples.c" || fail "each call in goblin.h must have one example"
-    awk '{ print "#if defined GOBLIN_" $1 " && GOBLIN_" $1 " != " $2 "\n#error " $1 " is another number in elf.h\n#endif" }' \
+    awk '{ print "#if !defined GOBLIN_" $1 " || GOBLIN_" $1 " != " $2 "\n#error " $1 " is another number in elf.h\n#endif" }' \
         checks/files/elf_constants >> "$folder/examples.c"
     for compiler in cc clang; do
-        has $compiler || continue
+        has $compiler "the examples of goblin.h are not compiled by it" || continue
         for standard in c89 c99 c11; do strictly $compiler -std=$standard -Ifaces/c -c -o "$folder/examples.o" "$folder/examples.c"; done
     done
     echo "the $(grep -c '^    { ' "$folder/examples.c") examples of goblin.h can be compiled"
@@ -88,7 +88,7 @@ check_instructions() {
     has valgrind 'the instructions of calls for one item are not counted' || return 0
     build single -std=c99
     quietly valgrind --tool=callgrind --callgrind-out-file="$folder/counts" "$folder/single" $program_file
-    "$folder/single" $program_file > "$folder/calls" || fail "single.c reads nothing of $program_file"
+    if ! "$folder/single" $program_file > "$folder/calls" || [ ! -s "$folder/calls" ]; then fail "single.c reads nothing of $program_file"; fi
     callgrind_annotate --inclusive=yes --threshold=100 "$folder/counts" > "$folder/listed"
     while read -r call times; do
         case $call in *header) limit=84 ;; *section) limit=81 ;; *symbol) limit=45 ;; *reloc) limit=54 ;; *string) limit=73 ;; *) limit=100 ;; esac

@@ -127,8 +127,9 @@ class Comparison:
         return len(ours)
 
     def sizes(self, path, printed):
-        rows = [[' '.join(line.split()[:5]) for line in lines[1:]] for lines in (lines_of(f'{self.folder}/size', path), printed.splitlines())]
-        return self.same(f'{path}: size', *rows) if 'filename' in printed else 0
+        theirs = [' '.join([*line.split()[:5], path]) for line in printed.splitlines()[1:]] * 2
+        ours = [' '.join(line.split()) for line in lines_of(f'{self.folder}/size', path, path)[1:]]
+        return self.same(f'{path}: size', ours, theirs) if 'filename' in printed else 0
 
     def addresses(self, path, printed):
         """Compares the names of functions, and of symbolize those that it finds in either way."""
@@ -200,7 +201,7 @@ def many(path):
 
 def main():
     folder = sys.argv[1]
-    paths = [path for path in sorted(glob.glob('checks/files/made/*')) if os.path.exists(f'{path}.listed')]
+    paths = [path for path in sorted(glob.glob('checks/files/made/*')) if not path.endswith('.listed')]
     comparison = Comparison(folder, stored, paths)
     missing = {'interpreter', 'needed', 'soname', 'rpath', 'runpath'} - {line.split()[0] for line in comparison.all()}
     comparison.wrong.extend(f'no compared file has a {name}, so it is not tested' for name in sorted(missing))

@@ -17,6 +17,7 @@ with_package() { quietly env PYTHONPATH="$package" "$@"; }
 # Runs the unit tests of the files of a pattern: try_tests PATTERN
 try_tests() {
     with_package "$python" -m unittest discover -s $tests -p "$1"
+    grep -q '^Ran [1-9][0-9]' "$folder/output" || fail "fewer than 10 tests ran of $1"
     echo "the Python package: $(grep -o '^Ran [0-9]* tests' "$folder/output") by $("$python" -V)"
 }
 

@@ -35,6 +35,7 @@ quietly cargo package --offline --allow-dirty --manifest-path $crate
 # Puts into the file lints the flags of the stored lints, those of Rust 1.95, that a program of this version has, too, and that match a
 # pattern: lints PROGRAM PATTERN. They are errors. What else is found is printed.
 lints() {
+    [ -s checks/files/lints ] || fail 'there are no stored lints'
     "$1" -W help 2> "$folder/output" | awk '{ gsub(/-/, "_", $1); print "-D" $1 }' > "$folder/known"
     grep -x -F -f "$folder/known" checks/files/lints | grep "$2" > "$folder/lints" \
         || left_out "$1 lists none of the stored lints, so it is asked for none"

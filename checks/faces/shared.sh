@@ -69,6 +69,7 @@ try_examples() {
 # Runs a compiler. The warnings of gcc 12 and clang 14, which are stored, are errors, and so are those without a name. Others are printed.
 strictly() {
     quietly "$@" -Wall -Wextra -pedantic -O2
+    [ -s checks/files/warnings ] || fail 'there are no stored warnings'
     if grep -F -f checks/files/warnings "$folder/output" || grep ':[0-9][0-9]*: warning: .*[^]]$' "$folder/output"; then fail "failed: $*"; fi
     cat "$folder/output"
 }
