@@ -79,12 +79,14 @@ def main(given):
     with tempfile.TemporaryDirectory(prefix='bench-') as folder:
         subprocess.run([sys.executable, 'checks/limits.py', folder], check=True)
         files = sorted(f'{folder}/{name}' for name in os.listdir(folder)) + given
-        print(f'{len(files)} files, in milliseconds, the least of {RUNS} runs:\n{"file":<20} {"strict":>10} {"permissive":>10} {"readelf":>10} {"ratio":>8}')
+        print(f'{len(files)} files, in milliseconds, the least of {RUNS} runs:\n'
+              f'{"file":<20} {"strict":>10} {"permissive":>10} {"readelf":>10} {"ratio":>8}')
         for path in files:
             others = [[*READELF, path]] if has_readelf and seconds([*READELF, path], path) < 9 else []
             times = least([[SHOW], [SHOW, 'permissive'], *others], path, RUNS)
             ratio = f'{times[2] / times[0]:.2f}' if others else '-'
-            print(f'{os.path.basename(path):<20}', *(f'{1000 * own:10.1f}' for own in times), *['         -'] * (3 - len(times)), f'{ratio:>8}', flush=True)
+            print(f'{os.path.basename(path):<20}', *(f'{1000 * own:10.1f}' for own in times), *['         -'] * (3 - len(times)),
+                  f'{ratio:>8}', flush=True)
     if has_readelf:
         print(f'{len(real_files())} programs and libraries of this machine, each {TURNS} times by both ..', flush=True)
         times = [least([[*READELF, path], [SHOW]], path, TURNS) for path in real_files()]

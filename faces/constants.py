@@ -437,8 +437,8 @@ def c_part():
                for record, crate, title, _ in RECORDS]
     known = {constant.name for _, constants, _ in records for constant in constants}
     text = START + f"""
-   The library's constants. Each has the standard's name after GOBLIN_, so this file and <elf.h> can be included together.
-   Flags of sections (sh_flags) and indices of sections (st_shndx) have 64 bits, as their fields have, so
+   The library's constants. Each has the standard's name after GOBLIN_, so this file and <elf.h> can be included
+   together. Flags of sections (sh_flags) and indices of sections (st_shndx) have 64 bits, as their fields have, so
    `section.sh_flags & ~GOBLIN_SHF_WRITE` clears one bit alone.
 
    {MADE} */

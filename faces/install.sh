@@ -126,7 +126,9 @@ install_library() {
     done
     put LICENSE share/goblin_c/LICENSE
     put CHANGELOG.md share/goblin_c/CHANGELOG.md
-    for example in execstack flag needed nm size strings symbolize truncated values; do put "faces/c/$example.c" "share/goblin_c/examples/$example.c"; done
+    for example in execstack flag needed nm size strings symbolize truncated values; do
+        put "faces/c/$example.c" "share/goblin_c/examples/$example.c"
+    done
     put LICENSE share/goblin_c/rust/LICENSE
     put_edited "s|join(\"lib\")|join(\"$libdir\")|" faces/rust/build.rs share/goblin_c/rust/build.rs
     put_all faces/rust/src share/goblin_c/rust/src
@@ -217,7 +219,8 @@ print_contents() {
     printf 'Nothing needs to be compiled, and all can be moved together.\n\n|file or folder|what|bytes|\n|---|---|---|\n'
     # shellcheck disable=SC2016
     each_installed | while read -r start content; do
-        printf '|`%s`|%s|%s|\n' "$start" "$content" "$(grep -F "$start" "$folder/files" | grep -v '/$' | sed "s|^|$to/|" | tr '\n' '\0' | xargs -0 cat | wc -c)"
+        printf '|`%s`|%s|%s|\n' "$start" "$content" \
+            "$(grep -F "$start" "$folder/files" | grep -v '/$' | sed "s|^|$to/|" | tr '\n' '\0' | xargs -0 cat | wc -c)"
     done
 }
 

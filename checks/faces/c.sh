@@ -57,7 +57,8 @@ check_examples() {
         is_variables { gsub(/^ +/, "static "); is_variables = !sub(/ *\*\/$/, ""); gsub(/; /, ";\nstatic "); print
             if (!is_variables) print "extern int run_examples(void);\nint run_examples(void) {" }
         /^(uint(32|64)_t|void) goblin_/ { calls++ }
-        sub(/^ *Example: /, "") { examples++; sub(/ \*\/$/, ""); print "    { " $0 " }" }
+        sub(/^ *Example: /, "") { examples++; is_example = 1; printf "    { " }
+        is_example { is_example = !sub(/ \*\/$/, ""); print $0 (is_example ? "" : " }") }
         END { print "    return range.size + string.size + value + note.n_type + count > 0;\n}"; exit calls == 0 || calls != examples }' \
         faces/c/goblin.h > "$folder/examples.c" || fail "each call in goblin.h must have one example"
     awk '{ print "#if !defined GOBLIN_" $1 " || GOBLIN_" $1 " != " $2 "\n#error " $1 " is another number in elf.h\n#endif" }' \

@@ -1,7 +1,7 @@
 /* Times the library beside libelf and plain C, in one process: bench FILE..
-   It uses the longest symbol table of each file, which must be 64-bit and little endian, its longest table of relocations with
-   addends, and its first note, if it has them. Each time is the best of nine runs; the runs of two that are compared alternate.
-   The rows that write bring back what was read. */
+   It uses the longest symbol table of each file, which must be 64-bit and little endian, its longest table of
+   relocations with addends, and its first note, if it has them. Each time is the best of nine runs; the runs of two
+   that are compared alternate. The rows that write bring back what was read. */
 #define _POSIX_C_SOURCE 199309L
 #include "goblin.h"
 #include <gelf.h>
@@ -83,9 +83,11 @@ static uint64_t run_one(int what) {
         for (int i = 0; gelf_getrela(rela_data, i, &rela); i++)
             sum += rela.r_offset + (uint64_t)rela.r_addend + GELF_R_SYM(rela.r_info);
     for (int i = 0; what >= NOTE && what <= GELF_EHDR && i < CALLS; i++) {
-        if (what == NOTE && !goblin_note(bytes, len, &header, &notes.file, notes.sh_addralign, notes.file.offset, &note, &why))
+        if (what == NOTE
+            && !goblin_note(bytes, len, &header, &notes.file, notes.sh_addralign, notes.file.offset, &note, &why))
             sum += note.desc.size + note.n_type;
-        if (what == NOTE_BYTES && !goblin_note_bytes(bytes, len, &header, &notes.file, notes.sh_addralign, notes.file.offset, &note, &why))
+        if (what == NOTE_BYTES
+            && !goblin_note_bytes(bytes, len, &header, &notes.file, notes.sh_addralign, notes.file.offset, &note, &why))
             sum += note.desc.size + note.n_type;
         if (what == GELF_NOTE && gelf_getnote(note_data, 0, &nhdr, &name, &desc)) sum += nhdr.n_descsz + nhdr.n_type;
         if (what == HEADER && !goblin_header(bytes, len, &read, &why)) sum += read.e_shoff + read.e_shnum;
@@ -126,8 +128,8 @@ static uint64_t elf_named(size_t names, const char *name) {
     return 0;
 }
 
-/* Reads numbers of the symbol table, or finds the offsets of the symbols' addresses, or the bytes of the sections by their names. Returns
-   the sum. */
+/* Reads numbers of the symbol table, or finds the offsets of the symbols' addresses, or the bytes of the sections by
+   their names. Returns the sum. */
 static uint64_t run_find(int what) {
     goblin_range_t range = {0, 0};
     uint64_t sum = 0, offset, number, index;
@@ -145,8 +147,8 @@ static uint64_t run_find(int what) {
     if (what == NAMED)
         for (uint64_t round = rounds(titled); round > 0; round--)
             for (uint64_t i = 0; i < titled; i++)
-                if (!goblin_section_by_name(bytes, len, &header, &section_names.file, bytes + titles[i].offset, titles[i].size, 0, &index,
-                                            sections, &why)
+                if (!goblin_section_by_name(bytes, len, &header, &section_names.file, bytes + titles[i].offset,
+                                            titles[i].size, 0, &index, sections, &why)
                     && !goblin_section_bytes(bytes, len, sections, &range, &why))
                     sum += range.offset + range.size;
     if (what == ELF_RAWDATA && !elf_getshdrstrndx(elf, &names))
@@ -233,7 +235,8 @@ static uint64_t run(int what) {
         for (uint64_t i = 0; i < count; i++)
             sum += goblin_string(bytes, len, &strings.file, offsets[i], &name, &why) ? 0 : name.size;
     if (what == NAMES_64)
-        for (uint64_t i = 0; i < count && !goblin_strings(bytes, len, &strings.file, offsets + i, count - i, names, 64, &n, &why); i += n)
+        for (uint64_t i = 0; i < count
+             && !goblin_strings(bytes, len, &strings.file, offsets + i, count - i, names, 64, &n, &why); i += n)
             for (uint64_t k = 0; k < n; k++) sum += names[k].size;
     if (what == BYTES)
         for (uint64_t i = 0; i < count; i++)
@@ -274,7 +277,8 @@ static goblin_section_t longest(uint32_t one, uint32_t other, Elf_Data **found) 
     uint64_t index = 0;
     memset(&most, 0, sizeof most);
     for (uint64_t i = 0; !goblin_section(bytes, len, &header, i, &section, &why); i++)
-        if ((section.sh_type == one || section.sh_type == other) && section.file.size > most.file.size) most = section, index = i;
+        if ((section.sh_type == one || section.sh_type == other) && section.file.size > most.file.size)
+            most = section, index = i;
     *found = elf_getdata(elf_getscn(elf, index), NULL);
     return most;
 }
@@ -315,7 +319,8 @@ static int bench(const char *path) {
     relocs = relas.file.size / 24;
     if (goblin_linked_section(bytes, len, &header, table.sh_link, &strings, &why)) return 1;
     if (goblin_symbol_count(bytes, len, &header, &table.file, &count, &why)) return 1;
-    if (!(offsets = malloc((count + 1) * sizeof *offsets)) || !(addresses = malloc((count + 1) * sizeof *addresses))) return 1;
+    if (!(offsets = malloc((count + 1) * sizeof *offsets)) || !(addresses = malloc((count + 1) * sizeof *addresses)))
+        return 1;
     for (uint64_t i = 0; i < count && !goblin_symbol(bytes, len, &header, &table.file, i, symbols, &why); i++)
         offsets[i] = symbols->st_name, addresses[i] = symbols->st_value;
     prepare();
@@ -327,7 +332,8 @@ static int bench(const char *path) {
             double took = time_of(turn % 2 ? rows[row].theirs : rows[row].ours, &sums[turn % 2]) / each;
             if (took < least[turn % 2]) least[turn % 2] = took;
         }
-        printf("  %-32s %9.1f  by %-28s %9.1f  %5.2f times\n", rows[row].what, least[0], rows[row].than, least[1], least[0] / least[1]);
+        printf("  %-32s %9.1f  by %-28s %9.1f  %5.2f times\n", rows[row].what, least[0], rows[row].than, least[1],
+               least[0] / least[1]);
         if (sums[0] != sums[1]) return 1;
     }
     return elf_end(elf);

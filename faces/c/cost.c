@@ -1,8 +1,8 @@
-/* Tests that calls over many items take a time in proportion to the number of items, and calls for one item a time that doesn't depend
-   on it: cost
-   It makes a file with a header and zero bytes, in which each range can be read as sections, symbols, relocations, segments, notes or
-   empty strings, and with long strings after them. Each call of goblin.h that is passed a file is made here; checks/faces/c.sh compares
-   the two.
+/* Tests that calls over many items take a time in proportion to the number of items, and calls for one item a time that
+   doesn't depend on it: cost
+   It makes a file with a header and zero bytes, in which each range can be read as sections, symbols, relocations,
+   segments, notes or empty strings, and with long strings after them. Each call of goblin.h that is passed a file is
+   made here; checks/faces/c.sh compares the two.
    A library that was changed to walk from the first symbol to each other one took more than ten times the limit. */
 #include "goblin.h"
 #include <elf.h>
@@ -25,7 +25,8 @@ static goblin_refusal_t why;
 /* The array for lists of items. */
 static void *array;
 
-/* Returns a range for a number of items of a size. It starts after the header of the file and that of the first section. */
+/* Returns a range for a number of items of a size. It starts after the header of the file and that of the
+   first section. */
 static goblin_range_t range_of(uint64_t items, uint64_t size) {
     goblin_range_t range = {128, 0};
     range.size = items * size;
@@ -65,8 +66,8 @@ static uint64_t offset_of_no_address(void) {
     return goblin_address_to_offset(bytes, len, &header, 1, &offset, &why) == GOBLIN_END ? SEGMENTS : 0;
 }
 
-/* Defines a function that repeats a call as often as there are items. It returns how often the call returned the status. `i` is the number
-   of calls before. */
+/* Defines a function that repeats a call as often as there are items. It returns how often the call returned the
+   status. `i` is the number of calls before. */
 #define REPEATED(name, status, call) \
     static uint64_t name(void) { \
         uint64_t i = 0; \
@@ -89,7 +90,8 @@ REPEATED(whole_headers, GOBLIN_OK, (goblin_whole_header(bytes, len - 200 * i, &m
 REPEATED(sections_one_by_one, GOBLIN_OK, goblin_sections(bytes, len, &header, i, &section, 1, &number, &why))
 REPEATED(linked_sections, i ? GOBLIN_OK : GOBLIN_END, goblin_linked_section(bytes, len, &header, i, &section, &why))
 REPEATED(section_names, GOBLIN_OK, goblin_section_names(bytes, len, &named, &section, &why))
-REPEATED(section_by_name, GOBLIN_OK, goblin_section_by_name(bytes, len, &header, &table, "", 0, i, &number, &section, &why))
+REPEATED(section_by_name, GOBLIN_OK,
+         goblin_section_by_name(bytes, len, &header, &table, "", 0, i, &number, &section, &why))
 REPEATED(section_by_type, GOBLIN_OK, goblin_section_by_type(bytes, len, &header, 0, i, &number, &section, &why))
 REPEATED(section_bytes, GOBLIN_OK, goblin_section_bytes(bytes, len, &section, &range, &why))
 REPEATED(segments_counted, GOBLIN_OK, goblin_segment_count(bytes, len, &header, &number, &why))
@@ -152,7 +154,8 @@ static uint64_t scattered(uint64_t i) { return i * 7919 % ITEMS + 1; }
 static uint64_t found_at(uint64_t address, uint64_t expected) {
     goblin_range_t table = range_of(ITEMS, sizeof(Elf64_Sym));
     uint64_t index = 0;
-    return goblin_symbol_by_address(bytes, len, &header, &table, address, &index, &why) == GOBLIN_OK && index == expected ? ITEMS : 0;
+    return goblin_symbol_by_address(bytes, len, &header, &table, address, &index, &why) == GOBLIN_OK
+        && index == expected ? ITEMS : 0;
 }
 static uint64_t symbol_at_last(void) { return found_at(scattered(ITEMS - 1), ITEMS - 1); }
 static uint64_t symbol_at_one(void) { return found_at(ITEMS, ITEMS - 1); }
@@ -191,7 +194,9 @@ static uint64_t each_note_as_bytes(void) {
 static uint64_t each_number(void) {
     goblin_range_t numbers = range_of(ITEMS, sizeof(uint64_t));
     uint64_t i = 0, number;
-    while (goblin_number_in(bytes, len, &header, &numbers, i * sizeof number, sizeof number, &number, &why) == GOBLIN_OK) i++;
+    while (goblin_number_in(bytes, len, &header, &numbers, i * sizeof number, sizeof number, &number,
+                            &why) == GOBLIN_OK)
+        i++;
     return i;
 }
 

@@ -1,9 +1,10 @@
 /* Calls the whole library over damaged copies of files: damaged COUNT FILE..
-   It makes COUNT copies of each file, with bytes changed or the end cut off. Each copy is between pages that can't be read, at the
-   start or at the end of its own pages, so a call that reads outside the copy ends the program. Each result must be as goblin.h says:
-   unchanged if the call returns none, and inside the file if it is a range. The counts of headers, the symbol of an address and what fits
-   a record are computed here a second time, as goblin.h says them. It prints a sum of nearly all results: without names of numbers, and
-   without the last eight bytes of a single struct, which may be padding. The sum is the same on all little-endian machines. */
+   It makes COUNT copies of each file, with bytes changed or the end cut off. Each copy is between pages that can't be
+   read, at the start or at the end of its own pages, so a call that reads outside the copy ends the program. Each
+   result must be as goblin.h says: unchanged if the call returns none, and inside the file if it is a range. The counts
+   of headers, the symbol of an address and what fits a record are computed here a second time, as goblin.h says them.
+   It prints a sum of nearly all results: without names of numbers, and without the last eight bytes of a single struct,
+   which may be padding. The sum is the same on all little-endian machines. */
 #define _DEFAULT_SOURCE
 #include "goblin.h"
 #include <stdio.h>
@@ -11,7 +12,10 @@
 #include <string.h>
 #include <sys/mman.h>
 
-enum { PAGE = 0x10000, ROOM = 16 * PAGE, BATCH = 5, SECTION = offsetof(goblin_section_t, sh_info) + 4 /* without padding */ };
+enum {
+    PAGE = 0x10000, ROOM = 16 * PAGE, BATCH = 5,
+    SECTION = offsetof(goblin_section_t, sh_info) + 4 /* without padding */
+};
 
 static uint8_t *bytes, saved[ROOM]; /* the copy, and its bytes before a call that writes */
 static size_t len;
@@ -43,7 +47,8 @@ static uint64_t odd(void) {
     }
 }
 
-/* Returns an offset inside the file or at its end. The files that made.c makes have something at each multiple of 256. */
+/* Returns an offset inside the file or at its end. The files that made.c makes have something at each
+   multiple of 256. */
 static uint64_t any_offset(uint64_t end) {
     uint64_t offset = any(end + 1);
     return any(2) ? offset : offset / 0x100 * 0x100;
@@ -80,7 +85,8 @@ static void text_of_refusal(uint32_t status) {
     memset(text, 0x5a, sizeof text);
     uint64_t size = goblin_refusal_text(&why, text, capacity);
     if (size < strlen("bad offset 0")) wrong("a text's size", status);
-    if (size < capacity ? text[size] != 0 || !is_blank(text + size + 1, capacity - (size_t)size - 1) : memchr(text, 0, capacity) != NULL)
+    if (size < capacity ? text[size] != 0 || !is_blank(text + size + 1, capacity - (size_t)size - 1)
+        : memchr(text, 0, capacity) != NULL)
         wrong("the end of a text", status);
     if (!is_blank(text + capacity, sizeof text - capacity)) wrong("a text", status);
     add(&why, sizeof why), add(text, capacity);
@@ -122,7 +128,8 @@ static void names_of_numbers(void) {
 #define READS(call, item, ...) \
     (blank(&(item), sizeof(item)), check(#call, call(bytes, len, __VA_ARGS__, &(item), &why), &(item), sizeof(item)))
 
-/* Makes a call that finds a section, whose last arguments are its index, the section and `why`. Returns whether it has a result. */
+/* Makes a call that finds a section, whose last arguments are its index, the section and `why`. Returns whether it
+   has a result. */
 #define FINDS(call, index, section, ...) \
     (blank(&(index), sizeof(index)), blank(&(section), sizeof(section)), \
      check_found(#call, call(bytes, len, __VA_ARGS__, &(index), &(section), &why), &(index), &(section)))
@@ -147,12 +154,14 @@ static void notes(const goblin_header_t *h, goblin_range_t range) {
     for (int i = 0; i < 8 && (begins(offset, offset), READS(goblin_note, note, h, &range, alignment, offset)); i++) {
         goblin_note_t whole;
         bool is_whole = READS(goblin_note_bytes, whole, h, &range, alignment, offset);
-        if (!is_whole && range.size <= UINT64_MAX - range.offset && note.desc.offset + note.desc.size <= range.offset + range.size)
+        if (!is_whole && range.size <= UINT64_MAX - range.offset
+            && note.desc.offset + note.desc.size <= range.offset + range.size)
             wrong("goblin_note_bytes", GOBLIN_OK);
         if (is_whole) inside("whole name", whole.name), inside("whole desc", whole.desc);
-        if (is_whole && (whole.desc.offset != note.desc.offset || whole.desc.size != note.desc.size || whole.next != note.next
-                         || whole.n_type != note.n_type || whole.name.offset != note.name.offset
-                         || note.name.size != whole.name.size - (whole.name.size > 0)))
+        if (is_whole
+            && (whole.desc.offset != note.desc.offset || whole.desc.size != note.desc.size || whole.next != note.next
+                || whole.n_type != note.n_type || whole.name.offset != note.name.offset
+                || note.name.size != whole.name.size - (whole.name.size > 0)))
             wrong("goblin_note_bytes", GOBLIN_OK);
         inside("name", note.name), inside("desc", note.desc);
         if (note.next <= offset) wrong("next", GOBLIN_OK);
@@ -160,7 +169,8 @@ static void notes(const goblin_header_t *h, goblin_range_t range) {
     }
 }
 
-/* Reads some items of a list at once. They must be those of the call for one item, and no item after them is changed. */
+/* Reads some items of a list at once. They must be those of the call for one item, and no item after them
+   is changed. */
 #define SEVERAL(one, all, type, last, ...) \
     do { \
         type items[BATCH], single; \
@@ -173,15 +183,18 @@ static void notes(const goblin_header_t *h, goblin_range_t range) {
         if (!is_blank(items + filled, sizeof *items * (BATCH - filled))) wrong(#all ": after the items", status); \
         for (uint64_t i = 0; i < filled; i++) add(items + i, size); \
         for (uint64_t i = 0; i < filled; i++) \
-            if (!READS(one, single, __VA_ARGS__, first + i) || memcmp(&single, items + i, size)) wrong(#all " item", status); \
-        if (status == GOBLIN_OK && filled < capacity && READS(one, single, __VA_ARGS__, first + filled)) wrong(#all, status); \
+            if (!READS(one, single, __VA_ARGS__, first + i) || memcmp(&single, items + i, size)) \
+                wrong(#all " item", status); \
+        if (status == GOBLIN_OK && filled < capacity && READS(one, single, __VA_ARGS__, first + filled)) \
+            wrong(#all, status); \
     } while (0)
 
 /* Finds several strings at once. They must be those of goblin_string, which must stop as the call did. */
 static void several_strings(goblin_range_t names) {
     uint64_t offsets[BATCH], filled = UINT64_MAX, end = names.size < len ? names.size : len;
     goblin_range_t ranges[BATCH], single;
-    size_t asked = (size_t)any(BATCH + 1), capacity = (size_t)any(BATCH + 1), most = asked < capacity ? asked : capacity;
+    size_t asked = (size_t)any(BATCH + 1), capacity = (size_t)any(BATCH + 1),
+        most = asked < capacity ? asked : capacity;
     for (size_t i = 0; i < BATCH; i++) offsets[i] = any(8) ? any(end + 1) : odd();
     blank(ranges, sizeof ranges);
     uint32_t status = goblin_strings(bytes, len, &names, offsets, asked, ranges, capacity, &filled, &why);
@@ -189,15 +202,18 @@ static void several_strings(goblin_range_t names) {
     if (filled > most) wrong("goblin_strings", status), filled = 0;
     begins(names.offset, names.offset + offsets[filled < BATCH ? filled : 0]);
     check("goblin_strings", status, ranges, 0);
-    if (!is_blank(ranges + filled, sizeof *ranges * (BATCH - filled))) wrong("goblin_strings: after the ranges", status);
+    if (!is_blank(ranges + filled, sizeof *ranges * (BATCH - filled)))
+        wrong("goblin_strings: after the ranges", status);
     for (uint64_t i = 0; i < filled; i++) {
         begins(names.offset, names.offset + offsets[i]);
-        if (!READS(goblin_string, single, &names, offsets[i]) || memcmp(&single, ranges + i, sizeof single)) wrong("goblin_strings: a range", status);
+        if (!READS(goblin_string, single, &names, offsets[i]) || memcmp(&single, ranges + i, sizeof single))
+            wrong("goblin_strings: a range", status);
     }
     if (filled == most && status != GOBLIN_OK) wrong("goblin_strings: the end", status);
     if (filled == most) return;
     blank(&single, sizeof single);
-    if (status == GOBLIN_OK || goblin_string(bytes, len, &names, offsets[filled], &single, &why) != status || memcmp(&why, &refusal, sizeof why))
+    if (status == GOBLIN_OK || goblin_string(bytes, len, &names, offsets[filled], &single, &why) != status
+        || memcmp(&why, &refusal, sizeof why))
         wrong("goblin_strings: where it stops", status);
 }
 
@@ -208,8 +224,11 @@ static bool plain_by_address(const goblin_header_t *h, const goblin_range_t *ran
     bool is_found = false, has_label = false, is_any = false;
     for (uint64_t i = 0; goblin_symbol(bytes, len, h, range, i, &s, &why) == GOBLIN_OK; i++) {
         unsigned type = s.st_info & 15;
-        if (s.st_shndx == 0 || (s.st_shndx >= 0xff00 && s.st_shndx != 0xffff) || !(type <= 2 || type == 10) || s.st_value > address) continue;
-        if (address - s.st_value < s.st_size && (!is_found || s.st_value > at)) is_found = true, *index = i, at = s.st_value;
+        if (s.st_shndx == 0 || (s.st_shndx >= 0xff00 && s.st_shndx != 0xffff) || !(type <= 2 || type == 10)
+            || s.st_value > address)
+            continue;
+        if (address - s.st_value < s.st_size && (!is_found || s.st_value > at))
+            is_found = true, *index = i, at = s.st_value;
         if (!is_any || s.st_value > highest) is_any = true, highest = s.st_value, has_label = false;
         if (s.st_value == highest && s.st_size == 0 && !has_label) has_label = true, label = i;
     }
@@ -243,11 +262,14 @@ static uint64_t room(uint64_t start, uint64_t size) {
 static uint64_t section_size(const goblin_header_t *h) { return h->ei_class == 2 ? 64 : 40; }
 static uint64_t segment_size(const goblin_header_t *h) { return h->ei_class == 2 ? 56 : 32; }
 
-/* Reads a number of the header of the first section, whose offset in it depends on the class. Returns whether that is in the file. */
-static bool first_number(const goblin_header_t *h, uint64_t at32, uint64_t width32, uint64_t at64, uint64_t width64, uint64_t *number) {
+/* Reads a number of the header of the first section, whose offset in it depends on the class. Returns whether that is
+   in the file. */
+static bool first_number(const goblin_header_t *h, uint64_t at32, uint64_t width32, uint64_t at64,
+                         uint64_t width64, uint64_t *number) {
     bool is_64 = h->ei_class == 2;
     return room(h->e_shoff, section_size(h)) > 0
-        && goblin_number(bytes, len, h, h->e_shoff + (is_64 ? at64 : at32), is_64 ? width64 : width32, number, &why) == GOBLIN_OK;
+        && goblin_number(bytes, len, h, h->e_shoff + (is_64 ? at64 : at32), is_64 ? width64 : width32, number,
+                         &why) == GOBLIN_OK;
 }
 
 /* Finds the stated number of sections or of segments. Returns whether it can be read. */
@@ -277,7 +299,8 @@ static goblin_header_t plain_whole(const goblin_header_t *h) {
     return whole;
 }
 
-/* Counts the headers, and makes the header that counts what is whole. With it no list is refused, and those that were not are the same. */
+/* Counts the headers, and makes the header that counts what is whole. With it no list is refused, and those that were
+   not are the same. */
 static void whole(const goblin_header_t *h) {
     goblin_header_t w, expected = plain_whole(h);
     goblin_section_t section, same_section;
@@ -292,8 +315,10 @@ static void whole(const goblin_header_t *h) {
     bool is_stated = stated_sections(h, &stated), is_read = READS(goblin_section_count, number, h);
     if (is_read != (is_stated && stated <= room(h->e_shoff, section_size(h))) || (is_read && number != stated))
         wrong("goblin_section_count", is_read);
-    if (!READS(goblin_section_count, same_number, &w) || (is_read && same_number != number)) wrong("goblin_whole_header: sections", is_read);
-    if (READS(goblin_section, same_section, &w, at) != (at < same_number)) wrong("goblin_whole_header: a section", is_read);
+    if (!READS(goblin_section_count, same_number, &w) || (is_read && same_number != number))
+        wrong("goblin_whole_header: sections", is_read);
+    if (READS(goblin_section, same_section, &w, at) != (at < same_number))
+        wrong("goblin_whole_header: a section", is_read);
     if (is_read && at < number && (!READS(goblin_section, section, h, at) || memcmp(&section, &same_section, SECTION)))
         wrong("goblin_whole_header: the same section", is_read);
     is_stated = stated_segments(h, &stated);
@@ -302,10 +327,14 @@ static void whole(const goblin_header_t *h) {
     is_read = READS(goblin_segment_count, number, h);
     if (!is_read && is_stated && (why.kind == GOBLIN_BUFFER_TOO_SHORT) != (stated > len / segment_size(h)))
         wrong("goblin_segment_count: the kind", why.kind);
-    if (is_read != (is_stated && (stated == 0 || stated <= segments)) || (is_read && number != stated)) wrong("goblin_segment_count", is_read);
-    if (!READS(goblin_segment_count, same_number, &w) || (is_read && same_number != number)) wrong("goblin_whole_header: segments", is_read);
-    if (READS(goblin_segment, same_segment, &w, at) != (at < same_number)) wrong("goblin_whole_header: a segment", is_read);
-    if (is_read && at < number && (!READS(goblin_segment, segment, h, at) || memcmp(&segment, &same_segment, sizeof segment)))
+    if (is_read != (is_stated && (stated == 0 || stated <= segments)) || (is_read && number != stated))
+        wrong("goblin_segment_count", is_read);
+    if (!READS(goblin_segment_count, same_number, &w) || (is_read && same_number != number))
+        wrong("goblin_whole_header: segments", is_read);
+    if (READS(goblin_segment, same_segment, &w, at) != (at < same_number))
+        wrong("goblin_whole_header: a segment", is_read);
+    if (is_read && at < number
+        && (!READS(goblin_segment, segment, h, at) || memcmp(&segment, &same_segment, sizeof segment)))
         wrong("goblin_whole_header: the same segment", is_read);
 }
 
@@ -335,14 +364,17 @@ static void addresses(const goblin_header_t *h) {
 
 /* Makes a call that writes, whose last argument is `why`. Returns whether it has written. */
 #define WRITES(call, ...) \
-    (memcpy(saved, bytes, len), memset(&why, 0x5a, sizeof why), check(#call, call(bytes, len, __VA_ARGS__, &why), NULL, 0))
+    (memcpy(saved, bytes, len), memset(&why, 0x5a, sizeof why), \
+     check(#call, call(bytes, len, __VA_ARGS__, &why), NULL, 0))
 
-/* Checks that a call has changed no bytes but those of a range, or none if it has not written, and brings back the bytes. */
+/* Checks that a call has changed no bytes but those of a range, or none if it has not written, and brings back
+   the bytes. */
 static void restore(const char *what, bool is_written, uint64_t start, uint64_t size) {
     if (!is_written) start = size = 0;
     if (start > len || size > len - start) wrong(what, is_written), start = size = 0;
     uint64_t end = start + size;
-    if (memcmp(bytes, saved, (size_t)start) || memcmp(bytes + end, saved + end, len - (size_t)end)) wrong(what, is_written);
+    if (memcmp(bytes, saved, (size_t)start) || memcmp(bytes + end, saved + end, len - (size_t)end))
+        wrong(what, is_written);
     add(bytes + start, (size_t)size);
     memcpy(bytes, saved, len);
 }
@@ -355,9 +387,9 @@ static uint64_t some(void) {
     return any(8) ? number >> 32 >> shift % 32 : number >> shift;
 }
 
-/* Checks a call that writes the record at an index, and the one that reads it. They refuse the same. A record that was read is written as it
-   was. Another one is refused if it does not fit, else it is read again, and changes no other byte. `first_counts` says whether the
-   record has the number of the list's items. */
+/* Checks a call that writes the record at an index, and the one that reads it. They refuse the same. A record that was
+   read is written as it was. Another one is refused if it does not fit, else it is read again, and changes no other
+   byte. `first_counts` says whether the record has the number of the list's items. */
 #define PUTS(put, get, type, last, read, fits, first_counts, start, size, ...) \
     do { \
         type before, after, changed = read; \
@@ -365,12 +397,14 @@ static uint64_t some(void) {
         bool is_read = READS(get, before, __VA_ARGS__); \
         uint64_t place = is_read ? (start) : from; \
         begins(place, is_read ? place : places[1]); \
-        if (is_read && (!WRITES(put, __VA_ARGS__, &before) || memcmp(saved, bytes, len))) wrong(#put ": what was read", GOBLIN_OK); \
+        if (is_read && (!WRITES(put, __VA_ARGS__, &before) || memcmp(saved, bytes, len))) \
+            wrong(#put ": what was read", GOBLIN_OK); \
         bool is_written = WRITES(put, __VA_ARGS__, &changed); \
-        if (is_read != is_written && !(is_read && why.kind == GOBLIN_INTEGER_FIT)) wrong(#put ": refused", is_written); \
+        if (is_read != is_written && !(is_read && why.kind == GOBLIN_INTEGER_FIT)) \
+            wrong(#put ": refused", is_written); \
         if (is_read && is_written != (fits)) wrong(#put ": what fits", is_written); \
-        if (is_written && !(first_counts) \
-            && (get(bytes, len, __VA_ARGS__, &after, &why) != GOBLIN_OK || memcmp(&after, &changed, offsetof(type, last) + sizeof after.last))) \
+        if (is_written && !(first_counts) && (get(bytes, len, __VA_ARGS__, &after, &why) != GOBLIN_OK \
+                                              || memcmp(&after, &changed, offsetof(type, last) + sizeof after.last))) \
             wrong(#put ": what is read", GOBLIN_OK); \
         restore(#put, is_written, place, size); \
     } while (0)
@@ -378,26 +412,27 @@ static uint64_t some(void) {
 static goblin_section_t any_section(void) {
     goblin_section_t s;
     memset(&s, 0, sizeof s);
-    s.file.offset = some(), s.file.size = some(), s.sh_name = some(), s.sh_flags = some(), s.sh_addr = some(), s.sh_addralign = some();
+    s.file.offset = some(), s.file.size = some(), s.sh_name = some(), s.sh_flags = some(), s.sh_addr = some(),
+        s.sh_addralign = some();
     s.sh_entsize = some(), s.sh_type = (uint32_t)some(), s.sh_link = (uint32_t)some(), s.sh_info = (uint32_t)some();
     return s;
 }
 static bool fits_section(const goblin_section_t *s, bool is_64) {
-    return is_32(s->sh_name)
-        && (is_64 || (is_32(s->file.offset) && is_32(s->file.size) && is_32(s->sh_flags) && is_32(s->sh_addr) && is_32(s->sh_addralign)
-                      && is_32(s->sh_entsize)));
+    return is_32(s->sh_name) && (is_64 || (is_32(s->file.offset) && is_32(s->file.size) && is_32(s->sh_flags)
+                                           && is_32(s->sh_addr) && is_32(s->sh_addralign) && is_32(s->sh_entsize)));
 }
 
 static goblin_segment_t any_segment(void) {
     goblin_segment_t p;
     memset(&p, 0, sizeof p);
-    p.file.offset = some(), p.file.size = some(), p.p_vaddr = some(), p.p_paddr = some(), p.p_memsz = some(), p.p_align = some();
+    p.file.offset = some(), p.file.size = some(), p.p_vaddr = some(), p.p_paddr = some(),
+        p.p_memsz = some(), p.p_align = some();
     p.p_type = (uint32_t)some(), p.p_flags = (uint32_t)some();
     return p;
 }
 static bool fits_segment(const goblin_segment_t *p, bool is_64) {
-    return is_64 || (is_32(p->file.offset) && is_32(p->file.size) && is_32(p->p_vaddr) && is_32(p->p_paddr) && is_32(p->p_memsz)
-                     && is_32(p->p_align));
+    return is_64 || (is_32(p->file.offset) && is_32(p->file.size) && is_32(p->p_vaddr) && is_32(p->p_paddr)
+                     && is_32(p->p_memsz) && is_32(p->p_align));
 }
 
 static goblin_symbol_t any_symbol(void) {
@@ -414,14 +449,16 @@ static bool fits_symbol(const goblin_symbol_t *s, bool is_64) {
 static goblin_reloc_t any_reloc(bool is_rela) {
     goblin_reloc_t r;
     memset(&r, 0, sizeof r);
-    r.r_offset = some(), r.r_sym = any(2) ? some() : any(0x1000000), r.r_type = any(2) ? (uint32_t)some() : (uint32_t)any(256);
+    r.r_offset = some(), r.r_sym = any(2) ? some() : any(0x1000000),
+        r.r_type = any(2) ? (uint32_t)some() : (uint32_t)any(256);
     r.has_addend = any(8) ? is_rela : !is_rela;
     if (r.has_addend || any(4) == 0) r.r_addend = any(2) ? (int64_t)some() : -(int64_t)any(0x80000001);
     return r;
 }
 static bool fits_reloc(const goblin_reloc_t *r, bool is_rela, bool is_64) {
     if (r->has_addend != is_rela || (!is_rela && r->r_addend) || !is_32(r->r_sym)) return false;
-    return is_64 || (is_32(r->r_offset) && r->r_sym < 0x1000000 && r->r_type < 0x100 && r->r_addend >= INT32_MIN && r->r_addend <= INT32_MAX);
+    return is_64 || (is_32(r->r_offset) && r->r_sym < 0x1000000 && r->r_type < 0x100 && r->r_addend >= INT32_MIN
+                     && r->r_addend <= INT32_MAX);
 }
 
 /* Writes the header: one that was read, and another one. The padding in it is left. */
@@ -429,20 +466,23 @@ static void put_header(const goblin_header_t *h) {
     goblin_header_t before, changed = *h, after;
     if (goblin_header(bytes, len, &before, &why) == GOBLIN_OK) {
         begins(0, 0);
-        if (!WRITES(goblin_put_header, &before) || memcmp(saved, bytes, len)) wrong("goblin_put_header: what was read", GOBLIN_OK);
+        if (!WRITES(goblin_put_header, &before) || memcmp(saved, bytes, len))
+            wrong("goblin_put_header: what was read", GOBLIN_OK);
     }
     changed.e_entry = some(), changed.e_phoff = some(), changed.e_shoff = some(), changed.e_flags = (uint32_t)some();
     changed.e_type = (uint16_t)some(), changed.e_shnum = (uint16_t)some(), changed.ei_osabi = (uint8_t)any(256);
     if (any(2)) changed.ei_class = (uint8_t)(1 + any(2)), changed.ei_data = (uint8_t)(1 + any(2));
     if (any(8) == 0) changed.ei_class = (uint8_t)any(4), changed.ei_data = (uint8_t)any(4);
-    bool is_64 = changed.ei_class == 2, has_class = is_64 || changed.ei_class == 1, has_data = changed.ei_data == 1 || changed.ei_data == 2;
+    bool is_64 = changed.ei_class == 2, has_class = is_64 || changed.ei_class == 1,
+        has_data = changed.ei_data == 1 || changed.ei_data == 2;
     size_t size = is_64 ? 64 : 52;
     bool fits = is_64 || (is_32(changed.e_entry) && is_32(changed.e_phoff) && is_32(changed.e_shoff));
-    uint32_t expected = !has_class ? GOBLIN_INVALID_CLASS : !has_data ? GOBLIN_DATA : len == 0 ? GOBLIN_BAD_OFFSET : len < size ? GOBLIN_TOO_BIG
-        : !fits ? GOBLIN_INTEGER_FIT : GOBLIN_OK;
+    uint32_t expected = !has_class ? GOBLIN_INVALID_CLASS : !has_data ? GOBLIN_DATA : len == 0 ? GOBLIN_BAD_OFFSET
+        : len < size ? GOBLIN_TOO_BIG : !fits ? GOBLIN_INTEGER_FIT : GOBLIN_OK;
     begins(0, 0);
     bool is_written = WRITES(goblin_put_header, &changed);
-    if (is_written != (expected == GOBLIN_OK) || (!is_written && why.kind != expected)) wrong("goblin_put_header", expected);
+    if (is_written != (expected == GOBLIN_OK) || (!is_written && why.kind != expected))
+        wrong("goblin_put_header", expected);
     if (is_written && memcmp(saved + 9, bytes + 9, 7)) wrong("goblin_put_header: padding", GOBLIN_OK);
     if (is_written && (goblin_header(bytes, len, &after, &why) != GOBLIN_OK
                        || memcmp(&after, &changed, offsetof(goblin_header_t, ei_abiversion) + 1)))
@@ -482,8 +522,8 @@ static void put_records(const goblin_header_t *h, goblin_range_t range) {
          range.offset + at * (is_64 ? 24 : 16), is_64 ? 24 : 16, h, &range, at);
     begins(range.offset, range.offset);
     uint64_t size = (is_rela ? 3 : 2) * (is_64 ? 8 : 4);
-    PUTS(goblin_put_reloc, goblin_reloc, goblin_reloc_t, has_addend, any_reloc(is_rela), fits_reloc(&changed, is_rela, is_64), false,
-         range.offset + at * size, size, h, &range, is_rela, at);
+    PUTS(goblin_put_reloc, goblin_reloc, goblin_reloc_t, has_addend, any_reloc(is_rela),
+         fits_reloc(&changed, is_rela, is_64), false, range.offset + at * size, size, h, &range, is_rela, at);
     uint64_t offset = any(2) ? any_offset(len) : odd();
     put_number(h, offset, any(10));
 }
@@ -535,8 +575,8 @@ static void table(const goblin_header_t *h, goblin_range_t range, goblin_range_t
         if (!READS(goblin_string, name, &names, symbol.st_name)) continue;
         inside("string", name);
         begins(range.offset, names.offset);
-        if (!READS(goblin_symbol_by_name, index, h, &range, &names, bytes + name.offset, (size_t)name.size) || index > at
-            || !READS(goblin_symbol, found, h, &range, index))
+        if (!READS(goblin_symbol_by_name, index, h, &range, &names, bytes + name.offset, (size_t)name.size)
+            || index > at || !READS(goblin_symbol, found, h, &range, index))
             wrong("goblin_symbol_by_name", GOBLIN_END);
     }
     several_strings(names);
@@ -551,7 +591,8 @@ static void table(const goblin_header_t *h, goblin_range_t range, goblin_range_t
     by_address(h, range);
     if (READS(goblin_reloc_count, number, h, &range, is_rela) && number > 0) {
         goblin_reloc_t last;
-        if (!READS(goblin_reloc, last, h, &range, is_rela, number - 1) || READS(goblin_reloc, last, h, &range, is_rela, number))
+        if (!READS(goblin_reloc, last, h, &range, is_rela, number - 1)
+            || READS(goblin_reloc, last, h, &range, is_rela, number))
             wrong("goblin_reloc_count", GOBLIN_OK);
     }
     uint64_t offset = any(2) ? any_offset(len) : odd(), width = any(10);
@@ -597,13 +638,15 @@ static void file(void) {
         begins(names.file.offset, names.file.offset + section.sh_name);
         if (is_there && READS(goblin_string, name, &names.file, section.sh_name)
             && (begins(h.e_shoff, names.file.offset),
-                !FINDS(goblin_section_by_name, index, found, &h, &names.file, bytes + name.offset, (size_t)name.size, 0) || index > at
-                || (index == at && memcmp(&found, &section, SECTION))
-                || !FINDS(goblin_section_by_name, index, found, &h, &names.file, bytes + name.offset, (size_t)name.size, at) || index != at
-                || memcmp(&found, &section, SECTION)))
+                !FINDS(goblin_section_by_name, index, found, &h, &names.file, bytes + name.offset, (size_t)name.size, 0)
+                || index > at || (index == at && memcmp(&found, &section, SECTION))
+                || !FINDS(goblin_section_by_name, index, found, &h, &names.file, bytes + name.offset,
+                          (size_t)name.size, at)
+                || index != at || memcmp(&found, &section, SECTION)))
             wrong("goblin_section_by_name", GOBLIN_END);
         begins(h.e_shoff, names.file.offset);
-        if (FINDS(goblin_section_by_name, index, found, &h, &names.file, "none", 4, at)) wrong("goblin_section_by_name: none", GOBLIN_OK);
+        if (FINDS(goblin_section_by_name, index, found, &h, &names.file, "none", 4, at))
+            wrong("goblin_section_by_name: none", GOBLIN_OK);
         goblin_segment_t segment;
         begins(h.e_phoff, h.e_shoff);
         if (READS(goblin_segment, segment, &h, at)) {
@@ -638,7 +681,8 @@ static void damage(uint8_t *copy) {
 int main(int argc, char **argv) {
     uint8_t *pages = mmap(NULL, PAGE + ROOM + PAGE, PROT_NONE, MAP_PRIVATE | MAP_ANONYMOUS, -1, 0);
     uint8_t *whole = malloc(ROOM);
-    if (argc < 3 || pages == MAP_FAILED || !whole || mprotect(pages + PAGE, ROOM, PROT_READ | PROT_WRITE)) return EXIT_FAILURE;
+    if (argc < 3 || pages == MAP_FAILED || !whole || mprotect(pages + PAGE, ROOM, PROT_READ | PROT_WRITE))
+        return EXIT_FAILURE;
     unsigned long copies = 0, wanted = strtoul(argv[1], NULL, 10);
     for (int i = 2; i < argc; i++) {
         FILE *from = fopen(argv[i], "rb");
@@ -661,6 +705,8 @@ int main(int argc, char **argv) {
     }
     free(whole);
     printf("%lu damaged copies: %lu results, %lu past the end, %lu refusals, %lu calls wrong; the sum is %08lx%08lx\n",
-           copies, statuses[0], statuses[1], statuses[2], broken, (unsigned long)(sum >> 32), (unsigned long)(sum & 0xffffffff));
-    return broken == 0 && statuses[0] > copies && statuses[1] > copies && statuses[2] > copies ? EXIT_SUCCESS : EXIT_FAILURE;
+           copies, statuses[0], statuses[1], statuses[2], broken, (unsigned long)(sum >> 32),
+           (unsigned long)(sum & 0xffffffff));
+    return broken == 0 && statuses[0] > copies && statuses[1] > copies && statuses[2] > copies
+        ? EXIT_SUCCESS : EXIT_FAILURE;
 }

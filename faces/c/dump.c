@@ -7,8 +7,8 @@
 #include <stdlib.h>
 #include <string.h>
 
-/* How many items are read of sections of another type and written of each list, how many headers are read of what is whole, and how many
-   bytes are printed of a section. */
+/* How many items are read of sections of another type and written of each list, how many headers are read of what is
+   whole, and how many bytes are printed of a section. */
 enum { FEW = 3, WHOLE = 20, FIRST = 16 };
 
 static uint8_t bytes[0x1000000], saved[sizeof bytes];
@@ -68,7 +68,8 @@ static bool put_status(const char *what, uint32_t status) {
     do { \
         uint64_t at; \
         goblin_section_t found; \
-        if (put_status(#call, call(bytes, len, __VA_ARGS__, &at, &found, &why))) printf(" %" PRIx64, at), PUT(section, found); \
+        if (put_status(#call, call(bytes, len, __VA_ARGS__, &at, &found, &why))) \
+            printf(" %" PRIx64, at), PUT(section, found); \
     } while (0)
 
 /* Makes a call that writes, prints a sum of the file's bytes, and brings them back. */
@@ -95,8 +96,8 @@ static bool put_strings(const char *what, uint32_t status, const goblin_section_
     return true;
 }
 
-/* Prints the part that is inside the file of the bytes of a section or a segment, for which the call for all of them returned a status
-   and perhaps their range. */
+/* Prints the part that is inside the file of the bytes of a section or a segment, for which the call for all of them
+   returned a status and perhaps their range. */
 static void part(uint32_t status, goblin_range_t found, goblin_range_t range) {
     goblin_range_t cut = found;
     if (status > GOBLIN_END) goblin_range_in_file(bytes, len, &range, &cut);
@@ -248,7 +249,8 @@ static void sections(void) {
     }
 }
 
-/* Prints the header that counts what is whole, the headers that it counts, and then the result for the first one that it does not. */
+/* Prints the header that counts what is whole, the headers that it counts, and then the result for the first one that
+   it does not. */
 static void whole(void) {
     uint64_t count;
     goblin_header_t w;

@@ -1,6 +1,6 @@
 /* Shows or changes whether the stack of a program may be executed: execstack [-c | -s] FILE
-   This is the flag GOBLIN_PF_X of the program header of type GOBLIN_PT_GNU_STACK. -c clears it in the file, and -s sets it. Prints X if it
-   is set, - if it is not, and ? if there is no such program header. Then -c and -s fail. */
+   This is the flag GOBLIN_PF_X of the program header of type GOBLIN_PT_GNU_STACK. -c clears it in the file, and -s sets
+   it. Prints X if it is set, - if it is not, and ? if there is no such program header. Then -c and -s fail. */
 #include "goblin.h"
 #include <stdio.h>
 #include <stdlib.h>
@@ -55,7 +55,8 @@ int main(int argc, char **argv) {
     uint32_t status = find_stack(&index);
     if (status > GOBLIN_END) return refused(path);
     if (status == GOBLIN_END && !(clears || sets)) return printf("? %s\n", path) < 0;
-    if (status == GOBLIN_END) return fprintf(stderr, "execstack: %s: there is no program header of type PT_GNU_STACK\n", path), 1;
+    if (status == GOBLIN_END)
+        return fprintf(stderr, "execstack: %s: there is no program header of type PT_GNU_STACK\n", path), 1;
     uint32_t flags = clears ? stack.p_flags & ~GOBLIN_PF_X : sets ? stack.p_flags | GOBLIN_PF_X : stack.p_flags;
     if (flags != stack.p_flags) {
         stack.p_flags = flags;

@@ -1,6 +1,6 @@
 /* Changes a flag of a section in a buffer: flag FILE SECTION
-   It reads the file, turns over GOBLIN_SHF_WRITE of the first section with that name, and prints the flags before and after. The file
-   stays as it is. */
+   It reads the file, turns over GOBLIN_SHF_WRITE of the first section with that name, and prints the flags before and
+   after. The file stays as it is. */
 #include "goblin.h"
 #include <inttypes.h>
 #include <stdio.h>
@@ -25,7 +25,8 @@ static int change(const char *name) {
     uint32_t status = goblin_header(bytes, len, &header, &why);
     if (status == GOBLIN_OK) status = goblin_section_names(bytes, len, &header, &names, &why);
     if (status == GOBLIN_OK)
-        status = goblin_section_by_name(bytes, len, &header, &names.file, name, strlen(name), 0, &index, &section, &why);
+        status = goblin_section_by_name(bytes, len, &header, &names.file, name, strlen(name), 0,
+                                        &index, &section, &why);
     if (status == GOBLIN_END) return fprintf(stderr, "flag: there is no section %s\n", name), 1;
     if (status != GOBLIN_OK) return refused(&why);
     uint64_t before = section.sh_flags;

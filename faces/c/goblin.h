@@ -3,58 +3,62 @@
    The calls allocate nothing, keep nothing from call to call, and return on every input.
 
    Linking
-     Link with libgoblin_c.a, which needs only memcpy of the C library, or with the shared library. The linker's option --gc-sections
-     (`-Wl,--gc-sections`) leaves out the calls that a program does not use: of the examples, about two thirds of the library. It
-     also leaves out sections of your own that nothing refers to.
+     Link with libgoblin_c.a, which needs only memcpy of the C library, or with the shared library. The linker's option
+     --gc-sections (`-Wl,--gc-sections`) leaves out the calls that a program does not use: of the examples, about two
+     thirds of the library. It also leaves out sections of your own that nothing refers to.
      A backtrace ends at a call, because the library has no unwind tables.
      Inside a shared library of your own, `-Wl,--exclude-libs,libgoblin_c.a` hides the calls.
 
    Results
      Each call that can fail returns a uint32_t:
        GOBLIN_OK (0)   The call has written its result.
-       GOBLIN_END (1)  There is no such item: the index or the offset is past the end, or no item has that name, type or address.
-       2 or more       The file is refused. The number is one of the GOBLIN_ numbers below. The call has written the same number to
-                       `*why`, with the numbers that belong to it and the offset of what is refused.
-     The result is the argument before `why`, of a search for sections the two before it, and the array of a call that fills one. A call
-     that begins with goblin_put_ has none: it writes into `bytes`. A call writes its result, or the bytes, only at GOBLIN_OK
-     (goblin_strings is the exception), `*why` only at a refusal, and nothing else. So a result that is zero before the call is still zero at GOBLIN_END, and one goblin_refusal_t
-     serves all calls of a program.
-     Refusals come before GOBLIN_END, if a call does not say otherwise: a table that is refused is refused past its end, too.
+       GOBLIN_END (1)  There is no such item: the index or the offset is past the end, or no item has that name, type
+                       or address.
+       2 or more       The file is refused. The number is one of the GOBLIN_ numbers below. The call has written the
+                       same number to `*why`, with the numbers that belong to it and the offset of what is refused.
+     The result is the argument before `why`, of a search for sections the two before it, and the array of a call that
+     fills one. A call that begins with goblin_put_ has none: it writes into `bytes`. A call writes its result, or the
+     bytes, only at GOBLIN_OK (goblin_strings is the exception), `*why` only at a refusal, and nothing else. So a result
+     that is zero before the call is still zero at GOBLIN_END, and one goblin_refusal_t serves all calls of a program.
+     Refusals come before GOBLIN_END, if a call does not say otherwise: a table that is refused is refused past
+     its end, too.
 
    Pointers
-     `bytes` points to the `len` bytes of the whole file. `bytes`, an array, a name or a text may be null if its length or capacity
-     is 0. Nothing else may be null. A caller that does not read `why` passes `&unread`, with `goblin_refusal_t unread;` before it. What a
-     call writes must not overlap anything else that it is given. Names and texts are `const void *`, so a string literal and bytes are
-     both passed without a cast.
+     `bytes` points to the `len` bytes of the whole file. `bytes`, an array, a name or a text may be null if its length
+     or capacity is 0. Nothing else may be null. A caller that does not read `why` passes `&unread`, with
+     `goblin_refusal_t unread;` before it. What a call writes must not overlap anything else that it is given. Names and
+     texts are `const void *`, so a string literal and bytes are both passed without a cast.
 
    Files that change
-     Nothing else may write the bytes during a call. They may change between two calls, since each call checks all that it reads. But
-     what an earlier call returned may then be out of date. If a mapped file is made shorter, the operating system ends a program
-     that reads past its new end (SIGBUS). Read a file into a buffer if others may shorten it.
+     Nothing else may write the bytes during a call. They may change between two calls, since each call checks all that
+     it reads. But what an earlier call returned may then be out of date. If a mapped file is made shorter, the
+     operating system ends a program that reads past its new end (SIGBUS). Read a file into a buffer if others may
+     shorten it.
 
    Files that are cut
-     If one section header is not inside the file, each call that reads section headers is refused, searches too; program headers are
-     refused in the same way. goblin_whole_header makes a header that counts only the headers inside the file: with it no list of headers
-     is refused. A table whose range ends past the file is refused, too: cut the range with goblin_range_in_file first.
+     If one section header is not inside the file, each call that reads section headers is refused, searches too;
+     program headers are refused in the same way. goblin_whole_header makes a header that counts only the headers inside
+     the file: with it no list of headers is refused. A table whose range ends past the file is refused, too: cut the
+     range with goblin_range_in_file first.
 
    Units
-     Offsets and sizes are in bytes. Offsets start at the file's first byte if nothing else is said. Numbers are in the machine's
-     own byte order, whatever the file's.
+     Offsets and sizes are in bytes. Offsets start at the file's first byte if nothing else is said. Numbers are in the
+     machine's own byte order, whatever the file's.
 
    Header
-     Read the header first, and pass it to the other calls. They use its class, byte order, machine, and the offsets and counts of
-     its tables. A caller may also fill a header itself.
+     Read the header first, and pass it to the other calls. They use its class, byte order, machine, and the offsets and
+     counts of its tables. A caller may also fill a header itself.
 
    One item or many
-     To read a whole table, use the plural calls, such as goblin_symbols: they check the table once for each array that they fill.
-     With 64 items at once an item takes about half the time of a goblin_symbol.
+     To read a whole table, use the plural calls, such as goblin_symbols: they check the table once for each array that
+     they fill. With 64 items at once an item takes about half the time of a goblin_symbol.
 
    Examples
      Each call has an example. All are compiled with these variables:
-       const uint8_t *bytes; uint8_t *own; size_t len; goblin_header_t header, whole; goblin_refusal_t why; goblin_range_t range, string;
-       goblin_section_t section, table, names, sections[64]; goblin_segment_t segment; goblin_symbol_t symbol, symbols[64];
-       goblin_reloc_t reloc, relocs[64]; goblin_note_t note; goblin_range_t ranges[64]; uint64_t offsets[64];
-       uint64_t count, index, filled, value; char text[160]; */
+       const uint8_t *bytes; uint8_t *own; size_t len; goblin_header_t header, whole; goblin_refusal_t why;
+       goblin_range_t range, string; goblin_section_t section, table, names, sections[64]; goblin_segment_t segment;
+       goblin_symbol_t symbol, symbols[64]; goblin_reloc_t reloc, relocs[64]; goblin_note_t note;
+       goblin_range_t ranges[64]; uint64_t offsets[64]; uint64_t count, index, filled, value; char text[160]; */
 #ifndef GOBLIN_H
 #define GOBLIN_H
 
@@ -66,13 +70,14 @@
 extern "C" {
 #endif
 
-/* The number of the interface. It goes up if a call or a struct changes. goblin_version() returns the library's, which must be the
-   same. */
+/* The number of the interface. It goes up if a call or a struct changes. goblin_version() returns the library's, which
+   must be the same. */
 #define GOBLIN_VERSION 6
 /* The version of the package that this file is part of. */
 #define GOBLIN_VERSION_STRING "0.7.0"
 
-/* What calls return. The comment of each refusal lists the numbers that goblin_refusal_t has for it, from `first` on. */
+/* What calls return. The comment of each refusal lists the numbers that goblin_refusal_t has for it, from
+   `first` on. */
 enum {
     GOBLIN_OK = 0,
     GOBLIN_END = 1,
@@ -83,10 +88,11 @@ enum {
     GOBLIN_TOO_BIG = 3,
     /* An item starts at the end of the file or past it: its offset. */
     GOBLIN_BAD_OFFSET = 4,
-    /* A name is not UTF-8: how many bytes there are from its offset to the end of what is read. `item` is GOBLIN_INVALID_UTF8. */
+    /* A name is not UTF-8: how many bytes there are from its offset to the end of what is read. `item`
+       is GOBLIN_INVALID_UTF8. */
     GOBLIN_BAD_INPUT = 5,
-    /* There are more items than the file could hold, wherever they are: their number. `item` is GOBLIN_SECTION_HEADERS or
-       GOBLIN_PROGRAM_HEADERS. */
+    /* There are more items than the file could hold, wherever they are: their number. `item` is GOBLIN_SECTION_HEADERS
+       or GOBLIN_PROGRAM_HEADERS. */
     GOBLIN_BUFFER_TOO_SHORT = 6,
     /* No call returns this, since none allocates. */
     GOBLIN_OUT_OF_MEMORY = 7,
@@ -114,15 +120,17 @@ enum {
     GOBLIN_SYMTAB_PAST = 19,
     /* A string table starts past the end of the file: its offset; the file's length. */
     GOBLIN_STRTAB_OFFSET = 20,
-    /* A string table ends past the end of the file: its size; its offset; the file's length; 1 if its end does not fit in 64 bits,
-       else 0. */
+    /* A string table ends past the end of the file: its size; its offset; the file's length; 1 if its end does not fit
+       in 64 bits, else 0. */
     GOBLIN_STRTAB_RANGE = 21,
-    /* A section ends past the end of the file: the offset of its name in the section names; its size; its offset; 1 if its end does
-       not fit in 64 bits, else 0. */
+    /* A section ends past the end of the file: the offset of its name in the section names; its size; its offset; 1 if
+       its end does not fit in 64 bits, else 0. */
     GOBLIN_SECTION_OFFSET = 22,
-    /* The addresses of a section do not fit in 64 bits: the offset of its name in the section names; its size; its address; 1. */
+    /* The addresses of a section do not fit in 64 bits: the offset of its name in the section names; its size; its
+       address; 1. */
     GOBLIN_SECTION_ADDR = 23,
-    /* A number that is to be written does not fit its bytes, or a relocation has an addend where its table has none, or the reverse. */
+    /* A number that is to be written does not fit its bytes, or a relocation has an addend where its table has none, or
+       the reverse. */
     GOBLIN_INTEGER_FIT = 24
 };
 
@@ -141,17 +149,18 @@ enum {
 typedef struct {
     uint32_t kind; /* what the call returned */
     uint32_t item; /* GOBLIN_INVALID_UTF8 or the like, else 0 */
-    uint64_t first; /* the numbers that belong to the kind, in the order of its comment; those that it does not have are 0 */
+    uint64_t first; /* the numbers that belong to the kind, in the order of its comment; those that it does not have
+                       are 0 */
     uint64_t second;
     uint64_t third;
     uint64_t fourth;
-    uint64_t offset; /* where in the file the thing begins that is refused: 0 for the header; the range's offset for symbols, relocations
-                        or strings; the offset of the string, note or bytes; for a list of headers its start, e_shoff or e_phoff, though
-                        the numbers may be about one header in it */
+    uint64_t offset; /* where in the file the thing begins that is refused: 0 for the header; the range's offset for
+                        symbols, relocations or strings; the offset of the string, note or bytes; for a list of headers
+                        its start, e_shoff or e_phoff, though the numbers may be about one header in it */
 } goblin_refusal_t;
 
-/* Some bytes of the file. A range that a call returns lies inside the file, if its struct does not say otherwise. Its size may be above
-   INT_MAX, so print it with `fwrite`: `%.*s` takes an int. */
+/* Some bytes of the file. A range that a call returns lies inside the file, if its struct does not say otherwise. Its
+   size may be above INT_MAX, so print it with `fwrite`: `%.*s` takes an int. */
 typedef struct {
     uint64_t offset; /* where the bytes start */
     uint64_t size;   /* how many bytes there are */
@@ -159,7 +168,8 @@ typedef struct {
 
 /* The file's header. */
 typedef struct {
-    uint64_t e_entry;     /* the address at which the program starts; 0 if it has none, though most libraries load a byte at 0 */
+    uint64_t e_entry;     /* the address at which the program starts; 0 if it has none, though most libraries load
+                             a byte at 0 */
     uint64_t e_phoff;     /* the offset of the program headers, or 0 */
     uint64_t e_shoff;     /* the offset of the section headers, or 0 if there are none */
     uint32_t e_version;   /* the version of the format */
@@ -167,9 +177,11 @@ typedef struct {
     uint16_t e_type;      /* what kind of file it is, a GOBLIN_ET_ number */
     uint16_t e_machine;   /* the machine, a GOBLIN_EM_ number */
     uint16_t e_ehsize;    /* the size of this header that the file states */
-    uint16_t e_phentsize; /* the size of a program header that the file states; the size that is read depends on the class alone */
+    uint16_t e_phentsize; /* the size of a program header that the file states; the size that is read depends on
+                             the class alone */
     uint16_t e_phnum;     /* the number of program headers; if it is 0xffff (PN_XNUM), see goblin_segment_count */
-    uint16_t e_shentsize; /* the size of a section header that the file states; the size that is read depends on the class alone */
+    uint16_t e_shentsize; /* the size of a section header that the file states; the size that is read depends on
+                             the class alone */
     uint16_t e_shnum;     /* the number of section headers; if it is 0, the first section's sh_size has the number */
     uint16_t e_shstrndx;  /* the index of the section that holds the section names: see goblin_section_names */
     uint8_t ei_class;     /* GOBLIN_ELFCLASS64 (2) for 64 bits; any other number counts as GOBLIN_ELFCLASS32 (1) */
@@ -181,8 +193,8 @@ typedef struct {
 
 /* A section header. */
 typedef struct {
-    goblin_range_t file;   /* sh_offset and sh_size as they stand, inside the file or not; a section of type GOBLIN_SHT_NOBITS has
-                              no bytes in the file, whatever its size */
+    goblin_range_t file;   /* sh_offset and sh_size as they stand, inside the file or not; a section of type
+                              GOBLIN_SHT_NOBITS has no bytes in the file, whatever its size */
     uint64_t sh_name;      /* the offset of its name in the section names */
     uint64_t sh_flags;     /* GOBLIN_SHF_ flags */
     uint64_t sh_addr;      /* its address in memory, or 0 */
@@ -225,7 +237,8 @@ typedef struct {
 
 /* A note. */
 typedef struct {
-    goblin_range_t name; /* its name, which is UTF-8, without its last byte, zero in most files; of goblin_note_bytes the whole name */
+    goblin_range_t name; /* its name, which is UTF-8, without its last byte, zero in most files; of goblin_note_bytes
+                            the whole name */
     goblin_range_t desc; /* its descriptor */
     uint64_t next;       /* the offset to read the next note at, which may lie past the end of the file */
     uint32_t n_type;     /* its type, whose meaning depends on the name */
@@ -257,38 +270,38 @@ typedef struct {
    Example: if (goblin_version() != GOBLIN_VERSION) return 1; */
 uint32_t goblin_version(void);
 
-/* Fills a goblin_layout_t with the sizes of the structs and with marks: in each struct all bytes of the first field are 1, those of
-   the second field 2, and so on, in the order of this file. A range counts as two fields. A field whose offset or size differs in C
-   and in the library reads as another number.
+/* Fills a goblin_layout_t with the sizes of the structs and with marks: in each struct all bytes of the first field are
+   1, those of the second field 2, and so on, in the order of this file. A range counts as two fields. A field whose
+   offset or size differs in C and in the library reads as another number.
    Example: goblin_layout_t layout; goblin_layout(&layout); */
 void goblin_layout(goblin_layout_t *layout);
 
 /* ---- the header ---- */
 
 /* Reads the header, which is at the start of the file.
-   Returns GOBLIN_TOO_SMALL, GOBLIN_BAD_MAGIC, GOBLIN_ELF_CLASS, GOBLIN_DATA_TYPE or GOBLIN_TOO_BIG, the first of these that
-   applies, in this order. Never returns GOBLIN_END.
+   Returns GOBLIN_TOO_SMALL, GOBLIN_BAD_MAGIC, GOBLIN_ELF_CLASS, GOBLIN_DATA_TYPE or GOBLIN_TOO_BIG, the first of these
+   that applies, in this order. Never returns GOBLIN_END.
    Example: if (goblin_header(bytes, len, &header, &why) != GOBLIN_OK) return 1; */
 uint32_t goblin_header(const uint8_t *bytes, size_t len, goblin_header_t *header, goblin_refusal_t *why);
 
-/* Copies a header, and makes the copy count only the headers that are whole inside the file. With the copy the other calls work on a file
-   that is cut or damaged, searches too.
-   If all section headers are inside the file, e_shoff and e_shnum stay. Else e_shnum is how many of them are, at most 0xffff; if none is,
-   e_shoff and e_shnum are 0. If all program headers are inside the file, e_phnum stays. Else it is how many of them are, at most 0xfffe.
-   If their number can't be read (see goblin_segment_count), it is how many of 0xfffe are. All other fields stay.
-   With the copy no list of headers is refused. Where one is not refused with `header`, the calls return and write the same with the copy.
-   In most files the header of the section names is one of the last, so goblin_section_names returns GOBLIN_END if the end is cut.
-   Cannot fail.
+/* Copies a header, and makes the copy count only the headers that are whole inside the file. With the copy the other
+   calls work on a file that is cut or damaged, searches too.
+   If all section headers are inside the file, e_shoff and e_shnum stay. Else e_shnum is how many of them are, at most
+   0xffff; if none is, e_shoff and e_shnum are 0. If all program headers are inside the file, e_phnum stays. Else it is
+   how many of them are, at most 0xfffe. If their number can't be read (see goblin_segment_count), it is how many of
+   0xfffe are. All other fields stay. With the copy no list of headers is refused. Where one is not refused with
+   `header`, the calls return and write the same with the copy. In most files the header of the section names is one of
+   the last, so goblin_section_names returns GOBLIN_END if the end is cut. Cannot fail.
    Example: goblin_whole_header(bytes, len, &header, &whole); */
 void goblin_whole_header(const uint8_t *bytes, size_t len, const goblin_header_t *header, goblin_header_t *whole);
 
 /* ---- sections and segments ---- */
 
-/* Counts the section headers. Their number is 0 if e_shoff is 0. Else it is e_shnum, or if that is 0, sh_size of the first section, but
-   at least 1.
+/* Counts the section headers. Their number is 0 if e_shoff is 0. Else it is e_shnum, or if that is 0, sh_size of the
+   first section, but at least 1.
    The table is checked in this order. GOBLIN_BAD_OFFSET or GOBLIN_TOO_BIG: the first header is not inside the file.
-   GOBLIN_BUFFER_TOO_SHORT: there are more headers than the file could hold. GOBLIN_BAD_OFFSET or GOBLIN_TOO_BIG: a later header is
-   not inside the file. Never returns GOBLIN_END.
+   GOBLIN_BUFFER_TOO_SHORT: there are more headers than the file could hold. GOBLIN_BAD_OFFSET or GOBLIN_TOO_BIG: a
+   later header is not inside the file. Never returns GOBLIN_END.
    Example: if (goblin_section_count(bytes, len, &header, &count, &why) != GOBLIN_OK) return 1; */
 uint32_t goblin_section_count(const uint8_t *bytes, size_t len, const goblin_header_t *header, uint64_t *count,
                               goblin_refusal_t *why);
@@ -296,64 +309,68 @@ uint32_t goblin_section_count(const uint8_t *bytes, size_t len, const goblin_hea
 /* Reads the section header at an index. GOBLIN_END if the index is not below the number of sections.
    Refused as goblin_section_count is.
    Example: while (goblin_section(bytes, len, &header, index, &section, &why) == GOBLIN_OK) index++; */
-uint32_t goblin_section(const uint8_t *bytes, size_t len, const goblin_header_t *header, uint64_t index, goblin_section_t *section,
-                        goblin_refusal_t *why);
+uint32_t goblin_section(const uint8_t *bytes, size_t len, const goblin_header_t *header, uint64_t index,
+                        goblin_section_t *section, goblin_refusal_t *why);
 
-/* Reads the section headers from the index `first` on into an array of `capacity` items, until the table or the array ends.
-   `*filled` is the number of items that are written; those after them are unchanged. GOBLIN_END if `first` is not below the number
-   of sections. Refused as goblin_section_count is.
-   Example: while (goblin_sections(bytes, len, &header, index, sections, 64, &filled, &why) == GOBLIN_OK) index += filled; */
+/* Reads the section headers from the index `first` on into an array of `capacity` items, until the table or the array
+   ends. `*filled` is the number of items that are written; those after them are unchanged. GOBLIN_END if `first` is not
+   below the number of sections. Refused as goblin_section_count is.
+   Example: while (goblin_sections(bytes, len, &header, index, sections, 64, &filled, &why) == GOBLIN_OK)
+                index += filled; */
 uint32_t goblin_sections(const uint8_t *bytes, size_t len, const goblin_header_t *header, uint64_t first,
                          goblin_section_t *sections, size_t capacity, uint64_t *filled, goblin_refusal_t *why);
 
 /* Reads the section that a section header links to by its sh_link, such as the string table of a symbol table.
-   GOBLIN_END if the index is 0, which means no section, if it is not below the number of sections, or if the section is of type
-   GOBLIN_SHT_NOBITS, which has no bytes in the file. `*section` is unchanged then. Refused as goblin_section_count is.
+   GOBLIN_END if the index is 0, which means no section, if it is not below the number of sections, or if the section is
+   of type GOBLIN_SHT_NOBITS, which has no bytes in the file. `*section` is unchanged then. Refused as
+   goblin_section_count is.
    Example: if (goblin_linked_section(bytes, len, &header, table.sh_link, &names, &why) > GOBLIN_END) return 1; */
 uint32_t goblin_linked_section(const uint8_t *bytes, size_t len, const goblin_header_t *header, uint64_t index,
                                goblin_section_t *section, goblin_refusal_t *why);
 
-/* Reads the section that holds the section names. Its index is e_shstrndx, or sh_link of section 0 if e_shstrndx is 0xffff
-   (GOBLIN_SHN_XINDEX). GOBLIN_END if goblin_linked_section returns that for this index, or if there is no section 0. Refused as
-   goblin_section_count is.
+/* Reads the section that holds the section names. Its index is e_shstrndx, or sh_link of section 0 if e_shstrndx is
+   0xffff (GOBLIN_SHN_XINDEX). GOBLIN_END if goblin_linked_section returns that for this index, or if there is no
+   section 0. Refused as goblin_section_count is.
    Example: if (goblin_section_names(bytes, len, &header, &names, &why) > GOBLIN_END) return 1; */
-uint32_t goblin_section_names(const uint8_t *bytes, size_t len, const goblin_header_t *header, goblin_section_t *section,
-                              goblin_refusal_t *why);
+uint32_t goblin_section_names(const uint8_t *bytes, size_t len, const goblin_header_t *header,
+                              goblin_section_t *section, goblin_refusal_t *why);
 
-/* Finds the first section with a name, from the index `first` on. Writes its index and its header. `names` is the range of the section
-   names in the file. A section has no name if its name is not UTF-8 or lies past the names. The empty name is a name, which section 0
-   has in most files. No section has a name with a zero byte in it, so leave out the zero byte at the end of `name`. GOBLIN_END if no
-   section has the name.
-   Refused as goblin_section_count is, and then as goblin_string is for the range `names`, but never by GOBLIN_BAD_INPUT.
+/* Finds the first section with a name, from the index `first` on. Writes its index and its header. `names` is the range
+   of the section names in the file. A section has no name if its name is not UTF-8 or lies past the names. The empty
+   name is a name, which section 0 has in most files. No section has a name with a zero byte in it, so leave out the
+   zero byte at the end of `name`. GOBLIN_END if no section has the name.
+   Refused as goblin_section_count is, and then as goblin_string is for the range `names`, but never
+   by GOBLIN_BAD_INPUT.
    Example: goblin_section_by_name(bytes, len, &header, &names.file, ".text", 5, 0, &index, &section, &why); */
-uint32_t goblin_section_by_name(const uint8_t *bytes, size_t len, const goblin_header_t *header, const goblin_range_t *names,
-                                const void *name, size_t name_len, uint64_t first, uint64_t *index, goblin_section_t *section,
-                                goblin_refusal_t *why);
-
-/* Finds the first section of a type, a GOBLIN_SHT_ number, from the index `first` on. Writes its index and its header. GOBLIN_END if there
-   is none. Refused as goblin_section_count is.
-   Example: goblin_section_by_type(bytes, len, &header, GOBLIN_SHT_SYMTAB, 0, &index, &section, &why); */
-uint32_t goblin_section_by_type(const uint8_t *bytes, size_t len, const goblin_header_t *header, uint32_t sh_type, uint64_t first,
+uint32_t goblin_section_by_name(const uint8_t *bytes, size_t len, const goblin_header_t *header,
+                                const goblin_range_t *names, const void *name, size_t name_len, uint64_t first,
                                 uint64_t *index, goblin_section_t *section, goblin_refusal_t *why);
 
-/* Finds the range of a section's bytes, which is its `file`, if it is inside the file. GOBLIN_END if the section has no bytes in
-   the file: its type is GOBLIN_SHT_NULL or GOBLIN_SHT_NOBITS, or its size is 0. This is tested before any refusal.
-   GOBLIN_BAD_OFFSET or GOBLIN_TOO_BIG: the bytes are not inside the file.
+/* Finds the first section of a type, a GOBLIN_SHT_ number, from the index `first` on. Writes its index and its header.
+   GOBLIN_END if there is none. Refused as goblin_section_count is.
+   Example: goblin_section_by_type(bytes, len, &header, GOBLIN_SHT_SYMTAB, 0, &index, &section, &why); */
+uint32_t goblin_section_by_type(const uint8_t *bytes, size_t len, const goblin_header_t *header, uint32_t sh_type,
+                                uint64_t first, uint64_t *index, goblin_section_t *section, goblin_refusal_t *why);
+
+/* Finds the range of a section's bytes, which is its `file`, if it is inside the file. GOBLIN_END if the section has no
+   bytes in the file: its type is GOBLIN_SHT_NULL or GOBLIN_SHT_NOBITS, or its size is 0. This is tested before any
+   refusal. GOBLIN_BAD_OFFSET or GOBLIN_TOO_BIG: the bytes are not inside the file.
    Example: goblin_section_bytes(bytes, len, &section, &range, &why); */
 uint32_t goblin_section_bytes(const uint8_t *bytes, size_t len, const goblin_section_t *section, goblin_range_t *range,
                               goblin_refusal_t *why);
 
-/* Counts the program headers. Their number is e_phnum, unless that is 0xffff (PN_XNUM). Then it is sh_info of the first section, or 0xffff
-   if e_shoff is 0.
-   The table is checked in this order. GOBLIN_BAD_OFFSET or GOBLIN_TOO_BIG, with e_shoff as `why->offset`: the number is in the header of
-   the first section, which is not inside the file. GOBLIN_BUFFER_TOO_SHORT: there are more headers than the file could hold.
-   GOBLIN_BAD_OFFSET or GOBLIN_TOO_BIG: one of them is not inside the file. Never returns GOBLIN_END.
+/* Counts the program headers. Their number is e_phnum, unless that is 0xffff (PN_XNUM). Then it is sh_info of the first
+   section, or 0xffff if e_shoff is 0.
+   The table is checked in this order. GOBLIN_BAD_OFFSET or GOBLIN_TOO_BIG, with e_shoff as `why->offset`: the number
+   is in the header of the first section, which is not inside the file. GOBLIN_BUFFER_TOO_SHORT: there are more
+   headers than the file could hold. GOBLIN_BAD_OFFSET or GOBLIN_TOO_BIG: one of them is not inside the file. Never
+   returns GOBLIN_END.
    Example: if (goblin_segment_count(bytes, len, &header, &count, &why) != GOBLIN_OK) return 1; */
 uint32_t goblin_segment_count(const uint8_t *bytes, size_t len, const goblin_header_t *header, uint64_t *count,
                               goblin_refusal_t *why);
 
-/* Finds the range of a segment's bytes in the file. GOBLIN_END if it has none: its type is GOBLIN_PT_NULL, or its size in the
-   file is 0. This is tested before any refusal. Refused as goblin_section_bytes is.
+/* Finds the range of a segment's bytes in the file. GOBLIN_END if it has none: its type is GOBLIN_PT_NULL, or its size
+   in the file is 0. This is tested before any refusal. Refused as goblin_section_bytes is.
    Example: goblin_segment_bytes(bytes, len, &segment, &range, &why); */
 uint32_t goblin_segment_bytes(const uint8_t *bytes, size_t len, const goblin_segment_t *segment, goblin_range_t *range,
                               goblin_refusal_t *why);
@@ -361,57 +378,63 @@ uint32_t goblin_segment_bytes(const uint8_t *bytes, size_t len, const goblin_seg
 /* Reads the program header at an index. GOBLIN_END if the index is not below the number of program headers.
    Refused as goblin_segment_count is.
    Example: while (goblin_segment(bytes, len, &header, index, &segment, &why) == GOBLIN_OK) index++; */
-uint32_t goblin_segment(const uint8_t *bytes, size_t len, const goblin_header_t *header, uint64_t index, goblin_segment_t *segment,
-                        goblin_refusal_t *why);
+uint32_t goblin_segment(const uint8_t *bytes, size_t len, const goblin_header_t *header, uint64_t index,
+                        goblin_segment_t *segment, goblin_refusal_t *why);
 
-/* Finds the offset in the file of the byte that is loaded at an address: that of the first segment of type GOBLIN_PT_LOAD for which
-   p_vaddr <= address < p_vaddr + file.size. These sums do not wrap around. GOBLIN_END if there is no such segment: nothing is loaded
-   there, or only zeros that are not in the file.
-   Refused as goblin_segment_count is. GOBLIN_BAD_OFFSET: the file has no byte at the offset. One that does not fit in 64 bits is reported
-   as UINT64_MAX.
-   Example: if (header.e_entry && goblin_address_to_offset(bytes, len, &header, header.e_entry, &value, &why) != GOBLIN_OK) return 1; */
+/* Finds the offset in the file of the byte that is loaded at an address: that of the first segment of type
+   GOBLIN_PT_LOAD for which p_vaddr <= address < p_vaddr + file.size. These sums do not wrap around. GOBLIN_END if there
+   is no such segment: nothing is loaded there, or only zeros that are not in the file.
+   Refused as goblin_segment_count is. GOBLIN_BAD_OFFSET: the file has no byte at the offset. One that does not fit in
+   64 bits is reported as UINT64_MAX.
+   Example: if (header.e_entry
+                && goblin_address_to_offset(bytes, len, &header, header.e_entry, &value, &why) != GOBLIN_OK)
+                return 1; */
 uint32_t goblin_address_to_offset(const uint8_t *bytes, size_t len, const goblin_header_t *header, uint64_t address,
                                   uint64_t *offset, goblin_refusal_t *why);
 
 /* ---- symbols ---- */
 
-/* Reads the symbol at an index of a symbol table. `table` is the range of the table. A part of a symbol at its end is ignored. GOBLIN_END
-   after the last whole symbol.
-   GOBLIN_SYMTAB_OFFSET: the range starts at the end of the file or past it, even if its size is 0. GOBLIN_SYMTAB_PAST: the symbols
-   end past the end of the file.
+/* Reads the symbol at an index of a symbol table. `table` is the range of the table. A part of a symbol at its end is
+   ignored. GOBLIN_END after the last whole symbol.
+   GOBLIN_SYMTAB_OFFSET: the range starts at the end of the file or past it, even if its size is 0. GOBLIN_SYMTAB_PAST:
+   the symbols end past the end of the file.
    Example: while (goblin_symbol(bytes, len, &header, &table.file, index, &symbol, &why) == GOBLIN_OK) index++; */
-uint32_t goblin_symbol(const uint8_t *bytes, size_t len, const goblin_header_t *header, const goblin_range_t *table, uint64_t index,
-                       goblin_symbol_t *symbol, goblin_refusal_t *why);
+uint32_t goblin_symbol(const uint8_t *bytes, size_t len, const goblin_header_t *header, const goblin_range_t *table,
+                       uint64_t index, goblin_symbol_t *symbol, goblin_refusal_t *why);
 
 /* Counts the symbols that lie in a range whole. Refused as goblin_symbol is. Never returns GOBLIN_END.
    Example: goblin_symbol_count(bytes, len, &header, &table.file, &count, &why); */
-uint32_t goblin_symbol_count(const uint8_t *bytes, size_t len, const goblin_header_t *header, const goblin_range_t *table,
-                             uint64_t *count, goblin_refusal_t *why);
+uint32_t goblin_symbol_count(const uint8_t *bytes, size_t len, const goblin_header_t *header,
+                             const goblin_range_t *table, uint64_t *count, goblin_refusal_t *why);
 
 /* Reads the symbols from the index `first` on, as goblin_sections reads sections. Refused as goblin_symbol is.
-   Example: while (!goblin_symbols(bytes, len, &header, &table.file, index, symbols, 64, &filled, &why)) index += filled; */
+   Example: while (!goblin_symbols(bytes, len, &header, &table.file, index, symbols, 64, &filled, &why))
+                index += filled; */
 uint32_t goblin_symbols(const uint8_t *bytes, size_t len, const goblin_header_t *header, const goblin_range_t *table,
-                        uint64_t first, goblin_symbol_t *symbols, size_t capacity, uint64_t *filled, goblin_refusal_t *why);
+                        uint64_t first, goblin_symbol_t *symbols, size_t capacity, uint64_t *filled,
+                        goblin_refusal_t *why);
 
-/* Finds the index of the first symbol with a name. `names` is the range of the table's strings. A symbol has no name if its name
-   is not UTF-8 or lies past the strings. The empty name and names with zero bytes are as for goblin_section_by_name; symbol 0 has
-   the empty name in most files. GOBLIN_END if no symbol has the name.
+/* Finds the index of the first symbol with a name. `names` is the range of the table's strings. A symbol has no name if
+   its name is not UTF-8 or lies past the strings. The empty name and names with zero bytes are as for
+   goblin_section_by_name; symbol 0 has the empty name in most files. GOBLIN_END if no symbol has the name.
    Refused as goblin_symbol is, and then as goblin_string is for the range `names`, but never by GOBLIN_BAD_INPUT.
    Example: goblin_symbol_by_name(bytes, len, &header, &table.file, &names.file, "main", 4, &index, &why); */
-uint32_t goblin_symbol_by_name(const uint8_t *bytes, size_t len, const goblin_header_t *header, const goblin_range_t *table,
-                               const goblin_range_t *names, const void *name, size_t name_len, uint64_t *index,
-                               goblin_refusal_t *why);
+uint32_t goblin_symbol_by_name(const uint8_t *bytes, size_t len, const goblin_header_t *header,
+                               const goblin_range_t *table, const goblin_range_t *names, const void *name,
+                               size_t name_len, uint64_t *index, goblin_refusal_t *why);
 
-/* Finds the index of the symbol that contains an address. Only symbols of a section (st_shndx from 1 to 0xfeff, or 0xffff) and of type
-   GOBLIN_STT_NOTYPE, _OBJECT, _FUNC or _GNU_IFUNC count. Of those with st_value <= address < st_value + st_size it is the one with the
-   highest st_value, the first of several. These sums do not wrap around.
-   If no symbol contains the address, a label of size 0 may be there, as assembly has. It is the first of size 0 among the symbols with the
-   highest st_value that is not above the address. GOBLIN_END if these all have a size, or if there are none.
-   Each call reads all symbols. For many addresses read them once and sort them, as symbolize.c does. Refused as goblin_symbol is.
-   In a file of type GOBLIN_ET_REL an st_value is an offset in a section, so symbols of different sections mix.
+/* Finds the index of the symbol that contains an address. Only symbols of a section (st_shndx from 1 to 0xfeff, or
+   0xffff) and of type GOBLIN_STT_NOTYPE, _OBJECT, _FUNC or _GNU_IFUNC count. Of those with st_value <= address <
+   st_value + st_size it is the one with the highest st_value, the first of several. These sums do not wrap around.
+   If no symbol contains the address, a label of size 0 may be there, as assembly has. It is the first of size 0 among
+   the symbols with the highest st_value that is not above the address. GOBLIN_END if these all have a size, or if there
+   are none. Each call reads all symbols. For many addresses read them once and sort them, as symbolize.c does. Refused
+   as goblin_symbol is. In a file of type GOBLIN_ET_REL an st_value is an offset in a section, so symbols of different
+   sections mix.
    Example: goblin_symbol_by_address(bytes, len, &header, &table.file, 0x401000, &index, &why); */
-uint32_t goblin_symbol_by_address(const uint8_t *bytes, size_t len, const goblin_header_t *header, const goblin_range_t *table,
-                                  uint64_t address, uint64_t *index, goblin_refusal_t *why);
+uint32_t goblin_symbol_by_address(const uint8_t *bytes, size_t len, const goblin_header_t *header,
+                                  const goblin_range_t *table, uint64_t address, uint64_t *index,
+                                  goblin_refusal_t *why);
 
 /* ---- relocations ---- */
 
@@ -421,23 +444,26 @@ uint32_t goblin_symbol_by_address(const uint8_t *bytes, size_t len, const goblin
 #pragma clang diagnostic ignored "-Wc99-extensions"
 #endif
 
-/* Reads the relocation at an index of a relocation section. `table` is the range of the section, and `is_rela` says whether its
-   relocations have addends (type GOBLIN_SHT_RELA) or not (GOBLIN_SHT_REL). The last one is the last that lies in the range whole.
-   GOBLIN_END after that one. In a little-endian MIPS64 file, r_sym and r_type are read in the format of those files.
-   GOBLIN_BAD_OFFSET or GOBLIN_TOO_BIG: the range has bytes, and not all of them are inside the file.
+/* Reads the relocation at an index of a relocation section. `table` is the range of the section, and `is_rela` says
+   whether its relocations have addends (type GOBLIN_SHT_RELA) or not (GOBLIN_SHT_REL). The last one is the last that
+   lies in the range whole. GOBLIN_END after that one. In a little-endian MIPS64 file, r_sym and r_type are read in
+   the format of those files. GOBLIN_BAD_OFFSET or GOBLIN_TOO_BIG: the range has bytes, and not all of them are
+   inside the file.
    Example: while (goblin_reloc(bytes, len, &header, &table.file, true, index, &reloc, &why) == GOBLIN_OK) index++; */
-uint32_t goblin_reloc(const uint8_t *bytes, size_t len, const goblin_header_t *header, const goblin_range_t *table, bool is_rela,
-                      uint64_t index, goblin_reloc_t *reloc, goblin_refusal_t *why);
+uint32_t goblin_reloc(const uint8_t *bytes, size_t len, const goblin_header_t *header, const goblin_range_t *table,
+                      bool is_rela, uint64_t index, goblin_reloc_t *reloc, goblin_refusal_t *why);
 
 /* Counts the relocations that lie in a range whole. Refused as goblin_reloc is. Never returns GOBLIN_END.
    Example: goblin_reloc_count(bytes, len, &header, &table.file, true, &count, &why); */
-uint32_t goblin_reloc_count(const uint8_t *bytes, size_t len, const goblin_header_t *header, const goblin_range_t *table,
-                            bool is_rela, uint64_t *count, goblin_refusal_t *why);
+uint32_t goblin_reloc_count(const uint8_t *bytes, size_t len, const goblin_header_t *header,
+                            const goblin_range_t *table, bool is_rela, uint64_t *count, goblin_refusal_t *why);
 
 /* Reads the relocations from the index `first` on, as goblin_sections reads sections. Refused as goblin_reloc is.
-   Example: while (!goblin_relocs(bytes, len, &header, &table.file, true, index, relocs, 64, &filled, &why)) index += filled; */
-uint32_t goblin_relocs(const uint8_t *bytes, size_t len, const goblin_header_t *header, const goblin_range_t *table, bool is_rela,
-                       uint64_t first, goblin_reloc_t *relocs, size_t capacity, uint64_t *filled, goblin_refusal_t *why);
+   Example: while (!goblin_relocs(bytes, len, &header, &table.file, true, index, relocs, 64, &filled, &why))
+                index += filled; */
+uint32_t goblin_relocs(const uint8_t *bytes, size_t len, const goblin_header_t *header, const goblin_range_t *table,
+                       bool is_rela, uint64_t first, goblin_reloc_t *relocs, size_t capacity, uint64_t *filled,
+                       goblin_refusal_t *why);
 
 #ifdef __clang__
 #pragma clang diagnostic pop
@@ -445,53 +471,59 @@ uint32_t goblin_relocs(const uint8_t *bytes, size_t len, const goblin_header_t *
 
 /* ---- notes ---- */
 
-/* Reads the note at an offset of the file. `notes` is the range of a segment or section of notes, and `alignment` its p_align or
-   sh_addralign; below 4 it counts as 4. The first note is at the range's offset, and each note's `next` is the offset to read the
-   next one at.
-   GOBLIN_END if the offset is the end of the range or past it. This is tested before any refusal. A note that starts before the end
-   of the range may end past it. An offset before the range is read as one inside it.
-   Then, in this order. GOBLIN_BAD_OFFSET: the offset is the end of the file or past it. GOBLIN_NOTE_ALIGN: the alignment is neither
-   4 nor 8. GOBLIN_BAD_OFFSET or GOBLIN_TOO_BIG: the note's header is not inside the file, or then its name. GOBLIN_BAD_INPUT: the
-   name is not UTF-8; goblin_note_bytes reads such a note. GOBLIN_BAD_OFFSET or GOBLIN_TOO_BIG: the descriptor is not inside the file.
-   But for the first, the numbers of these refusals count from the start of the note.
+/* Reads the note at an offset of the file. `notes` is the range of a segment or section of notes, and `alignment` its
+   p_align or sh_addralign; below 4 it counts as 4. The first note is at the range's offset, and each note's `next` is
+   the offset to read the next one at.
+   GOBLIN_END if the offset is the end of the range or past it. This is tested before any refusal. A note that starts
+   before the end of the range may end past it. An offset before the range is read as one inside it.
+   Then, in this order. GOBLIN_BAD_OFFSET: the offset is the end of the file or past it. GOBLIN_NOTE_ALIGN: the
+   alignment is neither 4 nor 8. GOBLIN_BAD_OFFSET or GOBLIN_TOO_BIG: the note's header is not inside the file, or then
+   its name. GOBLIN_BAD_INPUT: the name is not UTF-8; goblin_note_bytes reads such a note. GOBLIN_BAD_OFFSET or
+   GOBLIN_TOO_BIG: the descriptor is not inside the file. But for the first, the numbers of these refusals count from
+   the start of the note.
    Example: goblin_note(bytes, len, &header, &section.file, section.sh_addralign, section.file.offset, &note, &why); */
 uint32_t goblin_note(const uint8_t *bytes, size_t len, const goblin_header_t *header, const goblin_range_t *notes,
                      uint64_t alignment, uint64_t offset, goblin_note_t *note, goblin_refusal_t *why);
 
-/* Reads the note at an offset of the file as goblin_note does, with two differences. Its name need not be UTF-8, and `name` is all of
-   it, as many bytes as the note says: with the zero byte that closes it and any others at its end. And the note must lie in the range:
-   its header, its name and its descriptor must be inside both the range and the file.
-   GOBLIN_END as for goblin_note. Then, in this order. GOBLIN_NOTE_ALIGN: the alignment is neither 4 nor 8. GOBLIN_BAD_OFFSET or
-   GOBLIN_TOO_BIG: the header, the name or the descriptor is not inside. `item` is then GOBLIN_NOTE_HEADER, GOBLIN_NOTE_NAME or
-   GOBLIN_NOTE_DESC, and the numbers count from the start of the note up to the end of the range or of the file.
-   If goblin_note finds a note whose descriptor is inside the range, this call finds the same one, with its longer name.
-   Example: goblin_note_bytes(bytes, len, &header, &section.file, section.sh_addralign, section.file.offset, &note, &why); */
+/* Reads the note at an offset of the file as goblin_note does, with two differences. Its name need not be UTF-8, and
+   `name` is all of it, as many bytes as the note says: with the zero byte that closes it and any others at its end. And
+   the note must lie in the range: its header, its name and its descriptor must be inside both the range and the file.
+   GOBLIN_END as for goblin_note. Then, in this order. GOBLIN_NOTE_ALIGN: the alignment is neither 4 nor 8.
+   GOBLIN_BAD_OFFSET or GOBLIN_TOO_BIG: the header, the name or the descriptor is not inside. `item` is then
+   GOBLIN_NOTE_HEADER, GOBLIN_NOTE_NAME or GOBLIN_NOTE_DESC, and the numbers count from the start of the note up to the
+   end of the range or of the file. If goblin_note finds a note whose descriptor is inside the range, this call finds
+   the same one, with its longer name.
+   Example: goblin_note_bytes(bytes, len, &header, &section.file, section.sh_addralign, section.file.offset, &note,
+                              &why); */
 uint32_t goblin_note_bytes(const uint8_t *bytes, size_t len, const goblin_header_t *header, const goblin_range_t *notes,
                            uint64_t alignment, uint64_t offset, goblin_note_t *note, goblin_refusal_t *why);
 
 /* ---- strings ---- */
 
-/* Finds the range of the string at an offset of a string table, without the zero byte at its end. `strings` is the range of the
-   table, and the offset counts from its start. The string ends at the next zero byte or at the end of the table, and is UTF-8.
-   GOBLIN_END if the offset is not below the size of the table.
-   GOBLIN_STRTAB_OFFSET: the table starts past the end of the file. GOBLIN_STRTAB_RANGE: it ends past the end of the file.
-   GOBLIN_BAD_INPUT: the string is not UTF-8.
+/* Finds the range of the string at an offset of a string table, without the zero byte at its end. `strings` is the
+   range of the table, and the offset counts from its start. The string ends at the next zero byte or at the end of the
+   table, and is UTF-8. GOBLIN_END if the offset is not below the size of the table.
+   GOBLIN_STRTAB_OFFSET: the table starts past the end of the file. GOBLIN_STRTAB_RANGE: it ends past the end of the
+   file. GOBLIN_BAD_INPUT: the string is not UTF-8.
    Example: goblin_string(bytes, len, &names.file, symbol.st_name, &string, &why); */
-uint32_t goblin_string(const uint8_t *bytes, size_t len, const goblin_range_t *strings, uint64_t offset, goblin_range_t *string,
-                       goblin_refusal_t *why);
+uint32_t goblin_string(const uint8_t *bytes, size_t len, const goblin_range_t *strings, uint64_t offset,
+                       goblin_range_t *string, goblin_refusal_t *why);
 
-/* Finds the ranges of the strings at many offsets of a string table, in the order of `offsets`: at each as goblin_string does, up to the
-   first offset at which that does not return GOBLIN_OK. `*filled` is the number of items of `ranges` that are written; those after them
-   are unchanged. GOBLIN_OK if all offsets have a string, or as many as there are items of `ranges`. Else the call returns what
-   goblin_string returns at offsets[*filled], and writes the same refusal. This call writes `ranges` and `*filled` then, too.
+/* Finds the ranges of the strings at many offsets of a string table, in the order of `offsets`: at each as
+   goblin_string does, up to the first offset at which that does not return GOBLIN_OK. `*filled` is the number of items
+   of `ranges` that are written; those after them are unchanged. GOBLIN_OK if all offsets have a string, or as many as
+   there are items of `ranges`. Else the call returns what goblin_string returns at offsets[*filled], and writes the
+   same refusal. This call writes `ranges` and `*filled` then, too.
    Example: goblin_strings(bytes, len, &names.file, offsets, 64, ranges, 64, &filled, &why); */
-uint32_t goblin_strings(const uint8_t *bytes, size_t len, const goblin_range_t *strings, const uint64_t *offsets, size_t offsets_len,
-                        goblin_range_t *ranges, size_t capacity, uint64_t *filled, goblin_refusal_t *why);
+uint32_t goblin_strings(const uint8_t *bytes, size_t len, const goblin_range_t *strings, const uint64_t *offsets,
+                        size_t offsets_len, goblin_range_t *ranges, size_t capacity, uint64_t *filled,
+                        goblin_refusal_t *why);
 
-/* As goblin_string, for a string that need not be UTF-8: never returns GOBLIN_BAD_INPUT. If goblin_string finds a string, this
-   call finds the same range.
-   A zero byte closes the string if its end lies before the table's: string.offset + string.size < names.file.offset + names.file.size.
-   It is a text, here ".text", if it has its length and its bytes. It begins with the text if it has at least its length and the bytes:
+/* As goblin_string, for a string that need not be UTF-8: never returns GOBLIN_BAD_INPUT. If goblin_string finds a
+   string, this call finds the same range.
+   A zero byte closes the string if its end lies before the table's: string.offset + string.size < names.file.offset +
+   names.file.size. It is a text, here ".text", if it has its length and its bytes. It begins with the text if it has at
+   least its length and the bytes:
      uint32_t status = goblin_string_bytes(bytes, len, &names.file, section.sh_name, &string, &why);
      bool is = status == GOBLIN_OK && string.size == 5 && memcmp(bytes + string.offset, ".text", 5) == 0;
      bool starts = status == GOBLIN_OK && string.size >= 5 && memcmp(bytes + string.offset, ".text", 5) == 0;
@@ -501,71 +533,75 @@ uint32_t goblin_string_bytes(const uint8_t *bytes, size_t len, const goblin_rang
 
 /* ---- numbers ---- */
 
-/* Reads the number in `width` bytes at an offset of the file, in the byte order of the header. `width` is 1, 2, 4 or 8. GOBLIN_END
-   if it is none of these. This is tested before any refusal.
+/* Reads the number in `width` bytes at an offset of the file, in the byte order of the header. `width` is 1, 2, 4 or 8.
+   GOBLIN_END if it is none of these. This is tested before any refusal.
    GOBLIN_BAD_OFFSET or GOBLIN_TOO_BIG: the bytes are not inside the file.
    Example: goblin_number(bytes, len, &header, section.file.offset, 4, &value, &why); */
 uint32_t goblin_number(const uint8_t *bytes, size_t len, const goblin_header_t *header, uint64_t offset, uint64_t width,
                        uint64_t *value, goblin_refusal_t *why);
 
-/* Reads the number in `width` bytes at an offset in a range of the file, as goblin_number does. The offset counts from the range's
-   start. GOBLIN_END as for goblin_number, before any refusal.
-   GOBLIN_BAD_OFFSET or GOBLIN_TOO_BIG: the range is not inside the file, or then the number is not inside the range. The numbers of the
-   second refusal count from the range's start, with the range's end in place of the file's; `why->offset` is an offset of the file. One that
-   does not fit in 64 bits is reported as UINT64_MAX.
+/* Reads the number in `width` bytes at an offset in a range of the file, as goblin_number does. The offset counts from
+   the range's start. GOBLIN_END as for goblin_number, before any refusal.
+   GOBLIN_BAD_OFFSET or GOBLIN_TOO_BIG: the range is not inside the file, or then the number is not inside the range.
+   The numbers of the second refusal count from the range's start, with the range's end in place of the file's;
+   `why->offset` is an offset of the file. One that does not fit in 64 bits is reported as UINT64_MAX.
    Example: goblin_number_in(bytes, len, &header, &section.file, 8, 4, &value, &why); */
 uint32_t goblin_number_in(const uint8_t *bytes, size_t len, const goblin_header_t *header, const goblin_range_t *range,
                           uint64_t offset, uint64_t width, uint64_t *value, goblin_refusal_t *why);
 
 /* ---- ranges ---- */
 
-/* Cuts a range to the file: `*part` is the part of it that is inside the file. It is the range itself if that is inside the file. The
-   part of a range that starts at `len` or past it has the offset `len` and the size 0; goblin_symbol refuses it. Cannot fail.
+/* Cuts a range to the file: `*part` is the part of it that is inside the file. It is the range itself if that is inside
+   the file. The part of a range that starts at `len` or past it has the offset `len` and the size 0; goblin_symbol
+   refuses it. Cannot fail.
    Example: goblin_range_in_file(bytes, len, &section.file, &range); */
 void goblin_range_in_file(const uint8_t *bytes, size_t len, const goblin_range_t *range, goblin_range_t *part);
 
 /* ---- writing ----
 
-   These calls write a record or a number into the caller's own bytes, in the class and byte order of the header. Each changes the bytes
-   that the call without `put_` reads, and no other. That call then reads the same record, unless section 0 has the number of the list's
-   items and the call changes it. A record that was read and is written back leaves the bytes as they are.
-   Each returns what the reading call returns at that index, GOBLIN_END or a refusal, and then GOBLIN_INTEGER_FIT if a number does not fit
-   its bytes: st_shndx has 2, sh_name and st_name have 4, and in a 32-bit file so have addresses, offsets, sizes, alignments and sh_flags.
-   `why->offset` is then the offset of the record. Nothing is written unless the call returns GOBLIN_OK. */
+   These calls write a record or a number into the caller's own bytes, in the class and byte order of the header. Each
+   changes the bytes that the call without `put_` reads, and no other. That call then reads the same record, unless
+   section 0 has the number of the list's items and the call changes it. A record that was read and is written back
+   leaves the bytes as they are.
+   Each returns what the reading call returns at that index, GOBLIN_END or a refusal, and then GOBLIN_INTEGER_FIT if a
+   number does not fit its bytes: st_shndx has 2, sh_name and st_name have 4, and in a 32-bit file so have addresses,
+   offsets, sizes, alignments and sh_flags. `why->offset` is then the offset of the record. Nothing is written unless
+   the call returns GOBLIN_OK. */
 
-/* Writes the header at the start of the file, in the class and byte order that it names. Writes the magic number, too, and leaves the
-   padding, the bytes 9 to 15.
-   Returns GOBLIN_INVALID_CLASS, GOBLIN_DATA, GOBLIN_BAD_OFFSET or GOBLIN_TOO_BIG (the bytes have no room for a header of the class) or
-   GOBLIN_INTEGER_FIT, the first of these that applies, in this order. Never returns GOBLIN_END.
+/* Writes the header at the start of the file, in the class and byte order that it names. Writes the magic number, too,
+   and leaves the padding, the bytes 9 to 15.
+   Returns GOBLIN_INVALID_CLASS, GOBLIN_DATA, GOBLIN_BAD_OFFSET or GOBLIN_TOO_BIG (the bytes have no room for a header
+   of the class) or GOBLIN_INTEGER_FIT, the first of these that applies, in this order. Never returns GOBLIN_END.
    Example: header.e_type = GOBLIN_ET_DYN; goblin_put_header(own, len, &header, &why); */
 uint32_t goblin_put_header(uint8_t *bytes, size_t len, const goblin_header_t *header, goblin_refusal_t *why);
 
 /* Writes the section header at an index.
    Example: section.sh_flags &= ~GOBLIN_SHF_WRITE; goblin_put_section(own, len, &header, index, &section, &why); */
-uint32_t goblin_put_section(uint8_t *bytes, size_t len, const goblin_header_t *header, uint64_t index, const goblin_section_t *section,
-                            goblin_refusal_t *why);
+uint32_t goblin_put_section(uint8_t *bytes, size_t len, const goblin_header_t *header, uint64_t index,
+                            const goblin_section_t *section, goblin_refusal_t *why);
 
 /* Writes the program header at an index.
    Example: segment.p_flags &= ~GOBLIN_PF_X; goblin_put_segment(own, len, &header, index, &segment, &why); */
-uint32_t goblin_put_segment(uint8_t *bytes, size_t len, const goblin_header_t *header, uint64_t index, const goblin_segment_t *segment,
-                            goblin_refusal_t *why);
+uint32_t goblin_put_segment(uint8_t *bytes, size_t len, const goblin_header_t *header, uint64_t index,
+                            const goblin_segment_t *segment, goblin_refusal_t *why);
 
 /* Writes the symbol at an index of a symbol table.
-   Example: symbol.st_other = GOBLIN_STV_HIDDEN; goblin_put_symbol(own, len, &header, &table.file, index, &symbol, &why); */
-uint32_t goblin_put_symbol(uint8_t *bytes, size_t len, const goblin_header_t *header, const goblin_range_t *table, uint64_t index,
-                           const goblin_symbol_t *symbol, goblin_refusal_t *why);
+   Example: symbol.st_other = GOBLIN_STV_HIDDEN;
+            goblin_put_symbol(own, len, &header, &table.file, index, &symbol, &why); */
+uint32_t goblin_put_symbol(uint8_t *bytes, size_t len, const goblin_header_t *header, const goblin_range_t *table,
+                           uint64_t index, const goblin_symbol_t *symbol, goblin_refusal_t *why);
 
 #ifdef __clang__
 #pragma clang diagnostic push
 #pragma clang diagnostic ignored "-Wc99-extensions"
 #endif
 
-/* Writes the relocation at an index of a relocation section. If `is_rela`, has_addend must be 1. If not, has_addend and r_addend must be 0.
-   Else GOBLIN_INTEGER_FIT. In a 32-bit file r_sym has 3 bytes, r_type 1 and r_addend 4, else they have 4, 4 and 8. In a little-endian
-   MIPS64 file r_sym and r_type are written in the format of those files.
+/* Writes the relocation at an index of a relocation section. If `is_rela`, has_addend must be 1. If not, has_addend and
+   r_addend must be 0. Else GOBLIN_INTEGER_FIT. In a 32-bit file r_sym has 3 bytes, r_type 1 and r_addend 4, else they
+   have 4, 4 and 8. In a little-endian MIPS64 file r_sym and r_type are written in the format of those files.
    Example: reloc.r_addend += 8; goblin_put_reloc(own, len, &header, &table.file, true, index, &reloc, &why); */
-uint32_t goblin_put_reloc(uint8_t *bytes, size_t len, const goblin_header_t *header, const goblin_range_t *table, bool is_rela,
-                          uint64_t index, const goblin_reloc_t *reloc, goblin_refusal_t *why);
+uint32_t goblin_put_reloc(uint8_t *bytes, size_t len, const goblin_header_t *header, const goblin_range_t *table,
+                          bool is_rela, uint64_t index, const goblin_reloc_t *reloc, goblin_refusal_t *why);
 
 #ifdef __clang__
 #pragma clang diagnostic pop
@@ -573,15 +609,15 @@ uint32_t goblin_put_reloc(uint8_t *bytes, size_t len, const goblin_header_t *hea
 
 /* Writes a number of `width` bytes at an offset of the file, as goblin_number reads it. It must fit in these bytes.
    Example: goblin_put_number(own, len, &header, section.file.offset, 4, value, &why); */
-uint32_t goblin_put_number(uint8_t *bytes, size_t len, const goblin_header_t *header, uint64_t offset, uint64_t width, uint64_t value,
-                           goblin_refusal_t *why);
+uint32_t goblin_put_number(uint8_t *bytes, size_t len, const goblin_header_t *header, uint64_t offset, uint64_t width,
+                           uint64_t value, goblin_refusal_t *why);
 
 /* ---- texts ----
 
-   Each of these calls writes a text and a zero byte after it into `capacity` bytes, or as much of both as fits. It returns the length
-   of the whole text, without the zero byte. No byte after them changes. If the returned length is below `capacity`, the buffer has all
-   of the text and the zero byte, so `%s` prints it. If not, the text is cut and has no zero byte. 160 bytes are enough for each of
-   these texts. These calls never fail. */
+   Each of these calls writes a text and a zero byte after it into `capacity` bytes, or as much of both as fits. It
+   returns the length of the whole text, without the zero byte. No byte after them changes. If the returned length is
+   below `capacity`, the buffer has all of the text and the zero byte, so `%s` prints it. If not, the text is cut and
+   has no zero byte. 160 bytes are enough for each of these texts. These calls never fail. */
 
 /* Writes the name of a class (ei_class): NONE, ELF32, ELF64, or UNKNOWN_CLASS.
    Example: goblin_class_to_str(header.ei_class, text, sizeof text); */
@@ -595,8 +631,8 @@ uint64_t goblin_machine_to_str(uint16_t e_machine, void *text, size_t capacity);
 /* Writes the name of a segment's type (p_type), such as PT_LOAD, or UNKNOWN_PT.
    Example: goblin_pt_to_str(segment.p_type, text, sizeof text); */
 uint64_t goblin_pt_to_str(uint32_t p_type, void *text, size_t capacity);
-/* Writes the name of a section's type (sh_type), such as SHT_PROGBITS, or UNKNOWN_SHT. The names are goblin's: 19 is SHT_NUM, which
-   newer tools print as RELR, and 0x70000001 is SHT_X86_64_UNWIND for every machine.
+/* Writes the name of a section's type (sh_type), such as SHT_PROGBITS, or UNKNOWN_SHT. The names are goblin's: 19 is
+   SHT_NUM, which newer tools print as RELR, and 0x70000001 is SHT_X86_64_UNWIND for every machine.
    Example: goblin_sht_to_str(section.sh_type, text, sizeof text); */
 uint64_t goblin_sht_to_str(uint32_t sh_type, void *text, size_t capacity);
 /* Writes the name of one flag of a section (a single bit of sh_flags), such as SHF_WRITE, or SHF_UNKNOWN.
@@ -611,14 +647,14 @@ uint64_t goblin_type_to_str(uint8_t type, void *text, size_t capacity);
 /* Writes the name of a symbol's visibility (st_other & 7), such as HIDDEN, or UNKNOWN_STV.
    Example: goblin_visibility_to_str(symbol.st_other & 7, text, sizeof text); */
 uint64_t goblin_visibility_to_str(uint8_t visibility, void *text, size_t capacity);
-/* Writes the name of a note's type (n_type), such as NT_GNU_BUILD_ID, or NT_UNKNOWN. It depends on the note's name. The names are
-   goblin's: type 3 is NT_GNU_BUILD_ID for every name but CORE.
+/* Writes the name of a note's type (n_type), such as NT_GNU_BUILD_ID, or NT_UNKNOWN. It depends on the note's name. The
+   names are goblin's: type 3 is NT_GNU_BUILD_ID for every name but CORE.
    Example: goblin_note_type_to_str("GNU", 3, note.n_type, text, sizeof text); */
 uint64_t goblin_note_type_to_str(const void *name, size_t name_len, uint32_t n_type, void *text, size_t capacity);
-/* Writes the text of a refusal in the library's words, such as "type is too big (64) for 52": 64 bytes are needed, and 52 are left. For
-   goblin_note_bytes print the part (`item`), too, since the text has no word for it. The text depends on `*why` alone, which a caller
-   may fill itself: a `fourth` that means yes or no is yes unless it is 0; an `item` that is none of GOBLIN_INVALID_UTF8 and
-   the like has the empty name; a `kind` that is no refusal has the empty text.
+/* Writes the text of a refusal in the library's words, such as "type is too big (64) for 52": 64 bytes are needed, and
+   52 are left. For goblin_note_bytes print the part (`item`), too, since the text has no word for it. The text depends
+   on `*why` alone, which a caller may fill itself: a `fourth` that means yes or no is yes unless it is 0; an `item`
+   that is none of GOBLIN_INVALID_UTF8 and the like has the empty name; a `kind` that is no refusal has the empty text.
    Example: goblin_refusal_text(&why, text, sizeof text); */
 uint64_t goblin_refusal_text(const goblin_refusal_t *why, void *text, size_t capacity);
 
@@ -628,8 +664,8 @@ uint64_t goblin_refusal_text(const goblin_refusal_t *why, void *text, size_t cap
 
 /* ---- constants ----
 
-   The library's constants. Each has the standard's name after GOBLIN_, so this file and <elf.h> can be included together.
-   Flags of sections (sh_flags) and indices of sections (st_shndx) have 64 bits, as their fields have, so
+   The library's constants. Each has the standard's name after GOBLIN_, so this file and <elf.h> can be included
+   together. Flags of sections (sh_flags) and indices of sections (st_shndx) have 64 bits, as their fields have, so
    `section.sh_flags & ~GOBLIN_SHF_WRITE` clears one bit alone.
 
    Made by faces/constants.py of the library's constants: do not edit. */

@@ -1,9 +1,9 @@
 /* Tests goblin.h against the library: layout [assertions]
-   Each field of each struct has the library's offset, by goblin_layout. Each field that is read from files of both classes and byte
-   orders, whose fields all differ, is the number that was written there. Each refusal has the number of its name. With the argument
-   `assertions` it prints the offsets as static assertions.
-   faces/constants.py makes fields.h from goblin.h, so no field is left out. It has STRUCT(name) for each struct and FIELD(struct, field,
-   number) for each of its fields. */
+   Each field of each struct has the library's offset, by goblin_layout. Each field that is read from files of both
+   classes and byte orders, whose fields all differ, is the number that was written there. Each refusal has the number
+   of its name. With the argument `assertions` it prints the offsets as static assertions.
+   faces/constants.py makes fields.h from goblin.h, so no field is left out. It has STRUCT(name) for each struct and
+   FIELD(struct, field, number) for each of its fields. */
 #include "goblin.h"
 #include <stdio.h>
 #include <stdlib.h>
@@ -107,20 +107,24 @@ static void count_all(const goblin_header_t *h, const goblin_range_t *symbols, c
     same("goblin_reloc_count", goblin_reloc_count(file, sizeof file, h, relocs, true, &number, why), GOBLIN_OK);
     same("goblin_reloc_count", number, 2);
     same("goblin_section", goblin_section(file, sizeof file, h, 1, &second, why), GOBLIN_OK);
-    same("goblin_section_by_type", goblin_section_by_type(file, sizeof file, h, second.sh_type, 0, &number, &same_section, why), GOBLIN_OK);
+    same("goblin_section_by_type",
+         goblin_section_by_type(file, sizeof file, h, second.sh_type, 0, &number, &same_section, why), GOBLIN_OK);
     same("goblin_section_by_type", number, 1);
     same("goblin_section_by_type, the section", same_section.sh_info, second.sh_info);
-    same("goblin_section_by_type", goblin_section_by_type(file, sizeof file, h, second.sh_type, 2, &number, &same_section, why), GOBLIN_END);
+    same("goblin_section_by_type",
+         goblin_section_by_type(file, sizeof file, h, second.sh_type, 2, &number, &same_section, why), GOBLIN_END);
     for (size_t width = 1; width <= 8; width *= 2) {
         uint64_t value = (end = 0xd00, any(width));
         same("goblin_number", goblin_number(file, sizeof file, h, 0xd00, width, &number, why), GOBLIN_OK);
         same("goblin_number", number, value);
     }
     same("goblin_number of 3", goblin_number(file, sizeof file, h, 0xd00, 3, &number, why), GOBLIN_END);
-    same("goblin_number outside", goblin_number(file, sizeof file, h, sizeof file - 1, 2, &number, why), GOBLIN_TOO_BIG);
+    same("goblin_number outside",
+         goblin_number(file, sizeof file, h, sizeof file - 1, 2, &number, why), GOBLIN_TOO_BIG);
 }
 
-/* Tests the header that counts what is whole in a cut file, a number of segments that the first section has, and calls for ranges. */
+/* Tests the header that counts what is whole in a cut file, a number of segments that the first section has, and calls
+   for ranges. */
 static void whole_all(const goblin_header_t *h, const goblin_layout_t *wanted, goblin_refusal_t *why) {
     size_t cut = 0x456 + 2 * (wide == 8 ? 64 : 40) + 1;
     goblin_header_t whole, many = *h;
@@ -149,25 +153,28 @@ static void whole_all(const goblin_header_t *h, const goblin_layout_t *wanted, g
     uint64_t before = 0;
     same("goblin_number", goblin_number(file, sizeof file, h, at, 4, &before, why), GOBLIN_OK);
     same("goblin_put_number", goblin_put_number(file, sizeof file, h, at, 4, 3, why), GOBLIN_OK);
-    same("PN_XNUM", goblin_segment_count(file, sizeof file, &many, &number, why), GOBLIN_OK), same("PN_XNUM", number, 3);
+    same("PN_XNUM", goblin_segment_count(file, sizeof file, &many, &number, why), GOBLIN_OK),
+        same("PN_XNUM", number, 3);
     same("PN_XNUM", goblin_segment(file, sizeof file, &many, 2, &p, why), GOBLIN_OK);
     same("PN_XNUM", goblin_segment(file, sizeof file, &many, 3, &p, why), GOBLIN_END);
     same("goblin_put_number", goblin_put_number(file, sizeof file, h, at, 4, before, why), GOBLIN_OK);
-    same("PN_XNUM, cut", goblin_segment_count(file, 0x460, &many, &number, why), GOBLIN_TOO_BIG), same("PN_XNUM, cut", why->offset, 0x456);
+    same("PN_XNUM, cut", goblin_segment_count(file, 0x460, &many, &number, why), GOBLIN_TOO_BIG),
+        same("PN_XNUM, cut", why->offset, 0x456);
     many.e_shoff = 0;
     same("PN_XNUM, no sections", goblin_segment_count(file, sizeof file, &many, &number, why), GOBLIN_BUFFER_TOO_SHORT);
     same("PN_XNUM, no sections", why->first, 0xffff);
     same("goblin_number_in", goblin_number_in(file, sizeof file, h, &all, 4, 1, &number, why), GOBLIN_OK);
     same("goblin_number_in", number, wide / 4);
     part.offset = 0x700, part.size = 9;
-    same("number past a range", goblin_number_in(file, sizeof file, h, &part, part.size, 1, &number, why), GOBLIN_BAD_OFFSET);
+    same("number past a range",
+         goblin_number_in(file, sizeof file, h, &part, part.size, 1, &number, why), GOBLIN_BAD_OFFSET);
     goblin_range_in_file(file, sizeof file, &past, &part);
     same("goblin_range_in_file", part.offset << 16 | part.size, 0xffd0003);
     same("goblin_address_to_offset", goblin_address_to_offset(file, sizeof file, h, 0, &number, why), GOBLIN_END);
 }
 
-/* Tests that a call has written `size` bytes at an offset as they were in the first file, and that no other byte of the file is changed
-   from what it was after `before` was made. */
+/* Tests that a call has written `size` bytes at an offset as they were in the first file, and that no other byte of the
+   file is changed from what it was after `before` was made. */
 static uint8_t first[sizeof file], before[sizeof file];
 static void written(const char *what, size_t offset, size_t size) {
     same(what, (uint64_t)memcmp(file + offset, first + offset, size), 0);
@@ -176,7 +183,8 @@ static void written(const char *what, size_t offset, size_t size) {
 }
 
 /* Tests each call that writes: it brings back the bytes of a record that are lost, of a table with two of each. */
-static void write_all(const goblin_layout_t *wanted, const goblin_range_t *symbols, const goblin_range_t *relocs, goblin_refusal_t *why) {
+static void write_all(const goblin_layout_t *wanted, const goblin_range_t *symbols, const goblin_range_t *relocs,
+                      goblin_refusal_t *why) {
     const goblin_header_t *h = &wanted->header;
     size_t header_size = wide == 8 ? 64 : 52, p = 0x123 + (wide == 8 ? 56 : 32), s = 0x456 + (wide == 8 ? 64 : 40);
     size_t y = 0x700 + (wide == 8 ? 24 : 16), r = 0x800 + 3 * wide;
@@ -203,12 +211,14 @@ static void write_all(const goblin_layout_t *wanted, const goblin_range_t *symbo
 }
 
 /* Tests what the calls that write refuse: what does not fit, and what is not there. */
-static void refuse_to_write(const goblin_layout_t *wanted, const goblin_range_t *symbols, const goblin_range_t *relocs, goblin_refusal_t *why) {
+static void refuse_to_write(const goblin_layout_t *wanted, const goblin_range_t *symbols, const goblin_range_t *relocs,
+                            goblin_refusal_t *why) {
     goblin_layout_t items = *wanted;
     const goblin_header_t *h = &wanted->header;
     uint32_t wide_status = wide == 8 ? GOBLIN_OK : GOBLIN_INTEGER_FIT;
     memcpy(first, file, sizeof file);
-    items.section.sh_name = (uint64_t)1 << 32, items.symbol.st_shndx = 0x10000, items.segment.p_align = items.section.sh_name;
+    items.section.sh_name = (uint64_t)1 << 32, items.symbol.st_shndx = 0x10000,
+        items.segment.p_align = items.section.sh_name;
     same("a long name", goblin_put_section(file, sizeof file, h, 1, &items.section, why), GOBLIN_INTEGER_FIT);
     same("a long name", why->offset, wide == 8 ? 0x496 : 0x47e);
     same("a high index", goblin_put_symbol(file, sizeof file, h, symbols, 1, &items.symbol, why), GOBLIN_INTEGER_FIT);
@@ -218,9 +228,11 @@ static void refuse_to_write(const goblin_layout_t *wanted, const goblin_range_t 
     same("a high number", goblin_put_number(file, sizeof file, h, 0x10, 2, 0x10000, why), GOBLIN_INTEGER_FIT);
     same("a high number", why->offset, 0x10);
     items.header.ei_class = 3, items.header.ei_data = 3;
-    same("class 3", goblin_put_header(file, sizeof file, &items.header, why), GOBLIN_INVALID_CLASS), same("class 3", why->first, 3);
+    same("class 3", goblin_put_header(file, sizeof file, &items.header, why), GOBLIN_INVALID_CLASS),
+        same("class 3", why->first, 3);
     items.header.ei_class = h->ei_class;
-    same("order 3", goblin_put_header(file, sizeof file, &items.header, why), GOBLIN_DATA), same("order 3", why->first, 3);
+    same("order 3", goblin_put_header(file, sizeof file, &items.header, why), GOBLIN_DATA),
+        same("order 3", why->first, 3);
     same("no bytes", goblin_put_header(file, 0, h, why), GOBLIN_BAD_OFFSET);
     same("51 bytes", goblin_put_header(file, 51, h, why), GOBLIN_TOO_BIG);
     same("sections outside", goblin_put_section(file, 0x456, h, 0, &wanted->section, why), GOBLIN_BAD_OFFSET);
@@ -298,11 +310,13 @@ static void read_all(void) {
         same("r_type for MIPS", pair.r_type, type << 24 | (type & 0xff00) << 8 | (type >> 8 & 0xff00) | type >> 24);
     }
     memcpy(first, file, sizeof file);
-    same("goblin_put_reloc for MIPS", goblin_put_reloc(file, sizeof file, &mips, &relocs, true, 1, &pair, why), GOBLIN_OK);
+    same("goblin_put_reloc for MIPS",
+         goblin_put_reloc(file, sizeof file, &mips, &relocs, true, 1, &pair, why), GOBLIN_OK);
     same("goblin_put_reloc for MIPS", (uint64_t)memcmp(file, first, sizeof file), 0);
     write_all(&wanted, &symbols, &relocs, why);
     refuse_to_write(&wanted, &symbols, &relocs, why);
-    /* A refusal with four different numbers: its size, its offset, the file's length and 1. Its table begins at the offset. */
+    /* A refusal with four different numbers: its size, its offset, the file's length and 1. Its table begins at
+       the offset. */
     goblin_range_t past = {0x321, UINT64_MAX};
     goblin_refusal_t refusal = {GOBLIN_STRTAB_RANGE, 0, past.size, past.offset, sizeof file, 1, past.offset};
     wanted.refusal = refusal;
@@ -335,36 +349,48 @@ static void refuse_all(void) {
     header(&given);
     same("goblin_header", goblin_header(file, sizeof file, &h, &why), GOBLIN_OK);
     given = h, given.e_shoff = sizeof file;
-    refused("sections outside", goblin_section(file, sizeof file, &given, 0, &s, &why), GOBLIN_BAD_OFFSET, &why, sizeof file);
+    refused("sections outside", goblin_section(file, sizeof file, &given, 0, &s, &why),
+            GOBLIN_BAD_OFFSET, &why, sizeof file);
     given = h, given.e_shnum = given.e_phnum = 0xffff;
-    refused("many sections", goblin_section(file, sizeof file, &given, 0, &s, &why), GOBLIN_BUFFER_TOO_SHORT, &why, h.e_shoff);
+    refused("many sections", goblin_section(file, sizeof file, &given, 0, &s, &why),
+            GOBLIN_BUFFER_TOO_SHORT, &why, h.e_shoff);
     same("many sections, item", why.item, GOBLIN_SECTION_HEADERS);
-    refused("many segments", goblin_segment(file, sizeof file, &given, 0, &p, &why), GOBLIN_BUFFER_TOO_SHORT, &why, h.e_phoff);
+    refused("many segments", goblin_segment(file, sizeof file, &given, 0, &p, &why),
+            GOBLIN_BUFFER_TOO_SHORT, &why, h.e_phoff);
     same("many segments, item", why.item, GOBLIN_PROGRAM_HEADERS);
-    refused("string of 0xee", goblin_string(file, sizeof file, &names, 0, &text, &why), GOBLIN_BAD_INPUT, &why, names.offset);
+    refused("string of 0xee", goblin_string(file, sizeof file, &names, 0, &text, &why), GOBLIN_BAD_INPUT,
+            &why, names.offset);
     same("string of 0xee, item", why.item, GOBLIN_INVALID_UTF8);
-    refused("alignment 16", goblin_note(file, sizeof file, &h, &names, 16, names.offset, &n, &why), GOBLIN_NOTE_ALIGN, &why, names.offset);
+    refused("alignment 16", goblin_note(file, sizeof file, &h, &names, 16, names.offset, &n, &why), GOBLIN_NOTE_ALIGN,
+            &why, names.offset);
     note(&n);
     goblin_range_t cut = {0x900, 0};
     static const struct { uint64_t size; uint32_t status, item; } cuts[] = {
-        {11, GOBLIN_TOO_BIG, GOBLIN_NOTE_HEADER}, {12, GOBLIN_BAD_OFFSET, GOBLIN_NOTE_NAME}, {19, GOBLIN_TOO_BIG, GOBLIN_NOTE_NAME},
-        {20, GOBLIN_BAD_OFFSET, GOBLIN_NOTE_DESC}, {24, GOBLIN_TOO_BIG, GOBLIN_NOTE_DESC}};
+        {11, GOBLIN_TOO_BIG, GOBLIN_NOTE_HEADER}, {12, GOBLIN_BAD_OFFSET, GOBLIN_NOTE_NAME},
+        {19, GOBLIN_TOO_BIG, GOBLIN_NOTE_NAME}, {20, GOBLIN_BAD_OFFSET, GOBLIN_NOTE_DESC},
+        {24, GOBLIN_TOO_BIG, GOBLIN_NOTE_DESC}};
     for (size_t i = 0; i < sizeof cuts / sizeof *cuts; i++) {
         cut.size = cuts[i].size;
-        refused("a note past its range", goblin_note_bytes(file, sizeof file, &h, &cut, 4, 0x900, &n, &why), cuts[i].status, &why, 0x900);
+        refused("a note past its range", goblin_note_bytes(file, sizeof file, &h, &cut, 4, 0x900, &n, &why),
+                cuts[i].status, &why, 0x900);
         same("a note past its range, item", why.item, cuts[i].item);
     }
     cut.size = 25, file[0x900 + 12] = 0xee;
     same("a name that is not UTF-8", goblin_note(file, sizeof file, &h, &cut, 4, 0x900, &n, &why), GOBLIN_BAD_INPUT);
     same("a name that is not UTF-8", goblin_note_bytes(file, sizeof file, &h, &cut, 4, 0x900, &n, &why), GOBLIN_OK);
-    refused("alignment 16", goblin_note_bytes(file, sizeof file, &h, &cut, 16, 0x900, &n, &why), GOBLIN_NOTE_ALIGN, &why, 0x900);
+    refused("alignment 16", goblin_note_bytes(file, sizeof file, &h, &cut, 16, 0x900, &n, &why),
+            GOBLIN_NOTE_ALIGN, &why, 0x900);
     same("alignment 16, item", why.item, 0);
-    refused("symbols at the end", goblin_symbol(file, sizeof file, &h, &range, 0, &y, &why), GOBLIN_SYMTAB_OFFSET, &why, range.offset);
+    refused("symbols at the end", goblin_symbol(file, sizeof file, &h, &range, 0, &y, &why), GOBLIN_SYMTAB_OFFSET,
+            &why, range.offset);
     range.offset--, range.size = 24;
-    refused("symbols past the end", goblin_symbol(file, sizeof file, &h, &range, 0, &y, &why), GOBLIN_SYMTAB_PAST, &why, range.offset);
-    refused("strings past the end", goblin_string(file, sizeof file, &range, 0, &text, &why), GOBLIN_STRTAB_RANGE, &why, range.offset);
+    refused("symbols past the end", goblin_symbol(file, sizeof file, &h, &range, 0, &y, &why), GOBLIN_SYMTAB_PAST,
+            &why, range.offset);
+    refused("strings past the end", goblin_string(file, sizeof file, &range, 0, &text, &why), GOBLIN_STRTAB_RANGE,
+            &why, range.offset);
     range.offset += 2;
-    refused("strings outside", goblin_string(file, sizeof file, &range, 0, &text, &why), GOBLIN_STRTAB_OFFSET, &why, range.offset);
+    refused("strings outside", goblin_string(file, sizeof file, &range, 0, &text, &why), GOBLIN_STRTAB_OFFSET,
+            &why, range.offset);
     refused("15 bytes", goblin_header(file, 15, &h, &why), GOBLIN_TOO_SMALL, &why, 0);
     refused("51 bytes", goblin_header(file, 51, &h, &why), GOBLIN_TOO_BIG, &why, 0);
     file[5] = 3;
@@ -385,7 +411,8 @@ static void call_with_nulls(goblin_refusal_t *why) {
     goblin_note_t n;
     goblin_range_t text, none = {0, 0}, some = {0, 1};
     uint64_t number;
-    memset(&h, 0, sizeof h), memset(&s, 0, sizeof s), memset(&p, 0, sizeof p), memset(&y, 0, sizeof y), memset(&r, 0, sizeof r);
+    memset(&h, 0, sizeof h), memset(&s, 0, sizeof s), memset(&p, 0, sizeof p), memset(&y, 0, sizeof y),
+        memset(&r, 0, sizeof r);
     same("null: header", goblin_header(NULL, 0, &h, why), GOBLIN_TOO_SMALL);
     for (int i = 0; i < 2; i++) {
         uint32_t end = i ? GOBLIN_BAD_OFFSET : GOBLIN_END;
@@ -415,7 +442,8 @@ static void call_with_nulls(goblin_refusal_t *why) {
     same("null: symbols", goblin_symbols(NULL, 0, &h, &none, 0, NULL, 0, &number, why), GOBLIN_SYMTAB_OFFSET);
     same("null: symbol by name", goblin_symbol_by_name(NULL, 0, &h, &none, &none, NULL, 0, &number, why),
          GOBLIN_SYMTAB_OFFSET);
-    same("null: symbol by address", goblin_symbol_by_address(NULL, 0, &h, &none, 0, &number, why), GOBLIN_SYMTAB_OFFSET);
+    same("null: symbol by address", goblin_symbol_by_address(NULL, 0, &h, &none, 0, &number, why),
+         GOBLIN_SYMTAB_OFFSET);
     same("null: reloc", goblin_reloc(NULL, 0, &h, &none, true, 0, &r, why), GOBLIN_END);
     same("null: reloc", goblin_reloc(NULL, 0, &h, &some, true, 0, &r, why), GOBLIN_BAD_OFFSET);
     same("null: relocs", goblin_relocs(NULL, 0, &h, &none, false, 0, NULL, 0, &number, why), GOBLIN_END);
@@ -457,8 +485,8 @@ static void call_with_nulls(goblin_refusal_t *why) {
     same("no name", goblin_symbol_by_name(file, sizeof file, &h, &symbols, &empty, NULL, 0, &number, why), GOBLIN_END);
 }
 
-/* Tests that 160 bytes hold the longest text of each kind of refusal and the zero byte after it, and that a text that fills the buffer
-   has none. */
+/* Tests that 160 bytes hold the longest text of each kind of refusal and the zero byte after it, and that a text that
+   fills the buffer has none. */
 static void close_texts(void) {
     char text[161];
     goblin_refusal_t why = {0, 0, UINT64_MAX, UINT64_MAX, UINT64_MAX, 0, 0};
@@ -486,7 +514,8 @@ static bool compares(uint64_t at, const char *text, size_t size, bool is_whole) 
     goblin_refusal_t why;
     goblin_range_t string;
     uint32_t status = goblin_string_bytes(strings, sizeof strings, &string_table, at, &string, &why);
-    return status == GOBLIN_OK && (is_whole ? string.size == size : string.size >= size) && memcmp(strings + string.offset, text, size) == 0;
+    return status == GOBLIN_OK && (is_whole ? string.size == size : string.size >= size)
+        && memcmp(strings + string.offset, text, size) == 0;
 }
 
 /* Tests whether a zero byte closes the string at an offset. */
@@ -517,16 +546,23 @@ static void compare_strings(void) {
 static void find_strings(void) {
     static const uint8_t named[] = "\0ab\0abc\0\xff\0x";
     static const goblin_range_t table = {0, 11}, past = {0, 13}, unread = {77, 77};
-    static const struct { uint64_t offsets[3]; size_t asked, capacity; uint32_t status; uint64_t filled, sizes[3]; } rows[] = {
-        {{1, 4, 10}, 3, 3, GOBLIN_OK, 3, {2, 3, 1}}, {{5, 11, 4}, 3, 3, GOBLIN_END, 1, {2}}, {{0, 4, 8}, 3, 3, GOBLIN_BAD_INPUT, 2, {0, 3}},
-        {{1, 4, 11}, 3, 2, GOBLIN_OK, 2, {2, 3}}, {{1, 4, 11}, 2, 3, GOBLIN_OK, 2, {2, 3}}, {{8}, 0, 3, GOBLIN_OK, 0, {0}}};
+    static const struct {
+        uint64_t offsets[3];
+        size_t asked, capacity;
+        uint32_t status;
+        uint64_t filled, sizes[3];
+    } rows[] = {
+        {{1, 4, 10}, 3, 3, GOBLIN_OK, 3, {2, 3, 1}}, {{5, 11, 4}, 3, 3, GOBLIN_END, 1, {2}},
+        {{0, 4, 8}, 3, 3, GOBLIN_BAD_INPUT, 2, {0, 3}}, {{1, 4, 11}, 3, 2, GOBLIN_OK, 2, {2, 3}},
+        {{1, 4, 11}, 2, 3, GOBLIN_OK, 2, {2, 3}}, {{8}, 0, 3, GOBLIN_OK, 0, {0}}};
     goblin_range_t ranges[3];
     uint64_t filled;
     goblin_refusal_t why;
     for (size_t i = 0; i < sizeof rows / sizeof *rows; i++) {
         for (size_t k = 0; k < 3; k++) ranges[k] = unread;
         memset(&why, 0, sizeof why);
-        same("goblin_strings", goblin_strings(named, 12, &table, rows[i].offsets, rows[i].asked, ranges, rows[i].capacity, &filled, &why), rows[i].status);
+        same("goblin_strings", goblin_strings(named, 12, &table, rows[i].offsets, rows[i].asked, ranges,
+                                              rows[i].capacity, &filled, &why), rows[i].status);
         same("goblin_strings, filled", filled, rows[i].filled);
         same("goblin_strings, why", why.kind, rows[i].status > GOBLIN_END ? rows[i].status : 0);
         same("goblin_strings, where", why.offset, rows[i].status > GOBLIN_END ? 8 : 0);
@@ -535,7 +571,8 @@ static void find_strings(void) {
             same("goblin_strings, a size", ranges[k].size, k < rows[i].filled ? rows[i].sizes[k] : unread.size);
         }
     }
-    same("goblin_strings", goblin_strings(named, 12, &past, rows[0].offsets, 3, ranges, 3, &filled, &why), GOBLIN_STRTAB_RANGE);
+    same("goblin_strings", goblin_strings(named, 12, &past, rows[0].offsets, 3, ranges, 3, &filled, &why),
+         GOBLIN_STRTAB_RANGE);
     same("goblin_strings, filled", filled, 0);
     same("goblin_strings", goblin_strings(named, 12, &past, rows[0].offsets, 3, ranges, 0, &filled, &why), GOBLIN_OK);
 }

@@ -115,7 +115,8 @@ static void put_headers(void) {
     for (size_t i = 0; i < COUNT; i++) names[i] = named(sections[i].name);
     end = HEADERS;
     for (size_t i = 0; i < COUNT; i++) {
-        uint64_t entry = sections[i].type == SHT_SYMTAB ? size_of(i) / SYMBOLS : sections[i].type == SHT_RELA ? 3 * wide : 0;
+        uint64_t entry = sections[i].type == SHT_SYMTAB ? size_of(i) / SYMBOLS
+            : sections[i].type == SHT_RELA ? 3 * wide : 0;
         put(4, names[i]), put(4, sections[i].type), put(wide, sections[i].flags), put(wide, 0);
         put(wide, sections[i].type == SHT_STRTAB ? STRINGS : 0x100 * i), put(wide, size_of(i));
         put(4, sections[i].link), put(4, sections[i].info), put(wide, i ? 4 : 0), put(wide, entry);

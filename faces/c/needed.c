@@ -1,10 +1,11 @@
 /* Lists what an ELF file needs of the dynamic linker: needed FILE
-   These are its interpreter and, from its dynamic section, the libraries that it needs, its soname and its search paths. It finds the
-   dynamic section by the section headers. If the file has none, or they are not all inside it, it uses the program headers, as a loader
-   does.
+   These are its interpreter and, from its dynamic section, the libraries that it needs, its soname and its search
+   paths. It finds the dynamic section by the section headers. If the file has none, or they are not all inside it, it
+   uses the program headers, as a loader does.
 
-   The library does not read the dynamic section, which is a table of pairs of numbers, a tag and a value. Some values are offsets of
-   strings. The calls for numbers and strings are proved; what this program does with them is only tested. */
+   The library does not read the dynamic section, which is a table of pairs of numbers, a tag and a value. Some
+   values are offsets of strings. The calls for numbers and strings are proved; what this program does with them is
+   only tested. */
 #include "goblin.h"
 #include <stdio.h>
 #include <stdlib.h>
@@ -41,7 +42,8 @@ static uint32_t read_entry(const goblin_range_t *dynamic, uint64_t index, uint64
     uint64_t width = header.ei_class == GOBLIN_ELFCLASS64 ? 8 : 4;
     if (index >= dynamic->size / (2 * width)) return GOBLIN_END;
     uint32_t status = goblin_number_in(bytes, len, &header, dynamic, index * 2 * width, width, tag, &why);
-    if (status == GOBLIN_OK) status = goblin_number_in(bytes, len, &header, dynamic, index * 2 * width + width, width, value, &why);
+    if (status == GOBLIN_OK)
+        status = goblin_number_in(bytes, len, &header, dynamic, index * 2 * width + width, width, value, &why);
     return status == GOBLIN_OK && *tag == DT_NULL ? (uint32_t)GOBLIN_END : status;
 }
 
@@ -68,7 +70,8 @@ static uint32_t find_by_segments(goblin_range_t *dynamic, goblin_range_t *string
         if (tag == DT_STRTAB) address = value;
         if (tag == DT_STRSZ) strings->size = value;
     }
-    return status > GOBLIN_END ? status : goblin_address_to_offset(bytes, len, &header, address, &strings->offset, &why);
+    return status > GOBLIN_END ? status
+        : goblin_address_to_offset(bytes, len, &header, address, &strings->offset, &why);
 }
 
 static uint32_t list_dynamic(void) {

@@ -1,7 +1,8 @@
 /* Lists the symbols of an ELF file, as `nm -a -p` does: nm [-D] FILE
-   With -D it lists the dynamic symbol table. A line has the value of a symbol (the size of a common symbol), its letter, the index of its
-   section and its name. Unlike nm it also lists the values of undefined symbols. In a file of 65,280 or more sections an index may not
-   fit in its symbol; then it is read from the section of type SHT_SYMTAB_SHNDX. */
+   With -D it lists the dynamic symbol table. A line has the value of a symbol (the size of a common symbol),
+   its letter, the index of its section and its name. Unlike nm it also lists the values of undefined symbols.
+   In a file of 65,280 or more sections an index may not fit in its symbol; then it is read from the section of
+   type SHT_SYMTAB_SHNDX. */
 #include "goblin.h"
 #include <ctype.h>
 #include <inttypes.h>
@@ -34,7 +35,8 @@ static bool starts(goblin_range_t name, const char *with) {
 }
 
 static int section_letter(const goblin_section_t *section) {
-    static const char *const debugging[] = {".debug", ".zdebug", ".gnu.debuglto_.debug_", ".line", ".stab", ".gdb_index"};
+    static const char *const debugging[] = {".debug", ".zdebug", ".gnu.debuglto_.debug_", ".line",
+                                            ".stab", ".gdb_index"};
     if (section->sh_flags & GOBLIN_SHF_EXECINSTR) return 't';
     if (section->sh_type == GOBLIN_SHT_NOBITS) return 'b';
     if (section->sh_flags & GOBLIN_SHF_ALLOC) return section->sh_flags & GOBLIN_SHF_WRITE ? 'd' : 'r';
@@ -59,7 +61,8 @@ static int letter(const goblin_symbol_t *symbol, const goblin_section_t *section
 
 /* Finds the section of type SHT_SYMTAB_SHNDX that belongs to the symbol table with this index, if there is one. */
 static bool find_indices(uint64_t table, goblin_section_t *indices) {
-    for (uint64_t i = 0; goblin_section_by_type(bytes, len, &header, GOBLIN_SHT_SYMTAB_SHNDX, i, &i, indices, &why) == GOBLIN_OK; i++)
+    for (uint64_t i = 0;
+         goblin_section_by_type(bytes, len, &header, GOBLIN_SHT_SYMTAB_SHNDX, i, &i, indices, &why) == GOBLIN_OK; i++)
         if (indices->sh_link == table) return true;
     return false;
 }
@@ -69,10 +72,12 @@ static int list(uint64_t index_of_table, const goblin_section_t *table) {
     bool has_indices = find_indices(index_of_table, &indices);
     goblin_section_t names;
     memset(&names, 0, sizeof names);
-    if (goblin_linked_section(bytes, len, &header, table->sh_link, &names, &why) > GOBLIN_END) return refused("string table");
+    if (goblin_linked_section(bytes, len, &header, table->sh_link, &names, &why) > GOBLIN_END)
+        return refused("string table");
     goblin_symbol_t symbol;
     uint32_t status;
-    for (uint64_t i = 1; (status = goblin_symbol(bytes, len, &header, &table->file, i, &symbol, &why)) == GOBLIN_OK; i++) {
+    for (uint64_t i = 1;
+         (status = goblin_symbol(bytes, len, &header, &table->file, i, &symbol, &why)) == GOBLIN_OK; i++) {
         goblin_section_t section;
         uint64_t index = symbol.st_shndx;
         bool is_index = index < GOBLIN_SHN_LORESERVE || (index == GOBLIN_SHN_XINDEX && has_indices

@@ -1,5 +1,5 @@
-/* The calls of goblin.h in plain C, written from its comments alone and not proved: checks/faces/c.sh compares what damaged.c finds with it
-   and with the library. Names of numbers are left out: each is "?". It needs no C library. */
+/* The calls of goblin.h in plain C, written from its comments alone and not proved: checks/faces/c.sh compares what
+   damaged.c finds with it and with the library. Names of numbers are left out: each is "?". It needs no C library. */
 #include "goblin.h"
 
 enum { HEADER_64 = 64, HEADER_32 = 52, NOTE_SIZE = 12 };
@@ -32,7 +32,8 @@ static uint32_t inside(uint64_t end, uint64_t offset, uint64_t size, uint64_t fr
     return size > end - offset ? refuse(why, GOBLIN_TOO_BIG, size, end - offset, from) : (uint32_t)GOBLIN_OK;
 }
 
-/* A record is read or written field by field: `at` is the next field, and a writer has `out` there. A number that doesn't fit is noted. */
+/* A record is read or written field by field: `at` is the next field, and a writer has `out` there. A number that
+   doesn't fit is noted. */
 typedef struct {
     const uint8_t *at;
     uint8_t *out;
@@ -44,7 +45,8 @@ static cursor_t reader(const uint8_t *at, const goblin_header_t *h) {
     return cursor;
 }
 
-/* Returns a field's value: the one in the bytes, or, if a record is written, the given one. Without `out` it is only tested. */
+/* Returns a field's value: the one in the bytes, or, if a record is written, the given one. Without `out` it is
+   only tested. */
 static uint64_t field(cursor_t *c, unsigned width, uint64_t value) {
     if (c->at) {
         value = get(c->at, width, c->is_big);
@@ -59,15 +61,18 @@ static uint64_t wide(cursor_t *c, uint64_t value) { return field(c, c->is_64 ? 8
 
 static void each_of_header(cursor_t *c, goblin_header_t *h) {
     h->e_type = (uint16_t)field(c, 2, h->e_type), h->e_machine = (uint16_t)field(c, 2, h->e_machine);
-    h->e_version = (uint32_t)field(c, 4, h->e_version), h->e_entry = wide(c, h->e_entry), h->e_phoff = wide(c, h->e_phoff);
-    h->e_shoff = wide(c, h->e_shoff), h->e_flags = (uint32_t)field(c, 4, h->e_flags), h->e_ehsize = (uint16_t)field(c, 2, h->e_ehsize);
+    h->e_version = (uint32_t)field(c, 4, h->e_version), h->e_entry = wide(c, h->e_entry),
+        h->e_phoff = wide(c, h->e_phoff);
+    h->e_shoff = wide(c, h->e_shoff), h->e_flags = (uint32_t)field(c, 4, h->e_flags),
+        h->e_ehsize = (uint16_t)field(c, 2, h->e_ehsize);
     h->e_phentsize = (uint16_t)field(c, 2, h->e_phentsize), h->e_phnum = (uint16_t)field(c, 2, h->e_phnum);
     h->e_shentsize = (uint16_t)field(c, 2, h->e_shentsize), h->e_shnum = (uint16_t)field(c, 2, h->e_shnum);
     h->e_shstrndx = (uint16_t)field(c, 2, h->e_shstrndx);
 }
 
 static void each_of_section(cursor_t *c, goblin_section_t *s) {
-    s->sh_name = field(c, 4, s->sh_name), s->sh_type = (uint32_t)field(c, 4, s->sh_type), s->sh_flags = wide(c, s->sh_flags);
+    s->sh_name = field(c, 4, s->sh_name), s->sh_type = (uint32_t)field(c, 4, s->sh_type),
+        s->sh_flags = wide(c, s->sh_flags);
     s->sh_addr = wide(c, s->sh_addr), s->file.offset = wide(c, s->file.offset), s->file.size = wide(c, s->file.size);
     s->sh_link = (uint32_t)field(c, 4, s->sh_link), s->sh_info = (uint32_t)field(c, 4, s->sh_info);
     s->sh_addralign = wide(c, s->sh_addralign), s->sh_entsize = wide(c, s->sh_entsize);
@@ -90,15 +95,19 @@ static void each_of_symbol(cursor_t *c, goblin_symbol_t *s) {
     if (c->is_64) s->st_value = field(c, 8, s->st_value), s->st_size = field(c, 8, s->st_size);
 }
 
-static uint64_t reversed(uint64_t type) { return type >> 24 | (type >> 8 & 0xff00) | (type << 8 & 0xff0000) | (type << 24 & 0xff000000); }
+static uint64_t reversed(uint64_t type) {
+    return type >> 24 | (type >> 8 & 0xff00) | (type << 8 & 0xff0000) | (type << 24 & 0xff000000);
+}
 
-/* r_info of the 32-bit class has the type in its low byte, and that of the 64-bit class in its low half. In a little-endian MIPS64 file the
-   symbol comes first, and then the bytes of the type in the other order. */
+/* r_info of the 32-bit class has the type in its low byte, and that of the 64-bit class in its low half. In a
+   little-endian MIPS64 file the symbol comes first, and then the bytes of the type in the other order. */
 static void each_of_reloc(cursor_t *c, const goblin_header_t *h, bool is_rela, goblin_reloc_t *r) {
     bool is_pair = h->e_machine == GOBLIN_EM_MIPS && c->is_64 && !c->is_big;
-    if (!c->at && (r->has_addend != is_rela || (!is_rela && r->r_addend) || (c->is_64 ? r->r_sym >> 32 : r->r_sym >> 24) || (!c->is_64 && r->r_type >> 8)))
+    if (!c->at && (r->has_addend != is_rela || (!is_rela && r->r_addend) || (c->is_64 ? r->r_sym >> 32 : r->r_sym >> 24)
+                   || (!c->is_64 && r->r_type >> 8)))
         c->fits = false;
-    uint64_t info = !c->is_64 ? r->r_sym << 8 | r->r_type : is_pair ? reversed(r->r_type) << 32 | r->r_sym : r->r_sym << 32 | r->r_type;
+    uint64_t info = !c->is_64 ? r->r_sym << 8 | r->r_type : is_pair ? reversed(r->r_type) << 32 | r->r_sym
+        : r->r_sym << 32 | r->r_type;
     r->r_offset = wide(c, r->r_offset), info = c->is_64 ? field(c, 8, info) : field(c, 4, info & 0xffffffff);
     r->r_sym = !c->is_64 ? info >> 8 : is_pair ? info & 0xffffffff : info >> 32;
     r->r_type = (uint32_t)(!c->is_64 ? info & 0xff : is_pair ? reversed(info >> 32) : info & 0xffffffff);
@@ -125,7 +134,8 @@ static void each_of_reloc(cursor_t *c, const goblin_header_t *h, bool is_rela, g
 
 uint32_t goblin_version(void) { return GOBLIN_VERSION; }
 
-#define FILL(kind, name) fill((uint8_t *)&layout->name, sizeof(goblin_##kind##_t)), layout->size_of_##name = sizeof(goblin_##kind##_t)
+#define FILL(kind, name) \
+    fill((uint8_t *)&layout->name, sizeof(goblin_##kind##_t)), layout->size_of_##name = sizeof(goblin_##kind##_t)
 static void fill(uint8_t *bytes, size_t size) {
     for (size_t i = 0; i < size; i++) bytes[i] = 0xee;
 }
@@ -143,7 +153,8 @@ uint32_t goblin_header(const uint8_t *bytes, size_t len, goblin_header_t *header
     if (bytes[5] != 1 && bytes[5] != 2) return refuse(why, GOBLIN_DATA_TYPE, bytes[5], 0, 0);
     uint32_t status = inside(len, 0, bytes[4] == 2 ? HEADER_64 : HEADER_32, 0, why);
     if (status) return status;
-    h.ei_class = bytes[4], h.ei_data = bytes[5], h.ei_version = bytes[6], h.ei_osabi = bytes[7], h.ei_abiversion = bytes[8];
+    h.ei_class = bytes[4], h.ei_data = bytes[5], h.ei_version = bytes[6], h.ei_osabi = bytes[7],
+        h.ei_abiversion = bytes[8];
     cursor_t c = reader(bytes + 16, &h);
     each_of_header(&c, &h);
     *header = h;
@@ -162,14 +173,19 @@ uint32_t goblin_put_header(uint8_t *bytes, size_t len, const goblin_header_t *he
     c.out = bytes + 16;
     each_of_header(&c, &h);
     put(bytes, 4, true, 0x7f454c46);
-    bytes[4] = h.ei_class, bytes[5] = h.ei_data, bytes[6] = h.ei_version, bytes[7] = h.ei_osabi, bytes[8] = h.ei_abiversion;
+    bytes[4] = h.ei_class, bytes[5] = h.ei_data, bytes[6] = h.ei_version, bytes[7] = h.ei_osabi,
+        bytes[8] = h.ei_abiversion;
     return GOBLIN_OK;
 }
 
 /* ---- lists of headers ---- */
 
-static uint64_t section_size(const goblin_header_t *h) { return is_64(h) ? GOBLIN_SIZEOF_SHDR64 : GOBLIN_SIZEOF_SHDR32; }
-static uint64_t segment_size(const goblin_header_t *h) { return is_64(h) ? GOBLIN_SIZEOF_PHDR64 : GOBLIN_SIZEOF_PHDR32; }
+static uint64_t section_size(const goblin_header_t *h) {
+    return is_64(h) ? GOBLIN_SIZEOF_SHDR64 : GOBLIN_SIZEOF_SHDR32;
+}
+static uint64_t segment_size(const goblin_header_t *h) {
+    return is_64(h) ? GOBLIN_SIZEOF_PHDR64 : GOBLIN_SIZEOF_PHDR32;
+}
 
 static goblin_section_t section_at(const uint8_t *bytes, const goblin_header_t *h, uint64_t index) {
     goblin_section_t s;
@@ -192,7 +208,8 @@ static uint32_t list(size_t len, uint64_t start, uint64_t size, uint64_t number,
     return number <= in_file ? (uint32_t)GOBLIN_OK : inside(len, start + in_file * size, size, start, why);
 }
 
-static uint32_t sections_stated(const uint8_t *bytes, size_t len, const goblin_header_t *h, uint64_t *number, goblin_refusal_t *why) {
+static uint32_t sections_stated(const uint8_t *bytes, size_t len, const goblin_header_t *h, uint64_t *number,
+                                goblin_refusal_t *why) {
     *number = 0;
     if (h->e_shoff == 0) return GOBLIN_OK;
     uint32_t status = inside(len, h->e_shoff, section_size(h), h->e_shoff, why);
@@ -202,7 +219,8 @@ static uint32_t sections_stated(const uint8_t *bytes, size_t len, const goblin_h
     return GOBLIN_OK;
 }
 
-static uint32_t segments_stated(const uint8_t *bytes, size_t len, const goblin_header_t *h, uint64_t *number, goblin_refusal_t *why) {
+static uint32_t segments_stated(const uint8_t *bytes, size_t len, const goblin_header_t *h, uint64_t *number,
+                                goblin_refusal_t *why) {
     *number = h->e_phnum;
     if (h->e_phnum != 0xffff || h->e_shoff == 0) return GOBLIN_OK;
     uint32_t status = inside(len, h->e_shoff, section_size(h), h->e_shoff, why);
@@ -212,7 +230,8 @@ static uint32_t segments_stated(const uint8_t *bytes, size_t len, const goblin_h
 
 void goblin_whole_header(const uint8_t *bytes, size_t len, const goblin_header_t *header, goblin_header_t *result) {
     goblin_refusal_t unread;
-    uint64_t number, sections = whole(len, header->e_shoff, section_size(header)), segments = whole(len, header->e_phoff, segment_size(header));
+    uint64_t number, sections = whole(len, header->e_shoff, section_size(header)),
+        segments = whole(len, header->e_phoff, segment_size(header));
     *result = *header;
     if (sections_stated(bytes, len, header, &number, &unread) || number > sections) {
         result->e_shnum = (uint16_t)(sections > 0xffff ? 0xffff : sections);
@@ -225,7 +244,8 @@ void goblin_whole_header(const uint8_t *bytes, size_t len, const goblin_header_t
     }
 }
 
-uint32_t goblin_section_count(const uint8_t *bytes, size_t len, const goblin_header_t *h, uint64_t *count, goblin_refusal_t *why) {
+uint32_t goblin_section_count(const uint8_t *bytes, size_t len, const goblin_header_t *h, uint64_t *count,
+                              goblin_refusal_t *why) {
     uint64_t number;
     uint32_t status = sections_stated(bytes, len, h, &number, why);
     if (!status && number) status = list(len, h->e_shoff, section_size(h), number, GOBLIN_SECTION_HEADERS, why);
@@ -233,8 +253,8 @@ uint32_t goblin_section_count(const uint8_t *bytes, size_t len, const goblin_hea
     return status;
 }
 
-uint32_t goblin_section(const uint8_t *bytes, size_t len, const goblin_header_t *h, uint64_t index, goblin_section_t *section,
-                        goblin_refusal_t *why) {
+uint32_t goblin_section(const uint8_t *bytes, size_t len, const goblin_header_t *h, uint64_t index,
+                        goblin_section_t *section, goblin_refusal_t *why) {
     uint64_t count;
     uint32_t status = goblin_section_count(bytes, len, h, &count, why);
     if (status || index >= count) return status ? status : (uint32_t)GOBLIN_END;
@@ -242,8 +262,8 @@ uint32_t goblin_section(const uint8_t *bytes, size_t len, const goblin_header_t 
     return GOBLIN_OK;
 }
 
-uint32_t goblin_put_section(uint8_t *bytes, size_t len, const goblin_header_t *h, uint64_t index, const goblin_section_t *section,
-                            goblin_refusal_t *why) {
+uint32_t goblin_put_section(uint8_t *bytes, size_t len, const goblin_header_t *h, uint64_t index,
+                            const goblin_section_t *section, goblin_refusal_t *why) {
     goblin_section_t unread, s = *section;
     uint32_t status = goblin_section(bytes, len, h, index, &unread, why);
     if (status) return status;
@@ -253,20 +273,21 @@ uint32_t goblin_put_section(uint8_t *bytes, size_t len, const goblin_header_t *h
 /* Fills an array by the call for one item. */
 #define SEVERAL(one, ...) \
     uint64_t number = 0; \
-    for (; status == GOBLIN_OK && number < capacity && one(bytes, len, __VA_ARGS__, first + number, items + number, why) == GOBLIN_OK;) \
+    for (; status == GOBLIN_OK && number < capacity \
+         && one(bytes, len, __VA_ARGS__, first + number, items + number, why) == GOBLIN_OK;) \
         number++; \
     if (status == GOBLIN_OK) *filled = number; \
     return status;
 
-uint32_t goblin_sections(const uint8_t *bytes, size_t len, const goblin_header_t *h, uint64_t first, goblin_section_t *items,
-                         size_t capacity, uint64_t *filled, goblin_refusal_t *why) {
+uint32_t goblin_sections(const uint8_t *bytes, size_t len, const goblin_header_t *h, uint64_t first,
+                         goblin_section_t *items, size_t capacity, uint64_t *filled, goblin_refusal_t *why) {
     goblin_section_t unread;
     uint32_t status = goblin_section(bytes, len, h, first, &unread, why);
     SEVERAL(goblin_section, h)
 }
 
-uint32_t goblin_linked_section(const uint8_t *bytes, size_t len, const goblin_header_t *h, uint64_t index, goblin_section_t *section,
-                               goblin_refusal_t *why) {
+uint32_t goblin_linked_section(const uint8_t *bytes, size_t len, const goblin_header_t *h, uint64_t index,
+                               goblin_section_t *section, goblin_refusal_t *why) {
     goblin_section_t s;
     uint32_t status = goblin_section(bytes, len, h, index, &s, why);
     if (status || index == 0 || s.sh_type == GOBLIN_SHT_NOBITS) return status ? status : (uint32_t)GOBLIN_END;
@@ -274,18 +295,22 @@ uint32_t goblin_linked_section(const uint8_t *bytes, size_t len, const goblin_he
     return GOBLIN_OK;
 }
 
-uint32_t goblin_section_names(const uint8_t *bytes, size_t len, const goblin_header_t *h, goblin_section_t *section, goblin_refusal_t *why) {
+uint32_t goblin_section_names(const uint8_t *bytes, size_t len, const goblin_header_t *h, goblin_section_t *section,
+                              goblin_refusal_t *why) {
     goblin_section_t first;
     uint32_t status = goblin_section(bytes, len, h, 0, &first, why);
-    return status ? status : goblin_linked_section(bytes, len, h, h->e_shstrndx == 0xffff ? first.sh_link : h->e_shstrndx, section, why);
+    return status ? status
+        : goblin_linked_section(bytes, len, h, h->e_shstrndx == 0xffff ? first.sh_link : h->e_shstrndx, section, why);
 }
 
 /* ---- strings ---- */
 
 static bool is_utf8(const uint8_t *at, uint64_t size) {
     for (uint64_t i = 0; i < size;) {
-        unsigned lead = at[i++], more = lead < 0x80 ? 0 : lead < 0xc2 ? 9 : lead < 0xe0 ? 1 : lead < 0xf0 ? 2 : lead < 0xf5 ? 3 : 9;
-        unsigned least = lead == 0xe0 ? 0xa0 : lead == 0xf0 ? 0x90 : 0x80, most = lead == 0xed ? 0x9f : lead == 0xf4 ? 0x8f : 0xbf;
+        unsigned lead = at[i++], more = lead < 0x80 ? 0 : lead < 0xc2 ? 9 : lead < 0xe0 ? 1 : lead < 0xf0 ? 2
+            : lead < 0xf5 ? 3 : 9;
+        unsigned least = lead == 0xe0 ? 0xa0 : lead == 0xf0 ? 0x90 : 0x80,
+            most = lead == 0xed ? 0x9f : lead == 0xf4 ? 0x8f : 0xbf;
         for (; more > 0; more--, i++, least = 0x80, most = 0xbf)
             if (more > 3 || i >= size || at[i] < least || at[i] > most) return false;
     }
@@ -300,8 +325,8 @@ static uint32_t strings_inside(size_t len, const goblin_range_t *strings, goblin
     return GOBLIN_STRTAB_RANGE;
 }
 
-uint32_t goblin_string_bytes(const uint8_t *bytes, size_t len, const goblin_range_t *strings, uint64_t offset, goblin_range_t *string,
-                             goblin_refusal_t *why) {
+uint32_t goblin_string_bytes(const uint8_t *bytes, size_t len, const goblin_range_t *strings, uint64_t offset,
+                             goblin_range_t *string, goblin_refusal_t *why) {
     uint64_t end = offset;
     uint32_t status = strings_inside(len, strings, why);
     if (status || offset >= strings->size) return status ? status : (uint32_t)GOBLIN_END;
@@ -310,8 +335,8 @@ uint32_t goblin_string_bytes(const uint8_t *bytes, size_t len, const goblin_rang
     return GOBLIN_OK;
 }
 
-uint32_t goblin_string(const uint8_t *bytes, size_t len, const goblin_range_t *strings, uint64_t offset, goblin_range_t *string,
-                       goblin_refusal_t *why) {
+uint32_t goblin_string(const uint8_t *bytes, size_t len, const goblin_range_t *strings, uint64_t offset,
+                       goblin_range_t *string, goblin_refusal_t *why) {
     goblin_range_t found;
     uint32_t status = goblin_string_bytes(bytes, len, strings, offset, &found, why);
     if (status) return status;
@@ -324,8 +349,9 @@ uint32_t goblin_string(const uint8_t *bytes, size_t len, const goblin_range_t *s
     return GOBLIN_OK;
 }
 
-uint32_t goblin_strings(const uint8_t *bytes, size_t len, const goblin_range_t *strings, const uint64_t *offsets, size_t offsets_len,
-                        goblin_range_t *ranges, size_t capacity, uint64_t *filled, goblin_refusal_t *why) {
+uint32_t goblin_strings(const uint8_t *bytes, size_t len, const goblin_range_t *strings, const uint64_t *offsets,
+                        size_t offsets_len, goblin_range_t *ranges, size_t capacity, uint64_t *filled,
+                        goblin_refusal_t *why) {
     uint32_t status = GOBLIN_OK;
     for (*filled = 0; *filled < offsets_len && *filled < capacity; ++*filled) {
         status = goblin_string(bytes, len, strings, offsets[*filled], &ranges[*filled], why);
@@ -335,7 +361,8 @@ uint32_t goblin_strings(const uint8_t *bytes, size_t len, const goblin_range_t *
 }
 
 /* Tests whether a name is the string at an offset, and UTF-8. */
-static bool is_named(const uint8_t *bytes, size_t len, const goblin_range_t *names, uint64_t offset, const uint8_t *name, size_t name_len) {
+static bool is_named(const uint8_t *bytes, size_t len, const goblin_range_t *names, uint64_t offset,
+                     const uint8_t *name, size_t name_len) {
     goblin_range_t found;
     goblin_refusal_t unread;
     if (goblin_string(bytes, len, names, offset, &found, &unread) || found.size != name_len) return false;
@@ -344,20 +371,22 @@ static bool is_named(const uint8_t *bytes, size_t len, const goblin_range_t *nam
     return true;
 }
 
-uint32_t goblin_section_by_name(const uint8_t *bytes, size_t len, const goblin_header_t *h, const goblin_range_t *names, const void *name,
-                                size_t name_len, uint64_t first, uint64_t *index, goblin_section_t *section, goblin_refusal_t *why) {
+uint32_t goblin_section_by_name(const uint8_t *bytes, size_t len, const goblin_header_t *h, const goblin_range_t *names,
+                                const void *name, size_t name_len, uint64_t first, uint64_t *index,
+                                goblin_section_t *section, goblin_refusal_t *why) {
     uint64_t count;
     uint32_t status = goblin_section_count(bytes, len, h, &count, why);
     if (!status) status = strings_inside(len, names, why);
     for (uint64_t i = first; !status && i < count; i++) {
         goblin_section_t s = section_at(bytes, h, i);
-        if (is_named(bytes, len, names, s.sh_name, (const uint8_t *)name, name_len)) return *index = i, *section = s, GOBLIN_OK;
+        if (is_named(bytes, len, names, s.sh_name, (const uint8_t *)name, name_len))
+            return *index = i, *section = s, GOBLIN_OK;
     }
     return status ? status : (uint32_t)GOBLIN_END;
 }
 
-uint32_t goblin_section_by_type(const uint8_t *bytes, size_t len, const goblin_header_t *h, uint32_t sh_type, uint64_t first, uint64_t *index,
-                                goblin_section_t *section, goblin_refusal_t *why) {
+uint32_t goblin_section_by_type(const uint8_t *bytes, size_t len, const goblin_header_t *h, uint32_t sh_type,
+                                uint64_t first, uint64_t *index, goblin_section_t *section, goblin_refusal_t *why) {
     uint64_t count;
     uint32_t status = goblin_section_count(bytes, len, h, &count, why);
     for (uint64_t i = first; !status && i < count; i++) {
@@ -367,26 +396,30 @@ uint32_t goblin_section_by_type(const uint8_t *bytes, size_t len, const goblin_h
     return status ? status : (uint32_t)GOBLIN_END;
 }
 
-static uint32_t bytes_of(size_t len, bool has_bytes, const goblin_range_t *file, goblin_range_t *range, goblin_refusal_t *why) {
+static uint32_t bytes_of(size_t len, bool has_bytes, const goblin_range_t *file, goblin_range_t *range,
+                         goblin_refusal_t *why) {
     if (!has_bytes || file->size == 0) return GOBLIN_END;
     uint32_t status = inside(len, file->offset, file->size, file->offset, why);
     if (!status) *range = *file;
     return status;
 }
 
-uint32_t goblin_section_bytes(const uint8_t *bytes, size_t len, const goblin_section_t *s, goblin_range_t *range, goblin_refusal_t *why) {
+uint32_t goblin_section_bytes(const uint8_t *bytes, size_t len, const goblin_section_t *s, goblin_range_t *range,
+                              goblin_refusal_t *why) {
     (void)bytes;
     return bytes_of(len, s->sh_type != GOBLIN_SHT_NULL && s->sh_type != GOBLIN_SHT_NOBITS, &s->file, range, why);
 }
 
-uint32_t goblin_segment_bytes(const uint8_t *bytes, size_t len, const goblin_segment_t *p, goblin_range_t *range, goblin_refusal_t *why) {
+uint32_t goblin_segment_bytes(const uint8_t *bytes, size_t len, const goblin_segment_t *p, goblin_range_t *range,
+                              goblin_refusal_t *why) {
     (void)bytes;
     return bytes_of(len, p->p_type != GOBLIN_PT_NULL, &p->file, range, why);
 }
 
 /* ---- segments ---- */
 
-uint32_t goblin_segment_count(const uint8_t *bytes, size_t len, const goblin_header_t *h, uint64_t *count, goblin_refusal_t *why) {
+uint32_t goblin_segment_count(const uint8_t *bytes, size_t len, const goblin_header_t *h, uint64_t *count,
+                              goblin_refusal_t *why) {
     uint64_t number;
     uint32_t status = segments_stated(bytes, len, h, &number, why);
     if (!status && number) status = list(len, h->e_phoff, segment_size(h), number, GOBLIN_PROGRAM_HEADERS, why);
@@ -394,8 +427,8 @@ uint32_t goblin_segment_count(const uint8_t *bytes, size_t len, const goblin_hea
     return status;
 }
 
-uint32_t goblin_segment(const uint8_t *bytes, size_t len, const goblin_header_t *h, uint64_t index, goblin_segment_t *segment,
-                        goblin_refusal_t *why) {
+uint32_t goblin_segment(const uint8_t *bytes, size_t len, const goblin_header_t *h, uint64_t index,
+                        goblin_segment_t *segment, goblin_refusal_t *why) {
     uint64_t count;
     uint32_t status = goblin_segment_count(bytes, len, h, &count, why);
     if (status || index >= count) return status ? status : (uint32_t)GOBLIN_END;
@@ -404,21 +437,22 @@ uint32_t goblin_segment(const uint8_t *bytes, size_t len, const goblin_header_t 
     return GOBLIN_OK;
 }
 
-uint32_t goblin_put_segment(uint8_t *bytes, size_t len, const goblin_header_t *h, uint64_t index, const goblin_segment_t *segment,
-                            goblin_refusal_t *why) {
+uint32_t goblin_put_segment(uint8_t *bytes, size_t len, const goblin_header_t *h, uint64_t index,
+                            const goblin_segment_t *segment, goblin_refusal_t *why) {
     goblin_segment_t unread, p = *segment;
     uint32_t status = goblin_segment(bytes, len, h, index, &unread, why);
     if (status) return status;
     WRITE(each_of_segment, bytes, h, h->e_phoff + index * segment_size(h), p, why, NOTHING);
 }
 
-uint32_t goblin_address_to_offset(const uint8_t *bytes, size_t len, const goblin_header_t *h, uint64_t address, uint64_t *offset,
-                                  goblin_refusal_t *why) {
+uint32_t goblin_address_to_offset(const uint8_t *bytes, size_t len, const goblin_header_t *h, uint64_t address,
+                                  uint64_t *offset, goblin_refusal_t *why) {
     goblin_segment_t p;
     uint32_t status;
     for (uint64_t i = 0; (status = goblin_segment(bytes, len, h, i, &p, why)) == GOBLIN_OK; i++) {
         if (p.p_type != GOBLIN_PT_LOAD || p.p_vaddr > address || address - p.p_vaddr >= p.file.size) continue;
-        uint64_t past = address - p.p_vaddr, found = past > UINT64_MAX - p.file.offset ? UINT64_MAX : p.file.offset + past;
+        uint64_t past = address - p.p_vaddr,
+            found = past > UINT64_MAX - p.file.offset ? UINT64_MAX : p.file.offset + past;
         if ((status = inside(len, found, 1, found, why)) == GOBLIN_OK) *offset = found;
         return status;
     }
@@ -429,8 +463,8 @@ uint32_t goblin_address_to_offset(const uint8_t *bytes, size_t len, const goblin
 
 static uint64_t symbol_size(const goblin_header_t *h) { return is_64(h) ? GOBLIN_SIZEOF_SYM64 : GOBLIN_SIZEOF_SYM32; }
 
-uint32_t goblin_symbol_count(const uint8_t *bytes, size_t len, const goblin_header_t *h, const goblin_range_t *table, uint64_t *count,
-                             goblin_refusal_t *why) {
+uint32_t goblin_symbol_count(const uint8_t *bytes, size_t len, const goblin_header_t *h, const goblin_range_t *table,
+                             uint64_t *count, goblin_refusal_t *why) {
     uint64_t number = table->size / symbol_size(h), size = number * symbol_size(h);
     (void)bytes;
     if (table->offset >= len) return refuse(why, GOBLIN_SYMTAB_OFFSET, table->offset, len, table->offset);
@@ -439,8 +473,8 @@ uint32_t goblin_symbol_count(const uint8_t *bytes, size_t len, const goblin_head
     return GOBLIN_OK;
 }
 
-uint32_t goblin_symbol(const uint8_t *bytes, size_t len, const goblin_header_t *h, const goblin_range_t *table, uint64_t index,
-                       goblin_symbol_t *symbol, goblin_refusal_t *why) {
+uint32_t goblin_symbol(const uint8_t *bytes, size_t len, const goblin_header_t *h, const goblin_range_t *table,
+                       uint64_t index, goblin_symbol_t *symbol, goblin_refusal_t *why) {
     uint64_t count;
     uint32_t status = goblin_symbol_count(bytes, len, h, table, &count, why);
     if (status || index >= count) return status ? status : (uint32_t)GOBLIN_END;
@@ -449,23 +483,25 @@ uint32_t goblin_symbol(const uint8_t *bytes, size_t len, const goblin_header_t *
     return GOBLIN_OK;
 }
 
-uint32_t goblin_put_symbol(uint8_t *bytes, size_t len, const goblin_header_t *h, const goblin_range_t *table, uint64_t index,
-                           const goblin_symbol_t *symbol, goblin_refusal_t *why) {
+uint32_t goblin_put_symbol(uint8_t *bytes, size_t len, const goblin_header_t *h, const goblin_range_t *table,
+                           uint64_t index, const goblin_symbol_t *symbol, goblin_refusal_t *why) {
     goblin_symbol_t unread, s = *symbol;
     uint32_t status = goblin_symbol(bytes, len, h, table, index, &unread, why);
     if (status) return status;
     WRITE(each_of_symbol, bytes, h, table->offset + index * symbol_size(h), s, why, NOTHING);
 }
 
-uint32_t goblin_symbols(const uint8_t *bytes, size_t len, const goblin_header_t *h, const goblin_range_t *table, uint64_t first,
-                        goblin_symbol_t *items, size_t capacity, uint64_t *filled, goblin_refusal_t *why) {
+uint32_t goblin_symbols(const uint8_t *bytes, size_t len, const goblin_header_t *h, const goblin_range_t *table,
+                        uint64_t first, goblin_symbol_t *items, size_t capacity, uint64_t *filled,
+                        goblin_refusal_t *why) {
     goblin_symbol_t unread;
     uint32_t status = goblin_symbol(bytes, len, h, table, first, &unread, why);
     SEVERAL(goblin_symbol, h, table)
 }
 
 uint32_t goblin_symbol_by_name(const uint8_t *bytes, size_t len, const goblin_header_t *h, const goblin_range_t *table,
-                               const goblin_range_t *names, const void *name, size_t name_len, uint64_t *index, goblin_refusal_t *why) {
+                               const goblin_range_t *names, const void *name, size_t name_len, uint64_t *index,
+                               goblin_refusal_t *why) {
     uint64_t count;
     goblin_symbol_t s;
     uint32_t status = goblin_symbol_count(bytes, len, h, table, &count, why);
@@ -476,8 +512,9 @@ uint32_t goblin_symbol_by_name(const uint8_t *bytes, size_t len, const goblin_he
     return status ? status : (uint32_t)GOBLIN_END;
 }
 
-uint32_t goblin_symbol_by_address(const uint8_t *bytes, size_t len, const goblin_header_t *h, const goblin_range_t *table, uint64_t address,
-                                  uint64_t *index, goblin_refusal_t *why) {
+uint32_t goblin_symbol_by_address(const uint8_t *bytes, size_t len, const goblin_header_t *h,
+                                  const goblin_range_t *table, uint64_t address, uint64_t *index,
+                                  goblin_refusal_t *why) {
     goblin_symbol_t s;
     uint64_t count, best = 0, best_start = 0, label = 0, label_start = 0;
     bool has_best = false, has_label = false, has_start = false;
@@ -487,7 +524,8 @@ uint32_t goblin_symbol_by_address(const uint8_t *bytes, size_t len, const goblin
         unsigned type = s.st_info & 15;
         if (!(s.st_shndx >= 1 && s.st_shndx <= 0xfeff) && s.st_shndx != 0xffff) continue;
         if ((type > GOBLIN_STT_FUNC && type != GOBLIN_STT_GNU_IFUNC) || s.st_value > address) continue;
-        if (address - s.st_value < s.st_size && (!has_best || s.st_value > best_start)) has_best = true, best = i, best_start = s.st_value;
+        if (address - s.st_value < s.st_size && (!has_best || s.st_value > best_start))
+            has_best = true, best = i, best_start = s.st_value;
         if (!has_start || s.st_value > label_start) has_start = true, label_start = s.st_value, has_label = false;
         if (s.st_value == label_start && s.st_size == 0 && !has_label) has_label = true, label = i;
     }
@@ -498,18 +536,20 @@ uint32_t goblin_symbol_by_address(const uint8_t *bytes, size_t len, const goblin
 
 /* ---- relocations ---- */
 
-static uint64_t reloc_size(const goblin_header_t *h, bool is_rela) { return (is_rela ? 3U : 2U) * (is_64(h) ? 8U : 4U); }
+static uint64_t reloc_size(const goblin_header_t *h, bool is_rela) {
+    return (is_rela ? 3U : 2U) * (is_64(h) ? 8U : 4U);
+}
 
-uint32_t goblin_reloc_count(const uint8_t *bytes, size_t len, const goblin_header_t *h, const goblin_range_t *table, bool is_rela,
-                            uint64_t *count, goblin_refusal_t *why) {
+uint32_t goblin_reloc_count(const uint8_t *bytes, size_t len, const goblin_header_t *h, const goblin_range_t *table,
+                            bool is_rela, uint64_t *count, goblin_refusal_t *why) {
     uint32_t status = table->size ? inside(len, table->offset, table->size, table->offset, why) : (uint32_t)GOBLIN_OK;
     (void)bytes;
     if (!status) *count = table->size / reloc_size(h, is_rela);
     return status;
 }
 
-uint32_t goblin_reloc(const uint8_t *bytes, size_t len, const goblin_header_t *h, const goblin_range_t *table, bool is_rela, uint64_t index,
-                      goblin_reloc_t *reloc, goblin_refusal_t *why) {
+uint32_t goblin_reloc(const uint8_t *bytes, size_t len, const goblin_header_t *h, const goblin_range_t *table,
+                      bool is_rela, uint64_t index, goblin_reloc_t *reloc, goblin_refusal_t *why) {
     uint64_t count;
     goblin_reloc_t r = {0, 0, 0, 0, 0};
     uint32_t status = goblin_reloc_count(bytes, len, h, table, is_rela, &count, why);
@@ -520,16 +560,17 @@ uint32_t goblin_reloc(const uint8_t *bytes, size_t len, const goblin_header_t *h
     return GOBLIN_OK;
 }
 
-uint32_t goblin_put_reloc(uint8_t *bytes, size_t len, const goblin_header_t *h, const goblin_range_t *table, bool is_rela, uint64_t index,
-                          const goblin_reloc_t *reloc, goblin_refusal_t *why) {
+uint32_t goblin_put_reloc(uint8_t *bytes, size_t len, const goblin_header_t *h, const goblin_range_t *table,
+                          bool is_rela, uint64_t index, const goblin_reloc_t *reloc, goblin_refusal_t *why) {
     goblin_reloc_t unread, r = *reloc;
     uint32_t status = goblin_reloc(bytes, len, h, table, is_rela, index, &unread, why);
     if (status) return status;
     WRITE(each_of_reloc, bytes, h, table->offset + index * reloc_size(h, is_rela), r, why, h, is_rela,);
 }
 
-uint32_t goblin_relocs(const uint8_t *bytes, size_t len, const goblin_header_t *h, const goblin_range_t *table, bool is_rela, uint64_t first,
-                       goblin_reloc_t *items, size_t capacity, uint64_t *filled, goblin_refusal_t *why) {
+uint32_t goblin_relocs(const uint8_t *bytes, size_t len, const goblin_header_t *h, const goblin_range_t *table,
+                       bool is_rela, uint64_t first, goblin_reloc_t *items, size_t capacity, uint64_t *filled,
+                       goblin_refusal_t *why) {
     goblin_reloc_t unread;
     uint32_t status = goblin_reloc(bytes, len, h, table, is_rela, first, &unread, why);
     SEVERAL(goblin_reloc, h, table, is_rela)
@@ -541,19 +582,23 @@ static bool is_past(const goblin_range_t *range, uint64_t offset) {
     return offset >= range->offset && offset - range->offset >= range->size;
 }
 
-static uint64_t aligned(uint64_t offset, uint64_t alignment) { return (offset + alignment - 1) / alignment * alignment; }
+static uint64_t aligned(uint64_t offset, uint64_t alignment) {
+    return (offset + alignment - 1) / alignment * alignment;
+}
 
 /* Reads a note in the bytes from `offset` to `end`. Refusals have the part that is not there, if `has_parts`. */
-static uint32_t read_note(const uint8_t *bytes, uint64_t end, const goblin_header_t *h, uint64_t alignment, uint64_t offset, bool has_parts,
-                          goblin_note_t *note, goblin_refusal_t *why) {
+static uint32_t read_note(const uint8_t *bytes, uint64_t end, const goblin_header_t *h, uint64_t alignment,
+                          uint64_t offset, bool has_parts, goblin_note_t *note, goblin_refusal_t *why) {
     uint64_t left = end - offset;
     uint32_t status;
     if (alignment < 4) alignment = 4;
     if (alignment != 4 && alignment != 8) return refuse(why, GOBLIN_NOTE_ALIGN, alignment, 0, offset);
-    if ((status = inside(left, 0, NOTE_SIZE, offset, why))) return why->item = has_parts ? GOBLIN_NOTE_HEADER : 0, status;
+    if ((status = inside(left, 0, NOTE_SIZE, offset, why)))
+        return why->item = has_parts ? GOBLIN_NOTE_HEADER : 0, status;
     uint64_t name = get(bytes + offset, 4, is_big(h)), desc = get(bytes + offset + 4, 4, is_big(h));
     uint64_t at = aligned(NOTE_SIZE + name, alignment), name_size = !has_parts && name ? name - 1 : name;
-    if ((status = inside(left, NOTE_SIZE, name_size, offset, why))) return why->item = has_parts ? GOBLIN_NOTE_NAME : 0, status;
+    if ((status = inside(left, NOTE_SIZE, name_size, offset, why)))
+        return why->item = has_parts ? GOBLIN_NOTE_NAME : 0, status;
     if (!has_parts && !is_utf8(bytes + offset + NOTE_SIZE, name_size)) {
         refuse(why, GOBLIN_BAD_INPUT, left - NOTE_SIZE, 0, offset);
         why->item = GOBLIN_INVALID_UTF8;
@@ -567,16 +612,17 @@ static uint32_t read_note(const uint8_t *bytes, uint64_t end, const goblin_heade
     return GOBLIN_OK;
 }
 
-uint32_t goblin_note(const uint8_t *bytes, size_t len, const goblin_header_t *h, const goblin_range_t *notes, uint64_t alignment,
-                     uint64_t offset, goblin_note_t *note, goblin_refusal_t *why) {
+uint32_t goblin_note(const uint8_t *bytes, size_t len, const goblin_header_t *h, const goblin_range_t *notes,
+                     uint64_t alignment, uint64_t offset, goblin_note_t *note, goblin_refusal_t *why) {
     if (is_past(notes, offset)) return GOBLIN_END;
     if (offset >= len) return refuse(why, GOBLIN_BAD_OFFSET, offset, 0, offset);
     return read_note(bytes, len, h, alignment, offset, false, note, why);
 }
 
-uint32_t goblin_note_bytes(const uint8_t *bytes, size_t len, const goblin_header_t *h, const goblin_range_t *notes, uint64_t alignment,
-                           uint64_t offset, goblin_note_t *note, goblin_refusal_t *why) {
-    uint64_t end = notes->size > UINT64_MAX - notes->offset || notes->offset + notes->size > len ? len : notes->offset + notes->size;
+uint32_t goblin_note_bytes(const uint8_t *bytes, size_t len, const goblin_header_t *h, const goblin_range_t *notes,
+                           uint64_t alignment, uint64_t offset, goblin_note_t *note, goblin_refusal_t *why) {
+    uint64_t end = notes->size > UINT64_MAX - notes->offset || notes->offset + notes->size > len ? len
+        : notes->offset + notes->size;
     if (is_past(notes, offset)) return GOBLIN_END;
     return read_note(bytes, end < offset ? offset : end, h, alignment, offset, true, note, why);
 }
@@ -585,16 +631,16 @@ uint32_t goblin_note_bytes(const uint8_t *bytes, size_t len, const goblin_header
 
 static bool is_width(uint64_t width) { return width == 1 || width == 2 || width == 4 || width == 8; }
 
-uint32_t goblin_number(const uint8_t *bytes, size_t len, const goblin_header_t *h, uint64_t offset, uint64_t width, uint64_t *value,
-                       goblin_refusal_t *why) {
+uint32_t goblin_number(const uint8_t *bytes, size_t len, const goblin_header_t *h, uint64_t offset, uint64_t width,
+                       uint64_t *value, goblin_refusal_t *why) {
     if (!is_width(width)) return GOBLIN_END;
     uint32_t status = inside(len, offset, width, offset, why);
     if (!status) *value = get(bytes + offset, (unsigned)width, is_big(h));
     return status;
 }
 
-uint32_t goblin_number_in(const uint8_t *bytes, size_t len, const goblin_header_t *h, const goblin_range_t *range, uint64_t offset,
-                          uint64_t width, uint64_t *value, goblin_refusal_t *why) {
+uint32_t goblin_number_in(const uint8_t *bytes, size_t len, const goblin_header_t *h, const goblin_range_t *range,
+                          uint64_t offset, uint64_t width, uint64_t *value, goblin_refusal_t *why) {
     if (!is_width(width)) return GOBLIN_END;
     uint64_t from = offset > UINT64_MAX - range->offset ? UINT64_MAX : range->offset + offset;
     uint32_t status = inside(len, range->offset, range->size, range->offset, why);
@@ -603,8 +649,8 @@ uint32_t goblin_number_in(const uint8_t *bytes, size_t len, const goblin_header_
     return status;
 }
 
-uint32_t goblin_put_number(uint8_t *bytes, size_t len, const goblin_header_t *h, uint64_t offset, uint64_t width, uint64_t value,
-                           goblin_refusal_t *why) {
+uint32_t goblin_put_number(uint8_t *bytes, size_t len, const goblin_header_t *h, uint64_t offset, uint64_t width,
+                           uint64_t value, goblin_refusal_t *why) {
     uint64_t unread;
     uint32_t status = goblin_number(bytes, len, h, offset, width, &unread, why);
     if (status) return status;
@@ -656,11 +702,13 @@ static void write(out_t *out, const char *format, const goblin_refusal_t *why) {
 uint64_t goblin_refusal_text(const goblin_refusal_t *why, void *text, size_t capacity) {
     static const char *const formats[] = {
         NULL, NULL, "Invalid magic number: 0x%x", "type is too big (%d) for %d", "bad offset %d", "bad input %s (%d)",
-        "Buffer is too short for %d %s", "Out of memory", NULL, NULL, "Invalid class in Header: %d", "Invalid endianness in Header: %d",
-        "Too small", "invalid ELF class %x", "invalid ELF endianness DATA type %x", "invalid ELF DATA type %x",
-        "Notes has unimplemented alignment requirement: 0x%x", "Symbol table offset (%d) is beyond file boundary (%d)",
-        "Too many ELF symbols (offset 0x%x, count %d)", "Symbol table extends beyond file boundary (requested: %d, available: %d)",
-        "String table offset (%d) is beyond file boundary (%d)", "Strtable size (%d) + offset (%d) is out of bounds for %d #bytes. Overflowed: %b",
+        "Buffer is too short for %d %s", "Out of memory", NULL, NULL, "Invalid class in Header: %d",
+        "Invalid endianness in Header: %d", "Too small", "invalid ELF class %x", "invalid ELF endianness DATA type %x",
+        "invalid ELF DATA type %x", "Notes has unimplemented alignment requirement: 0x%x",
+        "Symbol table offset (%d) is beyond file boundary (%d)", "Too many ELF symbols (offset 0x%x, count %d)",
+        "Symbol table extends beyond file boundary (requested: %d, available: %d)",
+        "String table offset (%d) is beyond file boundary (%d)",
+        "Strtable size (%d) + offset (%d) is out of bounds for %d #bytes. Overflowed: %b",
         "Section %d size (%d) + offset (%d) is out of bounds. Overflowed: %b",
         "Section %d size (%d) + addr (%d) is out of bounds. Overflowed: %b",
         "Integer do not fit: out of range integral type conversion attempted"};
@@ -678,7 +726,8 @@ static uint64_t no_name(void *text, size_t capacity) {
     if (capacity > 1) out.text[1] = 0;
     return out.size;
 }
-#define NAME(call, type) uint64_t call(type number, void *text, size_t capacity) { return (void)number, no_name(text, capacity); }
+#define NAME(call, type) \
+    uint64_t call(type number, void *text, size_t capacity) { return (void)number, no_name(text, capacity); }
 NAME(goblin_class_to_str, uint8_t)
 NAME(goblin_et_to_str, uint16_t)
 NAME(goblin_machine_to_str, uint16_t)

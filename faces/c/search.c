@@ -1,6 +1,6 @@
 /* Tests that a search by a name takes no longer than its comparisons: search
-   It makes files whose names are all in one long string. `search FILE` times a search over the longest symbol table of a 64-bit
-   little-endian file, beside strcmp. */
+   It makes files whose names are all in one long string. `search FILE` times a search over the longest symbol table of
+   a 64-bit little-endian file, beside strcmp. */
 #include "goblin.h"
 #include <elf.h>
 #include <inttypes.h>
@@ -16,7 +16,8 @@ static goblin_refusal_t why;
 /* Returns the processor time since a time, in microseconds. */
 static double since(clock_t start) { return 1e6 * (double)(clock() - start) / CLOCKS_PER_SEC; }
 
-/* Searches for a name that no section and no symbol has. Their names start at different offsets of one string, whose length is STRINGS. */
+/* Searches for a name that no section and no symbol has. Their names start at different offsets of one string, whose
+   length is STRINGS. */
 static int search(uint8_t *bytes, size_t len, const char *what, const uint8_t *name, size_t name_len) {
     goblin_header_t header;
     goblin_range_t symbols = {64 + SECTIONS * sizeof(Elf64_Shdr), SYMBOLS * sizeof(Elf64_Sym)};
@@ -26,15 +27,18 @@ static int search(uint8_t *bytes, size_t len, const char *what, const uint8_t *n
     clock_t start = clock();
     memset(&header, 0, sizeof header);
     header.ei_class = 2, header.ei_data = 1, header.e_shoff = 64, header.e_shnum = SECTIONS;
-    int none = goblin_section_by_name(bytes, len, &header, &strings, name, name_len, 0, &index, &section, &why) == GOBLIN_END
+    int none = goblin_section_by_name(bytes, len, &header, &strings, name, name_len, 0, &index, &section,
+                                      &why) == GOBLIN_END
         && goblin_symbol_by_name(bytes, len, &header, &symbols, &strings, name, name_len, &index, &why) == GOBLIN_END;
     double took = since(start);
-    printf("%d sections and %d symbols over a string of 4 MB, searched for %s: %.0f microseconds\n", SECTIONS, SYMBOLS, what, took);
+    printf("%d sections and %d symbols over a string of 4 MB, searched for %s: %.0f microseconds\n", SECTIONS,
+           SYMBOLS, what, took);
     return none && took < 500000 ? 0 : 1;
 }
 
 static int search_made(void) {
-    size_t symbols = 64 + SECTIONS * sizeof(Elf64_Shdr), strings = symbols + SYMBOLS * sizeof(Elf64_Sym), len = strings + STRINGS;
+    size_t symbols = 64 + SECTIONS * sizeof(Elf64_Shdr), strings = symbols + SYMBOLS * sizeof(Elf64_Sym),
+        len = strings + STRINGS;
     uint8_t *bytes = (uint8_t *)calloc(2, len);
     uint8_t *long_name = bytes + len;
     int wrong;
@@ -69,13 +73,15 @@ static int time_search(const uint8_t *bytes, size_t len) {
     double ours = 1e9, theirs = 1e9;
     if (goblin_header(bytes, len, &header, &why) != GOBLIN_OK) return 1;
     for (uint64_t i = 0; goblin_section(bytes, len, &header, i, &table, &why) == GOBLIN_OK; i++)
-        if ((table.sh_type == SHT_SYMTAB || table.sh_type == SHT_DYNSYM) && table.file.size > longest.file.size) longest = table;
+        if ((table.sh_type == SHT_SYMTAB || table.sh_type == SHT_DYNSYM) && table.file.size > longest.file.size)
+            longest = table;
     if (goblin_linked_section(bytes, len, &header, longest.sh_link, &strings, &why) != GOBLIN_OK) return 1;
     count = longest.file.size / sizeof(Elf64_Sym);
     for (int run = 0; run < 9; run++) {
         clock_t start = clock();
-        if (goblin_symbol_by_name(bytes, len, &header, &longest.file, &strings.file, (const uint8_t *)name, sizeof name - 1, &index, &why)
-            != GOBLIN_END) return 1;
+        if (goblin_symbol_by_name(bytes, len, &header, &longest.file, &strings.file, (const uint8_t *)name,
+                                  sizeof name - 1, &index, &why) != GOBLIN_END)
+            return 1;
         double took = since(start);
         ours = took < ours ? took : ours;
         uint64_t equal = 0;
@@ -88,7 +94,8 @@ static int time_search(const uint8_t *bytes, size_t len) {
         took = since(start) + (double)equal;
         theirs = took < theirs ? took : theirs;
     }
-    printf("%" PRIu64 " symbols: %.1f ns each, by strcmp %.1f\n", count, 1e3 * ours / (double)count, 1e3 * theirs / (double)count);
+    printf("%" PRIu64 " symbols: %.1f ns each, by strcmp %.1f\n", count, 1e3 * ours / (double)count,
+           1e3 * theirs / (double)count);
     return 0;
 }
 

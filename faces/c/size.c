@@ -1,5 +1,6 @@
 /* Adds up the sizes of the loaded sections of ELF files, as `size` does: size FILE..
-   Sections that are executable or not writable count as text, others with bytes in the file as data, and the rest as bss. */
+   Sections that are executable or not writable count as text, others with bytes in the file as data, and the
+   rest as bss. */
 #include "goblin.h"
 #include <inttypes.h>
 #include <stdio.h>
@@ -35,8 +36,8 @@ static int add_up(const char *path) {
     uint64_t text = 0, data = 0, bss = 0, filled;
     uint32_t status = goblin_header(bytes, len, &header, &why);
     if (status != GOBLIN_OK) return refused(path, &why);
-    for (uint64_t first = 0;
-         (status = goblin_sections(bytes, len, &header, first, sections, BATCH, &filled, &why)) == GOBLIN_OK; first += filled)
+    for (uint64_t first = 0; (status = goblin_sections(bytes, len, &header, first, sections, BATCH, &filled,
+                                                       &why)) == GOBLIN_OK; first += filled)
         for (uint64_t i = 0; i < filled; i++) {
             const goblin_section_t *section = &sections[i];
             if (section->sh_type == GOBLIN_SHT_NULL || !(section->sh_flags & GOBLIN_SHF_ALLOC)) continue;

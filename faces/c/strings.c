@@ -1,6 +1,6 @@
 /* Lists the strings of a section, such as .comment: strings FILE SECTION
-   Each is printed as it stands, UTF-8 or not, after its offset in the section. Strings without bytes are left out. If no zero byte closes
-   the last string, a line says so. */
+   Each is printed as it stands, UTF-8 or not, after its offset in the section. Strings without bytes are left out. If
+   no zero byte closes the last string, a line says so. */
 #include "goblin.h"
 #include <inttypes.h>
 #include <stdio.h>
@@ -15,7 +15,8 @@ static goblin_refusal_t why;
 static uint32_t list_strings(const goblin_range_t *strings) {
     goblin_range_t string;
     uint32_t status;
-    for (uint64_t at = 0; (status = goblin_string_bytes(bytes, len, strings, at, &string, &why)) == GOBLIN_OK; at += string.size + 1) {
+    for (uint64_t at = 0; (status = goblin_string_bytes(bytes, len, strings, at, &string, &why)) == GOBLIN_OK;
+         at += string.size + 1) {
         bool is_closed = string.offset + string.size < strings->offset + strings->size;
         if (string.size > 0) {
             printf("%6" PRIx64 "  ", at);
@@ -36,7 +37,8 @@ static int list(const char *name) {
     uint32_t status = goblin_header(bytes, len, &header, &why);
     if (status == GOBLIN_OK) status = goblin_section_names(bytes, len, &header, &names, &why);
     if (status == GOBLIN_OK)
-        status = goblin_section_by_name(bytes, len, &header, &names.file, name, strlen(name), 0, &index, &section, &why);
+        status = goblin_section_by_name(bytes, len, &header, &names.file, name, strlen(name), 0,
+                                        &index, &section, &why);
     if (status == GOBLIN_END) return fprintf(stderr, "strings: there is no section %s\n", name), 1;
     if (status == GOBLIN_OK) status = goblin_section_bytes(bytes, len, &section, &strings, &why);
     if (status == GOBLIN_END) return fprintf(stderr, "strings: the section %s has no bytes in the file\n", name), 1;

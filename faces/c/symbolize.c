@@ -1,7 +1,8 @@
-/* Prints the function at each address, as `addr2line -fs` does for a file without line numbers: symbolize FILE ADDRESS..
-   For each address there is a line with the symbol's name, or ?? if there is none, and a line ??:0. It reads and sorts the symbols once,
-   and finds for each address the symbol that goblin_symbol_by_address finds. With the first argument -1 it calls that for each address,
-   which reads all symbols each time. */
+/* Prints the function at each address, as `addr2line -fs` does for a file without line numbers: symbolize
+   FILE ADDRESS..
+   For each address there is a line with the symbol's name, or ?? if there is none, and a line ??:0. It reads and sorts
+   the symbols once, and finds for each address the symbol that goblin_symbol_by_address finds. With the first argument
+   -1 it calls that for each address, which reads all symbols each time. */
 #include "goblin.h"
 #include <stdio.h>
 #include <stdlib.h>
@@ -57,8 +58,8 @@ static void add(const goblin_symbol_t *symbol, uint64_t index) {
     places[places_len++] = place;
 }
 
-/* Makes the pieces of the sorted places. A piece begins at each start of a symbol and after each end. The symbols that contain an address
-   lie on a stack, the one with the highest start and of these the first one on top. */
+/* Makes the pieces of the sorted places. A piece begins at each start of a symbol and after each end. The symbols that
+   contain an address lie on a stack, the one with the highest start and of these the first one on top. */
 static bool make_pieces(void) {
     uint64_t *starts = (uint64_t *)malloc((2 * places_len + 1) * sizeof *starts);
     size_t *open = (size_t *)malloc((places_len + 1) * sizeof *open), starts_len = 0, depth = 0, next = 0;
@@ -94,7 +95,8 @@ static uint32_t sort_symbols(const goblin_range_t *table) {
     uint32_t status = goblin_symbol_count(bytes, len, &header, table, &count, &why);
     if (status != GOBLIN_OK) return status;
     if (!(places = (place_t *)malloc((size_t)(count + 1) * sizeof *places))) exit(2);
-    for (uint64_t first = 0; goblin_symbols(bytes, len, &header, table, first, symbols, BATCH, &filled, &why) == GOBLIN_OK; first += filled)
+    for (uint64_t first = 0;
+         goblin_symbols(bytes, len, &header, table, first, symbols, BATCH, &filled, &why) == GOBLIN_OK; first += filled)
         for (uint64_t i = 0; i < filled; i++) add(&symbols[i], first + i);
     qsort(places, places_len, sizeof *places, compare_places);
     if (!make_pieces()) exit(2);
@@ -128,7 +130,8 @@ static bool load(const char *path) {
 static uint32_t find_table(goblin_section_t *table, goblin_section_t *names) {
     uint64_t index;
     uint32_t status = goblin_section_by_type(bytes, len, &header, GOBLIN_SHT_SYMTAB, 0, &index, table, &why);
-    if (status == GOBLIN_END) status = goblin_section_by_type(bytes, len, &header, GOBLIN_SHT_DYNSYM, 0, &index, table, &why);
+    if (status == GOBLIN_END)
+        status = goblin_section_by_type(bytes, len, &header, GOBLIN_SHT_DYNSYM, 0, &index, table, &why);
     return status == GOBLIN_OK ? goblin_linked_section(bytes, len, &header, table->sh_link, names, &why) : status;
 }
 
@@ -147,7 +150,8 @@ int main(int argc, char **argv) {
         goblin_symbol_t symbol;
         goblin_range_t name;
         if (status == GOBLIN_OK)
-            status = one_by_one ? goblin_symbol_by_address(bytes, len, &header, &table.file, address, &index, &why) : find(address, &index);
+            status = one_by_one ? goblin_symbol_by_address(bytes, len, &header, &table.file, address, &index, &why)
+                : find(address, &index);
         if (status == GOBLIN_OK) status = goblin_symbol(bytes, len, &header, &table.file, index, &symbol, &why);
         if (status == GOBLIN_OK) status = goblin_string_bytes(bytes, len, &names.file, symbol.st_name, &name, &why);
         if (status > GOBLIN_END) return refused("symbols");

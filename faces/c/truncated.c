@@ -1,6 +1,6 @@
 /* Shows what is left of a file that ends in its last section header: truncated FILE
-   It reads the file, and then only as many bytes of it. Then one section header is not inside the file, so all of them are refused. The
-   header that goblin_whole_header makes counts only the others. */
+   It reads the file, and then only as many bytes of it. Then one section header is not inside the file, so all of them
+   are refused. The header that goblin_whole_header makes counts only the others. */
 #include "goblin.h"
 #include <inttypes.h>
 #include <stdio.h>
@@ -45,7 +45,8 @@ static int list(void) {
     goblin_whole_header(bytes, end, &header, &whole);
     if (goblin_section_count(bytes, end, &whole, &left, &why)) return refused(stderr, "truncated");
     printf("%" PRIu64 " of %" PRIu64 " headers are whole\n", left, count);
-    for (uint64_t i = 0; goblin_section(bytes, end, &whole, i, &section, &why) == GOBLIN_OK; i++) show(end, i, &section);
+    for (uint64_t i = 0; goblin_section(bytes, end, &whole, i, &section, &why) == GOBLIN_OK; i++)
+        show(end, i, &section);
     return 0;
 }
 

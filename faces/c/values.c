@@ -26,10 +26,12 @@ static int list(void) {
         if (table.sh_type != GOBLIN_SHT_SYMTAB && table.sh_type != GOBLIN_SHT_DYNSYM) continue;
         goblin_section_t strings = none;
         if (goblin_linked_section(bytes, len, &header, table.sh_link, &strings, &why) > GOBLIN_END) return refused();
-        for (uint64_t k = 0; (status = goblin_symbol(bytes, len, &header, &table.file, k, &symbol, &why)) == GOBLIN_OK; k++) {
+        for (uint64_t k = 0;
+             (status = goblin_symbol(bytes, len, &header, &table.file, k, &symbol, &why)) == GOBLIN_OK; k++) {
             goblin_range_t name = {0, 0};
             if (goblin_string(bytes, len, &strings.file, symbol.st_name, &name, &why) > GOBLIN_END) return refused();
-            printf("%" PRIx64 " ", symbol.st_value), fwrite(bytes + name.offset, 1, (size_t)name.size, stdout), puts("");
+            printf("%" PRIx64 " ", symbol.st_value),
+                fwrite(bytes + name.offset, 1, (size_t)name.size, stdout), puts("");
         }
         if (status != GOBLIN_END) return refused();
     }

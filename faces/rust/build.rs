@@ -1,9 +1,11 @@
-//! Links libgoblin_c.a. It looks in the folder that GOBLIN_C_LIB names; a relative name starts from the folder of this file. Without
-//! GOBLIN_C_LIB it looks where the library is installed with this crate, or where `rt lib` puts it in the repository, and where pkg-config
-//! finds it. Beside a copy of this crate elsewhere it doesn't look. It skips a library for another processor.
+//! Links libgoblin_c.a. It looks in the folder that GOBLIN_C_LIB names; a relative name starts from the folder of this
+//! file. Without GOBLIN_C_LIB it looks where the library is installed with this crate, or where `rt lib` puts it in the
+//! repository, and where pkg-config finds it. Beside a copy of this crate elsewhere it doesn't look. It skips a library
+//! for another processor.
 //!
-//! If it finds none, it warns, and says where it looked and how to get the library. Only linking needs the library: without it `cargo
-//! check`, `cargo clippy` and `cargo doc` succeed, and a build ends with rustc's error that the native static library is missing.
+//! If it finds none, it warns, and says where it looked and how to get the library. Only linking needs the library:
+//! without it `cargo check`, `cargo clippy` and `cargo doc` succeed, and a build ends with rustc's error that the
+//! native static library is missing.
 use std::env;
 use std::fs;
 use std::path::{Path, PathBuf};
@@ -11,7 +13,8 @@ use std::process::Command;
 
 const LIBRARY: &str = "libgoblin_c.a";
 
-/// Returns why the library in a folder can't be linked for a processor, if it can't. It reads `e_machine` of its first object file.
+/// Returns why the library in a folder can't be linked for a processor, if it can't. It reads `e_machine` of its first
+/// object file.
 fn fault(folder: &Path, processors: &str) -> Option<&'static str> {
     let bytes = match fs::read(folder.join(LIBRARY)) {
         Ok(bytes) => bytes,
@@ -68,10 +71,16 @@ fn warn(folders: &[PathBuf], processors: &str) {
         println!("cargo:warning=looked for in {}{}: {}", by, folder.display(), fault);
     }
     if named().is_none() && from_pkg_config().is_none() {
-        println!("cargo:warning=looked for by pkg-config: it finds no goblin_c; PKG_CONFIG_PATH names the folder of goblin_c.pc");
+        println!(
+            "cargo:warning=looked for by pkg-config: it finds no goblin_c; PKG_CONFIG_PATH names the folder of \
+             goblin_c.pc"
+        );
     }
     if named().is_none() && beside(Path::new(env!("CARGO_MANIFEST_DIR"))).is_none() {
-        println!("cargo:warning=no folder beside this crate was looked in: it is a copy, outside of its installation and its repository");
+        println!(
+            "cargo:warning=no folder beside this crate was looked in: it is a copy, outside of its installation and \
+             its repository"
+        );
     }
     let is_linux = env::var("CARGO_CFG_TARGET_OS").map_or(false, |system| system == "linux");
     if !is_linux || !["x86_64", "aarch64"].contains(&processors) {
@@ -80,7 +89,10 @@ fn warn(folders: &[PathBuf], processors: &str) {
     }
     let target = format!("{}-unknown-linux-gnu", processors);
     let archive = format!("goblin_c-{}-{}.tar.gz", env!("CARGO_PKG_VERSION"), target);
-    println!("cargo:warning=to get it, unpack {}: use its share/goblin_c/rust, or set GOBLIN_C_LIB to its lib", archive);
+    println!(
+        "cargo:warning=to get it, unpack {}: use its share/goblin_c/rust, or set GOBLIN_C_LIB to its lib",
+        archive
+    );
     println!("cargo:warning=in the repository of goblin_c, `make dist TARGET={}` makes that archive", target);
 }
 

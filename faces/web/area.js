@@ -1,15 +1,19 @@
-// The sizes: the file's pieces, and the functions and variables inside them, as areas. One that is twice as large has twice as many bytes.
+// The sizes: the file's pieces, and the functions and variables inside them, as areas. One that is twice as large has
+// twice as many bytes.
 import { get, make, number, plural, put_text, visible } from './dom.js';
 import { ask, shown_file } from './reader.js';
 
-// In pixels: the least area of an item, the heights of the line above and of a piece's title, and the least box for a title.
+// In pixels: the least area of an item, the heights of the line above and of a piece's title, and the least box
+// for a title.
 const LEAST = 160, LINE = 34, TITLE = 18, WIDE = 34, HIGH = 14;
 
-// Lays items out in a box: it is cut across its longer side into two boxes, each for about half of the bytes, and so on.
+// Lays items out in a box: it is cut across its longer side into two boxes, each for about half of the bytes,
+// and so on.
 function* placed(items, box) {
     if (items.length === 1) yield { item: items[0], ...box };
     if (items.length < 2) return;
-    const all = items.reduce((sum, { size }) => sum + size, 0), [side, place] = box.wide > box.high ? ['wide', 'x'] : ['high', 'y'];
+    const all = items.reduce((sum, { size }) => sum + size, 0),
+        [side, place] = box.wide > box.high ? ['wide', 'x'] : ['high', 'y'];
     let half = items[0].size, at = 1;
     while (at < items.length - 1 && half + items[at].size / 2 < all / 2) half += items[at++].size;
     const cut = box[side] * half / all;
@@ -19,12 +23,16 @@ function* placed(items, box) {
 
 /** Returns the panel with the areas. Each is a link to its section, segment or symbol. */
 export async function area_panel() {
-    const { size } = shown_file, wide = get('panel').clientWidth || innerWidth, high = Math.max(get('panel').clientHeight - LINE, 120);
+    const { size } = shown_file, wide = get('panel').clientWidth || innerWidth,
+        high = Math.max(get('panel').clientHeight - LINE, 120);
     const areas = make('div', { class: 'areas', role: 'group', 'aria-label': 'Sizes' });
     const add = ({ item, ...box }, kind = 'gap', to = 'layout', given = {}) => {
-        const said = `${visible(item.title)}: ${plural(item.size, 'byte')}, ${(100 * item.size / size).toFixed(1)} % of the file`;
-        const link = make('a', { href: `#${item.to ?? to}`, title: said, 'aria-label': said, tabindex: areas.firstChild ? -1 : 0, ...given });
-        const [left, top, width, height] = [box.x / wide, box.y / high, box.wide / wide, box.high / high].map((part) => `${100 * part}%`);
+        const said = `${visible(item.title)}: ${plural(item.size, 'byte')}, `
+            + `${(100 * item.size / size).toFixed(1)} % of the file`;
+        const link = make('a', { href: `#${item.to ?? to}`, title: said, 'aria-label': said,
+            tabindex: areas.firstChild ? -1 : 0, ...given });
+        const [left, top, width, height] = [box.x / wide, box.y / high, box.wide / wide, box.high / high]
+            .map((part) => `${100 * part}%`);
         Object.assign(link.style, { left, top, width, height }).setProperty('--tint', `var(--${kind})`);
         if (box.wide > WIDE && box.high > HIGH) link.append(put_text(make('b'), item.title), ` ${number(item.size)}`);
         areas.append(link);
@@ -33,10 +41,13 @@ export async function area_panel() {
         const { kind, to, inside = [] } = place.item;
         const box = { x: place.x + 2, y: place.y + TITLE, wide: place.wide - 4, high: place.high - TITLE - 2 };
         add(place, kind);
-        if (box.wide > WIDE && box.high > HIGH) for (const small of placed(inside, box)) add(small, kind, to, { class: 'inside' });
+        if (box.wide > WIDE && box.high > HIGH)
+            for (const small of placed(inside, box)) add(small, kind, to, { class: 'inside' });
     }
     areas.addEventListener('keydown', ({ key, target: { nextSibling, previousSibling } }) =>
-        ({ ArrowRight: nextSibling, ArrowLeft: previousSibling, Home: areas.firstChild, End: areas.lastChild })[key]?.focus());
-    const said = `${number(size)} bytes, where the map draws them. Functions and variables are symbols with a size. Names of C++ are not proved.`;
+        ({ ArrowRight: nextSibling, ArrowLeft: previousSibling, Home: areas.firstChild,
+            End: areas.lastChild })[key]?.focus());
+    const said = `${number(size)} bytes, where the map draws them. Functions and variables are symbols with a size. `
+        + 'Names of C++ are not proved.';
     return [make('p', { class: 'others' }, said), areas];
 }

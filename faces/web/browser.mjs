@@ -1,7 +1,8 @@
 // Tests the page in a browser, beside readelf and C: browser.mjs NAME BROWSER PAGE DUMP MADE STORED
-// NAME is chromium or firefox, DUMP is the program of faces/c/dump.c, and MADE is the folder of the files that faces/c/made.c makes. STORED is
-// checks/files, which has files with what readelf printed of them, and what it and c++filt call relocations and symbols. The test picks each
-// file as a person does, and follows the page's links. The page may send no request, no script may fail, and no name may be markup.
+// NAME is chromium or firefox, DUMP is the program of faces/c/dump.c, and MADE is the folder of the files that
+// faces/c/made.c makes. STORED is checks/files, which has files with what readelf printed of them, and what it and
+// c++filt call relocations and symbols. The test picks each file as a person does, and follows the page's links. The
+// page may send no request, no script may fail, and no name may be markup.
 import assert from 'node:assert/strict';
 import { spawnSync } from 'node:child_process';
 import { randomBytes } from 'node:crypto';
@@ -14,19 +15,24 @@ import { Chromium, Firefox, PATIENCE, waited } from './browsers.mjs';
 import { elf_file, note, packed, rela, symbols_file } from './elves.mjs';
 
 const [, , kind, program, page, dump, made_files, stored_folder] = process.argv, stored = resolve(stored_folder);
-const made = join(made_files, 'little64'), content = readFileSync(made), program_file = join(stored, 'made', 'x86_64_program');
+const made = join(made_files, 'little64'), content = readFileSync(made),
+    program_file = join(stored, 'made', 'x86_64_program');
 // (readelf lists no symbols of the files without section headers)
-const stored_files = readdirSync(join(stored, 'made')).filter((name) => !/listed$|_core$|_stripped$/.test(name)).map((name) => join(stored, 'made', name));
+const stored_files = readdirSync(join(stored, 'made')).filter((name) => !/listed$|_core$|_stripped$/.test(name))
+    .map((name) => join(stored, 'made', name));
 const folder = mkdtempSync(join(tmpdir(), 'goblin-'));
 const browser = new { chromium: Chromium, firefox: Firefox }[kind](folder);
 const url = pathToFileURL(page).href, quoted = JSON.stringify;
 const evaluate = (expression) => browser.evaluate(expression);
 const until = (expression) => browser.until(expression);
 
-// Expressions for an element, and for the first one of several with a text; and the results of an expression for several items.
+// Expressions for an element, and for the first one of several with a text; and the results of an expression for
+// several items.
 const one = (selector) => `document.querySelector(${quoted(selector)})`;
-const with_text = (place, text) => `[...document.querySelectorAll(${quoted(place)})].find((item) => item.textContent === ${quoted(text)})`;
-const each_of = (selector, of) => evaluate(`Array.from(document.querySelectorAll(${quoted(selector)}), (item) => ${of})`);
+const with_text = (place, text) =>
+    `[...document.querySelectorAll(${quoted(place)})].find((item) => item.textContent === ${quoted(text)})`;
+const each_of = (selector, of) =>
+    evaluate(`Array.from(document.querySelectorAll(${quoted(selector)}), (item) => ${of})`);
 const text_of = (selector) => evaluate(`${one(selector)}?.textContent ?? null`);
 const until_there = (selector) => until(`${one(selector)} !== null`);
 const until_text = (selector, text) => until(`${one(selector)}?.textContent === ${quoted(text)}`);
@@ -78,13 +84,15 @@ async function open_list(place, said) {
 // Goes to a location, back or forward, or to that of a link, and waits until the title of what is chosen has a text.
 const go = (place, title) => set_place(place).then(() => until_chosen(title));
 const go_in_history = (way, title) => evaluate(`history.${way}()`).then(() => until_chosen(title));
-const follow = (text, title = text) => evaluate(`${with_text('#chosen a', text)}.click()`).then(() => until_chosen(title));
+const follow = (text, title = text) => evaluate(`${with_text('#chosen a', text)}.click()`)
+    .then(() => until_chosen(title));
 
 // Returns the first bytes that the side shows, in the lines that are drawn.
 async function bytes_shown() {
     await until(bytes_drawn);
     const lines = await each_of('#chosen .hex .row',
-        `[...item.children[1].childNodes].filter((node) => node.nodeType === 3).map((node) => node.textContent).join(' ')`);
+        `[...item.children[1].childNodes].filter((node) => node.nodeType === 3)
+            .map((node) => node.textContent).join(' ')`);
     return lines.join(' ').replaceAll(/\s/g, '');
 }
 
@@ -96,7 +104,8 @@ async function search(text, shown) {
         box.value = ${quoted(text)};
         box.dispatchEvent(new Event('input'));
     })()`);
-    await until(`document.querySelector('#panel output').textContent === ${quoted(shown)} && (${drawn} || ${quoted(shown)} === 'none')`);
+    await until(`document.querySelector('#panel output').textContent === ${quoted(shown)}
+        && (${drawn} || ${quoted(shown)} === 'none')`);
 }
 
 async function go_by_field(text, title) {
@@ -109,15 +118,18 @@ async function go_by_field(text, title) {
 // Returns what readelf printed of a stored file.
 const listed = (path) => readFileSync(`${path}.listed`, 'utf8').split('\n$ nm ')[0];
 
-const segments_of = (path) => [...listed(path).matchAll(/^ {2}([A-Z_]+) +(0x\S+) \S+ \S+ (0x\S+) \S+ +([RWE ]+) (0x\S+)$/gm)]
-    .map(([, type, offset, size, flags, align]) => ({ type, offset: Number(offset), size: Number(size), flags: flags.trim(), align }));
+const segments_of = (path) =>
+    [...listed(path).matchAll(/^ {2}([A-Z_]+) +(0x\S+) \S+ \S+ (0x\S+) \S+ +([RWE ]+) (0x\S+)$/gm)]
+        .map(([, type, offset, size, flags, align]) =>
+            ({ type, offset: Number(offset), size: Number(size), flags: flags.trim(), align }));
 
 function counts_of(path) {
     const output = listed(path);
     const sum = (pattern) => [...output.matchAll(pattern)].reduce((all, [, count]) => all + Number(count), 0);
     return {
         sections: sum(/Number of section headers: +(\d+)/g), segments: sum(/Number of program headers: +(\d+)/g),
-        symbols: sum(/Symbol table .* contains (\d+) entr/g), relocations: sum(/Relocation section .* contains (\d+) entr/g),
+        symbols: sum(/Symbol table .* contains (\d+) entr/g),
+        relocations: sum(/Relocation section .* contains (\d+) entr/g),
         notes: [...output.matchAll(/^ {2}\S+ +0x[0-9a-f]{8}\t/gm)].length,
     };
 }
@@ -139,10 +151,13 @@ function symbols_of(path) {
             ({ index: Number(index), value: parseInt(value, 16), size: Number(size), type, section, name }));
 }
 
-// Of the program that is picked most: its sections and symbols, the location of these, and main with its location, address and offset.
+// Of the program that is picked most: its sections and symbols, the location of these, and main with its location,
+// address and offset.
 const hex = (number) => `0x${number.toString(16)}`, decimal = (number) => number.toLocaleString('en');
-const sections = sections_of(program_file), symbols = symbols_of(program_file), symtab = `symbols/${sections['.symtab'].index}`, text = sections['.text'];
-const main = symbols.find(({ name }) => name === 'main'), main_place = `${symtab}/${main.index}`, main_address = hex(main.value);
+const sections = sections_of(program_file), symbols = symbols_of(program_file),
+    symtab = `symbols/${sections['.symtab'].index}`, text = sections['.text'];
+const main = symbols.find(({ name }) => name === 'main'), main_place = `${symtab}/${main.index}`,
+    main_address = hex(main.value);
 const main_at = main.value - text.address + text.offset;
 
 async function check_all_counts() {
@@ -165,7 +180,8 @@ async function check_all_counts() {
 }
 
 async function check_refusal(content, what, ...words) {
-    const path = await pick_written('refused', content), [, line] = spawnSync(dump, [path], { encoding: 'utf8' }).stdout.split('\n');
+    const path = await pick_written('refused', content),
+        [, line] = spawnSync(dump, [path], { encoding: 'utf8' }).stdout.split('\n');
     assert.match(line, /^goblin_header kind=/);
     const text = await text_of('#refused:not([hidden]) h3'), said = await text_of('#refused');
     assert.ok(text?.startsWith('Refused: ') && line.endsWith(text.slice('Refused: '.length)), `${text}, ${line}`);
@@ -202,7 +218,8 @@ async function check_unknown() {
         await until_there('#panel .refused');
         words.push(await text_of('#panel .refused'));
     }
-    assert.match(words[0], /^The section headers begin at 0x2000, .*Refused: .* while reading the section headers: e_shnum \d+, e_shoff 0x/s);
+    assert.match(words[0], new RegExp('^The section headers begin at 0x2000, .*Refused: .* while reading the section'
+        + ' headers: e_shnum \\d+, e_shoff 0x', 's'));
     assert.deepEqual(new Set(words), new Set([words[0]]));
     const cut_note = note('GNU', 1, Buffer.alloc(16)).subarray(0, -4);
     const notes = [note('GNU', 3, Buffer.alloc(4)), note('GA\0\xff', 0x100, Buffer.alloc(4)), cut_note];
@@ -216,12 +233,15 @@ async function check_unknown() {
     // (a note whose owner is not UTF-8 is read; a cut one is refused, and those after it are not read)
     await open_tab('notes');
     assert.deepEqual([await text_of('#tab-notes span'), await cells(2)], ['2+', ['GNU', 'GAU+0000\\xff']]);
-    assert.match(await text_of('#panel .refused'), /^Refused: .* while reading the descriptor of the note at 0x[0-9a-f]+, of \.note/);
+    assert.match(await text_of('#panel .refused'),
+        /^Refused: .* while reading the descriptor of the note at 0x[0-9a-f]+, of \.note/);
 }
 
-// Packed relocations are listed, and so is what only the dynamic section leads to. The page says that both are outside of what is proved.
+// Packed relocations are listed, and so is what only the dynamic section leads to. The page says that both are outside
+// of what is proved.
 async function check_own_tables() {
-    const words = [[0x1000, 8], [0b1011, 8], [0b11, 8], [0x2000, 8]], wanted = ['0x1000', '0x1008', '0x1018', '0x1200', '0x2000'];
+    const words = [[0x1000, 8], [0b1011, 8], [0b11, 8], [0x2000, 8]],
+        wanted = ['0x1000', '0x1008', '0x1018', '0x1200', '0x2000'];
     const file = elf_file({ type: 3, sections: [{ name: '.relr.dyn', type: 19, flags: 2, bytes: packed(...words) }] });
     await pick_written('packed', file, 'relocations');
     assert.deepEqual([await cells(1), await text_of('#tab-relocations span')], [wanted, '5']);
@@ -232,8 +252,10 @@ async function check_own_tables() {
     const of = sections_of(program_file), output = listed(program_file);
     await pick_written('headless', readFileSync(program_file).fill(0, 0x28, 0x30).fill(0, 0x3a, 0x40), 'symbols');
     const [symbols, dyn, plt] = ['.dynsym', '.rela.dyn', '.rela.plt'].map((name) => of[name].size / 24);
-    assert.deepEqual([await text_of('#tab-symbols span'), await text_of('#tab-relocations span')], [`${symbols}`, `${dyn + plt}`]);
-    assert.match(await text_of('#panel .others'), /the numbers of the dynamic section, which is outside of what is proved/);
+    assert.deepEqual([await text_of('#tab-symbols span'), await text_of('#tab-relocations span')],
+        [`${symbols}`, `${dyn + plt}`]);
+    assert.match(await text_of('#panel .others'),
+        /the numbers of the dynamic section, which is outside of what is proved/);
     const is_listed = async (column, table, pattern) => {
         const names = [...output.split(` '${table}' `)[1].split('\n\n')[0].matchAll(pattern)].map(([, name]) => name);
         assert.deepEqual((await cells(column)).slice(0, 20), names.slice(0, 20));
@@ -252,26 +274,33 @@ async function facts(path) {
     return rows.map(([name, value]) => [name, value.replace(/ not proved$/, ''), value.endsWith(' not proved')]);
 }
 
-// The first tab says in words what readelf lists of a program. What rests on the dynamic section is marked, and what rests on headers is not.
+// The first tab says in words what readelf lists of a program. What rests on the dynamic section is marked, and what
+// rests on headers is not.
 async function check_summary() {
-    const rows = await facts(program_file), of = (name) => rows.filter(([title]) => title === name).map(([, value]) => value);
+    const rows = await facts(program_file),
+        of = (name) => rows.filter(([title]) => title === name).map(([, value]) => value);
     const output = listed(program_file), has = (pattern) => pattern.test(output);
     const needs = output.split('Version needs section')[1].matchAll(/File: (\S+).*\n((?:.* Name: .*\n)*)/g);
     const libraries = Object.fromEntries(Array.from(needs, ([, name, lines]) =>
         [name, [...lines.matchAll(/Name: (\S+)/g)].map(([, version]) => version)]));
-    assert.deepEqual(of('needs'), [...output.matchAll(/\(NEEDED\) .*\[(.*)\]/g)].map(([, name]) => [name, ...libraries[name] ?? []].join(', ')));
+    assert.deepEqual(of('needs'),
+        [...output.matchAll(/\(NEEDED\) .*\[(.*)\]/g)].map(([, name]) => [name, ...libraries[name] ?? []].join(', ')));
     assert.match(of('interpreter')[0], new RegExp(`^${/program interpreter: (.*)\]/.exec(output)[1]}, segment \\d+$`));
     assert.deepEqual([...of('build ID'), ...of('kind'), ...of('position-independent')],
         [`${/Build ID: (\w+)/.exec(output)[1]}, note`, 'Position-independent program for x86-64', 'yes']);
     assert.match(await text_of('#file'), /position-independent program for x86-64/);
-    assert.match(of('read-only relocations')[0], has(/GNU_RELRO/) ? (has(/BIND_NOW|Flags: .*NOW/) ? /^full/ : /^partial/) : /^no/);
+    assert.match(of('read-only relocations')[0],
+        has(/GNU_RELRO/) ? (has(/BIND_NOW|Flags: .*NOW/) ? /^full/ : /^partial/) : /^no/);
     assert.match(of('stack')[0], has(/GNU_STACK .* RW /) ? /^not executable, / : /^executable, /);
     assert.equal(of('stack canary')[0], has(/ __stack_chk_fail(@|$)/m) ? 'yes, __stack_chk_fail' : 'no symbol of one');
     assert.match(of('stripped')[0], has(/'.symtab'/) ? /^no, / : /^yes/);
-    for (const [name, , is_own] of rows) assert.equal(is_own, /^(kind|needs|read-only relocations|debug file)$/.test(name), name);
-    const [[name, { size: largest }]] = Object.entries(sections_of(program_file)).sort(([, a], [, b]) => b.size - a.size);
+    for (const [name, , is_own] of rows)
+        assert.equal(is_own, /^(kind|needs|read-only relocations|debug file)$/.test(name), name);
+    const [[name, { size: largest }]] = Object.entries(sections_of(program_file))
+        .sort(([, a], [, b]) => b.size - a.size);
     assert.ok(rows.some(([size, value]) => size.startsWith(`${decimal(largest)} bytes, `) && value === name));
-    const functions = symbols.filter(({ type, size }) => type === 'FUNC' && size > 0).sort((a, b) => b.size - a.size).slice(0, 10);
+    const functions = symbols.filter(({ type, size }) => type === 'FUNC' && size > 0)
+        .sort((a, b) => b.size - a.size).slice(0, 10);
     const found = (await facts(program_file)).slice(-functions.length);
     assert.equal(found[0][1], functions[0].name);
     assert.deepEqual(found.map(([size]) => size), functions.map(({ size }) => `${decimal(size)} bytes`));
@@ -279,61 +308,78 @@ async function check_summary() {
     assert.deepEqual([words, debug], ['Object file for x86-64', '64 bytes, .debug_info']);
 }
 
-// Of a core the signal, the command, the threads with their registers, and the mapped files, by the layouts of Linux for x86-64.
+// Of a core the signal, the command, the threads with their registers, and the mapped files, by the layouts of Linux
+// for x86-64.
 async function check_core() {
-    const put = (size, ...numbers) => numbers.reduce((all, [at, value, width = 8]) => (all.set(packed([value, width]), at), all), Buffer.alloc(size));
-    const thread = (id, rip, rsp) => note('CORE', 1, put(336, [12, 11, 2], [32, id, 4], [112 + 80, 0x77], [112 + 128, rip], [112 + 152, rsp]));
+    const put = (size, ...numbers) =>
+        numbers.reduce((all, [at, value, width = 8]) => (all.set(packed([value, width]), at), all), Buffer.alloc(size));
+    const thread = (id, rip, rsp) =>
+        note('CORE', 1, put(336, [12, 11, 2], [32, id, 4], [112 + 80, 0x77], [112 + 128, rip], [112 + 152, rsp]));
     const process = put(136, [24, 70, 4]);
     process.write('program', 40);
     process.write('./program --all', 56);
-    const ranges = [[0x400000, 0x401000, 0], [0x401000, 0x402000, 1], [0x7f0000, 0x7f1000, 0]].flat().map((number) => [number, 8]);
+    const ranges = [[0x400000, 0x401000, 0], [0x401000, 0x402000, 1], [0x7f0000, 0x7f1000, 0]].flat()
+        .map((number) => [number, 8]);
     const mapped = Buffer.concat([packed([3, 8], [4096, 8], ...ranges), Buffer.from('/bin/a\0/bin/a\0/lib/b c\0')]);
-    const notes = [thread(71, 0x401234, 0x7fff00), note('CORE', 3, process), note('CORE', 0x46494c45, mapped), thread(72, 0x401300, 0x7ffe00)];
-    const rows = await facts(await pick_written('process', elf_file({ type: 4, segments: [{ type: 4, bytes: Buffer.concat(notes) }] })));
+    const notes = [thread(71, 0x401234, 0x7fff00), note('CORE', 3, process), note('CORE', 0x46494c45, mapped),
+        thread(72, 0x401300, 0x7ffe00)];
+    const rows = await facts(await pick_written('process',
+        elf_file({ type: 4, segments: [{ type: 4, bytes: Buffer.concat(notes) }] })));
     const start = rows.findIndex(([name]) => name === 'signal');
-    assert.deepEqual(rows.slice(start, start + 7), [['signal', '11, SIGSEGV', true], ['thread 71', 'rip 0x401234, rsp 0x7fff00, note', true],
-        ['command', './program --all, note', true], ['process', '70', true], ['mapped file', '/bin/a, 2 ranges from 0x400000 on', true],
-        ['mapped file', '/lib/b c, 1 range from 0x7f0000 on', true], ['thread 72', 'rip 0x401300, rsp 0x7ffe00, note', true]]);
+    assert.deepEqual(rows.slice(start, start + 7), [['signal', '11, SIGSEGV', true],
+        ['thread 71', 'rip 0x401234, rsp 0x7fff00, note', true], ['command', './program --all, note', true],
+        ['process', '70', true], ['mapped file', '/bin/a, 2 ranges from 0x400000 on', true],
+        ['mapped file', '/lib/b c, 1 range from 0x7f0000 on', true],
+        ['thread 72', 'rip 0x401300, rsp 0x7ffe00, note', true]]);
     await go('notes/segments/0', 'CORE PRSTATUS, thread 71');
     assert.deepEqual([await field_of('rax'), await field_of('rip')], ['0x77', '0x401234']);
     assert.match(await field_of('registers'), /not proved/);
     for (const [machine, places] of [[183, { x0: 0, sp: 31, pc: 32 }], [243, { pc: 0, sp: 2, t6: 31 }]]) {
-        const status = note('CORE', 1, put(480, ...Object.values(places).map((place) => [112 + 8 * place, 0x1000 + place])));
+        const status = note('CORE', 1,
+            put(480, ...Object.values(places).map((place) => [112 + 8 * place, 0x1000 + place])));
         await pick_written(`core${machine}`, elf_file({ type: 4, machine, segments: [{ type: 4, bytes: status }] }));
         await go('notes/segments/0', 'CORE PRSTATUS, thread 0');
-        for (const [name, place] of Object.entries(places)) assert.equal(await field_of(name), hex(0x1000 + place), name);
+        for (const [name, place] of Object.entries(places))
+            assert.equal(await field_of(name), hex(0x1000 + place), name);
     }
 }
 
 // Returns the legend's percentages by their names.
 async function shares() {
-    const found = (await each_of('#legend li', 'item.textContent')).flatMap((item) => [...item.matchAll(/^(.+) ([\d.]+) %$/g)]);
+    const found = (await each_of('#legend li', 'item.textContent'))
+        .flatMap((item) => [...item.matchAll(/^(.+) ([\d.]+) %$/g)]);
     return Object.fromEntries(found.map(([, word, share]) => [word, Number(share)]));
 }
 
 const status = (thread) => Buffer.concat([Buffer.alloc(32), packed([thread, 4]), Buffer.alloc(300)]);
 const core_notes = [
     ['CORE', 1, 'PRSTATUS', 71], ['CORE', 3, 'PRPSINFO'], ['CORE', 0x53494749, 'SIGINFO'], ['CORE', 6, 'AUXV'],
-    ['CORE', 0x46494c45, 'FILE'], ['CORE', 2, 'FPREGSET', 71], ['LINUX', 0x202, 'X86_XSTATE', 71], ['CORE', 1, 'PRSTATUS', 72],
-    ['CORE', 2, 'FPREGSET', 72], ['LINUX', 0x7777, '0x7777', 72], ['LINUX', 0x205, 'X86_XSAVE_LAYOUT'], ['GDB', 0xff000000, 'GDB_TDESC'],
+    ['CORE', 0x46494c45, 'FILE'], ['CORE', 2, 'FPREGSET', 71], ['LINUX', 0x202, 'X86_XSTATE', 71],
+    ['CORE', 1, 'PRSTATUS', 72], ['CORE', 2, 'FPREGSET', 72], ['LINUX', 0x7777, '0x7777', 72],
+    ['LINUX', 0x205, 'X86_XSAVE_LAYOUT'], ['GDB', 0xff000000, 'GDB_TDESC'],
     ['GNU', 3, 'GNU_BUILD_ID'],
 ];
 
-// The memory and notes of a core file are pieces, with the number of each thread. So are the segments of a program without section headers.
+// The memory and notes of a core file are pieces, with the number of each thread. So are the segments of a program
+// without section headers.
 async function check_segments() {
-    const notes = core_notes.map(([owner, type, name, thread]) => note(owner, type, name === 'PRSTATUS' ? status(thread) : Buffer.alloc(64)));
-    const segments = [{ type: 4, bytes: Buffer.concat(notes) }, { flags: 5, vaddr: 0x400000, bytes: Buffer.alloc(4096, 1) },
+    const notes = core_notes.map(([owner, type, name, thread]) =>
+        note(owner, type, name === 'PRSTATUS' ? status(thread) : Buffer.alloc(64)));
+    const segments = [{ type: 4, bytes: Buffer.concat(notes) },
+        { flags: 5, vaddr: 0x400000, bytes: Buffer.alloc(4096, 1) },
         { flags: 6, vaddr: 0x600000, bytes: Buffer.alloc(8192, 2) }];
     const path = await pick_written('core', elf_file({ type: 4, segments }), 'notes');
     const { code, data, notes: of_notes, gap: between = 0 } = await shares(), size = readFileSync(path).length;
-    assert.deepEqual([code, data, of_notes], [4096, 8192, Buffer.concat(notes).length].map((held) => Math.round(1000 * held / size) / 10));
+    assert.deepEqual([code, data, of_notes],
+        [4096, 8192, Buffer.concat(notes).length].map((held) => Math.round(1000 * held / size) / 10));
     assert.ok(between < 0.2, `gap ${between} %`);
     const shown = core_notes.map(([, , name, thread = '']) => [name, `${thread}`]), threads = await cells(4);
     assert.deepEqual((await cells(3)).map((name, i) => [name, threads[i]]), shown);
     await open_tab('layout');
     const pieces = await cells(5);
     const titles = core_notes.map(([owner, , name, thread]) => `${owner} ${name}${thread ? `, thread ${thread}` : ''}`);
-    for (const title of [...titles, 'segment 1, LOAD', 'segment 2, LOAD']) assert.ok(pieces.includes(title), pieces.join('; '));
+    for (const title of [...titles, 'segment 1, LOAD', 'segment 2, LOAD'])
+        assert.ok(pieces.includes(title), pieces.join('; '));
     const stripped = readFileSync(program_file).fill(0, 0x28, 0x30).fill(0, 0x3c, 0x40);
     await pick_written('stripped', stripped);
     const all = segments_of(program_file).filter(({ type }) => type === 'LOAD');
@@ -344,7 +390,8 @@ async function check_segments() {
 // If a file has more segments than its header can say, the first section header says how many.
 async function check_many_segments() {
     const many = Buffer.concat([elf_file({ type: 4 }), Buffer.alloc(64 + 56 * 70000)]);
-    const numbers = [[0x20, 128, 8], [0x28, 64, 8], [0x38, 0xffff, 2], [0x3a, 64, 2], [0x3c, 1, 2], [64 + 44, 70000, 4]];
+    const numbers = [[0x20, 128, 8], [0x28, 64, 8], [0x38, 0xffff, 2], [0x3a, 64, 2], [0x3c, 1, 2],
+        [64 + 44, 70000, 4]];
     for (const [at, value, width] of numbers) packed([value, width]).copy(many, at);
     await pick_written('many', many, 'segments');
     assert.deepEqual([await text_of('#tab-segments span'), await text_of('#panel output')], ['70,000', '70,000']);
@@ -360,14 +407,16 @@ async function check_padding() {
     const { code, other } = await shares(), share = (bytes) => Math.round(1000 * bytes / content.length) / 10;
     assert.deepEqual([code, other], [share(4096), share(4096)]);
     await pick(program_file);
-    const pattern = /^ {2}\[ *\d+\] \S+ +(?!NOBITS)[A-Z_]+ +\S+ \S+ ([0-9a-f]+) \S+ +[WA]*X/gm, bytes = readFileSync(program_file).length;
+    const pattern = /^ {2}\[ *\d+\] \S+ +(?!NOBITS)[A-Z_]+ +\S+ \S+ ([0-9a-f]+) \S+ +[WA]*X/gm,
+        bytes = readFileSync(program_file).length;
     const held = [...listed(program_file).matchAll(pattern)].reduce((all, [, size]) => all + parseInt(size, 16), 0);
     assert.ok(held > 1000 && Math.abs((await shares()).code - 100 * held / bytes) < 0.1);
 }
 
 // The part of a segment that a cut file has is named and hatched. It is no gap.
 async function check_cut() {
-    const all = segments_of(program_file), last = all.findIndex(({ flags }) => flags === 'R E'), { offset: start, size } = all[last];
+    const all = segments_of(program_file), last = all.findIndex(({ flags }) => flags === 'R E'),
+        { offset: start, size } = all[last];
     const end = start + Math.floor(size / 2), final = hex(end - 1), share = (bytes) => 100 * bytes / end;
     await pick_written('cut', readFileSync(program_file).subarray(0, end));
     const held = Buffer.alloc(end).fill(1, 0, 64 + 56 * all.length);
@@ -376,15 +425,19 @@ async function check_cut() {
     assert.ok(Math.abs(gap - share(held.filter((byte) => byte === 0).length)) < 0.1, `gap ${gap} %`);
     assert.ok(Math.abs(cut - share(end - start)) < 0.1, `cut ${cut} %`);
     await go(`offset/${final}`, `offset ${final}`);
-    const title = `segment ${last}, LOAD (cut: ${decimal(end - start)} of ${decimal(size)} bytes are here)`, shown = await side();
+    const title = `segment ${last}, LOAD (cut: ${decimal(end - start)} of ${decimal(size)} bytes are here)`,
+        shown = await side();
     assert.ok(shown.includes(`in ${title}`) && shown.includes(`${title} + ${hex(end - 1 - start)}`), shown);
     // (the lines of the hatching divide its colour)
     const low = await evaluate(`document.getElementById('canvas').height - 16`), is_code = await row_of('code', low);
     assert.ok(is_code.filter((is_it, i) => is_it && !is_code[i - 1]).length > 20);
     // (what lies past the end is marked there, and named)
-    const marked = (await row_of('bad', low)).indexOf(true), headers = hex(readFileSync(program_file).readBigUInt64LE(0x28));
-    assert.ok(marked > 0 && Math.abs(marked - is_code.lastIndexOf(true)) < 8, `${marked}, ${is_code.lastIndexOf(true)}`);
-    assert.match(await text_of('#legend .past'), new RegExp(`^past the end: Section headers at ${headers}, segment \\d+, `));
+    const marked = (await row_of('bad', low)).indexOf(true),
+        headers = hex(readFileSync(program_file).readBigUInt64LE(0x28));
+    assert.ok(marked > 0 && Math.abs(marked - is_code.lastIndexOf(true)) < 8,
+        `${marked}, ${is_code.lastIndexOf(true)}`);
+    assert.match(await text_of('#legend .past'),
+        new RegExp(`^past the end: Section headers at ${headers}, segment \\d+, `));
     const damaged = elf_file({ sections: [{ name: '.text', type: 1, flags: 6, bytes: Buffer.alloc(64) }] });
     damaged.writeBigUInt64LE(1n << 40n, Number(damaged.readBigUInt64LE(0x28)) + 64 + 0x20);
     await pick_written('damaged', damaged, 'layout');
@@ -394,15 +447,20 @@ async function check_cut() {
 
 // Names depend on the machine and the owner. Numbers without a name are shown as numbers.
 async function check_labels() {
-    const bytes = Buffer.alloc(8), segments = [{ type: 0x70000001, bytes }], text = (name, type, flags = 0) => ({ name, type, flags, bytes });
-    const notes = { name: '.note', type: 7, bytes: Buffer.concat([note('stapsdt', 3, bytes), note('GNU', 3, bytes), note('other', 3, bytes)]) };
-    const given = [notes, text('.unwind', 0x70000001), text('.relr.dyn', 19), text('.unknown', 0x61234567), text('.kept', 1, 0x200002)];
-    const names = [[62, 'X86_64_UNWIND', '0x70000001'], [40, 'ARM_EXIDX', 'ARM_EXIDX'], [243, '0x70000001', '0x70000001']];
+    const bytes = Buffer.alloc(8), segments = [{ type: 0x70000001, bytes }],
+        text = (name, type, flags = 0) => ({ name, type, flags, bytes });
+    const notes = { name: '.note', type: 7,
+        bytes: Buffer.concat([note('stapsdt', 3, bytes), note('GNU', 3, bytes), note('other', 3, bytes)]) };
+    const given = [notes, text('.unwind', 0x70000001), text('.relr.dyn', 19), text('.unknown', 0x61234567),
+        text('.kept', 1, 0x200002)];
+    const names = [[62, 'X86_64_UNWIND', '0x70000001'], [40, 'ARM_EXIDX', 'ARM_EXIDX'],
+        [243, '0x70000001', '0x70000001']];
     for (const [machine, name, of_segment] of names) {
         await pick_written(`labels${machine}`, elf_file({ machine, osabi: 3, sections: given, segments }), 'sections');
         const types = (await cells(2)).slice(2, 6), { 5: flags } = await cells(6);
         await open_tab('segments');
-        assert.deepEqual([...types, flags, await cells(1)], [name, 'RELR', '0x61234567', 'PROGBITS', 'ALLOC GNU_RETAIN', [of_segment]]);
+        assert.deepEqual([...types, flags, await cells(1)],
+            [name, 'RELR', '0x61234567', 'PROGBITS', 'ALLOC GNU_RETAIN', [of_segment]]);
     }
     await open_tab('notes');
     assert.deepEqual(await cells(3), ['STAPSDT', 'GNU_BUILD_ID', '0x3']);
@@ -411,24 +469,30 @@ async function check_labels() {
     await pick(program_file);
     await go(main_place, 'main');
     // (what belongs together is apart in the text, too, which is copied and read aloud)
-    assert.deepEqual([await field_of('st_info'), await field_of('st_size'), await text_of('#tab-sections'), await text_of('h1')],
-        ['0x12, STB_GLOBAL (1), STT_FUNC (2)', `${main.size}, ${decimal(main.size)} bytes`, `Sections ${counts_of(program_file).sections}`,
-            'goblin what an ELF file holds']);
+    assert.deepEqual(
+        [await field_of('st_info'), await field_of('st_size'), await text_of('#tab-sections'), await text_of('h1')],
+        ['0x12, STB_GLOBAL (1), STT_FUNC (2)', `${main.size}, ${decimal(main.size)} bytes`,
+            `Sections ${counts_of(program_file).sections}`, 'goblin what an ELF file holds']);
     assert.match(await field_of('st_other'), /STV_DEFAULT \(0\)/);
 }
 
-// Names of C++: some of each form that is read, and some that are left alone: with an expression, a lambda, and an older name of Rust.
-const READ = ['_ZN5space5ClassILi5ELb1ELm7EEC2ERKS1_', '_ZNKSs4sizeEv', '_ZStlsISt11char_traitsIcEERSt13basic_ostreamIcT_ES5_PKc', '_ZTVN1a1bE',
-    '_ZN1aIiEaSEOS0_', '_Z3mapIPFvPKciEET_S3_', '_ZThn16_N1a1bEv', '_ZN3fooB5cxx11ILN1k1eE3EJidEE3barEv.part.0', '_ZNO1a1bEVPKi', '_ZN12_GLOBAL__N_11aD1Ev'];
-const LEFT_ALONE = ['_Z1fILi1EEvRAT__c', '_ZZ1fvENKUlvE_clEv', '_ZN4core3fmt17h0123456789abcdefE', '_Z', '_ZN', 'main', '_Z1fS9_'];
+// Names of C++: some of each form that is read, and some that are left alone: with an expression, a lambda, and an
+// older name of Rust.
+const READ = ['_ZN5space5ClassILi5ELb1ELm7EEC2ERKS1_', '_ZNKSs4sizeEv',
+    '_ZStlsISt11char_traitsIcEERSt13basic_ostreamIcT_ES5_PKc', '_ZTVN1a1bE', '_ZN1aIiEaSEOS0_', '_Z3mapIPFvPKciEET_S3_',
+    '_ZThn16_N1a1bEv', '_ZN3fooB5cxx11ILN1k1eE3EJidEE3barEv.part.0', '_ZNO1a1bEVPKi', '_ZN12_GLOBAL__N_11aD1Ev'];
+const LEFT_ALONE = ['_Z1fILi1EEvRAT__c', '_ZZ1fvENKUlvE_clEv', '_ZN4core3fmt17h0123456789abcdefE', '_Z',
+    '_ZN', 'main', '_Z1fS9_'];
 
 async function check_demangled() {
     const rows = readFileSync(join(stored, 'mangled'), 'utf8').trim().split('\n').map((line) => line.split('\t'));
-    const by_filter = Object.fromEntries(rows), names = [...READ, ...LEFT_ALONE, ...Object.keys(by_filter).filter((name) => !READ.includes(name))];
+    const by_filter = Object.fromEntries(rows),
+        names = [...READ, ...LEFT_ALONE, ...Object.keys(by_filter).filter((name) => !READ.includes(name))];
     const wanted = names.map((name) => by_filter[name]);
     await pick_written('mangled', symbols_file(names.map((text) => ({ text }))), 'symbols');
     const found = (await saved_rows('symbols')).slice(1).map(([, , demangled]) => demangled);
-    assert.deepEqual(found.slice(0, READ.length + LEFT_ALONE.length), [...wanted.slice(0, READ.length), ...LEFT_ALONE.map(() => '')]);
+    assert.deepEqual(found.slice(0, READ.length + LEFT_ALONE.length),
+        [...wanted.slice(0, READ.length), ...LEFT_ALONE.map(() => '')]);
     const read = found.filter(Boolean).length;
     assert.ok(read > 0.95 * (names.length - LEFT_ALONE.length), `${read} of ${names.length}`);
     assert.deepEqual(found, found.map((text, i) => text && wanted[i]));
@@ -466,9 +530,11 @@ async function check_symbol_links() {
     const shown = await bytes_shown(), data = sections['.data'];
     assert.ok(shown.length > 40 && bytes_of(program_file, main_at, main.size).startsWith(shown), shown);
     // (a symbol without a size has the bytes from its offset on)
-    const label = symbols.find(({ type, size, section }) => type === 'NOTYPE' && size === 0 && section === `${data.index}`);
+    const label = symbols.find(({ type, size, section }) => type === 'NOTYPE' && size === 0
+        && section === `${data.index}`);
     const of_label = await go(`${symtab}/${label.index}`, label.name).then(bytes_shown);
-    assert.ok(of_label && bytes_of(program_file, label.value - data.address + data.offset, 16).startsWith(of_label), label.name);
+    assert.ok(of_label
+        && bytes_of(program_file, label.value - data.address + data.offset, 16).startsWith(of_label), label.name);
     await go(main_place, 'main');
     await follow('address', `address ${main_address}`);
     assert.match(await side(), /segment \d+, LOAD/);
@@ -492,7 +558,8 @@ async function check_early_link() {
 
 async function check_section_links() {
     await pick(program_file);
-    const links = [['.rela.plt', '.dynsym', '.got'], ['.rela.dyn', '.dynsym'], ['.dynsym', '.dynstr'], ['.symtab', '.strtab']];
+    const links = [['.rela.plt', '.dynsym', '.got'], ['.rela.dyn', '.dynsym'], ['.dynsym', '.dynstr'],
+        ['.symtab', '.strtab']];
     for (const [name, link, info] of links.filter(([name]) => sections[name])) {
         await go(`sections/${sections[name].index}`, name);
         assert.match(await field_of('sh_link'), new RegExp(`^\\d+, ${link.replace('.', '\\.')}$`));
@@ -523,7 +590,8 @@ async function check_history() {
     await until_chosen('ELF header');
     assert.equal(await text_of(active_row), null);
     // (what is not a location leaves a tab open; a failing script would be reported at the end)
-    for (const wrong of ['%', 'sections/x', 'offset/0xffffffffffffffff', 'address/0x', 'symbols/99999/1', '__proto__/1']) {
+    for (const wrong of ['%', 'sections/x', 'offset/0xffffffffffffffff', 'address/0x',
+        'symbols/99999/1', '__proto__/1']) {
         await set_place(wrong);
         await setTimeout(50);
         assert.equal((await each_of('[role=tab][aria-selected=true]', 'item.id')).length, 1, wrong);
@@ -532,8 +600,10 @@ async function check_history() {
 
 async function check_relocation_links() {
     const of = sections_of(program_file), [dynamic] = listed(program_file).split(" '.rela.plt' ");
-    const all = [...dynamic.matchAll(/^([0-9a-f]{16}) +[0-9a-f]{16} (R_\w+) +(?:[0-9a-f]{16} (\w+)(?:@\S+)? \+ )?([0-9a-f]+)$/gm)];
-    const at = all.findIndex(([, , type]) => type === 'R_X86_64_GLOB_DAT'), [, digits, , name] = all[at], place = parseInt(digits, 16);
+    const all = [...dynamic.matchAll(
+        /^([0-9a-f]{16}) +[0-9a-f]{16} (R_\w+) +(?:[0-9a-f]{16} (\w+)(?:@\S+)? \+ )?([0-9a-f]+)$/gm)];
+    const at = all.findIndex(([, , type]) => type === 'R_X86_64_GLOB_DAT'), [, digits, , name] = all[at],
+        place = parseInt(digits, 16);
     await pick(program_file);
     await go(`relocations/${of['.rela.dyn'].index}/${at}`, name);
     const got = Object.values(of).find(({ address, size, type }) =>
@@ -546,8 +616,10 @@ async function check_relocation_links() {
     await until(`location.hash.startsWith('#symbols/${of['.dynsym'].index}/')`);
     await until(`${with_text('#chosen th', 'st_info')} !== undefined`);
     // an object file, whose relocations have offsets in the section at sh_info
-    const bytes = Buffer.from('0011223344556677', 'hex'), table = { name: '.rela.text', type: 4, link: 0, info: 1, entsize: 24 };
-    const object = elf_file({ sections: [{ name: '.text', type: 1, flags: 6, bytes }, { ...table, bytes: rela({ offset: 3, type: 2 }) }] });
+    const bytes = Buffer.from('0011223344556677', 'hex'),
+        table = { name: '.rela.text', type: 4, link: 0, info: 1, entsize: 24 };
+    const object = elf_file(
+        { sections: [{ name: '.text', type: 1, flags: 6, bytes }, { ...table, bytes: rela({ offset: 3, type: 2 }) }] });
     await pick_written('object', object);
     await go('relocations/2/0', 'R_X86_64_PC32');
     assert.equal(await bytes_shown(), '3344556677');
@@ -555,7 +627,8 @@ async function check_relocation_links() {
 
 async function check_goto() {
     await pick(program_file);
-    const inside = hex(main.value + 1), until_place = (place) => until(`document.querySelector('#chosen h2').textContent.endsWith('${place}')`);
+    const inside = hex(main.value + 1),
+        until_place = (place) => until(`document.querySelector('#chosen h2').textContent.endsWith('${place}')`);
     await go_by_field(' 0x10 ', 'offset 0x10');
     assert.match(await side(), /in ELF header/);
     await go_by_field(inside);
@@ -567,7 +640,8 @@ async function check_goto() {
     assert.equal(await fragment(), main_place);
     await go_by_field('there is no such name');
     await until_there('#none:not([hidden])');
-    // Digits without 0x are decimal or hexadecimal. The page says how it reads them, and has a link to the other reading.
+    // Digits without 0x are decimal or hexadecimal. The page says how it reads them, and has a link to the
+    // other reading.
     const readings = ['offset 0x64, read as decimal', 'offset 0x100, read as hexadecimal'];
     for (const [text, [taken, other]] of [['100', readings], ['0000000000000100', readings.toReversed()]]) {
         await go_by_field(text, taken.split(',')[0]);
@@ -585,7 +659,8 @@ async function check_goto() {
 }
 
 async function check_search() {
-    const all = decimal(symbols.length), at = main.value + 1, of_all = (is_found) => `${symbols.filter(is_found).length} of ${all}`;
+    const all = decimal(symbols.length), at = main.value + 1,
+        of_all = (is_found) => `${symbols.filter(is_found).length} of ${all}`;
     await pick(program_file);
     await open_list(symtab, all);
     await search(`  ${hex(at)} `, of_all(({ value, size }) => value === at || (value < at && at < value + size)));
@@ -611,35 +686,41 @@ const NAMED_OTHERWISE = { 40: [32, 33, 34, 35, 36, 37, 129, 135], 183: [1028, 10
 
 // The types of relocations of several machines have readelf's names.
 async function check_relocation_names() {
-    const rows = readFileSync(join(stored, 'relocation_names'), 'utf8').trim().split('\n').map((line) => line.split(' '));
+    const rows = readFileSync(join(stored, 'relocation_names'), 'utf8').trim().split('\n')
+        .map((line) => line.split(' '));
     for (const [machine, least] of [[62, 43], [3, 42], [183, 117], [40, 117], [243, 53], [22, 66], [21, 130]]) {
         const bytes = Buffer.concat(Array.from({ length: 1040 }, (_, type) => rela({ type })));
-        await pick_written(`types${machine}`, elf_file({ machine, sections: [{ name: '.rela', type: 4, entsize: 24, bytes }] }));
-        const names = new Map(rows.filter(([of]) => Number(of) === machine).map(([, type, name]) => [Number(type), name]));
+        await pick_written(`types${machine}`,
+            elf_file({ machine, sections: [{ name: '.rela', type: 4, entsize: 24, bytes }] }));
+        const names = new Map(rows.filter(([of]) => Number(of) === machine)
+            .map(([, type, name]) => [Number(type), name]));
         await open_list('relocations/1', '1,040');
-        const own = new Map((await saved_rows('relocations')).map(([, , name], type) => [type, name]).filter(([type, name]) =>
-            name.startsWith('R_') && names.has(type) && !NAMED_OTHERWISE[machine]?.includes(type)));
+        const own = new Map((await saved_rows('relocations')).map(([, , name], type) => [type, name]).filter(
+            ([type, name]) => name.startsWith('R_') && names.has(type) && !NAMED_OTHERWISE[machine]?.includes(type)));
         assert.deepEqual([...own], Array.from(own.keys(), (type) => [type, names.get(type)]), `machine ${machine}`);
         assert.ok(own.size >= least, `${own.size} names of machine ${machine}`);
     }
     // (in 64-bit files for MIPS a relocation has three types, the first one in the last byte)
     const three = rela({ type: 0 });
     three.set([0, 24, 5, 7], 12);
-    await pick_written('mips', elf_file({ machine: 8, sections: [{ name: '.rela', type: 4, entsize: 24, bytes: three }] }), 'relocations');
+    await pick_written('mips',
+        elf_file({ machine: 8, sections: [{ name: '.rela', type: 4, entsize: 24, bytes: three }] }), 'relocations');
     assert.deepEqual(await cells(2), ['R_MIPS_GPREL16 R_MIPS_HI16 R_MIPS_SUB']);
 }
 
 // Returns the cells of each line of a saved list but the first.
-const rows_of = (text) => text.trim().split('\r\n').slice(1).map((line) =>
-    [...line.matchAll(/(?:^|,)(?:"((?:[^"]|"")*)"|([^,]*))/g)].map(([, inside, plain]) => inside?.replaceAll('""', '"') ?? plain));
+const rows_of = (text) => text.trim().split('\r\n').slice(1)
+    .map((line) => [...line.matchAll(/(?:^|,)(?:"((?:[^"]|"")*)"|([^,]*))/g)]
+        .map(([, inside, plain]) => inside?.replaceAll('""', '"') ?? plain));
 
-// Saves the open list, and returns the content of the file. (Until that is whole, it has another name, or there is one with its part.)
-// Chromium drops downloads beyond ten a second, so each waits for a tenth. If none is there after half of the time that the test waits, the
-// list is saved once more, and a line says so.
+// Saves the open list, and returns the content of the file. (Until that is whole, it has another name, or there is one
+// with its part.) Chromium drops downloads beyond ten a second, so each waits for a tenth. If none is there after half
+// of the time that the test waits, the list is saved once more, and a line says so.
 async function saved(name) {
     const form = new RegExp(`\\.${name}(\\(\\d+\\))?( \\(\\d+\\))?\\.csv$`);
     const content_of = (file) => readFileSync(join(browser.downloads, file), 'utf8');
-    const clear = () => readdirSync(browser.downloads).forEach((file) => rmSync(join(browser.downloads, file), { force: true }));
+    const clear = () => readdirSync(browser.downloads)
+        .forEach((file) => rmSync(join(browser.downloads, file), { force: true }));
     let pressed = 0;
     const content = await waited('a saved list', async () => {
         if (Date.now() - pressed > PATIENCE / 2) {
@@ -661,7 +742,8 @@ const saved_rows = async (name) => rows_of(await saved(name));
 async function check_section_indices() {
     const others = [4, 5, 6].map((index) => ({ name: `.s${index}`, type: 1, bytes: Buffer.alloc(0) }));
     const indices = { name: '.shndx', type: 18, link: 1, entsize: 4, bytes: packed([0, 4], [0, 4], [6, 4]) };
-    const content = symbols_file([{ info: 3, shndx: 5 }, { text: 'past', info: 0x12, shndx: 0xffff }], indices, ...others);
+    const content = symbols_file([{ info: 3, shndx: 5 }, { text: 'past', info: 0x12, shndx: 0xffff }],
+        indices, ...others);
     await pick_written('indices', content, 'symbols');
     assert.deepEqual([await cells(1), await cells(7)], [['', '.s5', 'past'], ['undefined', '.s5', '.s6']]);
     await go('symbols/1/2', 'past');
@@ -670,7 +752,8 @@ async function check_section_indices() {
 
 // Returns what a button copies.
 async function copied(button) {
-    await evaluate(`void (globalThis.copied = undefined, navigator.clipboard.writeText = async (text) => { globalThis.copied = text; })`);
+    await evaluate(`void (globalThis.copied = undefined,
+        navigator.clipboard.writeText = async (text) => { globalThis.copied = text; })`);
     await press_button(button);
     await until('globalThis.copied !== undefined');
     return evaluate('globalThis.copied');
@@ -684,7 +767,8 @@ async function check_copies() {
     assert.equal(await copied('Copy cell'), 'main');
     assert.equal(await evaluate(`(() => {
         const grid = document.querySelector('#panel .grid');
-        const event = new ClipboardEvent('copy', { clipboardData: new DataTransfer(), bubbles: true, cancelable: true });
+        const event = new ClipboardEvent('copy',
+            { clipboardData: new DataTransfer(), bubbles: true, cancelable: true });
         grid.focus();
         grid.dispatchEvent(event);
         return event.clipboardData.getData('text/plain');
@@ -694,7 +778,8 @@ async function check_copies() {
     assert.equal((await copied('Copy hex')).replaceAll(' ', ''), bytes_of(program_file, main_at, main.size));
     const list = await saved('symbols'), rows = rows_of(list);
     assert.equal(list.split('\r\n')[0], '#,Name,Value,Size,Type,Binding,Visibility,Section');
-    assert.deepEqual(rows.map(([number, , value, size]) => [number, value, size].map(Number)), symbols.map((item) => [item.index, item.value, item.size]));
+    assert.deepEqual(rows.map(([number, , value, size]) => [number, value, size].map(Number)),
+        symbols.map((item) => [item.index, item.value, item.size]));
     assert.equal(rows[main.index][1], 'main');
 }
 
@@ -708,25 +793,32 @@ async function check_formula() {
         sections: [{ name: '.rela', type: 4, entsize: 24, bytes: rela({ type: 2, addend: (1n << 64n) - 16n }) }] });
     await pick_written('numbers', content);
     const saved_cells = (name) => open_tab(name).then(() => saved_rows(name));
-    assert.deepEqual([(await saved_cells('relocations'))[0][4], (await saved_cells('segments'))[0][2]], ['-0x10', '0x5']);
-    const parts = (await saved_cells('layout')).map(([, from, to, size, share]) => [Number(to) - Number(from), Number(size), share]);
+    assert.deepEqual([(await saved_cells('relocations'))[0][4], (await saved_cells('segments'))[0][2]],
+        ['-0x10', '0x5']);
+    const parts = (await saved_cells('layout'))
+        .map(([, from, to, size, share]) => [Number(to) - Number(from), Number(size), share]);
     assert.ok(parts.length > 4);
     assert.deepEqual(parts, parts.map(([size]) => [size, size, (100 * size / content.length).toFixed(2)]));
 }
 
 // Of a refused table nothing can be saved, and by no way another table is. The bytes that say where it is are marked.
 async function check_refused_tables() {
-    const bytes = Buffer.alloc(72), tables = { symbols: { type: 2, entsize: 24, bytes }, relocations: { type: 4, entsize: 24, bytes } };
+    const bytes = Buffer.alloc(72),
+        tables = { symbols: { type: 2, entsize: 24, bytes }, relocations: { type: 4, entsize: 24, bytes } };
     for (const [name, table] of Object.entries(tables)) {
-        const content = elf_file({ sections: [{ name: '.read', ...table }, { name: '.refused', ...table }, { name: '.data', type: 1, bytes }] });
-        const place = packed([64 + 72, 8], [1n << 40n, 8]); // (the offset of section 2, after the header and section 1, and its size)
+        const content = elf_file({ sections: [{ name: '.read', ...table }, { name: '.refused', ...table },
+            { name: '.data', type: 1, bytes }] });
+        const place = packed([64 + 72, 8],
+            [1n << 40n, 8]); // (the offset of section 2, after the header and section 1, and its size)
         place.copy(content, Number(content.readBigUInt64LE(0x28)) + 2 * 64 + 0x18);
         for (const opened of [[2], [1, 2], [1, 3]]) {
             await pick_written(`refused-${name}`, content);
             for (const index of opened) {
                 await open_list(`${name}/${index}`, { 1: 3, 2: 'refused', 3: 'none' }[index]);
-                const marked = (await each_of('#panel .refused b', 'item.textContent')).filter(({ length }) => length === 2).join('');
-                assert.deepEqual([await is_visible('#panel .saving'), marked], [index === 1, index === 2 ? place.toString('hex') : '']);
+                const marked = (await each_of('#panel .refused b', 'item.textContent'))
+                    .filter(({ length }) => length === 2).join('');
+                assert.deepEqual([await is_visible('#panel .saving'), marked],
+                    [index === 1, index === 2 ? place.toString('hex') : '']);
                 const lines = (await saved(name)).trim().split('\r\n');
                 assert.equal(lines.length, index === 1 ? 4 : 1, `${name} of section ${index}: ${lines}`);
             }
@@ -736,15 +828,18 @@ async function check_refused_tables() {
 
 // What a file is that is no ELF file, and what a refusal means, in words.
 async function check_plain_words() {
-    const others = { '!<arch>\n': 'an archive', '\x1f\x8b': 'by gzip', '#!/': 'a script', MZ: 'DOS (PE)', '\xcf\xfa\xed\xfe': 'a Mach-O file' };
+    const others = { '!<arch>\n': 'an archive', '\x1f\x8b': 'by gzip', '#!/': 'a script', MZ: 'DOS (PE)',
+        '\xcf\xfa\xed\xfe': 'a Mach-O file' };
     for (const [begin, words] of Object.entries(others)) {
         await check_refusal(Buffer.from(begin.padEnd(80, ' '), 'latin1'), words, 'This is not an ELF file');
     }
     await pick_written('short', content.subarray(0, 0x1000));
     await click('#tab-sections');
     await until_there('#panel .plainly');
-    assert.match(await text_of('#panel .plainly'), /^The section headers begin at 0x1800, the file ends at 0x1000: it is cut/);
-    assert.ok((await facts(join(folder, 'short'))).some(([, value]) => value === 'unknown, the section headers are refused'));
+    assert.match(await text_of('#panel .plainly'),
+        /^The section headers begin at 0x1800, the file ends at 0x1000: it is cut/);
+    assert.ok((await facts(join(folder, 'short')))
+        .some(([, value]) => value === 'unknown, the section headers are refused'));
     await click('#example');
     await until_text('#file b', 'example');
     assert.match(await text_of('#file'), /program at fixed addresses for x86-64/);
@@ -753,7 +848,8 @@ async function check_plain_words() {
 // A link by a name leads to a section or symbol of a file that is built anew, wherever it is there.
 async function check_named_links() {
     await pick(program_file);
-    for (const [place, name, value] of [['section=.text', 'sh_offset', text.offset], ['symbol=main', 'st_value', main.value]]) {
+    for (const [place, name, value] of [['section=.text', 'sh_offset', text.offset],
+        ['symbol=main', 'st_value', main.value]]) {
         await go(place, place.split('=')[1]);
         assert.match(await field_of(name), new RegExp(`^${hex(value)}\\b`));
         assert.equal(await copied('Copy link'), `${url}#${place}`);
@@ -764,7 +860,8 @@ async function check_named_links() {
 
 // A row of bytes has as many as there is room for. A field of a record shows its bytes, and a byte its field.
 async function check_fields() {
-    const { index, size, offset } = text, length = `${one('#chosen .hex .row :nth-child(2)')}?.textContent.trim().split(' ').length`;
+    const { index, size, offset } = text,
+        length = `${one('#chosen .hex .row :nth-child(2)')}?.textContent.trim().split(' ').length`;
     await pick(program_file);
     for (const [width, each] of [[1600, 16], [1280, 8], [800, 16], [400, 8], [1400, 8]]) {
         await browser.resize(width, 1000);
@@ -782,11 +879,13 @@ async function check_fields() {
     await browser.resize(1400, 1000);
     const lit = (place) => each_of(`#chosen ${place}`, 'item.textContent').then((texts) => texts.join(''));
     const is_lit = async (name, number) =>
-        assert.deepEqual([await lit('tr.lit th'), await lit('.hex .cell:nth-child(2) .lit')], [name, packed([number, 8]).toString('hex')]);
+        assert.deepEqual([await lit('tr.lit th'), await lit('.hex .cell:nth-child(2) .lit')],
+            [name, packed([number, 8]).toString('hex')]);
     await press_button('sh_size');
     await until_there('#chosen .hex .lit');
     await is_lit('sh_size', size);
-    await evaluate(`${one('#chosen .hex [data-field=sh_offset]')}.dispatchEvent(new PointerEvent('pointerover', { bubbles: true }))`);
+    await evaluate(`${one('#chosen .hex [data-field=sh_offset]')}
+        .dispatchEvent(new PointerEvent('pointerover', { bubbles: true }))`);
     await is_lit('sh_offset', offset);
 }
 
@@ -796,7 +895,8 @@ async function check_words() {
     await pick_written('big', readFileSync(join(made_files, 'big64')), 'segments');
     assert.match(await text_of('#file'), /big endian/);
     const heads = await each_of('#panel [role=columnheader]', '[item.textContent, item.title]');
-    assert.deepEqual(heads.slice(3, 7), [['Offset', 'p_offset'], ['File size', 'p_filesz'], ['Address', 'p_vaddr'], ['Memory size', 'p_memsz']]);
+    assert.deepEqual(heads.slice(3, 7),
+        [['Offset', 'p_offset'], ['File size', 'p_filesz'], ['Address', 'p_vaddr'], ['Memory size', 'p_memsz']]);
 }
 
 // A cut cell has its whole text as a tooltip, and cells of segments are not cut.
@@ -818,7 +918,8 @@ async function check_cells() {
 
 // In low and narrow windows the first result of a search is in view, and so are the first bytes of what is chosen.
 async function check_low() {
-    const is_seen = (place) => `(({ top, bottom }) => top >= 0 && bottom <= innerHeight)(document.querySelector('${place}').getBoundingClientRect())`;
+    const is_seen = (place) => `(({ top, bottom }) => top >= 0 && bottom <= innerHeight)(
+        document.querySelector('${place}').getBoundingClientRect())`;
     await pick(program_file);
     const number = symbols.filter(({ name }) => name.includes('main')).length;
     for (const [width, height] of [[800, 360], [640, 450], [400, 800]]) {
@@ -834,7 +935,8 @@ async function check_low() {
     await browser.resize(1400, 1600);
 }
 
-// In windows of three widths: the map takes at most a third, no word is broken, and the page has no scroll bar but that of the list.
+// In windows of three widths: the map takes at most a third, no word is broken, and the page has no scroll bar but that
+// of the list.
 async function check_widths() {
     await pick(program_file);
     for (const [width, height] of [[1280, 900], [800, 900], [400, 800]]) {
@@ -843,8 +945,8 @@ async function check_widths() {
         await click('#tab-header');
         await until_there('[data-field=ei_data]');
         await click('#back');
-        assert.deepEqual(await evaluate(`[...document.querySelectorAll('.fields.header span, .fields.header .words')].flatMap((cell) =>
-            [...cell.textContent.matchAll(/\\S+/g)].filter(({ 0: word, index }) => {
+        assert.deepEqual(await evaluate(`[...document.querySelectorAll('.fields.header span, .fields.header .words')]
+            .flatMap((cell) => [...cell.textContent.matchAll(/\\S+/g)].filter(({ 0: word, index }) => {
                 const range = new Range();
                 range.setStart(cell.firstChild, index);
                 range.setEnd(cell.firstChild, index + word.length);
@@ -855,9 +957,12 @@ async function check_widths() {
             const heads = await each_of('#panel [role=columnheader]', '[item.offsetWidth, item.textContent]');
             assert.equal(heads.sort(([a], [b]) => b - a)[0][1], widest, `${name}, ${width}`);
         }
-        const bars = await evaluate(`[...document.querySelectorAll('html, body, main, #shown, .columns, .lists, #panel, .grid')]
-            .filter((box) => box.offsetParent !== null || box.matches('html, body')).filter((box) => box.scrollHeight > box.clientHeight + 1
-                && !['visible', 'hidden'].includes(getComputedStyle(box).overflowY)).map((box) => box.className || box.tagName)`);
+        const bars = await evaluate(`[
+            ...document.querySelectorAll('html, body, main, #shown, .columns, .lists, #panel, .grid')]
+            .filter((box) => box.offsetParent !== null || box.matches('html, body'))
+            .filter((box) => box.scrollHeight > box.clientHeight + 1
+                && !['visible', 'hidden'].includes(getComputedStyle(box).overflowY))
+            .map((box) => box.className || box.tagName)`);
         assert.ok(bars.length <= 1 && bars.every((name) => name === 'grid'), `${width}: ${bars}`);
         assert.ok(await evaluate(`document.documentElement.scrollWidth <= innerWidth`), `${width}`);
         // The side is beside the list, or replaces it until the user goes back.
@@ -872,20 +977,26 @@ async function check_widths() {
 
 // What is narrower than a pixel is drawn as a pixel: a file of 60,000 sections, and one whose other parts are large.
 async function check_narrow() {
-    const bytes = Buffer.alloc(8), count = 60000, content = elf_file({ sections: Array(count).fill({ name: '', type: 1, flags: 2, bytes }) });
+    const bytes = Buffer.alloc(8), count = 60000,
+        content = elf_file({ sections: Array(count).fill({ name: '', type: 1, flags: 2, bytes }) });
     await pick_written('many', content);
     const wanted = await bar_of(content.length) * count * 8 / await each_row(), many = await pixels_of('constants', 12);
     assert.ok(wanted > 500 && Math.abs(many - wanted) < 5, `${many} pixels, not ${wanted}`);
-    await pick_written('large', elf_file({ sections: [{ name: '.text', type: 1, flags: 6, bytes: Buffer.alloc(1 << 22) }] }));
+    await pick_written('large',
+        elf_file({ sections: [{ name: '.text', type: 1, flags: 6, bytes: Buffer.alloc(1 << 22) }] }));
     assert.deepEqual([await pixels_of('header', 12), await pixels_of('code', 12) > 500], [1, true]);
-    const debug = { name: '.debug_info', type: 1, bytes: Buffer.alloc(1 << 20) }, noted = { name: '.note', type: 7, bytes: note('GNU', 3, bytes) };
+    const debug = { name: '.debug_info', type: 1, bytes: Buffer.alloc(1 << 20) },
+        noted = { name: '.note', type: 7, bytes: note('GNU', 3, bytes) };
     await pick_written('debug', elf_file({ sections: [debug, noted] }));
     assert.deepEqual(await shares(), { 'debug information': 100 });
-    assert.match(await text_of('#legend'), /each below 0.05 %: ELF header, header tables, symbols and names, notes, gap/);
+    assert.match(await text_of('#legend'),
+        /each below 0.05 %: ELF header, header tables, symbols and names, notes, gap/);
 }
 
-// The number of bytes of the map's rows, the map's place, the width of a row without its offset, and a wait for the line above the map.
-const each_row = async () => Number(/each row has ([\d,]+) bytes/.exec(await text_of('#readout'))[1].replaceAll(',', ''));
+// The number of bytes of the map's rows, the map's place, the width of a row without its offset, and a wait for the
+// line above the map.
+const each_row = async () =>
+    Number(/each row has ([\d,]+) bytes/.exec(await text_of('#readout'))[1].replaceAll(',', ''));
 const canvas_box = () => evaluate(`document.getElementById('canvas').getBoundingClientRect().toJSON()`);
 const bar_of = async (size) => (await canvas_box()).width - 42 - 7 * hex(size).length;
 const readout = (pattern) => until(`${pattern}.test(document.getElementById('readout').textContent)`);
@@ -905,31 +1016,36 @@ const PIXELS = `(() => {
 
 // Returns of a row of pixels which have the colour of a kind.
 const row_of = (kind, y) => evaluate(`(() => {
-    const { pen, canvas, style } = ${PIXELS}, wanted = style('${kind}').join(), { data } = pen.getImageData(0, ${y}, canvas.width, 1);
+    const { pen, canvas, style } = ${PIXELS}, wanted = style('${kind}').join(),
+        { data } = pen.getImageData(0, ${y}, canvas.width, 1);
     return Array.from({ length: canvas.width }, (_, i) => data.slice(4 * i, 4 * i + 3).join() === wanted);
 })()`);
 
 // Returns how many pixels have the colour of a kind, in a line of each row.
 async function pixels_of(kind, line) {
-    const lines = Array.from({ length: Math.floor(((await canvas_box()).height - 12) / 24) }, (_, row) => row_of(kind, line + 24 * row));
+    const lines = Array.from({ length: Math.floor(((await canvas_box()).height - 12) / 24) },
+        (_, row) => row_of(kind, line + 24 * row));
     return (await Promise.all(lines)).flat().filter((is_it) => is_it).length;
 }
 
 async function check_map() {
-    const all = segments_of(program_file), index = all.findIndex(({ type, flags }) => type === 'LOAD' && flags === 'R E');
+    const all = segments_of(program_file),
+        index = all.findIndex(({ type, flags }) => type === 'LOAD' && flags === 'R E');
     const { offset: start, size } = all[index], rows = [];
     await pick(program_file);
     const each = await each_row(), high = (await canvas_box()).height - 28;
     await check_colours();
     // A segment is outlined in each of its rows.
     await go(`segments/${index}`, `segment ${index}, LOAD`);
-    for (let y = 7; y < high; y += 24) if ((await row_of('ink', y)).filter((is_it) => is_it).length > 20) rows.push((y - 7) / 24);
+    for (let y = 7; y < high; y += 24)
+        if ((await row_of('ink', y)).filter((is_it) => is_it).length > 20) rows.push((y - 7) / 24);
     const first = Math.floor(start / each), last = Math.floor((start + size - 1) / each);
     assert.ok(last > first);
     assert.deepEqual(rows, Array.from({ length: last - first + 1 }, (_, i) => first + i));
 }
 
-// Points at the map, whose line above says what is below the pointer, until that leaves. Returns the line, and the offset that it names.
+// Points at the map, whose line above says what is below the pointer, until that leaves. Returns the line, and the
+// offset that it names.
 async function pointed(x, y) {
     await browser.point(5, 5);
     await readout(/^\d+ parts, drawn to scale/);
@@ -941,14 +1057,18 @@ async function pointed(x, y) {
 
 // Returns where the map of a whole file has some of its bytes.
 async function spots_of(path, ...offsets) {
-    const { left, top, width } = await canvas_box(), bar = await bar_of(readFileSync(path).length), each = await each_row();
-    return offsets.map((at) => [left + width - 7 - bar + bar * (at % each) / each, top + 15 + 24 * Math.floor(at / each)]);
+    const { left, top, width } = await canvas_box(), bar = await bar_of(readFileSync(path).length),
+        each = await each_row();
+    return offsets.map((at) =>
+        [left + width - 7 - bar + bar * (at % each) / each, top + 15 + 24 * Math.floor(at / each)]);
 }
 
-// The wheel zooms to what is below the pointer, dragging moves it, and keys do both. Zooming shows functions, which are links, then bytes.
+// The wheel zooms to what is below the pointer, dragging moves it, and keys do both. Zooming shows functions, which are
+// links, then bytes.
 async function check_zoom() {
     await pick(program_file);
-    const [spot] = await spots_of(program_file, main_at), bar = await bar_of(readFileSync(program_file).length), whole = await each_row();
+    const [spot] = await spots_of(program_file, main_at), bar = await bar_of(readFileSync(program_file).length),
+        whole = await each_row();
     const { left, top } = await canvas_box(), [x, y] = [left + 500, top + 40], { byte } = await pointed(x, y);
     const zoomed = (each) => readout(new RegExp(`each row has ${decimal(each)} bytes`));
     const is_near = async (at) => assert.ok(Math.abs((await pointed(at, y)).byte - byte) < whole / 400);
@@ -971,25 +1091,32 @@ async function check_zoom() {
     await go('header', 'ELF header');
     await browser.drag(spot, spot);
     await until_chosen('main');
-    const [next] = symbols.filter(({ type, size, value }) => type === 'FUNC' && size > 8 && value > main.value).sort((a, b) => a.value - b.value);
+    const [next] = symbols.filter(({ type, size, value }) => type === 'FUNC' && size > 8 && value > main.value)
+        .sort((a, b) => a.value - b.value);
     await browser.press('ArrowRight');
     await until_chosen(next.name);
     for (; each > 16; await zoomed(each)) { each = Math.max(each / 2, 16); await browser.press('+'); }
     await pointed(x, y); // (then the worker has sent the bytes, too)
     assert.ok(await pixels_of('in-3', 12) > bar && await pixels_of('code', 12) === 0);
     // (the last byte of a function is in it, and the next one is not)
-    const bytes = Buffer.alloc(16, 1), file = symbols_file([{ text: 'a', info: 2, shndx: 3, size: 8 }], { name: '.text', type: 1, bytes });
-    const at = file.indexOf(bytes), [last, after] = await pick_written('function', file).then((path) => spots_of(path, at + 7, at + 8));
+    const bytes = Buffer.alloc(16, 1),
+        file = symbols_file([{ text: 'a', info: 2, shndx: 3, size: 8 }], { name: '.text', type: 1, bytes });
+    const at = file.indexOf(bytes),
+        [last, after] = await pick_written('function', file).then((path) => spots_of(path, at + 7, at + 8));
     assert.match((await pointed(...last)).text, new RegExp(`^a · \\.text · .* at ${hex(at + 7)}$`));
     assert.match((await pointed(...after)).text, new RegExp(`^\\.text · .* at ${hex(at + 8)}$`));
 }
 
 // The strip below a row says what the bytes are like.
 async function check_classes() {
-    const size = 8192, { offset } = sections_of(program_file)['.text'], code = readFileSync(program_file).subarray(offset, offset + size);
-    const numbers = Buffer.from(Uint32Array.from({ length: size / 4 }, (_, i) => i).buffer), words = Buffer.alloc(size, 'What is below a row? ');
-    const all = [Buffer.alloc(size), words, numbers, code, randomBytes(size)].map((bytes) => ({ name: '.bytes', type: 1, bytes }));
-    const path = await pick_written('classes', elf_file({ sections: all })), bar = await bar_of(readFileSync(path).length);
+    const size = 8192, { offset } = sections_of(program_file)['.text'],
+        code = readFileSync(program_file).subarray(offset, offset + size);
+    const numbers = Buffer.from(Uint32Array.from({ length: size / 4 }, (_, i) => i).buffer),
+        words = Buffer.alloc(size, 'What is below a row? ');
+    const all = [Buffer.alloc(size), words, numbers, code, randomBytes(size)]
+        .map((bytes) => ({ name: '.bytes', type: 1, bytes }));
+    const path = await pick_written('classes', elf_file({ sections: all })),
+        bar = await bar_of(readFileSync(path).length);
     const { left, top } = await canvas_box(), each = await each_row();
     await pointed(left + 500, top + 20);
     for (const i of all.keys()) {
@@ -998,29 +1125,37 @@ async function check_classes() {
     }
 }
 
-// An area is as large as the share of its section in the file. A click on a function leads to its symbol, and on a section to it.
+// An area is as large as the share of its section in the file. A click on a function leads to its symbol, and on a
+// section to it.
 async function check_sizes() {
-    const [largest] = symbols.filter(({ type }) => type === 'FUNC').sort((a, b) => b.size - a.size), whole = readFileSync(program_file).length;
+    const [largest] = symbols.filter(({ type }) => type === 'FUNC').sort((a, b) => b.size - a.size),
+        whole = readFileSync(program_file).length;
     const section = (name) => ({ name, ...sections[name], place: `sections/${sections[name].index}` });
     await pick(program_file);
-    for (const { name, size, place } of [...['.text', '.rodata', '.symtab'].map(section), { ...largest, place: `${symtab}/${largest.index}` }]) {
+    for (const { name, size, place } of [...['.text', '.rodata', '.symtab'].map(section),
+        { ...largest, place: `${symtab}/${largest.index}` }]) {
         await Promise.all([click('#tab-sizes'), until_there('.areas a')]);
-        const areas = await each_of('.areas a', `({ hash: item.hash, title: item.title, is_inside: item.className === 'inside',
+        const areas = await each_of('.areas a', `({ hash: item.hash, title: item.title,
+            is_inside: item.className === 'inside',
             area: parseFloat(item.style.width) * parseFloat(item.style.height) / 100 })`);
-        const { area, hash, is_inside } = areas.find(({ title }) => title.startsWith(`${name}: ${decimal(size)} bytes, `));
-        assert.deepEqual([hash, is_inside || Math.abs(area - 100 * size / whole) < 0.1], [`#${place}`, true], `${name}: ${area} %`);
+        const { area, hash, is_inside } =
+            areas.find(({ title }) => title.startsWith(`${name}: ${decimal(size)} bytes, `));
+        assert.deepEqual([hash, is_inside || Math.abs(area - 100 * size / whole) < 0.1], [`#${place}`, true],
+            `${name}: ${area} %`);
         assert.ok(Math.abs(areas.reduce((all, item) => all + (item.is_inside ? 0 : item.area), 0) - 100) < 0.1);
         await click(`.areas [href='${hash}']`);
         await until_chosen(name);
     }
 }
 
-const linear = (colour) => colour.map((part) => (part <= 10.31475 ? part / 255 / 12.92 : ((part / 255 + 0.055) / 1.055) ** 2.4));
+const linear = (colour) =>
+    colour.map((part) => (part <= 10.31475 ? part / 255 / 12.92 : ((part / 255 + 0.055) / 1.055) ** 2.4));
 const times = (matrix, vector) => matrix.map((row) => row.reduce((all, value, i) => all + value * vector[i], 0));
 
 // Returns the contrast of two colours: how many times as light the lighter one is, as the WCAG count it.
 function contrast(...colours) {
-    const [more, less] = colours.map((colour) => times([[0.2126, 0.7152, 0.0722]], linear(colour))[0] + 0.05).sort((a, b) => b - a);
+    const [more, less] = colours.map((colour) => times([[0.2126, 0.7152, 0.0722]], linear(colour))[0] + 0.05)
+        .sort((a, b) => b - a);
     return more / less;
 }
 
@@ -1031,23 +1166,27 @@ const without_green = (colour) => [
     [[0.2104543, 0.7936178, -0.0040720], [1.9779985, -2.4285922, 0.4505937], [0.0259040, 0.7827718, -0.8086758]],
 ].reduce((seen, matrix, i) => times(matrix, i === 2 ? seen.map(Math.cbrt) : seen), linear(colour));
 
-// Edges of what can be used, gaps and names on the map have a contrast of at least 3 to 1. An eye without green sees that kinds differ.
+// Edges of what can be used, gaps and names on the map have a contrast of at least 3 to 1. An eye without green sees
+// that kinds differ.
 async function check_colours() {
     assert.ok(await pixels_of('gap', 14) > 100);
     await open_tab('sections');
     const edges = ['#goto', '.bar .button', '#out', '#canvas', '#legend i', '#panel input', '#panel .saving button'];
     const kinds = ['header', 'tables', 'code', 'data', 'constants', 'names', 'relocations', 'notes', 'debug', 'other'];
     const [edge, ground, kind, on] = await evaluate(`(() => {
-        const { probe, style } = ${PIXELS}, edge = (selector) => probe(getComputedStyle(document.querySelector(selector)).borderTopColor);
-        return [[...${quoted(edges)}.map(edge), style('gap')], ['paper', 'raised'].map(style), ${quoted(kinds)}.map(style),
-            ['paper', 'on-kind'].map(style)];
+        const { probe, style } = ${PIXELS},
+            edge = (selector) => probe(getComputedStyle(document.querySelector(selector)).borderTopColor);
+        return [[...${quoted(edges)}.map(edge), style('gap')], ['paper', 'raised'].map(style),
+            ${quoted(kinds)}.map(style), ['paper', 'on-kind'].map(style)];
     })()`);
     const differs = (a, b, name) => assert.ok(contrast(a, b) >= 3, `${name}: ${contrast(a, b)}`);
     edge.forEach((colour, i) => ground.forEach((other) => differs(colour, other, edges[i])));
     kind.forEach((colour, i) => differs(colour, on[Number(i > 0)], kinds[i]));
     for (const [a, b] of [[2, 5], [3, 6]]) assert.ok(contrast(kind[a], kind[b]) >= 1.4, `${kinds[a]} and ${kinds[b]}`);
-    const seen = kind.map(without_green), apart = (i, j) => Math.hypot(...seen[i].map((value, k) => value - seen[j][k]));
-    kinds.forEach((name, i) => kinds.slice(0, i).forEach((other, j) => assert.ok(apart(i, j) >= 0.07, `${name} and ${other}: ${apart(i, j)}`)));
+    const seen = kind.map(without_green),
+        apart = (i, j) => Math.hypot(...seen[i].map((value, k) => value - seen[j][k]));
+    kinds.forEach((name, i) => kinds.slice(0, i)
+        .forEach((other, j) => assert.ok(apart(i, j) >= 0.07, `${name} and ${other}: ${apart(i, j)}`)));
 }
 
 async function check_themes() {
@@ -1067,12 +1206,14 @@ function renamed(content, name, bytes) {
 }
 
 async function check_names() {
-    const markup = '<img src onerror=a>', others = { weak_undefined_data: markup, zeros: '\x80\u2028', weak_function: '<img src=abc>',
-        data: [0xff, 0x41, 0x1b, 0x0a] };
-    const named = Object.entries(others).reduce((all, [name, other]) => renamed(all, name, Buffer.from(other)), content);
+    const markup = '<img src onerror=a>', others = { weak_undefined_data: markup, zeros: '\x80\u2028',
+        weak_function: '<img src=abc>', data: [0xff, 0x41, 0x1b, 0x0a] };
+    const named = Object.entries(others)
+        .reduce((all, [name, other]) => renamed(all, name, Buffer.from(other)), content);
     await pick_written('<img src=a>', named, 'symbols');
     const names = await cells(1);
-    for (const name of [markup, 'U+0080U+2028', '\\xffAU+001BU+000A', 'été']) assert.ok(names.includes(name), names.join(' '));
+    for (const name of [markup, 'U+0080U+2028', '\\xffAU+001BU+000A', 'été'])
+        assert.ok(names.includes(name), names.join(' '));
     assert.equal((await each_of('#panel .esc', 'item.title')).length, 5);
     await search('ONERROR', '1 of 21');
     assert.deepEqual(await cells(1), [markup]);
@@ -1134,7 +1275,8 @@ async function check_requests() {
     await waited('a refusal', () => browser.refusals.length > 0);
     const is_asked = (text) => text.includes('http://127.0.0.1:9/asked') && /Content.Security.Policy/.test(text);
     assert.ok(browser.refusals.every(is_asked), browser.refusals.join('\n'));
-    const others = browser.requests.filter((request) => request.split(/[?#]/)[0] !== url && !/^(blob:|data:|about:blank$)/.test(request));
+    const others = browser.requests.filter((request) => request.split(/[?#]/)[0] !== url
+        && !/^(blob:|data:|about:blank$)/.test(request));
     assert.deepEqual([others, browser.faults], [[], []]);
 }
 
@@ -1146,11 +1288,12 @@ async function check_refusals() {
 }
 
 const checks = [
-    check_all_counts, check_refusals, check_trouble, check_unknown, check_own_tables, check_summary, check_core, check_segments,
-    check_many_segments, check_padding, check_cut, check_labels, check_loading, check_symbol_links, check_early_link, check_section_links,
-    check_history, check_relocation_links, check_goto, check_search, check_relocation_names, check_section_indices, check_named_links,
-    check_fields, check_low, check_plain_words, check_copies, check_formula, check_refused_tables, check_demangled, check_words,
-    check_cells, check_widths, check_map, check_zoom, check_classes, check_sizes, check_narrow, check_themes, check_names, check_keys,
+    check_all_counts, check_refusals, check_trouble, check_unknown, check_own_tables, check_summary, check_core,
+    check_segments, check_many_segments, check_padding, check_cut, check_labels, check_loading, check_symbol_links,
+    check_early_link, check_section_links, check_history, check_relocation_links, check_goto, check_search,
+    check_relocation_names, check_section_indices, check_named_links, check_fields, check_low, check_plain_words,
+    check_copies, check_formula, check_refused_tables, check_demangled, check_words, check_cells, check_widths,
+    check_map, check_zoom, check_classes, check_sizes, check_narrow, check_themes, check_names, check_keys,
     check_requests, check_unsupported,
 ];
 
@@ -1164,8 +1307,8 @@ async function run_checks() {
     await browser.open(url);
     await until(`document.getElementById('unmade')?.hidden`);
     for (current of checks) await current();
-    console.log(`${browser.constructor.title}: the page passes ${checks.length} checks over ${stored_files.length} files, and over`
-        + ' those that they write, and asks for nothing');
+    console.log(`${browser.constructor.title}: the page passes ${checks.length} checks over ${stored_files.length}`
+        + ' files, and over those that they write, and asks for nothing');
 }
 
 let current = check_hearing;

@@ -19,7 +19,8 @@ export async function waited(what, find) {
     throw new Error(`not so after ${PATIENCE / 1000} seconds: ${what}`);
 }
 
-// A WebSocket for texts (RFC 6455). Node 20 has none without an option, and with the option one that stops after 4,096 messages.
+// A WebSocket for texts (RFC 6455). Node 20 has none without an option, and with the option one that stops after
+// 4,096 messages.
 class Socket {
     #rest = Buffer.alloc(0);
     #parts = [];
@@ -30,7 +31,8 @@ class Socket {
         const headers = { Connection: 'Upgrade', Upgrade: 'websocket', 'Sec-WebSocket-Version': 13,
             'Sec-WebSocket-Key': randomBytes(16).toString('base64') };
         return new Promise((resolve, reject) => {
-            request(url.replace(/^ws:/, 'http:'), { headers }).on('error', reject).on('upgrade', (response, stream, head) => {
+            request(url.replace(/^ws:/, 'http:'), { headers }).on('error', reject)
+                .on('upgrade', (response, stream, head) => {
                 this.stream = stream;
                 stream.on('data', (data) => this.#read(data)).on('error', () => {});
                 this.#read(head);
@@ -44,7 +46,8 @@ class Socket {
         const content = Buffer.from(text), { length } = content, mask = randomBytes(4);
         const head = length < 126 ? Buffer.from([0x81, 0x80 | length]) : Buffer.alloc(length < 0x10000 ? 4 : 10);
         if (length >= 126) head.writeUInt16BE(0x8180 | (length < 0x10000 ? 126 : 127));
-        if (length >= 0x10000) head.writeBigUInt64BE(BigInt(length), 2); else if (length >= 126) head.writeUInt16BE(length, 2);
+        if (length >= 0x10000) head.writeBigUInt64BE(BigInt(length), 2);
+        else if (length >= 126) head.writeUInt16BE(length, 2);
         for (let at = 0; at < length; at++) content[at] ^= mask[at % 4];
         this.stream.write(Buffer.concat([head, mask, content]));
     }
@@ -55,7 +58,8 @@ class Socket {
         for (;;) {
             const rest = this.#rest, short = rest[1], start = short === 127 ? 10 : short === 126 ? 4 : 2;
             if (rest.length < start) return;
-            const length = short === 127 ? Number(rest.readBigUInt64BE(2)) : short === 126 ? rest.readUInt16BE(2) : short;
+            const length = short === 127 ? Number(rest.readBigUInt64BE(2))
+                : short === 126 ? rest.readUInt16BE(2) : short;
             if (rest.length < start + length) return;
             this.#rest = rest.subarray(start + length);
             this.#take(rest[0], rest.subarray(start, start + length));
@@ -86,7 +90,9 @@ class Browser {
 
     /** Returns the browser's answer to a message, which `send` sends with a number, and whose answer has it. */
     call(message) {
-        return new Promise((resolve, reject) => { this.send({ id: this.#waiting.push({ resolve, reject }), ...message }); });
+        return new Promise((resolve, reject) => {
+            this.send({ id: this.#waiting.push({ resolve, reject }), ...message });
+        });
     }
 
     answer({ id, result, error, message }) {
@@ -95,7 +101,9 @@ class Browser {
     }
 
     /** Returns the value of an expression, which may be a promise. */
-    async evaluate(expression) { return JSON.parse(await this.run(`(async () => JSON.stringify(await (${expression})) ?? 'null')()`)); }
+    async evaluate(expression) {
+        return JSON.parse(await this.run(`(async () => JSON.stringify(await (${expression})) ?? 'null')()`));
+    }
 
     /** Waits until an expression is true. */
     until(expression) { return waited(expression, () => this.evaluate(expression)); }
@@ -113,7 +121,8 @@ export class Chromium extends Browser {
     static title = 'Chromium';
 
     async start(program) {
-        const options = ['--headless', '--no-sandbox', '--disable-gpu', '--remote-debugging-pipe', `--user-data-dir=${this.profile}`];
+        const options = ['--headless', '--no-sandbox', '--disable-gpu', '--remote-debugging-pipe',
+            `--user-data-dir=${this.profile}`];
         this.process = spawn(program, options, { stdio: ['ignore', 'ignore', 'ignore', 'pipe', 'pipe'] });
         this.send = (message) => this.process.stdio[3].write(`${JSON.stringify(message)}\0`);
         let rest = '';
@@ -135,7 +144,8 @@ export class Chromium extends Browser {
         const { id, method, params } = message;
         if (id) this.answer(message);
         if (method === 'Network.requestWillBeSent') this.requests.push(params.request.url);
-        if (method === 'Runtime.exceptionThrown') this.faults.push(params.exceptionDetails.exception?.description ?? params.exceptionDetails.text);
+        if (method === 'Runtime.exceptionThrown')
+            this.faults.push(params.exceptionDetails.exception?.description ?? params.exceptionDetails.text);
         // (without hints on rendering)
         if (method === 'Log.entryAdded' && params.entry.source !== 'rendering') this.refusals.push(params.entry.text);
         if (method === 'Target.attachedToTarget') this.#watch(params.sessionId);
@@ -144,8 +154,10 @@ export class Chromium extends Browser {
     // Subscribes to the requests and failures of a page, and to its workers before they start.
     async #watch(session) {
         await Promise.all([
-            this.#ask('Network.enable', {}, session), this.#ask('Runtime.enable', {}, session), this.#ask('Log.enable', {}, session),
-            this.#ask('Target.setAutoAttach', { autoAttach: true, waitForDebuggerOnStart: true, flatten: true }, session),
+            this.#ask('Network.enable', {}, session), this.#ask('Runtime.enable', {}, session),
+            this.#ask('Log.enable', {}, session),
+            this.#ask('Target.setAutoAttach',
+                { autoAttach: true, waitForDebuggerOnStart: true, flatten: true }, session),
         ]);
         await this.#ask('Runtime.runIfWaitingForDebugger', {}, session);
     }
@@ -163,7 +175,8 @@ export class Chromium extends Browser {
     }
 
     async run(expression) {
-        const { result, exceptionDetails } = await this.#ask('Runtime.evaluate', { expression, awaitPromise: true, userGesture: true });
+        const { result, exceptionDetails } =
+            await this.#ask('Runtime.evaluate', { expression, awaitPromise: true, userGesture: true });
         if (exceptionDetails) throw new Error(exceptionDetails.exception?.description ?? exceptionDetails.text);
         return result.value;
     }
@@ -176,17 +189,21 @@ export class Chromium extends Browser {
 
     async press(...keys) {
         for (const key of keys) {
-            const given = { key, code: key, windowsVirtualKeyCode: KEYS[key], text: key === 'Enter' ? '\r' : undefined };
+            const given = { key, code: key, windowsVirtualKeyCode: KEYS[key],
+                text: key === 'Enter' ? '\r' : undefined };
             await this.#ask('Input.dispatchKeyEvent', { type: 'keyDown', ...given });
             await this.#ask('Input.dispatchKeyEvent', { type: 'keyUp', key, code: key });
         }
     }
 
     async point(x, y) { await this.#ask('Input.dispatchMouseEvent', { type: 'mouseMoved', x, y }); }
-    async wheel(x, y, deltaY) { await this.#ask('Input.dispatchMouseEvent', { type: 'mouseWheel', x, y, deltaX: 0, deltaY }); }
+    async wheel(x, y, deltaY) {
+        await this.#ask('Input.dispatchMouseEvent', { type: 'mouseWheel', x, y, deltaX: 0, deltaY });
+    }
 
     async drag(from, to) {
-        const act = (type, [x, y]) => this.#ask('Input.dispatchMouseEvent', { type, x, y, button: 'left', buttons: 1, clickCount: 1 });
+        const act = (type, [x, y]) =>
+            this.#ask('Input.dispatchMouseEvent', { type, x, y, button: 'left', buttons: 1, clickCount: 1 });
         await Promise.all([act('mousePressed', from), act('mouseMoved', to), act('mouseReleased', to)]);
     }
 
@@ -194,25 +211,32 @@ export class Chromium extends Browser {
         await this.#ask('Emulation.setDeviceMetricsOverride', { width, height, deviceScaleFactor: 1, mobile: false });
     }
 
-    async theme(value) { await this.#ask('Emulation.setEmulatedMedia', { features: [{ name: 'prefers-color-scheme', value }] }); }
+    async theme(value) {
+        await this.#ask('Emulation.setEmulatedMedia', { features: [{ name: 'prefers-color-scheme', value }] });
+    }
     async screenshot() { return Buffer.from((await this.#ask('Page.captureScreenshot')).data, 'base64'); }
 }
 
-const NAMED_KEYS = { Enter: '\uE007', Tab: '\uE004', ArrowLeft: '\uE012', ArrowUp: '\uE013', ArrowRight: '\uE014', ArrowDown: '\uE015', PageDown: '\uE00F' };
+const NAMED_KEYS = { Enter: '\uE007', Tab: '\uE004', ArrowLeft: '\uE012', ArrowUp: '\uE013', ArrowRight: '\uE014',
+    ArrowDown: '\uE015', PageDown: '\uE00F' };
 
 export class Firefox extends Browser {
     static title = 'Firefox';
 
     async start(program) {
         const preferences = {
-            'browser.download.folderList': 2, 'browser.download.dir': this.downloads, 'browser.download.useDownloadDir': true,
-            'browser.helperApps.neverAsk.saveToDisk': 'text/csv', 'browser.shell.checkDefaultBrowser': false,
-            'datareporting.policy.dataSubmissionEnabled': false, 'remote.prefs.recommended': true,
+            'browser.download.folderList': 2, 'browser.download.dir': this.downloads,
+            'browser.download.useDownloadDir': true, 'browser.helperApps.neverAsk.saveToDisk': 'text/csv',
+            'browser.shell.checkDefaultBrowser': false, 'datareporting.policy.dataSubmissionEnabled': false,
+            'remote.prefs.recommended': true,
         };
-        const lines = Object.entries(preferences).map(([name, value]) => `user_pref(${JSON.stringify(name)}, ${JSON.stringify(value)});\n`);
+        const lines = Object.entries(preferences)
+            .map(([name, value]) => `user_pref(${JSON.stringify(name)}, ${JSON.stringify(value)});\n`);
         writeFileSync(join(this.profile, 'user.js'), lines.join(''));
-        const options = ['--headless', '--no-remote', '--remote-debugging-port', '0', '--profile', this.profile, 'about:blank'];
-        this.process = spawn(program, options, { stdio: ['ignore', 'ignore', 'pipe'], env: { ...process.env, HOME: this.profile } });
+        const options = ['--headless', '--no-remote', '--remote-debugging-port', '0', '--profile',
+            this.profile, 'about:blank'];
+        this.process = spawn(program, options,
+            { stdio: ['ignore', 'ignore', 'pipe'], env: { ...process.env, HOME: this.profile } });
         const socket = new Socket((text) => this.#receive(JSON.parse(text)));
         await socket.connect(`${await this.#address()}/session`);
         this.send = (message) => socket.send(JSON.stringify(message));
@@ -245,7 +269,8 @@ export class Firefox extends Browser {
     }
 
     async before_pages(script) {
-        const { script: id } = await this.#ask('script.addPreloadScript', { functionDeclaration: `() => { ${script} }` });
+        const { script: id } =
+            await this.#ask('script.addPreloadScript', { functionDeclaration: `() => { ${script} }` });
         return () => this.#ask('script.removePreloadScript', { script: id });
     }
 
@@ -256,30 +281,43 @@ export class Firefox extends Browser {
 
     async run(expression) {
         const target = { context: this.tab };
-        const answer = await this.#ask('script.evaluate', { expression, target, awaitPromise: true, userActivation: true });
+        const answer = await this.#ask('script.evaluate',
+            { expression, target, awaitPromise: true, userActivation: true });
         if (answer.type === 'exception') throw new Error(answer.exceptionDetails.text);
         return answer.result.value;
     }
 
     async pick(selector, path) {
-        const { nodes } = await this.#ask('browsingContext.locateNodes', { context: this.tab, locator: { type: 'css', value: selector } });
-        await this.#ask('input.setFiles', { context: this.tab, element: { sharedId: nodes[0].sharedId }, files: [path] });
+        const { nodes } = await this.#ask('browsingContext.locateNodes',
+            { context: this.tab, locator: { type: 'css', value: selector } });
+        await this.#ask('input.setFiles',
+            { context: this.tab, element: { sharedId: nodes[0].sharedId }, files: [path] });
     }
 
     async press(...keys) {
-        const actions = keys.flatMap((key) => ['keyDown', 'keyUp'].map((type) => ({ type, value: NAMED_KEYS[key] ?? key })));
+        const actions = keys.flatMap((key) => ['keyDown', 'keyUp']
+            .map((type) => ({ type, value: NAMED_KEYS[key] ?? key })));
         await this.#act('key', ...actions);
     }
 
-    async #act(type, ...actions) { await this.#ask('input.performActions', { context: this.tab, actions: [{ type, id: type, actions }] }); }
+    async #act(type, ...actions) {
+        await this.#ask('input.performActions', { context: this.tab, actions: [{ type, id: type, actions }] });
+    }
     async point(x, y) { await this.#act('pointer', { type: 'pointerMove', x: Math.round(x), y: Math.round(y) }); }
-    async wheel(x, y, deltaY) { await this.#act('wheel', { type: 'scroll', x: Math.round(x), y: Math.round(y), deltaX: 0, deltaY }); }
+    async wheel(x, y, deltaY) {
+        await this.#act('wheel', { type: 'scroll', x: Math.round(x), y: Math.round(y), deltaX: 0, deltaY });
+    }
 
     async drag(...points) {
         const [from, to] = points.map(([x, y]) => ({ type: 'pointerMove', x: Math.round(x), y: Math.round(y) }));
         await this.#act('pointer', from, { type: 'pointerDown', button: 0 }, to, { type: 'pointerUp', button: 0 });
     }
 
-    async resize(width, height) { await this.#ask('browsingContext.setViewport', { context: this.tab, viewport: { width, height } }); }
-    async screenshot() { return Buffer.from((await this.#ask('browsingContext.captureScreenshot', { context: this.tab })).data, 'base64'); }
+    async resize(width, height) {
+        await this.#ask('browsingContext.setViewport', { context: this.tab, viewport: { width, height } });
+    }
+    async screenshot() {
+        return Buffer.from(
+            (await this.#ask('browsingContext.captureScreenshot', { context: this.tab })).data, 'base64');
+    }
 }

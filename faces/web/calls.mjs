@@ -1,6 +1,7 @@
 // Tests the calls of goblin.js against its comments: calls.mjs FOLDER FILE..
-// The files are read whole, cut and damaged. The call that makes a list must throw, or each way to iterate over the list must have all items.
-// It also tests that the constants are the library's, and that the package and the declarations have all that goblin.js exports.
+// The files are read whole, cut and damaged. The call that makes a list must throw, or each way to iterate over the
+// list must have all items. It also tests that the constants are the library's, and that the package and the
+// declarations have all that goblin.js exports.
 import assert from 'node:assert/strict';
 import { existsSync, readdirSync, readFileSync } from 'node:fs';
 import { join, resolve } from 'node:path';
@@ -17,7 +18,8 @@ const own = files.at(-1); // (a program for this machine, with relocations and b
 // Two notes, and a file that has them in a section and in a segment.
 const NOTES = [['GNU', 3, 'abcd'], ['goblin', 0x1234, 'hello']];
 const note_bytes = Buffer.concat(NOTES.map(([name, type, desc]) => note(name, type, Buffer.from(desc))));
-const noted = elf_file({ sections: [{ name: '.note', type: 7, bytes: note_bytes }], segments: [{ type: 4, bytes: note_bytes }] });
+const noted =
+    elf_file({ sections: [{ name: '.note', type: 7, bytes: note_bytes }], segments: [{ type: 4, bytes: note_bytes }] });
 files.push(noted);
 
 const WITHOUT_EXPORTS = Uint8Array.of(0, 0x61, 0x73, 0x6d, 1, 0, 0, 0);
@@ -36,7 +38,8 @@ async function check_missing_memories() {
     WebAssembly.validate = validate;
 }
 
-// Returns a module with another name for one of its exports. Their names, each after its length, come before those of all functions.
+// Returns a module with another name for one of its exports. Their names, each after its length, come before those of
+// all functions.
 function without(module, name) {
     const copy = Buffer.from(module), at = copy.indexOf(Buffer.from([name.length, ...Buffer.from(name)]));
     assert.ok(at > 0, name);
@@ -46,16 +49,19 @@ function without(module, name) {
 
 // A module of another interface or without an export is not accepted, and does not replace one that is loaded.
 async function check_modules() {
-    const module = readFileSync(join(web, 'goblin_c.wasm')), exported = WebAssembly.Module.exports(new WebAssembly.Module(module));
+    const module = readFileSync(join(web, 'goblin_c.wasm')),
+        exported = WebAssembly.Module.exports(new WebAssembly.Module(module));
     const refused = async (source, words) => {
         await assert.rejects(goblin.default(source), ({ message }) => message.includes(words));
         assert.throws(() => Elf.parse(own), /not ready/);
     };
-    for (const { name } of exported) await refused(without(module, name), name === 'goblin_version' ? 'none' : `no ${name}:`);
+    for (const { name } of exported)
+        await refused(without(module, name), name === 'goblin_version' ? 'none' : `no ${name}:`);
     // (a function that returns a number, with the name goblin_version)
-    const version = (number) => Uint8Array.of(0, 0x61, 0x73, 0x6d, 1, 0, 0, 0, 1, 5, 1, 0x60, 0, 1, 0x7f, 3, 2, 1, 0, 7, 18, 1, 14,
-        ...Buffer.from('goblin_version'), 0, 0, 10, 6, 1, 4, 0, 0x41, number, 0x0b);
-    await refused(version(goblin.VERSION + 1), `for interface ${goblin.VERSION}, but the module has ${goblin.VERSION + 1}:`);
+    const version = (number) => Uint8Array.of(0, 0x61, 0x73, 0x6d, 1, 0, 0, 0, 1, 5, 1, 0x60, 0, 1, 0x7f, 3, 2, 1, 0, 7,
+        18, 1, 14, ...Buffer.from('goblin_version'), 0, 0, 10, 6, 1, 4, 0, 0x41, number, 0x0b);
+    await refused(version(goblin.VERSION + 1),
+        `for interface ${goblin.VERSION}, but the module has ${goblin.VERSION + 1}:`);
     await refused(version(goblin.VERSION), 'no memory, __heap_base, goblin_layout,');
     await refused(WITHOUT_EXPORTS, 'none');
     await goblin.default(new WebAssembly.Module(module));
@@ -65,17 +71,20 @@ async function check_modules() {
 }
 
 function check_bytes() {
-    const length = own.length + 8 - own.length % 8, whole = new ArrayBuffer(length + 16), shared = new SharedArrayBuffer(length);
+    const length = own.length + 8 - own.length % 8, whole = new ArrayBuffer(length + 16),
+        shared = new SharedArrayBuffer(length);
     const within = new Uint8Array(whole, 16, length);
     within.set(own);
     new Uint8Array(shared).set(own);
     const buffer = within.slice().buffer, other = runInNewContext('new ArrayBuffer(length)', { length });
     new Uint8Array(other).set(within);
     const given = {
-        ArrayBuffer: buffer, SharedArrayBuffer: shared, 'one of another realm': other, DataView: new DataView(whole, 16, length),
-        Uint8Array: new Uint8Array(buffer), 'of shared ones': new Uint8Array(shared), 'a part': within, Buffer: Buffer.from(within),
-        'a part of a Buffer': Buffer.from(whole).subarray(16), Int8Array: new Int8Array(buffer), Uint8ClampedArray: new Uint8ClampedArray(buffer),
-        Uint16Array: new Uint16Array(whole, 16), Uint32Array: new Uint32Array(buffer), Float64Array: new Float64Array(whole, 16),
+        ArrayBuffer: buffer, SharedArrayBuffer: shared, 'one of another realm': other,
+        DataView: new DataView(whole, 16, length), Uint8Array: new Uint8Array(buffer),
+        'of shared ones': new Uint8Array(shared), 'a part': within, Buffer: Buffer.from(within),
+        'a part of a Buffer': Buffer.from(whole).subarray(16), Int8Array: new Int8Array(buffer),
+        Uint8ClampedArray: new Uint8ClampedArray(buffer), Uint16Array: new Uint16Array(whole, 16),
+        Uint32Array: new Uint32Array(buffer), Float64Array: new Float64Array(whole, 16),
         BigInt64Array: new BigInt64Array(buffer),
     };
     const names = (elf) => elf.section_headers().map((section) => elf.section_name(section)), wanted = Elf.parse(own);
@@ -86,8 +95,9 @@ function check_bytes() {
         assert.deepEqual(names(elf), names(wanted), what);
     }
     structuredClone(buffer, { transfer: [buffer] });
-    const wrong = [undefined, null, 'ELF', 5, 5n, true, [...own.subarray(0, 64)], {}, { length: 64 }, new Map(), new Blob([own]),
-        Promise.resolve(own), () => own, Symbol('ELF'), { [Symbol.toStringTag]: 'ArrayBuffer' }, buffer, given.Uint8Array];
+    const wrong = [undefined, null, 'ELF', 5, 5n, true, [...own.subarray(0, 64)], {}, { length: 64 }, new Map(),
+        new Blob([own]), Promise.resolve(own), () => own, Symbol('ELF'), { [Symbol.toStringTag]: 'ArrayBuffer' },
+        buffer, given.Uint8Array];
     for (const bytes of wrong) assert.throws(() => Elf.parse(bytes), TypeError);
     assert.throws(() => Elf.parse('ELF'), /ArrayBuffer.* string/);
     assert.throws(() => Elf.parse(new ArrayBuffer(0)), is_refusal(Kind.TOO_SMALL));
@@ -106,7 +116,10 @@ function each(by_index) {
 const WAYS = {
     spread: (list) => [...list],
     destructuring: (list) => { const [...items] = list; return items; },
-    'destructuring but the first': (list) => { const [first, ...items] = list; return list.length ? [first, ...items] : items; },
+    'destructuring but the first': (list) => {
+        const [first, ...items] = list;
+        return list.length ? [first, ...items] : items;
+    },
     'for-of': (list) => { const items = []; for (const item of list) items.push(item); return items; },
     'Array.from': (list) => Array.from(list),
     'Array.from, mapped': (list) => Array.from(list, (item) => item),
@@ -132,7 +145,11 @@ const WAYS = {
     slice: (list) => [...list.slice(0, 1), ...list.slice(1)],
     'an index in brackets': (list) => of_each(list, (index) => list[index]),
     entries: (list) => [...list.entries()].map(([, item]) => item),
-    'entries by indices': (list) => { const items = []; for (const [index, item] of list.entries()) items[index] = item; return items; },
+    'entries by indices': (list) => {
+        const items = [];
+        for (const [index, item] of list.entries()) items[index] = item;
+        return items;
+    },
     'at and length': (list) => of_each(list, (index) => list.at(index)),
     'at from the end': (list) => of_each(list, (index) => list.at(index - list.length)),
     'at until there is none': (list) => each((index) => list.at(index)),
@@ -149,10 +166,12 @@ function has_each(list, items, what) {
     const ways = Object.entries(list instanceof goblin.List ? { ...WAYS, ...WAYS_OF_LISTS } : WAYS);
     for (const [name, way] of ways) assert.deepEqual(way(list), items, `${what}, by ${name}`);
     assert.equal(list.length, items.length, what);
-    for (const index of [0, 1, -1, items.length, -items.length - 1, 1.9, -0.5, NaN, Infinity, -Infinity, undefined, '1']) {
+    for (const index of [0, 1, -1, items.length, -items.length - 1, 1.9, -0.5, NaN, Infinity,
+        -Infinity, undefined, '1']) {
         assert.deepEqual(list.at(index), items.at(index), `${what}, at ${index}`);
     }
-    for (const [start, end] of [[], [1], [-1], [0, -1], [1, 2], [2, 1], [-3, -1], [0.5, 1.5], [-Infinity, Infinity], [NaN, 1]]) {
+    for (const [start, end] of [[], [1], [-1], [0, -1], [1, 2], [2, 1], [-3, -1], [0.5, 1.5],
+        [-Infinity, Infinity], [NaN, 1]]) {
         assert.deepEqual(list.slice(start, end), items.slice(start, end), `${what}, from ${start} to ${end}`);
     }
     for (const name of [items.length, -1, 1.5, '01']) assert.equal(list[name], undefined);
@@ -163,14 +182,18 @@ function has_each(list, items, what) {
     assert.equal(JSON.stringify(list), JSON.stringify(items), what);
 }
 
-// Returns the lists of a file: a title, the call that makes the list, how many bytes from the start of the file it needs, and the items.
+// Returns the lists of a file: a title, the call that makes the list, how many bytes from the start of the file it
+// needs, and the items.
 function lists_of(whole) {
-    const { e_phoff, e_phnum, e_shoff, e_shnum } = whole.header, [of_segment, of_section] = whole.is_64() ? [56n, 64n] : [32n, 40n];
+    const { e_phoff, e_phnum, e_shoff, e_shnum } = whole.header,
+        [of_segment, of_section] = whole.is_64() ? [56n, 64n] : [32n, 40n];
     const segments = each((i) => whole.program_header(i)), sections = each((i) => whole.section_header(i));
     assert.equal(segments.length, e_phnum);
     assert.equal(sections.length, e_shnum);
-    const of_segments = e_phnum ? e_phoff + of_segment * BigInt(e_phnum) : 0n, of_sections = e_shoff + of_section * BigInt(e_shnum);
-    const end = ({ sh_offset, sh_size }) => sh_offset + sh_size, latest = (...ends) => ends.reduce((a, b) => (a > b ? a : b), 0n);
+    const of_segments = e_phnum ? e_phoff + of_segment * BigInt(e_phnum) : 0n,
+        of_sections = e_shoff + of_section * BigInt(e_shnum);
+    const end = ({ sh_offset, sh_size }) => sh_offset + sh_size,
+        latest = (...ends) => ends.reduce((a, b) => (a > b ? a : b), 0n);
     const made = [], add = (...list) => made.push(list);
     add('program headers', (elf) => elf.program_headers(), of_segments, segments);
     add('section headers', (elf) => elf.section_headers(), of_sections, sections);
@@ -178,21 +201,24 @@ function lists_of(whole) {
         const held = sections.slice(1).filter((section) => goblin.segment_holds(segment, section));
         add('sections of a segment', (elf) => elf.segment_sections(segment), of_sections, held);
     }
-    const of_type = (...types) => sections.filter(({ sh_type }) => types.includes(sh_type)), items_of = (list) => each((i) => list.get(i));
+    const of_type = (...types) => sections.filter(({ sh_type }) => types.includes(sh_type)),
+        items_of = (list) => each((i) => list.get(i));
     for (const section of of_type(goblin.SHT_SYMTAB, goblin.SHT_DYNSYM)) {
         const items = items_of(whole.symtab(section)), needed = latest(of_sections, end(section));
         const first = section.sh_type === goblin.SHT_SYMTAB ? 'syms' : 'dynsyms';
         add('symbols', (elf) => elf.symtab(section), needed, items);
         add(first, (elf) => elf[first](), needed, items);
     }
-    const of_relocs = of_type(goblin.SHT_REL, goblin.SHT_RELA), relocs = of_relocs.map((of) => [of, items_of(whole.relocs(of))]);
+    const of_relocs = of_type(goblin.SHT_REL, goblin.SHT_RELA),
+        relocs = of_relocs.map((of) => [of, items_of(whole.relocs(of))]);
     for (const [section, items] of relocs) add('relocations', (elf) => elf.relocs(section), end(section), items);
     const pairs = (elf) => elf.shdr_relocs().map(([section, list]) => [section, [...list]]);
     add('sections of relocations', pairs, latest(of_sections, ...of_relocs.map(end)), relocs);
     // (the padding of the last descriptor isn't needed)
     const end_of_notes = (notes) => latest(...notes.map(({ desc_range: { offset, size } }) => offset + size));
     const add_notes = (all_of, headers, holders) => {
-        const each_one = holders.map((holder) => [holder, whole.notes(holder)]), all = each_one.flatMap(([, notes]) => notes);
+        const each_one = holders.map((holder) => [holder, whole.notes(holder)]),
+            all = each_one.flatMap(([, notes]) => notes);
         for (const [holder, notes] of each_one) add('notes', (elf) => elf.notes(holder), end_of_notes(notes), notes);
         add(all_of, (elf) => elf[all_of](), latest(headers, end_of_notes(all)), all);
     };
@@ -201,12 +227,14 @@ function lists_of(whole) {
     return made;
 }
 
-// Tests the lists of each file, cut to all lengths or to some: the call that makes a list throws, or the list has all items.
+// Tests the lists of each file, cut to all lengths or to some: the call that makes a list throws, or the list has
+// all items.
 function check_lists() {
     let refused = 0, made = 0;
     for (const content of files) {
         const lists = lists_of(Elf.parse(content)), step = Math.ceil(content.length / 2000);
-        const ends = new Set(lists.flatMap(([, , needed]) => [Number(needed) - 1, Number(needed), Number(needed) + 1, content.length]));
+        const ends = new Set(lists.flatMap(([, , needed]) =>
+            [Number(needed) - 1, Number(needed), Number(needed) + 1, content.length]));
         for (let end = 64; end < content.length; end += step) ends.add(end);
         for (const end of [...ends].filter((end) => end >= 64 && end <= content.length)) {
             const elf = Elf.parse(content.subarray(0, end));
@@ -231,16 +259,20 @@ function check_lists() {
 function check_whole() {
     let cut = 0;
     for (const content of files) {
-        const elf = Elf.parse(content), { e_shoff, e_phoff } = elf.header, [of_segment, of_section] = elf.is_64() ? [56, 64] : [32, 40];
+        const elf = Elf.parse(content), { e_shoff, e_phoff } = elf.header,
+            [of_segment, of_section] = elf.is_64() ? [56, 64] : [32, 40];
         assert.deepEqual(elf.whole().header, elf.header);
-        for (const [name, start, size] of [['section_header', Number(e_shoff), of_section], ['program_header', Number(e_phoff), of_segment]]) {
+        for (const [name, start, size] of [['section_header', Number(e_shoff), of_section],
+            ['program_header', Number(e_phoff), of_segment]]) {
             const all = [...elf[`${name}s`]()];
             const ends = all.slice(0, 40).flatMap((_, index) => [-1, 0, 1].map((more) => start + index * size + more));
-            for (const end of [...ends, start + all.length * size, content.length].filter((end) => end >= 64 && end <= content.length)) {
+            for (const end of [...ends, start + all.length * size, content.length]
+                .filter((end) => end >= 64 && end <= content.length)) {
                 const part = Elf.parse(content.subarray(0, end)), whole = part.whole(), list = whole[`${name}s`]();
                 const inside = Math.min(all.length, Math.max(0, Math.floor((end - start) / size)));
                 has_each(list, all.slice(0, inside), `whole ${name}s of the first ${end} bytes`);
-                assert.deepEqual([list.get(inside), whole[name](inside), whole.whole().header], [undefined, undefined, whole.header]);
+                assert.deepEqual([list.get(inside), whole[name](inside), whole.whole().header],
+                    [undefined, undefined, whole.header]);
                 if (inside === all.length) assert.equal(part[`${name}s`]().length, inside);
                 else assert.throws(() => part[`${name}s`](), is_refusal());
                 if (inside < all.length) cut++;
@@ -251,22 +283,26 @@ function check_whole() {
     const without = Buffer.from(own), { e_shoff } = Elf.parse(own).header;
     without.writeUInt16LE(0, 60);
     const whole = Elf.parse(without.subarray(0, Number(e_shoff) + 63)).whole();
-    assert.deepEqual([whole.section_headers().length, whole.header.e_shoff, whole.section('.text')], [0, 0n, undefined]);
+    assert.deepEqual([whole.section_headers().length, whole.header.e_shoff, whole.section('.text')],
+        [0, 0n, undefined]);
     assert.ok(cut > 100, `${cut} lists are cut`);
     return `${cut} lists that are cut`;
 }
 
 // If e_phnum is 0xffff, the first section has the number of segments.
 function check_number_of_segments() {
-    const bytes = new Uint8Array(own), elf = Elf.parse(bytes), segments = [...elf.program_headers()], first = elf.section_header(0);
+    const bytes = new Uint8Array(own), elf = Elf.parse(bytes), segments = [...elf.program_headers()],
+        first = elf.section_header(0);
     const writer = elf.writer(bytes);
     assert.equal(writer.put_section_header(0, { ...first, sh_info: 70000 }), true);
     writer.put_header({ ...elf.header, e_phnum: 0xffff });
-    assert.throws(() => Elf.parse(bytes).program_headers(), ({ kind, numbers }) => kind === Kind.BUFFER_TOO_SHORT && numbers[0] === 70000n);
+    assert.throws(() => Elf.parse(bytes).program_headers(),
+        ({ kind, numbers }) => kind === Kind.BUFFER_TOO_SHORT && numbers[0] === 70000n);
     writer.put_section_header(0, { ...first, sh_info: segments.length - 1 });
     assert.deepEqual([...Elf.parse(bytes).program_headers()], segments.slice(0, -1));
     const cut = Elf.parse(bytes.subarray(0, Number(elf.header.e_shoff)));
-    assert.throws(() => cut.program_headers(), (error) => is_refusal(Kind.BAD_OFFSET)(error) && error.offset === elf.header.e_shoff);
+    assert.throws(() => cut.program_headers(),
+        (error) => is_refusal(Kind.BAD_OFFSET)(error) && error.offset === elf.header.e_shoff);
     const room = Math.floor((Number(elf.header.e_shoff) - 64) / 56);
     assert.deepEqual([cut.whole().program_headers().length, cut.whole().header.e_phnum], [room, room]);
     // a core of 70,000 segments
@@ -288,59 +324,77 @@ function check_writer() {
             const bytes = new Uint8Array(content), writer = elf.writer(bytes), at = Number(start);
             assert.equal(put(writer), true);
             assert.deepEqual(read(Elf.parse(bytes)), wanted);
-            assert.deepEqual([bytes.slice(0, at), bytes.slice(at + size)], [content.subarray(0, at), content.subarray(at + size)].map((part) => new Uint8Array(part)));
+            assert.deepEqual([bytes.slice(0, at), bytes.slice(at + size)],
+                [content.subarray(0, at), content.subarray(at + size)].map((part) => new Uint8Array(part)));
             written++;
         };
         const [of_segment, of_section, of_symbol, of_rela] = elf.is_64() ? [56, 64, 24, 24] : [32, 40, 16, 12];
-        elf.section_headers().map((section, index) => [{ ...section, sh_info: section.sh_info ^ 5, sh_addr: section.sh_addr ^ 9n }, index]).slice(1, 20)
-            .forEach(([section, index]) => writes((writer) => writer.put_section_header(index, section), (read) => ({ ...read.section_header(index) }),
-                section, elf.header.e_shoff + BigInt(of_section * index), of_section));
+        elf.section_headers()
+            .map((section, index) =>
+                [{ ...section, sh_info: section.sh_info ^ 5, sh_addr: section.sh_addr ^ 9n }, index])
+            .slice(1, 20)
+            .forEach(([section, index]) => writes((writer) => writer.put_section_header(index, section),
+                (read) => ({ ...read.section_header(index) }), section,
+                elf.header.e_shoff + BigInt(of_section * index), of_section));
         elf.program_headers().map((segment, index) => [{ ...segment, p_flags: segment.p_flags ^ 1 }, index])
-            .forEach(([segment, index]) => writes((writer) => writer.put_program_header(index, segment), (read) => ({ ...read.program_header(index) }),
-                segment, elf.header.e_phoff + BigInt(of_segment * index), of_segment));
+            .forEach(([segment, index]) => writes((writer) => writer.put_program_header(index, segment),
+                (read) => ({ ...read.program_header(index) }), segment,
+                elf.header.e_phoff + BigInt(of_segment * index), of_segment));
         const header = { ...elf.header, e_entry: 5n, ei_osabi: 9 };
-        writes((writer) => writer.put_header(header) === undefined, (read) => ({ ...read.header }), header, 0, elf.is_64() ? 64 : 52);
-        writes((writer) => writer.put_number(16, 2, 0x1234) === undefined, (read) => read.number(16, 2), 0x1234n, 16, 2);
+        writes((writer) => writer.put_header(header) === undefined, (read) => ({ ...read.header }), header, 0,
+            elf.is_64() ? 64 : 52);
+        writes((writer) => writer.put_number(16, 2, 0x1234) === undefined,
+            (read) => read.number(16, 2), 0x1234n, 16, 2);
         if (symbols) {
-            const table = elf.section_headers().find(({ sh_type }) => sh_type === (elf.syms() ? goblin.SHT_SYMTAB : goblin.SHT_DYNSYM));
+            const table = elf.section_headers()
+                .find(({ sh_type }) => sh_type === (elf.syms() ? goblin.SHT_SYMTAB : goblin.SHT_DYNSYM));
             const symbol = { ...symbols.get(1), st_size: 7n, st_other: 2 };
-            writes((writer) => writer.put_symbol(table, 1, symbol), (read) => ({ ...read.symtab(table).get(1) }), symbol,
-                table.sh_offset + BigInt(of_symbol), of_symbol);
+            writes((writer) => writer.put_symbol(table, 1, symbol), (read) => ({ ...read.symtab(table).get(1) }),
+                symbol, table.sh_offset + BigInt(of_symbol), of_symbol);
             assert.equal(elf.writer(new Uint8Array(content)).put_symbol(table, symbols.length, symbol), false);
-            assert.throws(() => elf.writer(new Uint8Array(content)).put_symbol({ ...table, sh_type: 1 }, 0, symbol), is_refusal(Kind.SECTION_TYPE));
+            assert.throws(() => elf.writer(new Uint8Array(content)).put_symbol({ ...table, sh_type: 1 }, 0, symbol),
+                is_refusal(Kind.SECTION_TYPE));
         }
         const rela = elf.section_headers().find(({ sh_type }) => sh_type === goblin.SHT_RELA);
         if (rela) {
-            const reloc = { ...elf.relocs(rela).get(1), r_addend: -3n, r_type: 4 }, writer = elf.writer(new Uint8Array(content));
-            writes((other) => other.put_reloc(rela, 1, reloc), (read) => ({ ...read.relocs(rela).get(1) }), reloc, rela.sh_offset + BigInt(of_rela), of_rela);
-            assert.throws(() => writer.put_reloc(rela, 1, { ...reloc, r_addend: undefined }), is_refusal(Kind.INTEGER_FIT));
+            const reloc = { ...elf.relocs(rela).get(1), r_addend: -3n, r_type: 4 },
+                writer = elf.writer(new Uint8Array(content));
+            writes((other) => other.put_reloc(rela, 1, reloc), (read) => ({ ...read.relocs(rela).get(1) }), reloc,
+                rela.sh_offset + BigInt(of_rela), of_rela);
+            assert.throws(() => writer.put_reloc(rela, 1, { ...reloc, r_addend: undefined }),
+                is_refusal(Kind.INTEGER_FIT));
             assert.throws(() => writer.put_reloc({ ...rela, sh_type: 1 }, 1, reloc), is_refusal(Kind.SECTION_TYPE));
         }
     }
     // what is refused is not written
-    const bytes = new Uint8Array(own), elf = Elf.parse(bytes), writer = elf.writer(bytes), section = elf.section_header(1);
+    const bytes = new Uint8Array(own), elf = Elf.parse(bytes), writer = elf.writer(bytes),
+        section = elf.section_header(1);
     const at = (kind, offset) => (error) => is_refusal(kind)(error) && error.offset === offset;
     assert.equal(writer.put_section_header(elf.header.e_shnum, section), false);
     assert.equal(writer.put_program_header(elf.header.e_phnum, elf.program_header(0)), false);
-    assert.throws(() => writer.put_section_header(1, { ...section, sh_name: 1n << 32n }), at(Kind.INTEGER_FIT, elf.header.e_shoff + 64n));
+    assert.throws(() => writer.put_section_header(1, { ...section, sh_name: 1n << 32n }),
+        at(Kind.INTEGER_FIT, elf.header.e_shoff + 64n));
     assert.throws(() => writer.put_header({ ...elf.header, ei_class: 3 }), at(Kind.INVALID_CLASS, 0n));
     assert.throws(() => writer.put_header({ ...elf.header, ei_data: 0 }), at(Kind.DATA, 0n));
     assert.throws(() => writer.put_number(3, 1, 256), at(Kind.INTEGER_FIT, 3n));
     assert.throws(() => writer.put_number(own.length, 1, 0), is_refusal(Kind.BAD_OFFSET));
     for (const width of [0, 3, 16, '4', 4n, undefined]) assert.throws(() => writer.put_number(0, width, 0), RangeError);
-    for (const wrong of [undefined, own.buffer, [...own], new DataView(own.buffer)]) assert.throws(() => elf.writer(wrong), TypeError);
+    for (const wrong of [undefined, own.buffer, [...own], new DataView(own.buffer)])
+        assert.throws(() => elf.writer(wrong), TypeError);
     assert.deepEqual(bytes, new Uint8Array(own));
     assert.ok(written > 50, `${written} records`);
     return `${written} records that are written`;
 }
 
-// If one section of several ends past the end of the file, its list throws, and so does each list that includes it. Others do not.
+// If one section of several ends past the end of the file, its list throws, and so does each list that includes it.
+// Others do not.
 function check_moved_sections() {
-    const calls = { 2: ['symtab', 'syms'], 11: ['symtab', 'dynsyms'], 4: ['relocs', 'shdr_relocs'], 9: ['relocs', 'shdr_relocs'],
-        7: ['notes', 'iter_note_sections'] };
+    const calls = { 2: ['symtab', 'syms'], 11: ['symtab', 'dynsyms'], 4: ['relocs', 'shdr_relocs'],
+        9: ['relocs', 'shdr_relocs'], 7: ['notes', 'iter_note_sections'] };
     let moved = 0;
     for (const content of files) {
-        const whole = Elf.parse(content), lists = [...whole.section_headers().entries()].filter(([, { sh_type }]) => calls[sh_type]);
+        const whole = Elf.parse(content),
+            lists = [...whole.section_headers().entries()].filter(([, { sh_type }]) => calls[sh_type]);
         for (const [index, section] of lists) {
             const copy = new Uint8Array(content);
             whole.writer(copy).put_section_header(index, { ...section, sh_offset: BigInt(content.length - 1) });
@@ -380,9 +434,10 @@ function check_types_of_sections() {
     for (const content of files) {
         const elf = Elf.parse(content);
         for (const section of elf.section_headers()) {
-            const { sh_type } = section, of = `A section of type 0x${sh_type.toString(16)} (${goblin.sht_to_str(sh_type)}) holds no `;
-            const wrong = (expected) => ({ kind, numbers, message }) => kind === Kind.SECTION_TYPE && numbers[0] === BigInt(sh_type)
-                && message === of + expected;
+            const { sh_type } = section,
+                of = `A section of type 0x${sh_type.toString(16)} (${goblin.sht_to_str(sh_type)}) holds no `;
+            const wrong = (expected) => ({ kind, numbers, message }) => kind === Kind.SECTION_TYPE
+                && numbers[0] === BigInt(sh_type) && message === of + expected;
             if (![2, 11].includes(sh_type)) assert.throws(() => elf.symtab(section), wrong('symbols'));
             if (![4, 9].includes(sh_type)) assert.throws(() => elf.relocs(section), wrong('relocations'));
             found++;
@@ -392,8 +447,10 @@ function check_types_of_sections() {
 }
 
 function check_notes() {
-    const elf = Elf.parse(noted), said = (notes) => notes.map(({ name, n_type, desc }) => [name, n_type, Buffer.from(desc).toString()]);
-    for (const [holder, of_all] of [[elf.section('.note'), 'iter_note_sections'], [elf.program_header(0), 'iter_note_headers']]) {
+    const elf = Elf.parse(noted),
+        said = (notes) => notes.map(({ name, n_type, desc }) => [name, n_type, Buffer.from(desc).toString()]);
+    for (const [holder, of_all] of [[elf.section('.note'), 'iter_note_sections'],
+        [elf.program_header(0), 'iter_note_headers']]) {
         const notes = elf.notes(holder);
         assert.deepEqual([said(notes), said(elf[of_all]())], [NOTES, NOTES]);
         assert.deepEqual(notes.map((item) => goblin.note_type_to_str(item)), ['NT_GNU_BUILD_ID', 'NT_UNKNOWN']);
@@ -404,7 +461,8 @@ function check_notes() {
             copy[Number(name_range.offset)] = 0xff; // (which is not UTF-8)
             const damaged = Elf.parse(copy), found = damaged.readable_notes(holder);
             assert.deepEqual([said(found.notes), found.refusal.kind], [NOTES.slice(0, before), Kind.BAD_INPUT]);
-            for (const read of [() => damaged.notes(holder), () => damaged[of_all]()]) assert.throws(read, is_refusal(Kind.BAD_INPUT));
+            for (const read of [() => damaged.notes(holder), () => damaged[of_all]()])
+                assert.throws(read, is_refusal(Kind.BAD_INPUT));
         });
     }
     assert.equal(goblin.note_type_to_str({ name: 'GNU', n_type: 99 }), 'NT_UNKNOWN');
@@ -413,8 +471,10 @@ function check_notes() {
 
 // Notes as bytes have whole names, need not be UTF-8, and must be inside their range.
 function check_notes_as_bytes() {
-    const elf = Elf.parse(noted), section = elf.section('.note'), segment = elf.program_header(0), start = Number(section.sh_offset);
-    const fields_of = (notes) => notes.map(({ name, n_type, desc }) => [Buffer.from(name).toString('latin1'), n_type, Buffer.from(desc).toString()]);
+    const elf = Elf.parse(noted), section = elf.section('.note'), segment = elf.program_header(0),
+        start = Number(section.sh_offset);
+    const fields_of = (notes) => notes.map(({ name, n_type, desc }) =>
+        [Buffer.from(name).toString('latin1'), n_type, Buffer.from(desc).toString()]);
     const wanted = NOTES.map(([name, n_type, desc]) => [`${name}\0`, n_type, desc]);
     assert.deepEqual([fields_of(elf.notes_bytes(section)), fields_of(elf.notes_bytes(segment))], [wanted, wanted]);
     const copy = Buffer.from(noted);
@@ -422,21 +482,25 @@ function check_notes_as_bytes() {
     assert.deepEqual(Elf.parse(copy).notes_bytes(section).map(({ name }) => name[0]), [0x47, 0xff]);
     // the range ends in the first note's header, name and descriptor, and then in those of the second
     const { NOTE_HEADER, NOTE_NAME, NOTE_DESC } = goblin.Item;
-    for (const [size, before, item] of [[11, 0, NOTE_HEADER], [15, 0, NOTE_NAME], [19, 0, NOTE_DESC], [31, 1, NOTE_HEADER], [38, 1, NOTE_NAME],
-        [44, 1, NOTE_DESC]]) {
-        const refused = (error) => is_refusal(Kind.TOO_BIG)(error) && error.item === item && error.offset === BigInt(start + 20 * before);
-        for (const cut of [{ ...section, sh_size: BigInt(size) }, { ...segment, p_offset: BigInt(start), p_filesz: BigInt(size) }]) {
+    for (const [size, before, item] of [[11, 0, NOTE_HEADER], [15, 0, NOTE_NAME], [19, 0, NOTE_DESC],
+        [31, 1, NOTE_HEADER], [38, 1, NOTE_NAME], [44, 1, NOTE_DESC]]) {
+        const refused = (error) => is_refusal(Kind.TOO_BIG)(error) && error.item === item
+            && error.offset === BigInt(start + 20 * before);
+        for (const cut of [{ ...section, sh_size: BigInt(size) },
+            { ...segment, p_offset: BigInt(start), p_filesz: BigInt(size) }]) {
             const { notes, refusal } = elf.readable_notes_bytes(cut);
             assert.deepEqual([fields_of(notes), refused(refusal)], [wanted.slice(0, before), true]);
             assert.throws(() => elf.notes_bytes(cut), refused);
         }
     }
     assert.equal(elf.readable_notes_bytes(section, 1).notes.length, 1);
-    assert.throws(() => elf.notes_bytes({ ...section, sh_addralign: 16n }), ({ kind, item }) => kind === Kind.NOTE_ALIGN && item === 0);
+    assert.throws(() => elf.notes_bytes({ ...section, sh_addralign: 16n }),
+        ({ kind, item }) => kind === Kind.NOTE_ALIGN && item === 0);
 }
 
 // Returns an item as JSON has it, by the type of each of its fields.
-const as_json = (item) => Object.fromEntries(Object.entries(item).filter(([, value]) => value !== undefined).map(([name, value]) => {
+const as_json = (item) =>
+    Object.fromEntries(Object.entries(item).filter(([, value]) => value !== undefined).map(([name, value]) => {
     if (typeof value === 'bigint') return [name, value.toString()];
     if (value instanceof Uint8Array) return [name, Buffer.from(value).toString('hex')];
     return [name, typeof value === 'object' ? as_json(value) : value];
@@ -446,9 +510,10 @@ const as_json = (item) => Object.fromEntries(Object.entries(item).filter(([, val
 function some_items() {
     const elf = Elf.parse(own), sections = elf.section_headers(), [[, relocs]] = elf.shdr_relocs();
     return {
-        Header: elf.header, SectionHeader: sections.at(1), ProgramHeader: elf.program_headers().at(0), Sym: elf.syms().at(-1),
-        Reloc: relocs.at(0), Note: Elf.parse(noted).iter_note_headers()[0],
-        NoteBytes: Elf.parse(noted).notes_bytes(Elf.parse(noted).program_header(0))[0], Range: elf.range(sections.at(1)),
+        Header: elf.header, SectionHeader: sections.at(1), ProgramHeader: elf.program_headers().at(0),
+        Sym: elf.syms().at(-1), Reloc: relocs.at(0), Note: Elf.parse(noted).iter_note_headers()[0],
+        NoteBytes: Elf.parse(noted).notes_bytes(Elf.parse(noted).program_header(0))[0],
+        Range: elf.range(sections.at(1)),
     };
 }
 
@@ -458,7 +523,8 @@ function check_json() {
         assert.equal(Object.getPrototypeOf(item), Object.prototype);
         assert.deepEqual(item, Object.fromEntries(Object.entries(item)));
         assert.deepEqual(JSON.parse(JSON.stringify(item)), as_json(item));
-        assert.deepEqual(JSON.parse(JSON.stringify({ more: 1n, ...item }, goblin.json)), { more: '1', ...as_json(item) });
+        assert.deepEqual(JSON.parse(JSON.stringify({ more: 1n, ...item }, goblin.json)),
+            { more: '1', ...as_json(item) });
         assert.deepEqual(structuredClone(item), item);
     }
     // a field of 64 bits is exact for every value
@@ -470,7 +536,8 @@ function check_json() {
     assert.equal(JSON.parse(JSON.stringify(elf.section_header(0))).sh_addr, '0');
     const refused = error_of(() => Elf.parse(own.subarray(0, 20)));
     const { name, message, kind, numbers } = JSON.parse(JSON.stringify(refused));
-    assert.deepEqual([name, message, kind, numbers], ['GoblinError', refused.message, Kind.TOO_BIG, ['64', '20', '0', '0']]);
+    assert.deepEqual([name, message, kind, numbers],
+        ['GoblinError', refused.message, Kind.TOO_BIG, ['64', '20', '0', '0']]);
     return `${items.length} items as JSON`;
 }
 
@@ -482,7 +549,8 @@ function check_arguments() {
     }
     assert.equal(elf.number(1, 1), 0x45n);
     assert.throws(() => elf.number(own.length, 1), is_refusal(Kind.BAD_OFFSET));
-    const gets = [(at) => elf.section_header(at), (at) => elf.section_headers().get(at), (at) => elf.program_headers().get(at)];
+    const gets = [(at) => elf.section_header(at), (at) => elf.section_headers().get(at),
+        (at) => elf.program_headers().get(at)];
     for (const get of gets) {
         for (const wrong of [-1, 1.5, NaN, 1n << 64n]) assert.throws(() => get(wrong), RangeError);
         for (const wrong of [undefined, null, '1', '', true, {}]) assert.throws(() => get(wrong), TypeError);
@@ -501,10 +569,13 @@ const END = (1n << 64n) - 1n;
 
 function check_readable_data() {
     const elf = Elf.parse(own), length = BigInt(own.length), text = elf.section('.text'), code = elf.program_header(0);
-    for (const section of elf.section_headers()) assert.deepEqual(elf.readable_data(section), elf.section_data(section));
-    for (const segment of elf.program_headers()) assert.deepEqual(elf.readable_data(segment), elf.segment_data(segment));
+    for (const section of elf.section_headers())
+        assert.deepEqual(elf.readable_data(section), elf.section_data(section));
+    for (const segment of elf.program_headers())
+        assert.deepEqual(elf.readable_data(segment), elf.segment_data(segment));
     for (const [offset, size, left] of [[length - 3n, 4n, 3], [length, 1n, 0], [length + 1n, 5n, 0], [END, 1n, 0]]) {
-        const section = { ...text, sh_offset: offset, sh_size: size }, segment = { ...code, p_offset: offset, p_filesz: size };
+        const section = { ...text, sh_offset: offset, sh_size: size },
+            segment = { ...code, p_offset: offset, p_filesz: size };
         const wanted = new Uint8Array(own.subarray(own.length - left));
         assert.throws(() => elf.section_data(section), is_refusal());
         assert.deepEqual([elf.readable_data(section), elf.readable_data(segment)], [wanted, wanted]);
@@ -514,28 +585,34 @@ function check_readable_data() {
 }
 
 function check_numbers_in() {
-    const elf = Elf.parse(own), text = elf.section('.text'), code = elf.program_headers().find(({ p_offset }) => p_offset > 0n);
+    const elf = Elf.parse(own), text = elf.section('.text'),
+        code = elf.program_headers().find(({ p_offset }) => p_offset > 0n);
     const little = (at, size) => BigInt(own.readUIntLE(Number(at), size));
     assert.throws(() => elf.number_in({ ...text, sh_type: goblin.SHT_NOBITS }, 0, 1), is_refusal(Kind.BAD_OFFSET));
     for (const [holder, start, size] of [[text, text.sh_offset, text.sh_size], [code, code.p_offset, code.p_filesz]]) {
-        assert.deepEqual([elf.number_in(holder, 3, 4), elf.number_in(holder, 2, 2)], [little(start + 3n, 4), little(start + 2n, 2)]);
+        assert.deepEqual([elf.number_in(holder, 3, 4), elf.number_in(holder, 2, 2)],
+            [little(start + 3n, 4), little(start + 2n, 2)]);
         assert.throws(() => elf.number_in(holder, size, 1), is_refusal(Kind.BAD_OFFSET));
         assert.throws(() => elf.number_in(holder, size - 3n, 4), is_refusal(Kind.TOO_BIG));
-        for (const width of [0, 3, 16, '4', 4n, undefined]) assert.throws(() => elf.number_in(holder, 0, width), RangeError);
+        for (const width of [0, 3, 16, '4', 4n, undefined])
+            assert.throws(() => elf.number_in(holder, 0, width), RangeError);
     }
 }
 
 function check_addresses() {
     const elf = Elf.parse(own), text = elf.section('.text');
-    for (const { p_offset, p_vaddr, p_filesz } of elf.program_headers().filter(({ p_type }) => p_type === goblin.PT_LOAD)) {
-        for (const before of [0n, p_filesz - 1n]) assert.equal(elf.address_to_offset(p_vaddr + before), p_offset + before);
+    for (const { p_offset, p_vaddr, p_filesz } of elf.program_headers()
+        .filter(({ p_type }) => p_type === goblin.PT_LOAD)) {
+        for (const before of [0n, p_filesz - 1n])
+            assert.equal(elf.address_to_offset(p_vaddr + before), p_offset + before);
     }
     assert.equal(elf.address_to_offset(elf.header.e_entry), elf.header.e_entry - text.sh_addr + text.sh_offset);
     assert.equal(elf.address_to_offset(END), undefined);
     assert.throws(() => Elf.parse(own.subarray(0, 64)).address_to_offset(0), is_refusal(Kind.BUFFER_TOO_SHORT));
 }
 
-// The type of the file is at offset 16, and the address of its entry at 24 (the files for this machine are little endian).
+// The type of the file is at offset 16, and the address of its entry at 24 (the files for this machine are
+// little endian).
 function check_header() {
     assert.equal(Elf.parse(own).entry(), own.readBigUInt64LE(24));
     for (const [type, is_lib] of [[1, false], [2, false], [3, true], [4, false], [0x300, false]]) {
@@ -548,11 +625,13 @@ function check_header() {
 }
 
 function check_names() {
-    const content = elf_file({ sections: ['a', 'b', 'a', 'a'].map((name, index) => ({ name, type: 1, bytes: Buffer.from([index]) })) });
+    const content = elf_file({ sections: ['a', 'b', 'a', 'a']
+        .map((name, index) => ({ name, type: 1, bytes: Buffer.from([index]) })) });
     const elf = Elf.parse(content), found = (name, first) => elf.section_by_name(name, first)?.index;
     assert.deepEqual([0, 1, 2, 3, 4, 5, 99].map((first) => found('a', first)), [1, 1, 3, 3, 4, undefined, undefined]);
     assert.deepEqual([found('a'), found('b'), found('c')], [1, 2, undefined]);
-    for (const index of [1, 3, 4]) assert.deepEqual(elf.section_by_name('a', index), { index, section: elf.section_header(index) });
+    for (const index of [1, 3, 4])
+        assert.deepEqual(elf.section_by_name('a', index), { index, section: elf.section_header(index) });
     assert.deepEqual(elf.section_by_type(1, 2), { index: 2, section: elf.section_header(2) });
     assert.deepEqual([elf.section_by_type(3)?.index, elf.section_by_type(3, 6)], [5, undefined]);
     assert.throws(() => elf.section_by_name('a', -1), RangeError);
@@ -563,10 +642,12 @@ function check_names() {
 // Where errors begin in the file, and where their numbers count from, as the comments of `offset` and `Kind` say.
 function check_offsets_of_errors() {
     const why = (read) => (({ kind, numbers, offset }) => [kind, ...numbers.slice(0, 2), offset])(error_of(read));
-    const { TOO_BIG, BAD_OFFSET, NOTE_ALIGN } = Kind, whole = Elf.parse(own), list = whole.header.e_shoff, header_5 = list + 5n * 64n;
+    const { TOO_BIG, BAD_OFFSET, NOTE_ALIGN } = Kind, whole = Elf.parse(own), list = whole.header.e_shoff,
+        header_5 = list + 5n * 64n;
     for (const [length, ...refusal] of [[header_5 + 10n, TOO_BIG, 64n, 10n], [header_5, BAD_OFFSET, header_5, 0n]]) {
         const cut = Elf.parse(own.subarray(0, Number(length)));
-        assert.deepEqual([why(() => cut.section_headers()), why(() => cut.section_name(whole.section_header(1)))], Array(2).fill([...refusal, list]));
+        assert.deepEqual([why(() => cut.section_headers()), why(() => cut.section_name(whole.section_header(1)))],
+            Array(2).fill([...refusal, list]));
         assert.equal(cut.whole().section_headers().length, 5);
         const names = whole.section_header(whole.header.e_shstrndx);
         assert.equal(cut.strtab(names).get(whole.section('.text').sh_name), '.text');
@@ -581,24 +662,28 @@ function check_offsets_of_errors() {
         [second + 20n, second, [BAD_OFFSET, 20n, 0n]], [second + 24n, second, [TOO_BIG, 5n, 4n]],
     ]) {
         const cut = Elf.parse(noted.subarray(0, Number(length)));
-        assert.deepEqual([why(() => cut.notes(section)), why(() => cut.notes_bytes(section))], [[...of_text, start], [...of_bytes, start]]);
+        assert.deepEqual([why(() => cut.notes(section)), why(() => cut.notes_bytes(section))],
+            [[...of_text, start], [...of_bytes, start]]);
     }
-    for (const alignment of [0n, 1n, 2n, 3n, 4n]) assert.equal(elf.notes({ ...section, sh_addralign: alignment }).length, 2);
+    for (const alignment of [0n, 1n, 2n, 3n, 4n])
+        assert.equal(elf.notes({ ...section, sh_addralign: alignment }).length, 2);
     for (const alignment of [5n, 7n, 9n]) {
-        assert.deepEqual(why(() => elf.notes({ ...section, sh_addralign: alignment })), [NOTE_ALIGN, alignment, 0n, first]);
+        assert.deepEqual(why(() => elf.notes({ ...section, sh_addralign: alignment })),
+            [NOTE_ALIGN, alignment, 0n, first]);
     }
 }
 
 // A map finds what `by_address` finds.
 function check_address_map() {
     let found = 0;
-    const symbols_of = (made) =>
-        Elf.parse(elf_file({ sections: [{ name: '.symtab', type: 2, bytes: Buffer.concat(made.map(symbol)) }] })).syms();
+    const symbols_of = (made) => Elf.parse(
+        elf_file({ sections: [{ name: '.symtab', type: 2, bytes: Buffer.concat(made.map(symbol)) }] })).syms();
     const agrees = (symbols, addresses) => {
         const map = symbols.address_map();
         for (const address of addresses) {
             const wanted = symbols.by_address(address);
-            assert.deepEqual([map.at(address), map.symbol(address)], [wanted, wanted === undefined ? undefined : symbols.get(wanted)]);
+            assert.deepEqual([map.at(address), map.symbol(address)],
+                [wanted, wanted === undefined ? undefined : symbols.get(wanted)]);
             if (wanted !== undefined) found++;
         }
         assert.throws(() => map.at(-1), RangeError);
@@ -614,17 +699,18 @@ function check_address_map() {
     const main = Elf.parse(own).syms();
     assert.equal(main.name(main.address_map().symbol(main.get(main.by_name('main')).st_value)), 'main');
     // a symbol around others, one that ends before, two at one address, a label, and one that ends with the addresses
-    const shndx = 1, info = 2, made = [{}, { value: 0x10, size: 0x40 }, { value: 0x20, size: 4 }, { value: 0x30, size: 4 }, { value: 0x30, size: 8 },
-        { value: 0x60 }, { value: 0x70, size: 0x10 }, { value: 0x70 }, { value: END - 3n, size: END }].map((fields) => ({ ...fields, shndx, info }));
+    const shndx = 1, info = 2, made = [{}, { value: 0x10, size: 0x40 }, { value: 0x20, size: 4 },
+        { value: 0x30, size: 4 }, { value: 0x30, size: 8 }, { value: 0x60 }, { value: 0x70, size: 0x10 },
+        { value: 0x70 }, { value: END - 3n, size: END }].map((fields) => ({ ...fields, shndx, info }));
     const map = agrees(symbols_of(made), [...Array(0x90).keys()].concat([END - 4n, END - 3n, END]));
-    const wanted = [[0, 0], [0x10, 1], [0x22, 2], [0x24, 1], [0x33, 3], [0x34, 4], [0x38, 1], [0x50, undefined], [0x60, 5], [0x6f, 5], [0x7f, 6],
-        [0x80, 7], [END, 8]];
+    const wanted = [[0, 0], [0x10, 1], [0x22, 2], [0x24, 1], [0x33, 3], [0x34, 4], [0x38, 1], [0x50, undefined],
+        [0x60, 5], [0x6f, 5], [0x7f, 6], [0x80, 7], [END, 8]];
     for (const [address, index] of wanted) assert.equal(map.at(address), index, `address ${address}`);
     let state = 1;
     const any = (below) => { state = (Math.imul(state, 1103515245) + 12345) >>> 0; return (state >>> 8) % below; };
     for (let round = 0; round < 300; round++) {
-        const some = Array.from({ length: any(14) }, () => ({ value: any(24), size: any(9) ? any(12) : END, shndx: [1, 1, 1, 2, 0xffff, 0, 0xfff1][any(7)],
-            info: [2, 2, 0, 1, 10, 3][any(6)] }));
+        const some = Array.from({ length: any(14) }, () => ({ value: any(24), size: any(9) ? any(12) : END,
+            shndx: [1, 1, 1, 2, 0xffff, 0, 0xfff1][any(7)], info: [2, 2, 0, 1, 10, 3][any(6)] }));
         agrees(symbols_of([...some, {}]), [...Array(40).keys()].concat(END));
     }
     assert.ok(found > 5000, `${found} addresses`);
@@ -632,13 +718,14 @@ function check_address_map() {
 }
 
 function check_segments() {
-    const { PT_DYNAMIC, PT_GNU_EH_FRAME, PT_GNU_RELRO, PT_GNU_STACK, PT_INTERP, PT_LOAD, PT_NOTE, PT_PHDR, PT_TLS } = goblin;
+    const { PT_DYNAMIC, PT_GNU_EH_FRAME, PT_GNU_RELRO, PT_GNU_STACK, PT_INTERP, PT_LOAD, PT_NOTE,
+        PT_PHDR, PT_TLS } = goblin;
     const { SHF_ALLOC, SHF_TLS, SHT_NOBITS, SHT_NOTE, SHT_PROGBITS } = goblin;
     // the segment has 0x50 bytes at offset 0x100, and 0x80 addresses from 0x1100 on
     const holds = (p_type, sh_flags, sh_type, [before, size]) => goblin.segment_holds(
         { p_type, p_offset: 0x100n, p_filesz: 0x50n, p_vaddr: 0x1100n, p_memsz: 0x80n },
-        { sh_type, sh_flags, sh_offset: BigInt.asUintN(64, 0x100n + BigInt(before)), sh_addr: BigInt.asUintN(64, 0x1100n + BigInt(before)),
-            sh_size: BigInt.asUintN(64, BigInt(size)) });
+        { sh_type, sh_flags, sh_offset: BigInt.asUintN(64, 0x100n + BigInt(before)),
+            sh_addr: BigInt.asUintN(64, 0x1100n + BigInt(before)), sh_size: BigInt.asUintN(64, BigInt(size)) });
     const loaded = (p_type, range) => holds(p_type, SHF_ALLOC, SHT_PROGBITS, range);
     const zeros = (range) => holds(PT_LOAD, SHF_ALLOC, SHT_NOBITS, range);
     const of_thread = (p_type, sh_type) => holds(p_type, SHF_ALLOC | SHF_TLS, sh_type, [1, 1]);
@@ -646,11 +733,13 @@ function check_segments() {
         { p_type: PT_NOTE, p_offset: 0x100n, p_filesz: 0n, p_vaddr: 0n, p_memsz: 0n },
         { sh_type: SHT_NOTE, sh_flags: 0n, sh_offset, sh_addr: 0n, sh_size });
     const found = [
-        [[0, 0x50], [0x4f, 1], [0, 0x51], [-1, 1], [0x50, 1], [1, -1], [0, 0], [0x50, 0]].map((range) => loaded(PT_LOAD, range)),
+        [[0, 0x50], [0x4f, 1], [0, 0x51], [-1, 1], [0x50, 1], [1, -1], [0, 0], [0x50, 0]]
+            .map((range) => loaded(PT_LOAD, range)),
         // without bytes in the file only the addresses count
         [[0x50, 0x30], [0x50, 0x31], [0x80, 0]].map(zeros),
         // some segments hold only loaded sections
-        [PT_LOAD, PT_DYNAMIC, PT_GNU_EH_FRAME, PT_GNU_RELRO, PT_GNU_STACK, PT_INTERP].map((p_type) => holds(p_type, 0n, SHT_PROGBITS, [1, 1])),
+        [PT_LOAD, PT_DYNAMIC, PT_GNU_EH_FRAME, PT_GNU_RELRO, PT_GNU_STACK, PT_INTERP]
+            .map((p_type) => holds(p_type, 0n, SHT_PROGBITS, [1, 1])),
         [PT_PHDR, PT_TLS, PT_DYNAMIC].map((p_type) => loaded(p_type, [1, 1])),
         // thread-local storage
         [PT_TLS, PT_LOAD, PT_GNU_RELRO, PT_NOTE, PT_GNU_STACK].map((p_type) => of_thread(p_type, SHT_PROGBITS)),
@@ -664,23 +753,29 @@ function check_segments() {
     assert.deepEqual(found, wanted.map((held) => Array.from(held, (digit) => digit === '1')));
 }
 
-// Returns the library's constants, each as a BigInt or a list of BigInts. The name of a constant of one class starts with its module.
+// Returns the library's constants, each as a BigInt or a list of BigInts. The name of a constant of one class starts
+// with its module.
 function constants_of_library() {
     const all = new Map(), of = (module, name) => all.get(`${module}.${name}`) ?? all.get(name);
-    const folders = ['goblin_headers', 'goblin_records'].map((crate) => fileURLToPath(new URL(`../../crates/${crate}/src`, import.meta.url)));
-    const sources = folders.flatMap((folder) => readdirSync(folder).filter((name) => name.endsWith('.rt')).map((name) => join(folder, name)));
+    const folders = ['goblin_headers', 'goblin_records']
+        .map((crate) => fileURLToPath(new URL(`../../crates/${crate}/src`, import.meta.url)));
+    const sources = folders.flatMap((folder) => readdirSync(folder).filter((name) => name.endsWith('.rt'))
+        .map((name) => join(folder, name)));
     // (those of both classes first, since the others are made from them)
     for (const path of sources.sort((a, b) => b.includes('constants_') - a.includes('constants_'))) {
         const module = /\/(\w+\d\d)\.rt$/.exec(path)?.[1], source = readFileSync(path, 'utf8');
         for (const [, name, value] of source.matchAll(/^pub const (\w+): [^=]+ = ([^;]+);/gm)) {
-            const bytes = /^b"(.*)"$/.exec(value)?.[1].replace(/\\x(..)/g, (_, digits) => String.fromCharCode(parseInt(digits, 16)));
+            const bytes = /^b"(.*)"$/.exec(value)?.[1]
+                .replace(/\\x(..)/g, (_, digits) => String.fromCharCode(parseInt(digits, 16)));
             const term = (word) => (/^\d/.test(word) ? BigInt(word.replaceAll('_', '')) : of(module, word));
-            const sum = (text) => text.split(' + ').map((part) => part.split(' << ').map(term).reduce((a, b) => a << b)).reduce((a, b) => a + b);
-            const list = bytes === undefined ? /^\[(.*)\]$/s.exec(value)?.[1].split(',').map((item) => item.trim()).filter((item) => item)
-                : Array.from(bytes, (sign) => `${sign.charCodeAt(0)}`);
+            const sum = (text) => text.split(' + ').map((part) => part.split(' << ').map(term).reduce((a, b) => a << b))
+                .reduce((a, b) => a + b);
+            const list = bytes === undefined ? /^\[(.*)\]$/s.exec(value)?.[1].split(',').map((item) => item.trim())
+                .filter((item) => item) : Array.from(bytes, (sign) => `${sign.charCodeAt(0)}`);
             all.set(module ? `${module}.${name}` : name, list ? list.map(sum) : sum(value));
         }
-        assert.equal([...source.matchAll(/^pub const /gm)].length, [...source.matchAll(/^pub const \w+: [^=]+ = [^;]+;/gm)].length, path);
+        assert.equal([...source.matchAll(/^pub const /gm)].length,
+            [...source.matchAll(/^pub const \w+: [^=]+ = [^;]+;/gm)].length, path);
     }
     return all;
 }
@@ -692,7 +787,8 @@ async function check_constants() {
         assert.equal(goblin[name], value);
         if (typeof value === 'object') assert.ok(Object.isFrozen(value), name);
         if (Array.isArray(value)) found.set(name, value.map(BigInt));
-        else if (typeof value === 'object') Object.entries(value).forEach(([field, number]) => found.set(`${name}.${field}`, BigInt(number)));
+        else if (typeof value === 'object')
+            Object.entries(value).forEach(([field, number]) => found.set(`${name}.${field}`, BigInt(number)));
         else found.set(name, BigInt(value));
         // its type must be that of the field that holds it
         const is_big = /^SH[FN]_/.test(name) && name !== 'SHF_NUM_REGULAR_FLAGS';
@@ -708,8 +804,8 @@ async function check_constants() {
 // Returns the declarations for TypeScript: for each type the names and types of its members.
 function declared_members(declared, word) {
     const bodies = declared.matchAll(new RegExp(`^export ${word} (\\w+)[^\\n]* {\\n(.*?)^}`, 'gms'));
-    return Object.fromEntries([...bodies].map(([, name, body]) =>
-        [name, Object.fromEntries([...body.matchAll(/^ {4}(?:static |readonly )?(\w+|\[Symbol\.iterator\])(?:<\w+>)?(?:: |(?=\())(.*);$/gm)]
+    return Object.fromEntries([...bodies].map(([, name, body]) => [name, Object.fromEntries(
+        [...body.matchAll(/^ {4}(?:static |readonly )?(\w+|\[Symbol\.iterator\])(?:<\w+>)?(?:: |(?=\())(.*);$/gm)]
             .map(([, member, type]) => [member, type]))]));
 }
 
@@ -720,7 +816,8 @@ function check_declarations() {
     assert.match(declared, /^export default function init\(source\?: /m);
     for (const [, name, type] of declared.matchAll(/^export const (\w+): (.*);$/gm)) {
         const value = goblin[name], [, list] = /^readonly (\w+)\[\]$/.exec(type) ?? [];
-        const is_object = type.startsWith('{'), fields = Array.from(type.matchAll(/readonly (\w+): number;/g), ([, field]) => field);
+        const is_object = type.startsWith('{'),
+            fields = Array.from(type.matchAll(/readonly (\w+): number;/g), ([, field]) => field);
         const found = is_object ? Object.keys(value) : [...new Set([value].flat().map((item) => typeof item))];
         assert.deepEqual(found, is_object ? fields : [list ?? type], name);
     }
@@ -730,18 +827,22 @@ function check_declarations() {
         assert.deepEqual(Object.keys(fields).sort(), Object.keys(items[name]).sort());
         for (const [field, type] of Object.entries(fields)) {
             const found = typeof items[name][field];
-            assert.ok(type.split(' | ').includes(found) || (found === 'object' && /^[A-Z]/.test(type)), `${name}.${field}: ${type}`);
+            assert.ok(type.split(' | ').includes(found) || (found === 'object' && /^[A-Z]/.test(type)),
+                `${name}.${field}: ${type}`);
         }
     }
     const elf = Elf.parse(own), refused = error_of(() => elf.number(own.length, 1));
-    const made = { GoblinError: refused, Elf: elf, List: elf.section_headers(), Symtab: elf.syms(), Strtab: elf.shdr_strtab(),
-        AddressMap: elf.syms().address_map(), Writer: elf.writer(new Uint8Array(own)) };
+    const made = { GoblinError: refused, Elf: elf, List: elf.section_headers(), Symtab: elf.syms(),
+        Strtab: elf.shdr_strtab(), AddressMap: elf.syms().address_map(), Writer: elf.writer(new Uint8Array(own)) };
     const classes = declared_members(declared, 'class');
     assert.deepEqual(Object.keys(classes).sort(), Object.keys(made).sort());
     for (const [name, members] of Object.entries(classes)) {
-        const { prototype } = goblin[name], symbols = Object.getOwnPropertySymbols(prototype).map((symbol) => `[${symbol.description}]`);
-        const there = [...Object.getOwnPropertyNames(prototype), ...symbols, ...Object.keys(made[name]), ...(name === 'Elf' ? ['parse'] : [])];
-        const wanted = there.filter((member) => !['constructor', 'name'].includes(member) || (member === 'name' && name === 'Symtab'));
+        const { prototype } = goblin[name],
+            symbols = Object.getOwnPropertySymbols(prototype).map((symbol) => `[${symbol.description}]`);
+        const there = [...Object.getOwnPropertyNames(prototype), ...symbols, ...Object.keys(made[name]),
+            ...(name === 'Elf' ? ['parse'] : [])];
+        const wanted = there.filter((member) => !['constructor', 'name'].includes(member)
+            || (member === 'name' && name === 'Symtab'));
         assert.deepEqual(Object.keys(members).filter((member) => member !== 'constructor').sort(), wanted.sort(), name);
     }
     return `${names.length} declared names`;
@@ -752,8 +853,10 @@ function check_package() {
     assert.deepEqual(exports['.'], { types, default: './goblin.js' });
     const passed_on = Object.entries(exports).filter(([name]) => name !== '.');
     for (const [name, path] of passed_on) assert.equal(name, path);
-    for (const name of [types, exports['.'].default, ...passed_on.map(([, path]) => path), ...listed]) assert.ok(existsSync(join(web, name)), name);
-    assert.deepEqual(readdirSync(web).filter((name) => !['LICENSE', 'package.json'].includes(name)).sort(), listed.sort());
+    for (const name of [types, exports['.'].default, ...passed_on.map(([, path]) => path), ...listed])
+        assert.ok(existsSync(join(web, name)), name);
+    assert.deepEqual(readdirSync(web).filter((name) => !['LICENSE', 'package.json'].includes(name)).sort(),
+        listed.sort());
     const [least] = /\d+/.exec(engines.node);
     // (an earlier node needs a flag)
     const has_flag = process.execArgv.includes('--experimental-wasm-memory64');
@@ -764,9 +867,10 @@ await check_missing_memories();
 const modules = await check_modules();
 await goblin.default();
 const tested = [
-    modules, check_bytes(), check_lists(), check_whole(), check_writer(), check_moved_sections(), check_linked_sections(),
-    check_types_of_sections(), check_notes(), check_json(), await check_constants(), check_address_map(), check_declarations(),
-    check_arguments(), check_header(), check_readable_data(), check_numbers_in(), check_addresses(), check_names(), check_offsets_of_errors(),
-    check_number_of_segments(), check_notes_as_bytes(), check_segments(), check_package(),
+    modules, check_bytes(), check_lists(), check_whole(), check_writer(), check_moved_sections(),
+    check_linked_sections(), check_types_of_sections(), check_notes(), check_json(), await check_constants(),
+    check_address_map(), check_declarations(), check_arguments(), check_header(), check_readable_data(),
+    check_numbers_in(), check_addresses(), check_names(), check_offsets_of_errors(), check_number_of_segments(),
+    check_notes_as_bytes(), check_segments(), check_package(),
 ];
 console.log(`goblin.js does what its comments say: ${tested.filter((said) => said).join(', ')}`);

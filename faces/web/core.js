@@ -1,17 +1,20 @@
-// What the notes of a core file of Linux hold, read by numbers. The library reads the notes; what their descriptors mean is not proved.
+// What the notes of a core file of Linux hold, read by numbers. The library reads the notes; what their descriptors
+// mean is not proved.
 import * as goblin from './goblin.js';
 import { number_at } from './dynamic.js';
 import { file, is_wide, name_at } from './file.js';
 
 // The names of the registers of a PRSTATUS, by machine and class.
 const REGISTERS = {
-    '62,2': 'r15 r14 r13 r12 rbp rbx r11 r10 r9 r8 rax rcx rdx rsi rdi orig_rax rip cs eflags rsp ss fs_base gs_base ds es fs gs',
+    '62,2': 'r15 r14 r13 r12 rbp rbx r11 r10 r9 r8 rax rcx rdx rsi rdi orig_rax rip cs eflags rsp ss fs_base gs_base'
+        + ' ds es fs gs',
     '3,1': 'ebx ecx edx esi edi ebp eax ds es fs gs orig_eax eip cs eflags esp ss',
     '183,2': `${Array.from({ length: 31 }, (_, i) => `x${i}`).join(' ')} sp pc pstate`,
     '40,1': 'r0 r1 r2 r3 r4 r5 r6 r7 r8 r9 r10 fp ip sp lr pc cpsr orig_r0',
     '243,2': 'pc ra sp gp tp t0 t1 t2 s0 s1 a0 a1 a2 a3 a4 a5 a6 a7 s2 s3 s4 s5 s6 s7 s8 s9 s10 s11 t3 t4 t5 t6',
 };
-const SIGNALS = ['', 'HUP', 'INT', 'QUIT', 'ILL', 'TRAP', 'ABRT', 'BUS', 'FPE', 'KILL', 'USR1', 'SEGV', 'USR2', 'PIPE', 'ALRM', 'TERM'];
+const SIGNALS = ['', 'HUP', 'INT', 'QUIT', 'ILL', 'TRAP', 'ABRT', 'BUS', 'FPE', 'KILL', 'USR1', 'SEGV', 'USR2',
+    'PIPE', 'ALRM', 'TERM'];
 const MOST_FILES = 10000, MOST_NAME = 4096;
 
 /** Returns a signal's number with its name. (MIPS has other numbers for some.) */
@@ -40,7 +43,8 @@ export function process_of({ note: { desc_range: { offset, size } } }) {
 
 /** Returns the files of a note of type FILE, each with the number of its ranges and the first address. */
 export function mapped_files({ note: { desc_range: { offset, size } } }) {
-    const width = is_wide() ? 8n : 4n, count = number_at(offset, width), found = new Map(), names = strtab(offset, size);
+    const width = is_wide() ? 8n : 4n, count = number_at(offset, width), found = new Map(),
+        names = strtab(offset, size);
     for (let i = 0n, at = (2n + 3n * count) * width; i < count && i < MOST_FILES && at < size; i++) {
         const name = name_at(names, at), start = number_at(offset + (2n + 3n * i) * width, width);
         found.set(name, { start, ...found.get(name), ranges: (found.get(name)?.ranges ?? 0) + 1 });

@@ -1,26 +1,33 @@
-// Reads mangled names of C++ in Itanium's form: names, templates, functions and most types. A name is left alone if it holds anything else:
-// an expression, a lambda, a conversion, an array, a pointer to a member, a name inside of a function, or a pack of parameters.
+// Reads mangled names of C++ in Itanium's form: names, templates, functions and most types. A name is left alone if it
+// holds anything else: an expression, a lambda, a conversion, an array, a pointer to a member, a name inside of a
+// function, or a pack of parameters.
 
 // Returns a table from a text: each item is a code, and what it stands for.
-const table = (text) => new Map(text.split(', ').map((item) => [item.split(' ')[0], item.slice(item.indexOf(' ') + 1)]));
-const BUILTINS = table('a signed char, b bool, c char, d double, e long double, f float, g __float128, h unsigned char, i int, j unsigned int,'
-    + ' l long, m unsigned long, n __int128, o unsigned __int128, s short, t unsigned short, v void, w wchar_t, x long long,'
-    + ' y unsigned long long, z ..., Di char32_t, Ds char16_t, Du char8_t, Dn decltype(nullptr)');
-const OPERATORS = table('nw  new, na  new[], dl  delete, da  delete[], ps +, ng -, ad &, de *, co ~, pl +, mi -, ml *, dv /, rm %, an &, or |,'
-    + ' eo ^, aS =, pL +=, mI -=, mL *=, dV /=, rM %=, aN &=, oR |=, eO ^=, ls <<, rs >>, lS <<=, rS >>=, eq ==, ne !=, lt <, gt >, le <=,'
-    + ' ge >=, ss <=>, nt !, aa &&, oo ||, pp ++, mm --, cm ,, pm ->*, pt ->, cl (), ix []');
+const table = (text) =>
+    new Map(text.split(', ').map((item) => [item.split(' ')[0], item.slice(item.indexOf(' ') + 1)]));
+const BUILTINS = table('a signed char, b bool, c char, d double, e long double, f float, g __float128, h unsigned char,'
+    + ' i int, j unsigned int, l long, m unsigned long, n __int128, o unsigned __int128, s short, t unsigned short, v'
+    + ' void, w wchar_t, x long long, y unsigned long long, z ..., Di char32_t, Ds char16_t, Du char8_t, Dn'
+    + ' decltype(nullptr)');
+const OPERATORS = table('nw  new, na  new[], dl  delete, da  delete[], ps +, ng -, ad &, de *, co ~, pl +, mi -, ml *,'
+    + ' dv /, rm %, an &, or |, eo ^, aS =, pL +=, mI -=, mL *=, dV /=, rM %=, aN &=, oR |=, eO ^=, ls <<, rs >>, lS'
+    + ' <<=, rS >>=, eq ==, ne !=, lt <, gt >, le <=, ge >=, ss <=>, nt !, aa &&, oo ||, pp ++, mm --, cm ,, pm ->*, pt'
+    + ' ->, cl (), ix []');
 const SPECIAL = table('TV vtable for, TT VTT for, TI typeinfo for, TS typeinfo name for, GV guard variable for');
 const TRAITS = 'std::char_traits<char>', stream = (kind) => `std::basic_${kind}<char, ${TRAITS} >`;
-const STANDARD = { St: 'std', Sa: 'std::allocator', Sb: 'std::basic_string', Ss: `std::basic_string<char, ${TRAITS}, std::allocator<char> >`,
-    Si: stream('istream'), So: stream('ostream'), Sd: stream('iostream') };
+const STANDARD = { St: 'std', Sa: 'std::allocator', Sb: 'std::basic_string',
+    Ss: `std::basic_string<char, ${TRAITS}, std::allocator<char> >`, Si: stream('istream'), So: stream('ostream'),
+    Sd: stream('iostream') };
 const SUFFIXES = { i: '', j: 'u', l: 'l', m: 'ul', x: 'll', y: 'ull' }, MARKS = { P: '*', R: '&', O: '&&' };
 const WORDS = { r: ' restrict', V: ' volatile', K: ' const', R: ' &', O: ' &&' }, MOST_SIGNS = 8192;
 
 const words = (signs) => signs.split('').map((sign) => WORDS[sign]).join('');
-const listed = (items) => items.map(({ left, right, pack }) => (pack ? listed(pack) : left + right)).filter((text) => text).join(', ');
+const listed = (items) => items.map(({ left, right, pack }) => (pack ? listed(pack) : left + right))
+    .filter((text) => text).join(', ');
 
-// A reader of one name. What it reads is { left, right }, between which a name of that type would be. Of a name it is also the last part, the
-// arguments if that is a template, and the words after the parameters. It can be read again by its number in `known`.
+// A reader of one name. What it reads is { left, right }, between which a name of that type would be. Of a name it is
+// also the last part, the arguments if that is a template, and the words after the parameters. It can be read again by
+// its number in `known`.
 class Reader {
     at = 0; known = [];
     constructor(text) { this.text = text; }
@@ -59,7 +66,8 @@ class Reader {
     name() {
         if (this.match(/N/y)) return this.nested();
         const is_known = this.is(/^S[^t]/);
-        const name = is_known ? this.known_one() : this.match(/St/y) ? this.joined({ left: 'std' }, this.part()) : this.part();
+        const name = is_known ? this.known_one()
+            : this.match(/St/y) ? this.joined({ left: 'std' }, this.part()) : this.part();
         return this.is(/^I/) ? this.templated(is_known ? name : this.note(name)) : name;
     }
     nested() {
@@ -75,7 +83,8 @@ class Reader {
     part(last) {
         this.match(/L(?=\d)/y);
         const [kind] = this.match(/C[1-5]|D[0-25]/y) ?? '';
-        const name = kind ? { left: `${kind === 'D' ? '~' : ''}${this.need(last)}`, last, is_bare: true } : this.is(/^\d/) ? this.source()
+        const name = kind ? { left: `${kind === 'D' ? '~' : ''}${this.need(last)}`, last, is_bare: true }
+            : this.is(/^\d/) ? this.source()
             : { left: `operator${this.need(OPERATORS.get(this.match(/[a-z][a-zA-Z]/y)))}` };
         while (this.match(/B/y)) name.left += `[abi:${this.source().left}]`;
         return { right: '', ...name };
@@ -91,20 +100,24 @@ class Reader {
         return this.need(this.known[this.match(/S/y) && this.number(36)]);
     }
     templated({ left, last, is_bare }) {
-        const args = this.match(/I/y) && this.arguments(), list = listed(args), is_empty = args.at(-1)?.pack?.length === 0;
+        const args = this.match(/I/y) && this.arguments(), list = listed(args),
+            is_empty = args.at(-1)?.pack?.length === 0;
         const [before, end] = [left.endsWith('<') ? ' ' : '', list.endsWith('>') && !is_empty ? ' ' : ''];
         return { left: `${left}${before}<${list}${end}>`, right: '', last, is_bare, args };
     }
     arguments() {
         const items = [];
         while (!this.match(/E/y)) {
-            items.push(this.match(/J/y) ? { pack: this.arguments() } : this.match(/L(?=[a-zNS\d])/y) ? this.literal() : this.type());
+            items.push(this.match(/J/y) ? { pack: this.arguments() }
+                : this.match(/L(?=[a-zNS\d])/y) ? this.literal() : this.type());
         }
         return items;
     }
     literal() {
-        const sign = this.text[this.at], type = listed([this.type()]), digits = this.need(this.match(/n?\d+(?=E)/y)).replace('n', '-');
-        const left = sign === 'b' ? ['false', 'true'][digits] : sign in SUFFIXES ? digits + SUFFIXES[sign] : `(${type})${digits}`;
+        const sign = this.text[this.at], type = listed([this.type()]),
+            digits = this.need(this.match(/n?\d+(?=E)/y)).replace('n', '-');
+        const left = sign === 'b' ? ['false', 'true'][digits] : sign in SUFFIXES ? digits + SUFFIXES[sign]
+            : `(${type})${digits}`;
         return { left: this.match(/E/y) && this.need(left), right: '' };
     }
     type() {
@@ -115,33 +128,40 @@ class Reader {
         return this.is(/^I/) ? this.note(this.templated(item)) : item;
     }
     new_type() {
-        const qualifiers = words(this.match(/V?K?/y).split('').reverse().join('')), mark = qualifiers || MARKS[this.match(/[PRO]/y)];
+        const qualifiers = words(this.match(/V?K?/y).split('').reverse().join('')),
+            mark = qualifiers || MARKS[this.match(/[PRO]/y)];
         if (mark) return this.marked(mark, this.type());
         if (this.match(/FY?/y)) return this.function();
-        const given = this.match(/T/y) ? this.need(this.args?.[this.number(10)]) : this.is(/^[NS\d]/) ? this.name() : this.fail();
+        const given = this.match(/T/y) ? this.need(this.args?.[this.number(10)])
+            : this.is(/^[NS\d]/) ? this.name() : this.fail();
         return given.pack ? this.fail() : given;
     }
-    // Returns a type with words or a mark: `*`, `&` or `&&`. A reference to a reference is one to a value only if both are.
+    // Returns a type with words or a mark: `*`, `&` or `&&`. A reference to a reference is one to a value only
+    // if both are.
     marked(mark, { left, right, form = '' }) {
         const is_word = mark[0] === ' ', is_reference = form[0] === '&';
         if (is_reference ? mark[0] !== '&' : is_word && form === 'function') this.fail();
         if (form === 'function') return { left: `${left}(${mark}`, right: `)${right}`, form: mark };
-        if (is_reference) return { left: left.slice(0, -form.length) + (form === '&' ? form : mark), right, form: form === '&' ? form : mark };
+        if (is_reference) return { left: left.slice(0, -form.length) + (form === '&' ? form : mark), right,
+            form: form === '&' ? form : mark };
         return { left: is_word && left.endsWith(mark) ? left : left + mark, right, form: is_word ? form : mark };
     }
     function() {
         const { left, right } = this.type(), list = this.parameters(), on = words(this.need(this.match(/[RO]?(?=E)/y)));
-        return { left: right ? left : `${left} `, right: this.match(/E/y) && `(${list})${on}${right}`, form: 'function' };
+        return { left: right ? left : `${left} `,
+            right: this.match(/E/y) && `(${list})${on}${right}`, form: 'function' };
     }
 }
 
 /** Returns a mangled name as it is written in C++, or nothing if it isn't one, or one that isn't read. */
 export function demangled(name) {
-    if (!name.startsWith('_Z') || /17h[\da-f]{16}E/.test(name)) return undefined; // (names of Rust's old form look like ones of C++)
+    if (!name.startsWith('_Z') || /17h[\da-f]{16}E/.test(name))
+        return undefined; // (names of Rust's old form look like ones of C++)
     const reader = new Reader(name.slice(2));
     try {
         const text = reader.encoding(), [rest] = reader.text.slice(reader.at).match(/(?:\.[a-z\d_]+(?:\.\d+)*)*$/);
-        return reader.at + rest.length < reader.text.length ? undefined : text + rest.replace(/\.[a-z\d_]+(?:\.\d+)*/g, ' [clone $&]');
+        return reader.at + rest.length < reader.text.length ? undefined
+            : text + rest.replace(/\.[a-z\d_]+(?:\.\d+)*/g, ' [clone $&]');
     } catch (error) {
         if (!(error instanceof SyntaxError)) throw error;
         return undefined;

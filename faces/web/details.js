@@ -11,29 +11,37 @@ import { addend, section_word, symbol_of_relocation } from './lists.js';
 import { title_of } from './notes.js';
 import { kind_of, kind_of_segment, part_at, parts, pieces_at, title_of_segment } from './pieces.js';
 import {
-    address_of_offset, address_of_symbol, with_offset, bytes_of_symbol, has_addresses, name_of_symbol, offset_of_address, place_of_relocation,
-    section_of_address, section_of_symbol, segments_of_address, symbol_of_address, symtab_at, to_address, to_offset, to_section, to_symbol,
+    address_of_offset, address_of_symbol, with_offset, bytes_of_symbol, has_addresses, name_of_symbol,
+    offset_of_address, place_of_relocation, section_of_address, section_of_symbol, segments_of_address,
+    symbol_of_address, symtab_at, to_address, to_offset, to_section, to_symbol,
 } from './resolve.js';
 import { count, hex } from './text.js';
 
 const { prefixed } = labels;
 // Returns a field: its name, its value, its meaning, and its links, as `{ text, to }`.
-const field = (name, value, meaning = '', ...links) => ({ name, value: `${value}`, meaning, links: links.filter((link) => link) });
+const field = (name, value, meaning = '', ...links) =>
+    ({ name, value: `${value}`, meaning, links: links.filter((link) => link) });
 const bytes_word = (size) => `${count(size)} bytes`;
 // Returns a field's link to an address, if the file has addresses and something is loaded there.
-const at_address = (address) => (has_addresses() && address > 0n ? { ...to_address(address), text: 'address' } : undefined);
-const at_offset = (offset) => (Number(offset) < file.content.length ? { ...to_offset(offset), text: 'offset' } : undefined);
+const at_address = (address) =>
+    (has_addresses() && address > 0n ? { ...to_address(address), text: 'address' } : undefined);
+const at_offset = (offset) =>
+    (Number(offset) < file.content.length ? { ...to_offset(offset), text: 'offset' } : undefined);
 // Returns a location by a name, if the name is whole and UTF-8.
-const link_by_name = (kind, name) => (name && name.isWellFormed() && !name.endsWith('…') ? `${kind}=${encodeURIComponent(name)}` : undefined);
+const link_by_name = (kind, name) =>
+    (name && name.isWellFormed() && !name.endsWith('…') ? `${kind}=${encodeURIComponent(name)}` : undefined);
 
-// The fields of records with their sizes if these are not four bytes, in files of each class. A `w` is 4 or 8, by the class.
+// The fields of records with their sizes if these are not four bytes, in files of each class. A `w` is 4 or 8, by
+// the class.
 const RECORDS = {
-    header: ['magic ei_class:1 ei_data:1 ei_version:1 ei_osabi:1 ei_abiversion:1 padding:7 e_type:2 e_machine:2 e_version e_entry:w e_phoff:w'
-        + ' e_shoff:w e_flags e_ehsize:2 e_phentsize:2 e_phnum:2 e_shentsize:2 e_shnum:2 e_shstrndx:2'],
+    header: ['magic ei_class:1 ei_data:1 ei_version:1 ei_osabi:1 ei_abiversion:1 padding:7 e_type:2 e_machine:2'
+        + ' e_version e_entry:w e_phoff:w e_shoff:w e_flags e_ehsize:2 e_phentsize:2 e_phnum:2 e_shentsize:2'
+        + ' e_shnum:2 e_shstrndx:2'],
     section: ['sh_name sh_type sh_flags:w sh_addr:w sh_offset:w sh_size:w sh_link sh_info sh_addralign:w sh_entsize:w'],
     segment: ['p_type p_offset p_vaddr p_paddr p_filesz p_memsz p_flags p_align',
         'p_type p_flags p_offset:w p_vaddr:w p_paddr:w p_filesz:w p_memsz:w p_align:w'],
-    symbol: ['st_name st_value st_size st_info:1 st_other:1 st_shndx:2', 'st_name st_info:1 st_other:1 st_shndx:2 st_value:w st_size:w'],
+    symbol: ['st_name st_value st_size st_info:1 st_other:1 st_shndx:2',
+        'st_name st_info:1 st_other:1 st_shndx:2 st_value:w st_size:w'],
     rela: ['r_offset r_type:1 r_sym:3 r_addend', 'r_offset:w r_type r_sym r_addend:w'],
     symbol_first: ['r_offset r_sym:3 r_type:1 r_addend', 'r_offset:w r_sym r_type r_addend:w'],
     note: ['n_namesz n_descsz n_type'],
@@ -52,15 +60,18 @@ function record(word, kind, at, size = size_of(kind)) {
 }
 
 // Returns the entry of a table.
-const entry = (of, index, kind) => record(`entry in ${called(of)}`, kind, Number(section_at(of).sh_offset) + index * size_of(kind));
+const entry = (of, index, kind) =>
+    record(`entry in ${called(of)}`, kind, Number(section_at(of).sh_offset) + index * size_of(kind));
 
 // Returns the bytes of a range, or their refusal.
 function block(word, range, refused) {
     const found = part(() => range() ?? {}, refused);
-    return found.offset === undefined ? { word, ...found } : { word, at: Number(found.offset), size: Number(found.size) };
+    return found.offset === undefined ? { word, ...found }
+        : { word, at: Number(found.offset), size: Number(found.size) };
 }
 
-const from_place = (section) => (section === undefined ? 'from its place on' : `from its place in ${called(section)} on`);
+const from_place = (section) =>
+    (section === undefined ? 'from its place on' : `from its place in ${called(section)} on`);
 const to_section_number = (index) => (index > 0 && section_at(index) ? to_section(index) : undefined);
 
 // Returns the link of a section's sh_info, if it has one: to a section, or to the symbol that identifies a group.
@@ -84,21 +95,25 @@ function list_of({ sh_type }, index) {
 }
 
 function section_details(item, index) {
-    const { sh_name, sh_type, sh_flags, sh_addr, sh_offset, sh_size, sh_link, sh_info, sh_addralign, sh_entsize } = item;
+    const { sh_name, sh_type, sh_flags, sh_addr, sh_offset, sh_size, sh_link, sh_info, sh_addralign,
+        sh_entsize } = item;
     const header = record('section header', 'section', Number(file.elf.header.e_shoff) + index * size_of('section'));
     return {
-        title: called(index, item), what: `section ${count(index)}`, kind: kind_of(item), link: link_by_name('section', name_of_section(item)),
+        title: called(index, item), what: `section ${count(index)}`, kind: kind_of(item),
+        link: link_by_name('section', name_of_section(item)),
         fields: [
             field('sh_name', hex(sh_name)),
             field('sh_type', hex(sh_type), prefixed('SHT_', labels.section_type(sh_type)), list_of(item, index)),
             field('sh_flags', hex(sh_flags), labels.section_flags(sh_flags)),
             field('sh_addr', hex(sh_addr), '', sh_flags & 2n ? at_address(sh_addr) : undefined),
-            field('sh_offset', hex(sh_offset), '', at_offset(sh_offset)), field('sh_size', hex(sh_size), bytes_word(sh_size)),
+            field('sh_offset', hex(sh_offset), '', at_offset(sh_offset)),
+            field('sh_size', hex(sh_size), bytes_word(sh_size)),
             field('sh_link', sh_link, '', to_section_number(sh_link)),
             field('sh_info', sh_info, INFO_WORDS[sh_type] ?? '', info_link(item)),
             field('sh_addralign', sh_addralign), field('sh_entsize', sh_entsize),
         ],
-        blocks: [block('bytes', () => file.elf.range(item), (error) => section_refusal(error, 'the bytes', index)), header],
+        blocks: [
+            block('bytes', () => file.elf.range(item), (error) => section_refusal(error, 'the bytes', index)), header],
     };
 }
 
@@ -108,17 +123,21 @@ const MOST_SECTIONS = 24;
 function segment_details(item, index) {
     const { p_type, p_flags, p_offset, p_vaddr, p_paddr, p_filesz, p_memsz, p_align } = item;
     const inside = sections().filter(({ index: of, section }) => of && goblin.segment_holds(item, section));
-    const first = inside.slice(0, MOST_SECTIONS).map(({ index: of }) => to_section(of)), is_cut = inside.length > MOST_SECTIONS;
+    const first = inside.slice(0, MOST_SECTIONS).map(({ index: of }) => to_section(of)),
+        is_cut = inside.length > MOST_SECTIONS;
     const header = record('program header', 'segment', Number(file.elf.header.e_phoff) + index * size_of('segment'));
     return {
-        title: title_of_segment(index, item), what: `segment ${count(index)} of ${count(file.elf.program_headers().length)}`,
+        title: title_of_segment(index, item),
+        what: `segment ${count(index)} of ${count(file.elf.program_headers().length)}`,
         kind: kind_of_segment(item),
         fields: [
             field('p_type', hex(p_type), prefixed('PT_', labels.segment_type(p_type))),
-            field('p_flags', hex(p_flags), labels.segment_flags(p_flags)), field('p_offset', hex(p_offset), '', at_offset(p_offset)),
+            field('p_flags', hex(p_flags), labels.segment_flags(p_flags)),
+            field('p_offset', hex(p_offset), '', at_offset(p_offset)),
             field('p_vaddr', hex(p_vaddr), '', at_address(p_vaddr)), field('p_paddr', hex(p_paddr)),
             field('p_filesz', hex(p_filesz), bytes_word(p_filesz)), field('p_memsz', hex(p_memsz), bytes_word(p_memsz)),
-            field('p_align', hex(p_align)), first.length > 0 && field('sections', '', is_cut ? `the first ${MOST_SECTIONS}` : '', ...first),
+            field('p_align', hex(p_align)),
+            first.length > 0 && field('sections', '', is_cut ? `the first ${MOST_SECTIONS}` : '', ...first),
         ],
         blocks: [block('bytes', () => file.elf.range(item), (error) => segment_refusal(error, index)), header],
     };
@@ -132,21 +151,25 @@ function symbol_details(item, index, table) {
     const of = section_of_symbol(table, index, item), place = bytes_of_symbol(table, index, item);
     const bind = goblin.st_bind(st_info), type = goblin.st_type(st_info), visibility = goblin.st_visibility(st_other);
     const address = of === undefined ? undefined : at_address(address_of_symbol(item));
-    const info = `${prefixed('STB_', labels.symbol_binding(bind))} (${bind}), ${prefixed('STT_', labels.symbol_type(type))} (${type})`;
+    const info = `${prefixed('STB_', labels.symbol_binding(bind))} (${bind}), `
+        + `${prefixed('STT_', labels.symbol_type(type))} (${type})`;
     return {
-        title: name_of_symbol(table, index, item) || `symbol ${index}`, what: `symbol ${count(index)} of ${called(table)}`,
+        title: name_of_symbol(table, index, item) || `symbol ${index}`,
+        what: `symbol ${count(index)} of ${called(table)}`,
         kind: of === undefined || !section_at(of) ? undefined : kind_of(section_at(of)),
         link: link_by_name('symbol', name_of_symbol(table, index, item)),
         fields: [
             in_source(name_of_symbol(table, index, item)), field('st_name', hex(st_name)),
             field('st_value', hex(st_value), place?.section ? with_offset(called(of), place.from) : '', address),
             field('st_size', st_size, bytes_word(st_size)), field('st_info', hex(st_info), info),
-            field('st_other', hex(st_other), `${prefixed('STV_', labels.symbol_visibility(visibility))} (${visibility})`),
+            field('st_other', hex(st_other),
+                `${prefixed('STV_', labels.symbol_visibility(visibility))} (${visibility})`),
             field('st_shndx', hex(item.st_shndx), of === undefined ? section_word(table, index, item) : `section ${of}`,
                 of === undefined ? undefined : to_section_number(of)),
         ],
         blocks: [
-            ...(place ? [{ ...place, word: !place.section ? 'bytes' : st_size ? `bytes in ${called(of)}` : from_place(of) }] : []),
+            ...(place ? [{ ...place,
+                word: !place.section ? 'bytes' : st_size ? `bytes in ${called(of)}` : from_place(of) }] : []),
             entry(table, index, 'symbol'),
         ],
     };
@@ -155,15 +178,18 @@ function symbol_details(item, index, table) {
 function relocation_details(item, index, of) {
     const section = section_at(of), { r_offset, r_type, r_sym } = item;
     const place = place_of_relocation(section, item), name = symbol_of_relocation(section.sh_link, item);
-    const target = !has_addresses() && place ? { ...to_offset(place.at), text: with_offset(called(place.section), place.from) } : undefined;
+    const target = !has_addresses() && place
+        ? { ...to_offset(place.at), text: with_offset(called(place.section), place.from) } : undefined;
     const changed = has_addresses() ? symbol_of_address(r_offset) : undefined, is_packed = section.sh_type === RELR;
     return {
         title: is_packed ? `packed relocation ${count(index)}` : name || labels.relocation_type(r_type),
         what: `relocation ${count(index)} of ${called(of)}`, kind: 'relocations',
         fields: [
-            in_source(name), field('r_offset', hex(r_offset), '', target ?? at_address(r_offset), changed && to_symbol(changed)),
+            in_source(name),
+            field('r_offset', hex(r_offset), '', target ?? at_address(r_offset), changed && to_symbol(changed)),
             ...(is_packed ? [field('type', 'relative, packed')] : [
-                field('r_type', r_type, prefixed('', labels.relocation_type(r_type)) === `${r_type}` ? '' : labels.relocation_type(r_type)),
+                field('r_type', r_type,
+                    prefixed('', labels.relocation_type(r_type)) === `${r_type}` ? '' : labels.relocation_type(r_type)),
                 field('r_sym', r_sym, '', symbol_link(section.sh_link, r_sym)), field('r_addend', addend(item))]),
         ],
         blocks: [
@@ -176,16 +202,19 @@ function relocation_details(item, index, of) {
 
 function note_details(item, index, by) {
     const { note, holder, start, end, thread } = item, type = labels.note_type(note);
-    const of = { text: holder.title, to: `${by}/${holder.index}` }, is_status = note.name === 'CORE' && type === 'PRSTATUS';
+    const of = { text: holder.title, to: `${by}/${holder.index}` },
+        is_status = note.name === 'CORE' && type === 'PRSTATUS';
     const registers = is_status && file.elf.header.e_type === goblin.ET_CORE ? registers_of(item) : [];
     return {
         title: title_of(item), what: `note ${count(index)} of ${by}`, kind: 'notes',
         fields: [
-            field('name', note.name), field('n_type', hex(note.n_type), type.startsWith('0x') ? '' : prefixed('NT_', type)),
+            field('name', note.name),
+            field('n_type', hex(note.n_type), type.startsWith('0x') ? '' : prefixed('NT_', type)),
             field('n_descsz', note.desc_range.size, bytes_word(note.desc_range.size)), field('from', '', '', of),
             thread !== undefined && field('thread', thread),
             registers.length > 0 && field('registers', '', 'not proved: read by this page, by numbers'),
-            ...registers.map(([register, value]) => field(register, hex(value), '', is_address(value) ? at_address(value) : undefined)),
+            ...registers.map(([register, value]) =>
+                field(register, hex(value), '', is_address(value) ? at_address(value) : undefined)),
         ],
         blocks: [
             { word: 'descriptor', at: Number(note.desc_range.offset), size: Number(note.desc_range.size) },
@@ -206,16 +235,20 @@ function part_details(index) {
             field('from', hex(start), '', at_address(address_of_offset(start) ?? 0n)), field('to', hex(end)),
             top && field('piece', '', '', link(top)), others.length > 0 && field('also', '', '', ...others.map(link)),
         ],
-        blocks: [top ? { word: 'bytes', at: top.start, size: top.end - top.start } : { word: 'bytes', at: start, size: end - start }],
+        blocks: [top ? { word: 'bytes', at: top.start, size: top.end - top.start }
+            : { word: 'bytes', at: start, size: end - start }],
     };
 }
 
-const LISTS = { sections: section_details, segments: segment_details, symbols: symbol_details, relocations: relocation_details,
-    notes: note_details, layout: part_details };
+const LISTS = { sections: section_details, segments: segment_details, symbols: symbol_details,
+    relocations: relocation_details, notes: note_details, layout: part_details };
 /** Returns what is shown of an item of a list. */
 export const item_details = (source, { list, index, of }) => LISTS[list](source.list.get(index), index, of);
 
-/** Returns what is shown of an offset: the pieces that hold it, and the bytes from there to the end of the piece that is drawn. */
+/**
+ * Returns what is shown of an offset: the pieces that hold it, and the bytes from there to the end of the piece
+ * that is drawn.
+ */
 export function offset_details(offset) {
     const index = part_at(offset), { starts } = parts(), pieces = pieces_at(index);
     const end = pieces[0]?.end ?? starts[index + 1], address = address_of_offset(offset);
@@ -233,12 +266,16 @@ export function offset_details(offset) {
 }
 
 /** Reports whether something is loaded at an address. */
-export const is_address = (address) =>
-    segments_of_address(address).length > 0 || section_of_address(address) !== undefined || symbol_of_address(address) !== undefined;
+export const is_address = (address) => segments_of_address(address).length > 0
+    || section_of_address(address) !== undefined || symbol_of_address(address) !== undefined;
 
-/** Returns what is shown of an address: its segments, section and symbol, and the bytes that are loaded from there on. */
+/**
+ * Returns what is shown of an address: its segments, section and symbol, and the bytes that are loaded
+ * from there on.
+ */
 export function address_details(address) {
-    const inside = segments_of_address(address), section = section_of_address(address), symbol = symbol_of_address(address);
+    const inside = segments_of_address(address), section = section_of_address(address),
+        symbol = symbol_of_address(address);
     const at = offset_of_address(address);
     const segment = ({ index, segment: item }) =>
         ({ text: with_offset(title_of_segment(index, item), address - item.p_vaddr), to: `segments/${index}` });
@@ -246,34 +283,41 @@ export function address_details(address) {
         : { text: with_offset(called(section), address - section_at(section).sh_addr), to: `sections/${section}` };
     const pieces = at === undefined ? [] : pieces_at(part_at(at));
     return {
-        title: `address ${hex(address)}`, what: symbol ? `in ${symbol.name}` : of ? `in ${called(section)}` : 'in memory',
+        title: `address ${hex(address)}`,
+        what: symbol ? `in ${symbol.name}` : of ? `in ${called(section)}` : 'in memory',
         kind: section === undefined ? pieces[0]?.kind : kind_of(section_at(section)),
         fields: [
             symbol && field('symbol', '', '', to_symbol(symbol)), of && field('section', '', '', of),
             inside.length > 0 && field('segment', '', '', ...inside.map(segment)),
-            at === undefined ? field('offset', 'none', 'no bytes in the file') : field('offset', hex(at), '', at_offset(at)),
+            at === undefined ? field('offset', 'none', 'no bytes in the file')
+                : field('offset', hex(at), '', at_offset(at)),
         ],
-        blocks: at === undefined ? [] : [{ word: 'bytes from there on', at, size: (pieces[0]?.end ?? file.content.length) - at }],
+        blocks: at === undefined ? []
+            : [{ word: 'bytes from there on', at, size: (pieces[0]?.end ?? file.content.length) - at }],
     };
 }
 
 const named = (name, prefix) => (/^(0x|\d+$)/.test(name) ? '' : prefixed(prefix, name));
 const to_headers = (offset) => (offset ? at_offset(offset) : undefined);
 
-// What each field means, in a few words, and functions of the header that return its number's name and its link, if it has them.
+// What each field means, in a few words, and functions of the header that return its number's name and its link, if
+// it has them.
 const FIELDS = {
     ei_class: ['class', ({ ei_class }) => named(labels.file_class(ei_class), '')],
-    ei_data: ['byte order', ({ ei_data }) => (ei_data === 2 ? 'big endian' : 'little endian')], ei_version: ['version of the format'],
-    ei_osabi: ['operating system and ABI', ({ ei_osabi }) => named(labels.osabi(ei_osabi), 'ELFOSABI_')], ei_abiversion: ['version of the ABI'],
+    ei_data: ['byte order', ({ ei_data }) => (ei_data === 2 ? 'big endian' : 'little endian')],
+    ei_version: ['version of the format'], ei_osabi: ['operating system and ABI',
+        ({ ei_osabi }) => named(labels.osabi(ei_osabi), 'ELFOSABI_')], ei_abiversion: ['version of the ABI'],
     e_type: ['what the file is', ({ e_type }) => named(labels.file_type(e_type), 'ET_')],
-    e_machine: ['machine', ({ e_machine }) => named(labels.machine(e_machine), 'EM_')], e_version: ['version of the format, once more'],
+    e_machine: ['machine', ({ e_machine }) => named(labels.machine(e_machine), 'EM_')],
+    e_version: ['version of the format, once more'],
     e_entry: ['address at which the program starts', undefined, ({ e_entry }) => at_address(e_entry)],
     e_phoff: ['offset of the program headers', undefined, ({ e_phoff }) => to_headers(e_phoff)],
-    e_shoff: ['offset of the section headers', undefined, ({ e_shoff }) => to_headers(e_shoff)], e_flags: ['flags of the machine'],
-    e_ehsize: ['size of this header'], e_phentsize: ['size of a program header'],
+    e_shoff: ['offset of the section headers', undefined, ({ e_shoff }) => to_headers(e_shoff)],
+    e_flags: ['flags of the machine'], e_ehsize: ['size of this header'], e_phentsize: ['size of a program header'],
     e_phnum: ['number of program headers', ({ e_phnum }) => (e_phnum === 0xffff ? 'sh_info of section 0 has it' : '')],
     e_shentsize: ['size of a section header'], e_shnum: ['number of section headers'],
-    e_shstrndx: ['index of the section with the names of sections', undefined, ({ e_shstrndx }) => read_or(undefined, () => to_section_number(e_shstrndx))],
+    e_shstrndx: ['index of the section with the names of sections', undefined,
+        ({ e_shstrndx }) => read_or(undefined, () => to_section_number(e_shstrndx))],
 };
 
 /** Returns the header's fields, each with its bytes. */

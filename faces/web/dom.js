@@ -1,4 +1,5 @@
-// Elements of the page and their texts. A text of a file is always inserted as text, with invisible characters made visible.
+// Elements of the page and their texts. A text of a file is always inserted as text, with invisible characters
+// made visible.
 import { UNSEEN } from './unseen.js';
 
 export const get = (id) => document.getElementById(id);
@@ -35,7 +36,8 @@ export const visible = (text) => text.replace(UNSEEN, shown);
 /** Replaces the content of an element by a text of a file. */
 export function put_text(element, text) {
     // (each second part is such a character)
-    element.replaceChildren(...text.split(UNSEEN).map((part, i) => (i % 2 ? make('span', { class: 'esc' }, shown(part)) : part)));
+    element.replaceChildren(...text.split(UNSEEN)
+        .map((part, i) => (i % 2 ? make('span', { class: 'esc' }, shown(part)) : part)));
     return element;
 }
 

@@ -1,15 +1,16 @@
-// The dynamic section and packed relocations, which the library doesn't read. The page reads them by numbers, and what these mean is not
-// proved. Parts are found by their addresses, so that a file without section headers has them, too.
+// The dynamic section and packed relocations, which the library doesn't read. The page reads them by numbers, and what
+// these mean is not proved. Parts are found by their addresses, so that a file without section headers has them, too.
 import * as goblin from './goblin.js';
-import { file, is_wide, name_at, own_sections, read_or, RELR, sections, segment_of, size_of, SYMBOL_TYPES } from './file.js';
+import { file, is_wide, name_at, own_sections, read_or, RELR, sections, segment_of, size_of,
+    SYMBOL_TYPES } from './file.js';
 import { offset_of_address } from './resolve.js';
 import { once } from './text.js';
 
 /** Tags of the dynamic section. */
 export const DT = {
-    NEEDED: 1n, PLTRELSZ: 2n, HASH: 4n, STRTAB: 5n, SYMTAB: 6n, RELA: 7n, RELASZ: 8n, STRSZ: 10n, SONAME: 14n, RPATH: 15n, REL: 17n, RELSZ: 18n,
-    PLTREL: 20n, TEXTREL: 22n, JMPREL: 23n, BIND_NOW: 24n, RUNPATH: 29n, FLAGS: 30n, RELRSZ: 35n, RELR: 36n, GNU_HASH: 0x6ffffef5n,
-    FLAGS_1: 0x6ffffffbn, VERNEED: 0x6ffffffen, VERNEEDNUM: 0x6fffffffn,
+    NEEDED: 1n, PLTRELSZ: 2n, HASH: 4n, STRTAB: 5n, SYMTAB: 6n, RELA: 7n, RELASZ: 8n, STRSZ: 10n, SONAME: 14n,
+    RPATH: 15n, REL: 17n, RELSZ: 18n, PLTREL: 20n, TEXTREL: 22n, JMPREL: 23n, BIND_NOW: 24n, RUNPATH: 29n, FLAGS: 30n,
+    RELRSZ: 35n, RELR: 36n, GNU_HASH: 0x6ffffef5n, FLAGS_1: 0x6ffffffbn, VERNEED: 0x6ffffffen, VERNEEDNUM: 0x6fffffffn,
 };
 // How many entries, versions, and symbols of a hash table or packed relocations are read at most.
 const MOST_ENTRIES = 10000, MOST_VERSIONS = 4096, MOST_ITEMS = 1 << 20;
@@ -18,7 +19,8 @@ const word = () => (is_wide() ? 8n : 4n);
 /** Returns a number at an offset of the file, or 0 if it is not inside. */
 export const number_at = (at, width) => read_or(0n, () => file.elf.number(BigInt.asUintN(64, at), Number(width)));
 
-// Returns the place of the dynamic section. In a file with sections a segment alone may be what a section without bytes left over.
+// Returns the place of the dynamic section. In a file with sections a segment alone may be what a section without bytes
+// left over.
 function place() {
     const section = sections().find((item) => item.section.sh_type === goblin.SHT_DYNAMIC)?.section;
     if (section || sections().length > 1) return { at: section?.sh_offset, size: section?.sh_size ?? 0n };
@@ -56,7 +58,8 @@ export function versions() {
     for (let files = value_of(DT.VERNEEDNUM), next = 1n; files > 0n && next && left > 0; files--, left--, at += next) {
         const name = name_at(strtab(), number_at(at + 4n, 4)), names = all.get(name) ?? [];
         let aux = at + number_at(at + 8n, 4);
-        for (let count = number_at(at + 2n, 2); count > 0n && left > 0; count--, left--, aux += number_at(aux + 12n, 4)) {
+        for (let count = number_at(at + 2n, 2); count > 0n && left > 0; count--, left--,
+            aux += number_at(aux + 12n, 4)) {
             names.push(name_at(strtab(), number_at(aux + 8n, 4)));
         }
         all.set(name, names);
@@ -65,7 +68,8 @@ export function versions() {
     return all;
 }
 
-// Returns the number of dynamic symbols: that of the hash table, or that of the last chain of a table of GNU's form, which ends at an odd number.
+// Returns the number of dynamic symbols: that of the hash table, or that of the last chain of a table of GNU's form,
+// which ends at an odd number.
 function symbol_count() {
     const hash = offset_of(DT.HASH), gnu = BigInt(offset_of(DT.GNU_HASH) ?? 0);
     const wide = file.elf.header.e_machine === goblin.EM_S390 ? word() : 4n;
@@ -74,7 +78,8 @@ function symbol_count() {
     const item = (index) => number_at(gnu + 16n + blooms * word() + 4n * index, 4);
     let last = first - 1n;
     for (let at = 0n; at < buckets && at < MOST_ITEMS; at++) if (item(at) > last) last = item(at);
-    for (const most = last + BigInt(MOST_ITEMS); last >= first && last < most && !(item(buckets + last - first) & 1n);) last++;
+    for (const most = last + BigInt(MOST_ITEMS); last >= first && last < most && !(item(buckets + last - first) & 1n);)
+        last++;
     return last + 1n;
 }
 
@@ -84,11 +89,12 @@ export function find_own_sections() {
     const add = (tag, sh_type, size, entsize, given) => {
         const at = offset_of(DT[tag]);
         if (at === undefined || size === 0n) return;
-        own_sections.set(`DT_${tag}`, { sh_type, sh_flags: 2n, sh_addr: value_of(DT[tag]), sh_offset: BigInt(at), sh_size: size, sh_info: 0,
-            sh_addralign: word(), sh_entsize: BigInt(entsize), ...given });
+        own_sections.set(`DT_${tag}`, { sh_type, sh_flags: 2n, sh_addr: value_of(DT[tag]), sh_offset: BigInt(at),
+            sh_size: size, sh_info: 0, sh_addralign: word(), sh_entsize: BigInt(entsize), ...given });
     };
     const entry = size_of('symbol'), table = { sh_link: 'DT_SYMTAB' }, { SHT_REL, SHT_RELA, SHT_DYNSYM } = goblin;
-    if (lacks(...SYMBOL_TYPES)) add('SYMTAB', SHT_DYNSYM, symbol_count() * BigInt(entry), entry, { sh_link: 0, strtab: strtab() });
+    if (lacks(...SYMBOL_TYPES))
+        add('SYMTAB', SHT_DYNSYM, symbol_count() * BigInt(entry), entry, { sh_link: 0, strtab: strtab() });
     if (lacks(RELR)) add('RELR', RELR, value_of(DT.RELRSZ), word(), table);
     if (!lacks(SHT_REL, SHT_RELA)) return;
     const [type, kind] = value_of(DT.PLTREL) === DT.RELA ? [SHT_RELA, 'rela'] : [SHT_REL, 'rel'];
@@ -97,13 +103,17 @@ export function find_own_sections() {
     add('JMPREL', type, value_of(DT.PLTRELSZ), size_of(kind), table);
 }
 
-/** Returns the offsets of packed relocations: an even word is one, and a bit of an odd word stands for one of the words that follow. */
+/**
+ * Returns the offsets of packed relocations: an even word is one, and a bit of an odd word stands for one of the words
+ * that follow.
+ */
 export function packed_offsets({ sh_offset, sh_size }) {
     const width = word(), found = [];
     for (let at = 0n, next = 0n; at + width <= sh_size && found.length < MOST_ITEMS; at += width) {
         const entry = number_at(sh_offset + at, width), is_place = !(entry & 1n);
         if (is_place) found.push(entry);
-        for (let bits = is_place ? 0n : entry >> 1n, place = next; bits; bits >>= 1n, place += width) if (bits & 1n) found.push(place);
+        for (let bits = is_place ? 0n : entry >> 1n, place = next; bits; bits >>= 1n, place += width)
+            if (bits & 1n) found.push(place);
         next = is_place ? entry + width : next + (8n * width - 1n) * width;
     }
     return found;

@@ -17,18 +17,23 @@ export function packed(...fields) {
 export function note(owner, type, descriptor) {
     const name = Buffer.from(`${owner}\0`, 'latin1');
     const padded = (bytes) => Buffer.concat([bytes, Buffer.alloc(align(bytes.length, 4) - bytes.length)]);
-    return Buffer.concat([packed([name.length, 4], [descriptor.length, 4], [type, 4]), padded(name), padded(descriptor)]);
+    return Buffer.concat([packed([name.length, 4], [descriptor.length, 4], [type, 4]), padded(name),
+        padded(descriptor)]);
 }
 
 /** Returns a symbol. */
 export const symbol = ({ name = 0, info = 0, other = 0, shndx = 0, value = 0, size = 0 }) =>
     packed([name, 4], [info, 1], [other, 1], [shndx, 2], [value, 8], [size, 8]);
 
-/** Returns a file with a symbol table: a symbol of zeros, and others, each with its name as `text`. Other sections are after it. */
+/**
+ * Returns a file with a symbol table: a symbol of zeros, and others, each with its name as `text`. Other sections
+ * are after it.
+ */
 export function symbols_file(symbols, ...others) {
     const names = Buffer.from(`\0${symbols.map(({ text = '' }) => `${text}\0`).join('')}`);
     let next = 1;
-    const items = symbols.map(({ text = '', ...given }) => symbol({ name: text ? next : 0, ...given, end: next += Buffer.byteLength(text) + 1 }));
+    const items = symbols.map(({ text = '', ...given }) =>
+        symbol({ name: text ? next : 0, ...given, end: next += Buffer.byteLength(text) + 1 }));
     return elf_file({ sections: [
         { name: '.symtab', type: 2, link: 2, info: 2, entsize: 24, bytes: Buffer.concat([symbol({}), ...items]) },
         { name: '.strtab', type: 3, bytes: names }, ...others,
@@ -36,9 +41,13 @@ export function symbols_file(symbols, ...others) {
 }
 
 /** Returns a relocation with an addend. */
-export const rela = ({ offset = 0, sym = 0, type, addend = 0 }) => packed([offset, 8], [type, 4], [sym, 4], [addend, 8]);
+export const rela = ({ offset = 0, sym = 0, type, addend = 0 }) =>
+    packed([offset, 8], [type, 4], [sym, 4], [addend, 8]);
 
-/** Returns a file with sections and segments, of the fields below. The section at index 0 and the section names at the end are added. */
+/**
+ * Returns a file with sections and segments, of the fields below. The section at index 0 and the section names at the
+ * end are added.
+ */
 export function elf_file({ type = 1, machine = 62, osabi = 0, sections = [], segments = [] }) {
     const parts = [];
     let at = 64 + 56 * segments.length;
@@ -48,22 +57,26 @@ export function elf_file({ type = 1, machine = 62, osabi = 0, sections = [], seg
         at = offset + bytes.length;
         return offset;
     };
-    const heads = segments.map(({ type: p_type = 1, flags = 4, vaddr = 0, bytes }) =>
-        packed([p_type, 4], [flags, 4], [put(bytes), 8], [vaddr, 8], [vaddr, 8], [bytes.length, 8], [bytes.length, 8], [4, 8]));
-    if (sections.length === 0) return Buffer.concat([header({ type, machine, osabi, segments: heads.length }), ...heads, ...parts]);
+    const heads = segments.map(({ type: p_type = 1, flags = 4, vaddr = 0, bytes }) => packed([p_type, 4], [flags, 4],
+        [put(bytes), 8], [vaddr, 8], [vaddr, 8], [bytes.length, 8], [bytes.length, 8], [4, 8]));
+    if (sections.length === 0)
+        return Buffer.concat([header({ type, machine, osabi, segments: heads.length }), ...heads, ...parts]);
     const all = [{ type: 0, name: '', bytes: Buffer.alloc(0) }, ...sections, { name: '.shstrtab', type: 3 }];
     const names = Buffer.from(all.map(({ name }) => `${name}\0`).join(''));
     all.at(-1).bytes = names;
     const name_at = (name) => (name ? names.indexOf(`\0${name}\0`) + 1 : 0);
-    const table = all.map(({ name, type: sh_type, flags = 0, addr = 0, link = 0, info = 0, entsize = 0, bytes }, index) =>
-        packed([name_at(name), 4], [sh_type, 4], [flags, 8], [addr, 8], [index ? put(bytes) : 0, 8], [bytes.length, 8], [link, 4],
-            [info, 4], [4, 8], [entsize, 8]));
+    const table = all.map(
+        ({ name, type: sh_type, flags = 0, addr = 0, link = 0, info = 0, entsize = 0, bytes }, index) =>
+            packed([name_at(name), 4], [sh_type, 4], [flags, 8], [addr, 8], [index ? put(bytes) : 0, 8],
+                [bytes.length, 8], [link, 4], [info, 4], [4, 8], [entsize, 8]));
     const shoff = put(Buffer.concat(table));
-    return Buffer.concat([header({ type, machine, osabi, segments: heads.length, shoff, sections: all.length }), ...heads, ...parts]);
+    return Buffer.concat([header({ type, machine, osabi, segments: heads.length, shoff, sections: all.length }),
+        ...heads, ...parts]);
 }
 
 function header({ type, machine, osabi, segments, shoff = 0, sections = 0 }) {
     const ident = Buffer.from([0x7f, 0x45, 0x4c, 0x46, 2, 1, 1, osabi, 0, 0, 0, 0, 0, 0, 0, 0]);
-    return Buffer.concat([ident, packed([type, 2], [machine, 2], [1, 4], [0, 8], [segments ? 64 : 0, 8], [shoff, 8], [0, 4], [64, 2], [56, 2],
-        [segments, 2], [sections ? 64 : 0, 2], [sections, 2], [sections ? sections - 1 : 0, 2])]);
+    return Buffer.concat([ident,
+        packed([type, 2], [machine, 2], [1, 4], [0, 8], [segments ? 64 : 0, 8], [shoff, 8], [0, 4], [64, 2], [56, 2],
+            [segments, 2], [sections ? 64 : 0, 2], [sections, 2], [sections ? sections - 1 : 0, 2])]);
 }

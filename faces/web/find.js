@@ -1,4 +1,5 @@
-// Finds what a text means: an offset, an address, or names. Each result is { title, detail, to }, and of digits without 0x also { read }.
+// Finds what a text means: an offset, an address, or names. Each result is { title, detail, to }, and of digits without
+// 0x also { read }.
 import { called, file, name_of_section, sections, symbol_tables, read_or } from './file.js';
 import { address_details, header_fields, is_address, offset_details } from './details.js';
 import { go_over, open_source } from './lists.js';
@@ -8,16 +9,19 @@ import { hex } from './text.js';
 
 const MOST = 40;
 
-// Returns the numbers that a text may mean, and how it is read if it has no 0x: first as decimal, unless it starts with a zero, as in nm.
+// Returns the numbers that a text may mean, and how it is read if it has no 0x: first as decimal, unless it starts with
+// a zero, as in nm.
 function numbers_in(text) {
     if (/^(0x[0-9a-f]{1,16}|0*\d)$/i.test(text)) return [{ value: BigInt(text) }];
     const decimal = /^\d{1,19}$/.test(text) ? [{ value: BigInt(text), read: 'read as decimal' }] : [];
-    const is_hex = /^(?=.*\d)[0-9a-f]{1,16}$/i.test(text), hexadecimal = is_hex ? [{ value: BigInt(`0x${text}`), read: 'read as hexadecimal' }] : [];
+    const is_hex = /^(?=.*\d)[0-9a-f]{1,16}$/i.test(text),
+        hexadecimal = is_hex ? [{ value: BigInt(`0x${text}`), read: 'read as hexadecimal' }] : [];
     return text.startsWith('0') ? [...hexadecimal, ...decimal] : [...decimal, ...hexadecimal];
 }
 
 function places_of_number({ value, read }) {
-    const place = (kind, { what }) => ({ title: `${kind} ${hex(value)}`, detail: what, to: `${kind}/${hex(value)}`, read });
+    const place = (kind, { what }) =>
+        ({ title: `${kind} ${hex(value)}`, detail: what, to: `${kind}/${hex(value)}`, read });
     const offset = value < BigInt(file.content.length) ? [place('offset', offset_details(Number(value)))] : [];
     const address = is_address(value) ? [place('address', address_details(value))] : [];
     // (an offset in a gap is hardly ever meant)
@@ -52,8 +56,8 @@ export async function find(text, is_wanted) {
         const source = read_or(undefined, () => symtab_at(table)) && open_source('symbols', table);
         if (!source || source.refused) continue;
         const name = source.columns[0].text, of = called(table);
-        const is_done = await go_over(source, 'find', is_wanted, (item, index) =>
-            found.add(name(item, index), () => ({ detail: `symbol ${index} of ${of}`, to: `symbols/${table}/${index}` })));
+        const is_done = await go_over(source, 'find', is_wanted, (item, index) => found.add(name(item, index),
+            () => ({ detail: `symbol ${index} of ${of}`, to: `symbols/${table}/${index}` })));
         if (!is_done) return undefined;
     }
     // (a whole name is meant before a number with letters)

@@ -1,29 +1,32 @@
 /**
- * ELF files in JavaScript, read by `goblin_c.wasm`: the library of a verified port of goblin's ELF layer, as one WebAssembly
- * module with a 64-bit memory and no imports.
+ * ELF files in JavaScript, read by `goblin_c.wasm`: the library of a verified port of goblin's ELF layer, as one
+ * WebAssembly module with a 64-bit memory and no imports.
  *
- * `Elf.parse` copies a file's bytes into a memory of its own and reads its header. Everything else is read on demand. The library's
- * results are proved, and this file passes them on.
+ * `Elf.parse` copies a file's bytes into a memory of its own and reads its header. Everything else is read on demand.
+ * The library's results are proved, and this file passes them on.
  *
  * Names are goblin's for what goblin has, and most others are those of the crate `goblin_rs`. Other names than in Rust:
- * - `by_name(name)` of a symbol table is `find` in Rust. Here `find` of a list takes a function, as that of an array does.
- * - `by_address(address)` of a symbol table is `at` in Rust. Here `at` of a list takes an index, as that of an array does. `at` of an
- *   `AddressMap` takes an address in both.
+ * - `by_name(name)` of a symbol table is `find` in Rust. Here `find` of a list takes a function, as that of an
+ *   array does.
+ * - `by_address(address)` of a symbol table is `at` in Rust. Here `at` of a list takes an index, as that of an array
+ *   does. `at` of an `AddressMap` takes an address in both.
  * - The calls of a `Writer` are methods of `Header` in Rust, which take a `&mut [u8]`.
- * - `segment_holds(segment, section)` is `ProgramHeader::holds` in Rust, `note_type_to_str(note)` is `Note::type_to_str`, and
- *   `GoblinError` is `Error`.
+ * - `segment_holds(segment, section)` is `ProgramHeader::holds` in Rust, `note_type_to_str(note)` is
+ *   `Note::type_to_str`, and `GoblinError` is `Error`.
  *
  * Numbers, items and errors:
- * - A number that has 64 bits in `goblin.h` is always a BigInt, whatever its value. Every other number is a Number. Bytes are copies
- *   of the file's. The flags SHF_ and the indices SHN_ are BigInts, as `sh_flags` and `st_shndx` are. Other numbers among the constants
- *   are Numbers, so `e_shstrndx === SHN_XINDEX` is always false: write `e_shstrndx === Number(SHN_XINDEX)`.
- * - An index, an offset or an address that a call takes is a Number or a BigInt. It must be a whole number from 0 to 2^64 - 1, or the
- *   call throws a `RangeError`. Only `at` of a list takes other Numbers, as that of an array does. The sum of two numbers of a file may
- *   be too large: `BigInt.asUintN(64, sum)` wraps it around, as a sum of two `uint64_t` in C does.
+ * - A number that has 64 bits in `goblin.h` is always a BigInt, whatever its value. Every other number is a Number.
+ *   Bytes are copies of the file's. The flags SHF_ and the indices SHN_ are BigInts, as `sh_flags` and `st_shndx` are.
+ *   Other numbers among the constants are Numbers, so `e_shstrndx === SHN_XINDEX` is always false: write
+ *   `e_shstrndx === Number(SHN_XINDEX)`.
+ * - An index, an offset or an address that a call takes is a Number or a BigInt. It must be a whole number from 0 to
+ *   2^64 - 1, or the call throws a `RangeError`. Only `at` of a list takes other Numbers, as that of an array does. The
+ *   sum of two numbers of a file may be too large: `BigInt.asUintN(64, sum)` wraps it around, as a sum of two
+ *   `uint64_t` in C does.
  * - A header that a call takes need not be one of the file: `{ ...section, sh_offset, sh_size }` is one, too.
- * - Items are plain objects. JSON has no BigInts and no bytes, so `JSON.stringify` writes a BigInt as a string of its decimal
- *   digits, which `BigInt` reads back, and bytes as a string of hexadecimal digits. For an object that is made from an item, such as
- *   `{ ...section }`, pass `json`, too: `JSON.stringify({ ...section }, json)`.
+ * - Items are plain objects. JSON has no BigInts and no bytes, so `JSON.stringify` writes a BigInt as a string of its
+ *   decimal digits, which `BigInt` reads back, and bytes as a string of hexadecimal digits. For an object that is made
+ *   from an item, such as `{ ...section }`, pass `json`, too: `JSON.stringify({ ...section }, json)`.
  * - The call that makes a list throws if the list can't be read. So a list has all of its items.
  *
  * ```js
@@ -34,8 +37,9 @@
  * ```
  */
 import {
-    ET_DYN, PT_DYNAMIC, PT_GNU_EH_FRAME, PT_GNU_RELRO, PT_GNU_STACK, PT_LOAD, PT_NOTE, PT_PHDR, PT_TLS, SHF_ALLOC, SHF_TLS, SHN_LORESERVE,
-    SHN_UNDEF, SHN_XINDEX, SHT_DYNSYM, SHT_NOBITS, SHT_NOTE, SHT_REL, SHT_RELA, SHT_SYMTAB, STT_FUNC, STT_GNU_IFUNC, STT_NOTYPE, STT_OBJECT,
+    ET_DYN, PT_DYNAMIC, PT_GNU_EH_FRAME, PT_GNU_RELRO, PT_GNU_STACK, PT_LOAD, PT_NOTE, PT_PHDR, PT_TLS, SHF_ALLOC,
+    SHF_TLS, SHN_LORESERVE, SHN_UNDEF, SHN_XINDEX, SHT_DYNSYM, SHT_NOBITS, SHT_NOTE, SHT_REL, SHT_RELA, SHT_SYMTAB,
+    STT_FUNC, STT_GNU_IFUNC, STT_NOTYPE, STT_OBJECT,
     VERSION,
 } from './constants.js';
 
@@ -44,13 +48,14 @@ export * from './constants.js';
 /**
  * The kinds of refusals, as in `goblin.h`, each with the `numbers` of its error:
  * - `BAD_MAGIC`: the file does not start with the magic number. `[first eight bytes as a little-endian number]`
- * - `TOO_BIG`: an item ends past the end of the file. `[its size, how many bytes there are from its offset to that end]`. A number in a
- *   section or a segment, or a part of a note that is read as bytes, may end past the end of the section or the segment instead. Of a
- *   list of headers the item is one header that ends past the end of the file, while `offset` is the list's.
- * - `BAD_OFFSET`: an item starts at the end of the file or past it, or in the cases of `TOO_BIG` at the end of the section or the segment
- *   or past it. `[its offset]`: of a number in a section or a segment from the start of the section or the segment; of a part of a note
- *   from the start of the note, but if a note that is not read as bytes starts there, from the start of the file; of any other item from
- *   the start of the file.
+ * - `TOO_BIG`: an item ends past the end of the file. `[its size, how many bytes there are from its offset to that
+ *   end]`. A number in a section or a segment, or a part of a note that is read as bytes, may end past the end of the
+ *   section or the segment instead. Of a list of headers the item is one header that ends past the end of the file,
+ *   while `offset` is the list's.
+ * - `BAD_OFFSET`: an item starts at the end of the file or past it, or in the cases of `TOO_BIG` at the end of the
+ *   section or the segment or past it. `[its offset]`: of a number in a section or a segment from the start of the
+ *   section or the segment; of a part of a note from the start of the note, but if a note that is not read as bytes
+ *   starts there, from the start of the file; of any other item from the start of the file.
  * - `BAD_INPUT`: a name is not UTF-8. `[how many bytes there are from its offset to the end of what is read]`
  * - `BUFFER_TOO_SHORT`: there are more headers than the file could hold. `[their number]`
  * - `TOO_SMALL`: the file has fewer than 16 bytes.
@@ -58,14 +63,17 @@ export * from './constants.js';
  * - `DATA_TYPE`: the byte of the byte order is neither 1 nor 2. `[the byte]`
  * - `NOTE_ALIGN`: the alignment of notes is neither 4 nor 8. An alignment below 4 counts as 4. `[the alignment]`
  * - `SYMTAB_OFFSET`: a symbol table starts at the end of the file or past it. `[its offset, the file's length]`
- * - `SYMTAB_PAST`: a symbol table ends past the end of the file. `[its size, how many bytes there are from its offset to the end]`
+ * - `SYMTAB_PAST`: a symbol table ends past the end of the file. `[its size, how many bytes there are from its offset
+ *   to the end]`
  * - `STRTAB_OFFSET`: a string table starts past the end of the file. `[its offset, the file's length]`
- * - `STRTAB_RANGE`: a string table ends past the end of the file. `[its size, its offset, the file's length, 1 if its end does not fit
- *   in 64 bits, else 0]`
- * - `INVALID_CLASS`, `DATA`: the class or the byte of the byte order is neither 1 nor 2, of a header that is written. `[the byte]`
- * - `INTEGER_FIT`: a number that is written does not fit its bytes, or a relocation has an addend where its section has none, or the
- *   reverse. `[]`
- * - `SECTION_TYPE`: a section was read as symbols or relocations, and has another type. `[its type]`. This kind is this file's own.
+ * - `STRTAB_RANGE`: a string table ends past the end of the file. `[its size, its offset, the file's length, 1 if its
+ *   end does not fit in 64 bits, else 0]`
+ * - `INVALID_CLASS`, `DATA`: the class or the byte of the byte order is neither 1 nor 2, of a header that is written.
+ *   `[the byte]`
+ * - `INTEGER_FIT`: a number that is written does not fit its bytes, or a relocation has an addend where its section has
+ *   none, or the reverse. `[]`
+ * - `SECTION_TYPE`: a section was read as symbols or relocations, and has another type. `[its type]`. This kind is this
+ *   file's own.
  *
  * No call throws one of the others so far.
  */
@@ -98,11 +106,12 @@ export const Item = Object.freeze({
  * @property {number} e_machine the machine, an EM_ number: see `machine_to_str`
  * @property {number} e_ehsize the size of this header that the file states
  * @property {number} e_phentsize the size of a program header that the file states
- * @property {number} e_phnum the number of program headers; if it is 0xffff, the first section's `sh_info` has the number
+ * @property {number} e_phnum the number of program headers; if it is 0xffff, the first section's `sh_info` has
+ *   the number
  * @property {number} e_shentsize the size of a section header that the file states
  * @property {number} e_shnum the number of section headers; if it is 0, the first section's `sh_size` has the number
- * @property {number} e_shstrndx the index of the section that holds the section names, or 0xffff if the first section's `sh_link` has the
- *   index; compare it with `Number(SHN_XINDEX)`, since `SHN_XINDEX` is a BigInt
+ * @property {number} e_shstrndx the index of the section that holds the section names, or 0xffff if the first section's
+ *   `sh_link` has the index; compare it with `Number(SHN_XINDEX)`, since `SHN_XINDEX` is a BigInt
  * @property {number} ei_class 2 for 64 bits, 1 for 32
  * @property {number} ei_data 2 for big endian, 1 for little endian
  * @property {number} ei_version the version of the format once more
@@ -202,10 +211,11 @@ const WIDTHS = {
 const records = {
     refusal: record('kind 4 item 4 first 8 second 8 third 8 fourth 8 offset 8'),
     range: record('offset 8 size 8'),
-    header: record('e_entry 8 e_phoff 8 e_shoff 8 e_version 4 e_flags 4 e_type 2 e_machine 2 e_ehsize 2 e_phentsize 2 e_phnum 2'
-        + ' e_shentsize 2 e_shnum 2 e_shstrndx 2 ei_class 1 ei_data 1 ei_version 1 ei_osabi 1 ei_abiversion 1'),
-    section: record('sh_offset 8 sh_size 8 sh_name 8 sh_flags 8 sh_addr 8 sh_addralign 8 sh_entsize 8 sh_type 4 sh_link 4'
-        + ' sh_info 4'),
+    header: record('e_entry 8 e_phoff 8 e_shoff 8 e_version 4 e_flags 4 e_type 2 e_machine 2 e_ehsize 2 e_phentsize 2'
+        + ' e_phnum 2 e_shentsize 2 e_shnum 2 e_shstrndx 2 ei_class 1 ei_data 1 ei_version 1 ei_osabi 1'
+        + ' ei_abiversion 1'),
+    section: record('sh_offset 8 sh_size 8 sh_name 8 sh_flags 8 sh_addr 8 sh_addralign 8 sh_entsize 8 sh_type 4'
+        + ' sh_link 4 sh_info 4'),
     segment: record('p_offset 8 p_filesz 8 p_vaddr 8 p_paddr 8 p_memsz 8 p_align 8 p_type 4 p_flags 4'),
     symbol: record('st_name 8 st_value 8 st_size 8 st_shndx 8 st_info 1 st_other 1'),
     reloc: record('r_offset 8 r_sym 8 r_addend s r_type 4 has_addend 4'),
@@ -213,7 +223,8 @@ const records = {
     number: record('value 8'),
 };
 
-// Returns the fields with their offsets, and the size of the struct, as in C: each offset is a multiple of the field's size.
+// Returns the fields with their offsets, and the size of the struct, as in C: each offset is a multiple of the
+// field's size.
 function record(text) {
     const fields = [];
     let end = 0, widest = 1;
@@ -240,14 +251,17 @@ function write(view, start, { fields }, item) {
 
 // Returns an argument as the library takes it: an unsigned integer of a number of bits.
 function unsigned(number, bits) {
-    if (typeof number !== 'number' && typeof number !== 'bigint') throw new TypeError(`a number is expected, not ${describe(number)}`);
+    if (typeof number !== 'number' && typeof number !== 'bigint')
+        throw new TypeError(`a number is expected, not ${describe(number)}`);
     const big = BigInt(number);
-    if (big < 0n || big >> BigInt(bits) !== 0n) throw new RangeError(`${number} is not an unsigned number of ${bits} bits`);
+    if (big < 0n || big >> BigInt(bits) !== 0n)
+        throw new RangeError(`${number} is not an unsigned number of ${bits} bits`);
     return bits === 64 ? big : Number(big);
 }
 
 // Returns what a value is, for a message.
-const describe = (value) => (value === null || typeof value !== 'object' ? typeof value : value.constructor?.name ?? 'object');
+const describe = (value) =>
+    (value === null || typeof value !== 'object' ? typeof value : value.constructor?.name ?? 'object');
 
 // ---- JSON ----
 
@@ -259,15 +273,16 @@ function json_value(value) {
 }
 
 /**
- * Writes BigInts and bytes as strings of digits. It is for `JSON.stringify`, as the second argument, for objects that are made from
- * items.
+ * Writes BigInts and bytes as strings of digits. It is for `JSON.stringify`, as the second argument, for objects that
+ * are made from items.
  * @param {string} key
  * @param {unknown} value
  * @returns {unknown}
  */
 export const json = (key, value) => json_value(value);
 
-// The toJSON of an item, which JSON.stringify calls. It is not enumerable, so that loops over the fields and copies don't have it.
+// The toJSON of an item, which JSON.stringify calls. It is not enumerable, so that loops over the fields and copies
+// don't have it.
 const TO_JSON = {
     value() { return Object.fromEntries(Object.entries(this).map(([name, value]) => [name, json_value(value)])); },
 };
@@ -280,16 +295,17 @@ const PAGE = 0x10000;
 // How many items are read at once.
 const BATCH = 64;
 
-// The offsets of what this file puts after the library's own data: the header, one that counts what is whole, a refusal, a result, an
-// argument, a second argument, an index, a buffer for items or a text, and the file.
-const HEADER = 0, WHOLE = 0x40, WHY = 0x80, ITEM = 0x100, ARGUMENT = 0x180, NAMES = 0x1d0, INDEX = 0x1e0, BUFFER = 0x200;
+// The offsets of what this file puts after the library's own data: the header, one that counts what is whole, a
+// refusal, a result, an argument, a second argument, an index, a buffer for items or a text, and the file.
+const HEADER = 0, WHOLE = 0x40, WHY = 0x80, ITEM = 0x100, ARGUMENT = 0x180, NAMES = 0x1d0,
+    INDEX = 0x1e0, BUFFER = 0x200;
 const BUFFER_SIZE = 0x1800;
 const FILE = BUFFER + BUFFER_SIZE;
 
 // A module with only a 64-bit memory, and the message if an engine can't compile it.
 const WITH_MEMORY = new Uint8Array([0, 0x61, 0x73, 0x6d, 1, 0, 0, 0, 5, 3, 1, 4, 0]);
-const WITHOUT_MEMORY = 'this engine has no 64-bit WebAssembly memories (memory64): use Chromium 133, Firefox 134, Node.js 24 or later, or '
-    + 'Node.js from 20 on with the flag --experimental-wasm-memory64';
+const WITHOUT_MEMORY = 'this engine has no 64-bit WebAssembly memories (memory64): use Chromium 133, Firefox 134,'
+    + ' Node.js 24 or later, or Node.js from 20 on with the flag --experimental-wasm-memory64';
 
 const decoder = new TextDecoder('utf-8', { fatal: true, ignoreBOM: true });
 const encoder = new TextEncoder();
@@ -305,30 +321,35 @@ function ready(made) {
     return made;
 }
 
-// What this file uses of the module: its memory, where its own data ends, and the calls of `goblin.h`, all of which begin with `goblin_`.
+// What this file uses of the module: its memory, where its own data ends, and the calls of `goblin.h`, all of which
+// begin with `goblin_`.
 const EXPORTS = ['memory', '__heap_base', ...`
-    version layout header whole_header section_count section sections linked_section section_names section_by_name section_by_type
-    section_bytes segment_count segment segment_bytes address_to_offset symbol_count symbol symbols symbol_by_name symbol_by_address
+    version layout header whole_header section_count section sections linked_section section_names section_by_name
+    section_by_type section_bytes segment_count segment segment_bytes address_to_offset
+    symbol_count symbol symbols symbol_by_name symbol_by_address
     reloc_count reloc relocs note note_bytes string strings string_bytes number number_in range_in_file
     put_header put_section put_segment put_symbol put_reloc put_number
-    class_to_str et_to_str machine_to_str pt_to_str sht_to_str shf_to_str bind_to_str type_to_str visibility_to_str note_type_to_str
-    refusal_text
+    class_to_str et_to_str machine_to_str pt_to_str sht_to_str shf_to_str bind_to_str type_to_str visibility_to_str
+    note_type_to_str refusal_text
 `.trim().split(/\s+/).map((name) => `goblin_${name}`)];
 
 // Throws if a module is not one for this file.
 function check(module) {
     const both = 'take goblin.js and goblin_c.wasm of one version';
     const version = new WebAssembly.Instance(module, {}).exports.goblin_version?.();
-    if (version !== VERSION) throw new Error(`goblin.js is for interface ${VERSION}, but the module has ${version ?? 'none'}: ${both}`);
+    if (version !== VERSION)
+        throw new Error(`goblin.js is for interface ${VERSION}, but the module has ${version ?? 'none'}: ${both}`);
     const exported = new Set(WebAssembly.Module.exports(module).map(({ name }) => name));
     const missing = EXPORTS.filter((name) => !exported.has(name));
     if (missing.length > 0) throw new Error(`the module has no ${missing.join(', ')}: ${both}`);
 }
 
 /**
- * Loads the library, which all calls of this file need. Rejects if the engine has no 64-bit memories, if the module can't be loaded, or
- * if it has another interface than this file or lacks a call. If it rejects, a module that was loaded before stays in use.
- * @param {object} [source] the module (a `WebAssembly.Module`), its bytes or its `URL`, by default in the folder of this file
+ * Loads the library, which all calls of this file need. Rejects if the engine has no 64-bit memories, if the module
+ * can't be loaded, or if it has another interface than this file or lacks a call. If it rejects, a module that was
+ * loaded before stays in use.
+ * @param {object} [source] the module (a `WebAssembly.Module`), its bytes or its `URL`, by default in the folder
+ *   of this file
  * @returns {Promise<void>}
  */
 export default async function init(source = new URL('goblin_c.wasm', import.meta.url)) {
@@ -360,7 +381,8 @@ function grow(memory, pages) {
     }
 }
 
-// Reports whether a value is an ArrayBuffer or a SharedArrayBuffer. Unlike `instanceof`, it knows those of other realms, such as frames.
+// Reports whether a value is an ArrayBuffer or a SharedArrayBuffer. Unlike `instanceof`, it knows those of other
+// realms, such as frames.
 const BUFFERS = [ArrayBuffer, globalThis.SharedArrayBuffer].filter((type) => type)
     .map(({ prototype }) => Object.getOwnPropertyDescriptor(prototype, 'byteLength').get);
 const is_buffer = (value) => BUFFERS.some((length) => {
@@ -375,7 +397,8 @@ const is_buffer = (value) => BUFFERS.some((length) => {
 function bytes_of(value) {
     if (ArrayBuffer.isView(value)) return new Uint8Array(value.buffer, value.byteOffset, value.byteLength);
     if (is_buffer(value)) return new Uint8Array(value);
-    throw new TypeError(`a file's bytes must be an ArrayBuffer or a view of one, such as a Uint8Array, not ${describe(value)}`);
+    throw new TypeError(
+        `a file's bytes must be an ArrayBuffer or a view of one, such as a Uint8Array, not ${describe(value)}`);
 }
 
 // An instance of the library, whose memory holds a file's bytes.
@@ -385,7 +408,8 @@ class Memory {
         this.base = Math.ceil(Number(this.calls.__heap_base.value) / 16) * 16;
         this.reserve(FILE + bytes.length);
         this.part(FILE, bytes.length).set(bytes);
-        // The first arguments of every call: the file's address and its length. And the address of the header, for most.
+        // The first arguments of every call: the file's address and its length. And the address of the
+        // header, for most.
         this.file = [this.address(FILE), BigInt(bytes.length)];
         this.header = this.address(HEADER);
         this.end = FILE + bytes.length;
@@ -432,13 +456,15 @@ class Memory {
 
     // Calls the library, and returns an item of a kind, or `undefined` for GOBLIN_END.
     call(name, kind, ...args) {
-        return this.test(name, ...args, this.address(ITEM)) ? read(this.view, this.base + ITEM, records[kind]) : undefined;
+        return this.test(name, ...args, this.address(ITEM))
+            ? read(this.view, this.base + ITEM, records[kind]) : undefined;
     }
 
     // Calls the library to find a section, and returns its index and its header, or `undefined` for GOBLIN_END.
     find(name, ...args) {
         if (!this.test(name, this.header, ...args, this.address(INDEX), this.address(ITEM))) return undefined;
-        const [{ value }, section] = [read(this.view, this.base + INDEX, records.number), read(this.view, this.base + ITEM, records.section)];
+        const [{ value }, section] = [read(this.view, this.base + INDEX, records.number),
+            read(this.view, this.base + ITEM, records.section)];
         return { index: Number(value), section };
     }
 
@@ -447,7 +473,8 @@ class Memory {
         const array = [this.address(BUFFER), BigInt(Math.min(most, BATCH))];
         const { value } = this.call(name, 'number', ...args, first, ...array) ?? { value: 0n };
         const { size } = records[kind];
-        return Array.from({ length: Number(value) }, (_, i) => read(this.view, this.base + BUFFER + i * size, records[kind]));
+        return Array.from({ length: Number(value) },
+            (_, i) => read(this.view, this.base + BUFFER + i * size, records[kind]));
     }
 
     // Returns the text that a call writes.
@@ -476,12 +503,15 @@ export class GoblinError extends Error {
         this.kind = kind;
         /** @type {number} what it is about, a number of `Item`, or 0 if its kind alone says it */
         this.item = item;
-        /** @type {bigint[]} the four numbers that belong to it, in the order that `Kind` lists; those that it does not have are 0 */
+        /**
+         * @type {bigint[]} the four numbers that belong to it, in the order that `Kind` lists; those that it does not
+         * have are 0
+         */
         this.numbers = [first, second, third, fourth];
         /**
-         * @type {bigint} where in the file the thing begins that is refused: 0 for the header; the offset of a list of headers, even if one
-         *   header in it is refused; the offset of a table, of a string table, or of the string, the note or the bytes; or of the record
-         *   that is written
+         * @type {bigint} where in the file the thing begins that is refused: 0 for the header; the offset of a list of
+         *   headers, even if one header in it is refused; the offset of a table, of a string table, or of the string,
+         *   the note or the bytes; or of the record that is written
          */
         this.offset = offset;
     }
@@ -511,13 +541,16 @@ export class GoblinError extends Error {
 
 // ---- files ----
 
-/** A file, with its header. Everything else is read on demand. A call throws a `GoblinError` if it reads a damaged part. */
+/**
+ * A file, with its header. Everything else is read on demand. A call throws a `GoblinError` if it reads a
+ * damaged part.
+ */
 export class Elf {
     #memory;
 
     /**
-     * Reads the header of a file. Of a view it takes the bytes, whatever the type of its items. Throws a `TypeError` for anything but
-     * a buffer or a view.
+     * Reads the header of a file. Of a view it takes the bytes, whatever the type of its items. Throws a `TypeError`
+     * for anything but a buffer or a view.
      * @param {ArrayBufferLike | ArrayBufferView} bytes
      * @returns {Elf}
      */
@@ -534,9 +567,9 @@ export class Elf {
     }
 
     /**
-     * Returns the same file with a header that counts only the headers that are whole inside it. With it no list of headers is refused, of
-     * a file that is cut or damaged, and lists that were not refused are the same. In most files the header of the section names is one of
-     * the last: if it is cut off, sections have no names.
+     * Returns the same file with a header that counts only the headers that are whole inside it. With it no list of
+     * headers is refused, of a file that is cut or damaged, and lists that were not refused are the same. In most files
+     * the header of the section names is one of the last: if it is cut off, sections have no names.
      *
      * ```js
      * const left = Elf.parse(cut).whole();
@@ -546,7 +579,8 @@ export class Elf {
      */
     whole() {
         const memory = this.#memory.with_header(WHOLE);
-        if (this.#memory.header !== memory.header) memory.calls.goblin_whole_header(...memory.file, this.#memory.header, memory.header);
+        if (this.#memory.header !== memory.header)
+            memory.calls.goblin_whole_header(...memory.file, this.#memory.header, memory.header);
         return new Elf(memory, read(memory.view, memory.base + WHOLE, records.header));
     }
 
@@ -585,21 +619,23 @@ export class Elf {
     is_lib() { return this.header.e_type === ET_DYN; }
 
     /**
-     * Returns the program header at an index, or `undefined` past the end. Throws if the program headers are not inside the file.
+     * Returns the program header at an index, or `undefined` past the end. Throws if the program headers are not
+     * inside the file.
      * @param {number | bigint} index
      * @returns {ProgramHeader | undefined}
      */
     program_header(index) { return this.#call('goblin_segment', 'segment', unsigned(index, 64)); }
 
     /**
-     * Returns all program headers. Throws if they are not inside the file, or if `e_phnum` is 0xffff and the first section header, which has
-     * their number, is not. Those of `whole()` are inside it.
+     * Returns all program headers. Throws if they are not inside the file, or if `e_phnum` is 0xffff and the first
+     * section header, which has their number, is not. Those of `whole()` are inside it.
      * @returns {List<ProgramHeader>}
      */
     program_headers() { return new List(this.#memory, 'segment', [], { has_many: false }); }
 
     /**
-     * Returns the section header at an index, or `undefined` past the end. Throws if the section headers are not inside the file.
+     * Returns the section header at an index, or `undefined` past the end. Throws if the section headers are not
+     * inside the file.
      * @param {number | bigint} index
      * @returns {SectionHeader | undefined}
      */
@@ -612,30 +648,34 @@ export class Elf {
     section_headers() { return new List(this.#memory, 'section', []); }
 
     /**
-     * Returns the first section with a name, if there is one. Throws if the section headers or their names are not inside the file.
+     * Returns the first section with a name, if there is one. Throws if the section headers or their names are not
+     * inside the file.
      * @param {string} name
      * @returns {SectionHeader | undefined}
      */
     section(name) { return this.section_by_name(name)?.section; }
 
     /**
-     * Returns the index and the header of the first section with a name, from an index on, if there is one. Throws as `section` does.
+     * Returns the index and the header of the first section with a name, from an index on, if there is one. Throws as
+     * `section` does.
      *
      * ```js
-     * for (let at = elf.section_by_name('.group'); at; at = elf.section_by_name('.group', at.index + 1)) console.log(at.section.sh_size);
+     * for (let at = elf.section_by_name('.group'); at; at = elf.section_by_name('.group', at.index + 1))
+     *     console.log(at.section.sh_size);
      * ```
      * @param {string} name
      * @param {number | bigint} [first]
      * @returns {{ index: number, section: SectionHeader } | undefined}
      */
     section_by_name(name, first = 0) {
-        const bytes = this.#memory.pass_bytes(encoder.encode(name)), names = this.#memory.pass(NAMES, 'range', this.shdr_strtab().range);
+        const bytes = this.#memory.pass_bytes(encoder.encode(name)),
+            names = this.#memory.pass(NAMES, 'range', this.shdr_strtab().range);
         return this.#memory.find('goblin_section_by_name', names, ...bytes, unsigned(first, 64));
     }
 
     /**
-     * Returns the index and the header of the first section of a type, an SHT_ number, from an index on, if there is one. Throws if the
-     * section headers are not inside the file.
+     * Returns the index and the header of the first section of a type, an SHT_ number, from an index on, if there is
+     * one. Throws if the section headers are not inside the file.
      * @param {number} sh_type
      * @param {number | bigint} [first]
      * @returns {{ index: number, section: SectionHeader } | undefined}
@@ -645,16 +685,17 @@ export class Elf {
     }
 
     /**
-     * Returns the name of a section, or `undefined` if its offset is past the end of the section names. Throws if the section headers or
-     * their names are not inside the file, or the name is not UTF-8.
+     * Returns the name of a section, or `undefined` if its offset is past the end of the section names. Throws if the
+     * section headers or their names are not inside the file, or the name is not UTF-8.
      * @param {SectionHeader} section
      * @returns {string | undefined}
      */
     section_name(section) { return this.shdr_strtab().get(section.sh_name); }
 
     /**
-     * Returns the range of the bytes of a section or a segment, or `undefined` if it has none in the file: its type is SHT_NULL, SHT_NOBITS or
-     * PT_NULL, or its size is 0. Throws if the bytes are not inside the file. It needs all fields of a header that a program makes.
+     * Returns the range of the bytes of a section or a segment, or `undefined` if it has none in the file: its type is
+     * SHT_NULL, SHT_NOBITS or PT_NULL, or its size is 0. Throws if the bytes are not inside the file. It needs all
+     * fields of a header that a program makes.
      * @param {SectionHeader | ProgramHeader} part
      * @returns {Range | undefined}
      */
@@ -664,8 +705,8 @@ export class Elf {
     }
 
     /**
-     * Returns the bytes of a section, or `undefined` if it has none in the file: its type is SHT_NULL or SHT_NOBITS, or its size is 0.
-     * Throws if they are not inside the file. It needs all fields of a header that a program makes.
+     * Returns the bytes of a section, or `undefined` if it has none in the file: its type is SHT_NULL or SHT_NOBITS, or
+     * its size is 0. Throws if they are not inside the file. It needs all fields of a header that a program makes.
      * @param {SectionHeader} section
      * @returns {Uint8Array | undefined}
      */
@@ -675,8 +716,8 @@ export class Elf {
     }
 
     /**
-     * Returns the bytes of a segment, or `undefined` if it has none in the file: its type is PT_NULL, or `p_filesz` is 0. Throws if they are
-     * not inside the file. It needs all fields of a header that a program makes.
+     * Returns the bytes of a segment, or `undefined` if it has none in the file: its type is PT_NULL, or `p_filesz`
+     * is 0. Throws if they are not inside the file. It needs all fields of a header that a program makes.
      * @param {ProgramHeader} segment
      * @returns {Uint8Array | undefined}
      */
@@ -686,8 +727,9 @@ export class Elf {
     }
 
     /**
-     * Returns those bytes of a section or a segment that are inside the file. Their number is 0 if they start at the end of the file or past
-     * it. Returns `undefined` only where `range` does. If `range` throws a `GoblinError`, there are fewer bytes than `sh_size` or `p_filesz`:
+     * Returns those bytes of a section or a segment that are inside the file. Their number is 0 if they start at the
+     * end of the file or past it. Returns `undefined` only where `range` does. If `range` throws a `GoblinError`, there
+     * are fewer bytes than `sh_size` or `p_filesz`:
      *
      * ```js
      * const left = elf.readable_data(section);
@@ -697,21 +739,24 @@ export class Elf {
      * @returns {Uint8Array | undefined}
      */
     readable_data(part) {
-        const { item, refusal } = attempt(() => this.range(part)), range = refusal ? this.#memory.in_file(range_of(part)) : item;
+        const { item, refusal } = attempt(() => this.range(part)),
+            range = refusal ? this.#memory.in_file(range_of(part)) : item;
         return range && this.#memory.bytes(range);
     }
 
     /**
-     * Returns the sections of a segment, in the sense of `segment_holds`. The section header at index 0, which means no section, is
-     * left out. Throws if the section headers are not inside the file.
+     * Returns the sections of a segment, in the sense of `segment_holds`. The section header at index 0, which means no
+     * section, is left out. Throws if the section headers are not inside the file.
      * @param {ProgramHeader} segment
      * @returns {SectionHeader[]}
      */
-    segment_sections(segment) { return [...this.section_headers().from(1)].filter((section) => segment_holds(segment, section)); }
+    segment_sections(segment) {
+        return [...this.section_headers().from(1)].filter((section) => segment_holds(segment, section));
+    }
 
     /**
-     * Returns the number in `width` bytes at an offset of the file, in the file's byte order. Throws if the bytes are not inside the file,
-     * and a `RangeError` if the width is not 1, 2, 4 or 8.
+     * Returns the number in `width` bytes at an offset of the file, in the file's byte order. Throws if the bytes are
+     * not inside the file, and a `RangeError` if the width is not 1, 2, 4 or 8.
      * @param {number | bigint} offset
      * @param {1 | 2 | 4 | 8} width
      * @returns {bigint}
@@ -719,10 +764,11 @@ export class Elf {
     number(offset, width) { return this.#call('goblin_number', 'number', unsigned(offset, 64), as_width(width)).value; }
 
     /**
-     * Returns the number in `width` bytes at an offset of a section or of a segment's bytes in the file, in the file's byte order. The offset
-     * counts from their start. Throws if they are not inside the file, or the number is not inside them. A section of type SHT_NOBITS has no
-     * bytes in the file, so no number is inside it. Throws a `RangeError` if the width is not 1, 2, 4 or 8. Of a section header only
-     * `sh_type`, `sh_offset` and `sh_size` are read, and of a program header only `p_offset` and `p_filesz`.
+     * Returns the number in `width` bytes at an offset of a section or of a segment's bytes in the file, in the file's
+     * byte order. The offset counts from their start. Throws if they are not inside the file, or the number is not
+     * inside them. A section of type SHT_NOBITS has no bytes in the file, so no number is inside it. Throws a
+     * `RangeError` if the width is not 1, 2, 4 or 8. Of a section header only `sh_type`, `sh_offset` and `sh_size` are
+     * read, and of a program header only `p_offset` and `p_filesz`.
      *
      * ```js
      * const first_word = elf.number_in(section, 0, 4);
@@ -738,9 +784,10 @@ export class Elf {
     }
 
     /**
-     * Returns the offset in the file of the byte that is loaded at an address, or `undefined` if no byte of the file is loaded there. It is
-     * that of the first segment of type PT_LOAD for which `p_vaddr <= address < p_vaddr + p_filesz`. Throws if the program headers are not
-     * inside the file, or the file has no byte at that offset.
+     * Returns the offset in the file of the byte that is loaded at an address, or `undefined` if no byte of the file is
+     * loaded there. It is that of the first segment of type PT_LOAD for which
+     * `p_vaddr <= address < p_vaddr + p_filesz`. Throws if the program headers are not inside the file, or the file has
+     * no byte at that offset.
      *
      * ```js
      * const start = elf.address_to_offset(elf.header.e_entry);
@@ -748,36 +795,38 @@ export class Elf {
      * @param {number | bigint} address
      * @returns {bigint | undefined}
      */
-    address_to_offset(address) { return this.#call('goblin_address_to_offset', 'number', unsigned(address, 64))?.value; }
+    address_to_offset(address) {
+        return this.#call('goblin_address_to_offset', 'number', unsigned(address, 64))?.value;
+    }
 
     /**
-     * Returns the string table of the section names. It is empty if the file has none: the index of its section is 0 or past the end, or
-     * that section has no bytes in the file. Throws if the section headers are not inside the file.
+     * Returns the string table of the section names. It is empty if the file has none: the index of its section is 0 or
+     * past the end, or that section has no bytes in the file. Throws if the section headers are not inside the file.
      * @returns {Strtab}
      */
     shdr_strtab() { return new Strtab(this.#memory, range_of(this.#call('goblin_section_names', 'section'))); }
 
     /**
-     * Returns a section as a string table. It is empty if there is no section, if its type is SHT_NOBITS, or if its size is 0. Of the
-     * header only `sh_type`, `sh_offset` and `sh_size` are read.
+     * Returns a section as a string table. It is empty if there is no section, if its type is SHT_NOBITS, or if its
+     * size is 0. Of the header only `sh_type`, `sh_offset` and `sh_size` are read.
      * @param {SectionHeader | undefined} section
      * @returns {Strtab}
      */
     strtab(section) { return new Strtab(this.#memory, range_of(section)); }
 
     /**
-     * Returns the section that a section links to by its `sh_link`, such as the string table of a symbol table. Returns `undefined` if
-     * `sh_link` is 0 or past the end, or that section has no bytes in the file (SHT_NOBITS). Throws if the section headers are not inside
-     * the file.
+     * Returns the section that a section links to by its `sh_link`, such as the string table of a symbol table. Returns
+     * `undefined` if `sh_link` is 0 or past the end, or that section has no bytes in the file (SHT_NOBITS). Throws if
+     * the section headers are not inside the file.
      * @param {SectionHeader} section
      * @returns {SectionHeader | undefined}
      */
     linked_section(section) { return this.#call('goblin_linked_section', 'section', unsigned(section.sh_link, 64)); }
 
     /**
-     * Returns the symbols of a section of type SHT_SYMTAB or SHT_DYNSYM. Their names are in the linked section (`linked_section`). If there
-     * is none, the string table is empty. Throws if the section has another type, or the section headers or the symbols are not inside the
-     * file.
+     * Returns the symbols of a section of type SHT_SYMTAB or SHT_DYNSYM. Their names are in the linked section
+     * (`linked_section`). If there is none, the string table is empty. Throws if the section has another type, or the
+     * section headers or the symbols are not inside the file.
      * @param {SectionHeader} section
      * @returns {Symtab}
      */
@@ -787,7 +836,8 @@ export class Elf {
     }
 
     /**
-     * Returns the first symbol table (SHT_SYMTAB), if there is one. Throws if the section headers or the symbols are not inside the file.
+     * Returns the first symbol table (SHT_SYMTAB), if there is one. Throws if the section headers or the symbols are
+     * not inside the file.
      * @returns {Symtab | undefined}
      */
     syms() { return this.#first_symtab(SHT_SYMTAB); }
@@ -804,33 +854,38 @@ export class Elf {
     }
 
     /**
-     * Returns the relocations of a section of type SHT_RELA or SHT_REL. Throws if the section has another type, or the relocations are not
-     * inside the file.
+     * Returns the relocations of a section of type SHT_RELA or SHT_REL. Throws if the section has another type, or the
+     * relocations are not inside the file.
      * @param {SectionHeader} section
      * @returns {List<Reloc>}
      */
     relocs(section) {
         if (!holds_relocs(section)) throw GoblinError.of_type(section, 'relocations');
-        return new List(this.#memory, 'reloc', [Number(section.sh_type === SHT_RELA)], { range: range_of(section), convert: reloc });
+        return new List(this.#memory, 'reloc', [Number(section.sh_type === SHT_RELA)],
+            { range: range_of(section), convert: reloc });
     }
 
     /**
-     * Returns all relocation sections, each with its relocations. Throws if the section headers or the relocations of any section are not
-     * inside the file. If one section is damaged, `relocs` reads the others.
+     * Returns all relocation sections, each with its relocations. Throws if the section headers or the relocations of
+     * any section are not inside the file. If one section is damaged, `relocs` reads the others.
      * @returns {[SectionHeader, List<Reloc>][]}
      */
-    shdr_relocs() { return this.section_headers().filter(holds_relocs).map((section) => [section, this.relocs(section)]); }
+    shdr_relocs() {
+        return this.section_headers().filter(holds_relocs).map((section) => [section, this.relocs(section)]);
+    }
 
     /**
-     * Returns the notes of a section or a segment. Throws if the alignment is neither 4 nor 8, a note is not inside the file, or a name is not
-     * UTF-8, which `notes_bytes` reads. An alignment below 4 counts as 4. If a note is damaged, `readable_notes` returns those before it.
+     * Returns the notes of a section or a segment. Throws if the alignment is neither 4 nor 8, a note is not inside the
+     * file, or a name is not UTF-8, which `notes_bytes` reads. An alignment below 4 counts as 4. If a note is damaged,
+     * `readable_notes` returns those before it.
      * @param {SectionHeader | ProgramHeader} part
      * @returns {Note[]}
      */
     notes(part) { return all_notes(this.readable_notes(part)); }
 
     /**
-     * Returns the notes of a section or a segment up to the first damaged one, at most `most`, and the error of that one.
+     * Returns the notes of a section or a segment up to the first damaged one, at most `most`, and the error
+     * of that one.
      * @param {SectionHeader | ProgramHeader} part
      * @param {number} [most]
      * @returns {{ notes: Note[], refusal: GoblinError | undefined }}
@@ -838,9 +893,10 @@ export class Elf {
     readable_notes(part, most = Infinity) { return this.#read_notes(part, most, 'goblin_note', note); }
 
     /**
-     * Returns the notes of a section or a segment as bytes, so that names need not be UTF-8. Throws if the alignment is neither 4 nor 8, or a
-     * note is not inside the section or the segment and the file: `item` of the error is the part of it that is not. An alignment below 4
-     * counts as 4. If a note is damaged, `readable_notes_bytes` returns those before it:
+     * Returns the notes of a section or a segment as bytes, so that names need not be UTF-8. Throws if the alignment is
+     * neither 4 nor 8, or a note is not inside the section or the segment and the file: `item` of the error is the part
+     * of it that is not. An alignment below 4 counts as 4. If a note is damaged, `readable_notes_bytes` returns those
+     * before it:
      *
      * ```js
      * const decoder = new TextDecoder('latin1');
@@ -852,12 +908,15 @@ export class Elf {
     notes_bytes(part) { return all_notes(this.readable_notes_bytes(part)); }
 
     /**
-     * Returns the notes of a section or a segment as bytes up to the first damaged one, at most `most`, and the error of that one.
+     * Returns the notes of a section or a segment as bytes up to the first damaged one, at most `most`, and the error
+     * of that one.
      * @param {SectionHeader | ProgramHeader} part
      * @param {number} [most]
      * @returns {{ notes: NoteBytes[], refusal: GoblinError | undefined }}
      */
-    readable_notes_bytes(part, most = Infinity) { return this.#read_notes(part, most, 'goblin_note_bytes', note_bytes); }
+    readable_notes_bytes(part, most = Infinity) {
+        return this.#read_notes(part, most, 'goblin_note_bytes', note_bytes);
+    }
 
     #read_notes(part, most, call, convert) {
         const notes = [], range = range_of(part), alignment = is_segment(part) ? part.p_align : part.sh_addralign;
@@ -873,21 +932,23 @@ export class Elf {
     }
 
     /**
-     * Returns the notes of all segments of type PT_NOTE. Throws if the program headers are not inside the file, or a note of any of these
-     * segments is damaged.
+     * Returns the notes of all segments of type PT_NOTE. Throws if the program headers are not inside the file, or a
+     * note of any of these segments is damaged.
      * @returns {Note[]}
      */
     iter_note_headers() {
-        return this.program_headers().filter(({ p_type }) => p_type === PT_NOTE).flatMap((segment) => this.notes(segment));
+        return this.program_headers().filter(({ p_type }) => p_type === PT_NOTE)
+            .flatMap((segment) => this.notes(segment));
     }
 
     /**
-     * Returns the notes of all sections of type SHT_NOTE. Throws if the section headers are not inside the file, or a note of any of these
-     * sections is damaged.
+     * Returns the notes of all sections of type SHT_NOTE. Throws if the section headers are not inside the file, or a
+     * note of any of these sections is damaged.
      * @returns {Note[]}
      */
     iter_note_sections() {
-        return this.section_headers().filter(({ sh_type }) => sh_type === SHT_NOTE).flatMap((section) => this.notes(section));
+        return this.section_headers().filter(({ sh_type }) => sh_type === SHT_NOTE)
+            .flatMap((section) => this.notes(section));
     }
 }
 
@@ -903,7 +964,8 @@ function attempt(read) {
 
 // Returns a number of bytes as the library takes it, if it reads numbers of that width.
 function as_width(width) {
-    if (![1, 2, 4, 8].includes(width)) throw new RangeError(`the width must be 1, 2, 4 or 8 bytes, not ${String(width)}`);
+    if (![1, 2, 4, 8].includes(width))
+        throw new RangeError(`the width must be 1, 2, 4 or 8 bytes, not ${String(width)}`);
     return BigInt(width);
 }
 
@@ -916,10 +978,12 @@ const holds_relocs = ({ sh_type }) => sh_type === SHT_RELA || sh_type === SHT_RE
 // Reports whether a header is a program header, and not a section header.
 const is_segment = (part) => part.p_offset !== undefined;
 
-// Returns the range of a section or a segment in the file, which is empty for no section and for SHT_NOBITS, whatever its size.
+// Returns the range of a section or a segment in the file, which is empty for no section and for SHT_NOBITS,
+// whatever its size.
 function range_of(part) {
     if (!part || part.sh_type === SHT_NOBITS) return plain({ offset: 0n, size: 0n });
-    return plain(is_segment(part) ? { offset: part.p_offset, size: part.p_filesz } : { offset: part.sh_offset, size: part.sh_size });
+    return plain(is_segment(part) ? { offset: part.p_offset, size: part.p_filesz }
+        : { offset: part.sh_offset, size: part.sh_size });
 }
 
 function reloc({ r_offset, r_sym, r_addend, r_type, has_addend }) {
@@ -953,12 +1017,14 @@ function all_notes({ notes, refusal }) {
 }
 
 // The sizes of records of 32-bit and 64-bit files.
-const SIZES = { header: [52, 64], section: [40, 64], segment: [32, 56], symbol: [16, 24], rel: [8, 16], rela: [12, 24] };
+const SIZES = { header: [52, 64], section: [40, 64], segment: [32, 56], symbol: [16, 24],
+    rel: [8, 16], rela: [12, 24] };
 
 /**
- * Writes records of a file into its bytes, in the class and byte order of its header. Each call changes the bytes of one record, and no
- * others. What it writes is read as the same record, unless section 0 has the number of headers and the call changes it. Each call throws if
- * the record is not inside the bytes or does not fit the class, and then writes nothing.
+ * Writes records of a file into its bytes, in the class and byte order of its header. Each call changes the bytes of
+ * one record, and no others. What it writes is read as the same record, unless section 0 has the number of headers and
+ * the call changes it. Each call throws if the record is not inside the bytes or does not fit the class, and then
+ * writes nothing.
  *
  * ```js
  * const elf = Elf.parse(bytes), { index, section } = elf.section_by_name('.text');
@@ -986,13 +1052,14 @@ export class Writer {
     }
 
     /**
-     * Writes a header at the start of the bytes, in the class and byte order that it names. Writes the magic number, too, and leaves the
-     * padding, the bytes 9 to 15. The writer uses the header that it was made with as before.
+     * Writes a header at the start of the bytes, in the class and byte order that it names. Writes the magic number,
+     * too, and leaves the padding, the bytes 9 to 15. The writer uses the header that it was made with as before.
      * @param {Readonly<Header>} header
      * @returns {void}
      */
     put_header(header) {
-        this.#put('goblin_put_header', 0, SIZES.header[Number(header.ei_class === 2)], this.#memory.pass(ITEM, 'header', header));
+        this.#put('goblin_put_header', 0, SIZES.header[Number(header.ei_class === 2)],
+            this.#memory.pass(ITEM, 'header', header));
     }
 
     /**
@@ -1002,8 +1069,10 @@ export class Writer {
      * @returns {boolean}
      */
     put_section_header(index, section) {
-        const at = unsigned(index, 64), size = this.#size('section'), item = this.#memory.pass(ITEM, 'section', section);
-        return this.#put('goblin_put_section', this.#header.e_shoff + at * BigInt(size), size, this.#memory.header, at, item);
+        const at = unsigned(index, 64), size = this.#size('section'),
+            item = this.#memory.pass(ITEM, 'section', section);
+        return this.#put('goblin_put_section', this.#header.e_shoff + at * BigInt(size), size,
+            this.#memory.header, at, item);
     }
 
     /**
@@ -1013,13 +1082,15 @@ export class Writer {
      * @returns {boolean}
      */
     put_program_header(index, segment) {
-        const at = unsigned(index, 64), size = this.#size('segment'), item = this.#memory.pass(ITEM, 'segment', segment);
-        return this.#put('goblin_put_segment', this.#header.e_phoff + at * BigInt(size), size, this.#memory.header, at, item);
+        const at = unsigned(index, 64), size = this.#size('segment'),
+            item = this.#memory.pass(ITEM, 'segment', segment);
+        return this.#put('goblin_put_segment', this.#header.e_phoff + at * BigInt(size), size,
+            this.#memory.header, at, item);
     }
 
     /**
-     * Writes the symbol at an index of a section of type SHT_SYMTAB or SHT_DYNSYM. Returns false, and writes nothing, past the end. Throws if
-     * the section has another type.
+     * Writes the symbol at an index of a section of type SHT_SYMTAB or SHT_DYNSYM. Returns false, and writes nothing,
+     * past the end. Throws if the section has another type.
      * @param {SectionHeader} section
      * @param {number | bigint} index
      * @param {Sym} symbol
@@ -1029,12 +1100,14 @@ export class Writer {
         if (!holds_symbols(section)) throw GoblinError.of_type(section, 'symbols');
         const at = unsigned(index, 64), size = this.#size('symbol'), item = this.#memory.pass(ITEM, 'symbol', symbol);
         const table = this.#memory.pass(ARGUMENT, 'range', range_of(section));
-        return this.#put('goblin_put_symbol', section.sh_offset + at * BigInt(size), size, this.#memory.header, table, at, item);
+        return this.#put('goblin_put_symbol', section.sh_offset + at * BigInt(size), size,
+            this.#memory.header, table, at, item);
     }
 
     /**
-     * Writes the relocation at an index of a section of type SHT_RELA or SHT_REL. Returns false, and writes nothing, past the end. Throws if
-     * the section has another type, or if the relocation has an addend and those of the section have none, or the reverse.
+     * Writes the relocation at an index of a section of type SHT_RELA or SHT_REL. Returns false, and writes nothing,
+     * past the end. Throws if the section has another type, or if the relocation has an addend and those of the section
+     * have none, or the reverse.
      * @param {SectionHeader} section
      * @param {number | bigint} index
      * @param {Reloc} reloc
@@ -1042,9 +1115,11 @@ export class Writer {
      */
     put_reloc(section, index, reloc) {
         if (!holds_relocs(section)) throw GoblinError.of_type(section, 'relocations');
-        const is_rela = section.sh_type === SHT_RELA, at = unsigned(index, 64), size = this.#size(is_rela ? 'rela' : 'rel');
+        const is_rela = section.sh_type === SHT_RELA, at = unsigned(index, 64),
+            size = this.#size(is_rela ? 'rela' : 'rel');
         const fields = { ...reloc, r_addend: reloc.r_addend ?? 0n, has_addend: Number(reloc.r_addend !== undefined) };
-        const item = this.#memory.pass(ITEM, 'reloc', fields), table = this.#memory.pass(ARGUMENT, 'range', range_of(section));
+        const item = this.#memory.pass(ITEM, 'reloc', fields),
+            table = this.#memory.pass(ARGUMENT, 'range', range_of(section));
         const offset = section.sh_offset + at * BigInt(size);
         return this.#put('goblin_put_reloc', offset, size, this.#memory.header, table, Number(is_rela), at, item);
     }
@@ -1065,13 +1140,14 @@ export class Writer {
 /**
  * Reports whether a segment holds a section, as `readelf -l` maps sections to segments.
  *
- * The section's range in the file, if it has one, must be inside the segment's. If it is loaded (SHF_ALLOC), its addresses must be
- * inside the segment's, too. Some segments hold only some sections:
+ * The section's range in the file, if it has one, must be inside the segment's. If it is loaded (SHF_ALLOC), its
+ * addresses must be inside the segment's, too. Some segments hold only some sections:
  * - PT_PHDR holds none.
- * - PT_TLS holds only sections with SHF_TLS. Of these, PT_LOAD and PT_GNU_RELRO hold those with bytes in the file, and other segments
- *   hold none.
+ * - PT_TLS holds only sections with SHF_TLS. Of these, PT_LOAD and PT_GNU_RELRO hold those with bytes in the file, and
+ *   other segments hold none.
  * - PT_LOAD, PT_GNU_RELRO, PT_DYNAMIC, PT_GNU_EH_FRAME and PT_GNU_STACK hold only loaded sections.
- * - An empty section is not held at the segment's end, nor at the start of PT_DYNAMIC or PT_NOTE, unless the segment is empty, too.
+ * - An empty section is not held at the segment's end, nor at the start of PT_DYNAMIC or PT_NOTE, unless the segment is
+ *   empty, too.
  *
  * This rule is not part of the library. It is compared with `readelf`, but not proved.
  * @param {ProgramHeader} segment
@@ -1079,7 +1155,8 @@ export class Writer {
  * @returns {boolean}
  */
 export function segment_holds(segment, section) {
-    const { p_type, p_offset, p_filesz, p_vaddr, p_memsz } = segment, { sh_type, sh_offset, sh_addr, sh_size } = section;
+    const { p_type, p_offset, p_filesz, p_vaddr, p_memsz } = segment,
+        { sh_type, sh_offset, sh_addr, sh_size } = section;
     const first = sh_size === 0n && p_memsz !== 0n && [PT_DYNAMIC, PT_NOTE].includes(p_type) ? 1n : 0n;
     const lies_in = (before, size) => before >= first && (before < size || size === 0n) && before + sh_size <= size;
     return may_hold(segment, section)
@@ -1102,8 +1179,9 @@ function may_hold({ p_type }, section) {
 }
 
 /**
- * A list in a file. The call that makes it reads the number of items, and throws if the list can't be read. An iteration reads several
- * items at a time. An item is read by `list[index]`, as from an array. For other methods of arrays use `[...list]`.
+ * A list in a file. The call that makes it reads the number of items, and throws if the list can't be read. An
+ * iteration reads several items at a time. An item is read by `list[index]`, as from an array. For other methods of
+ * arrays use `[...list]`.
  * @template T
  * @index {T | undefined}
  */
@@ -1207,7 +1285,8 @@ export class List {
     filter(callback) { return Array.from(this).filter((item, index) => callback(item, index)); }
 
     /**
-     * Returns the first item for which a function returns true, if there is one. It is called with each item and its index up to there.
+     * Returns the first item for which a function returns true, if there is one. It is called with each item and its
+     * index up to there.
      * @param {(item: T, index: number) => unknown} callback
      * @returns {T | undefined}
      */
@@ -1227,17 +1306,21 @@ export class List {
     }
 
     /**
-     * Returns what a function makes of all items, like `reduce` of an array: it is called with what it made of the items before, with an
-     * item and its index. Without an initial value it begins with the first item, and throws a `TypeError` if there is none.
+     * Returns what a function makes of all items, like `reduce` of an array: it is called with what it made of the
+     * items before, with an item and its index. Without an initial value it begins with the first item, and throws a
+     * `TypeError` if there is none.
      * @template U
      * @param {(made: U, item: T, index: number) => U} callback
      * @param {[U?]} ...initial
      * @returns {U}
      */
-    reduce(callback, ...initial) { return Array.from(this).reduce((made, item, index) => callback(made, item, index), ...initial); }
+    reduce(callback, ...initial) {
+        return Array.from(this).reduce((made, item, index) => callback(made, item, index), ...initial);
+    }
 
     /**
-     * Returns the items from an index up to another one, like `slice` of an array: a negative index counts from the end.
+     * Returns the items from an index up to another one, like `slice` of an array: a negative index counts
+     * from the end.
      * @param {number} [start]
      * @param {number} [end]
      * @returns {T[]}
@@ -1278,29 +1361,30 @@ export class Symtab extends List {
     }
 
     /**
-     * Returns the name of a symbol, or `undefined` if its offset is past the end of the string table. Throws if that table is not inside
-     * the file, or the name is not UTF-8.
+     * Returns the name of a symbol, or `undefined` if its offset is past the end of the string table. Throws if that
+     * table is not inside the file, or the name is not UTF-8.
      * @param {Sym} symbol
      * @returns {string | undefined}
      */
     name(symbol) { return this.strtab.get(symbol.st_name); }
 
     /**
-     * Returns the bytes of a symbol's name, which need not be UTF-8, or `undefined` if its offset is past the end of the string table.
-     * Throws if that table is not inside the file.
+     * Returns the bytes of a symbol's name, which need not be UTF-8, or `undefined` if its offset is past the end of
+     * the string table. Throws if that table is not inside the file.
      * @param {Sym} symbol
      * @returns {Uint8Array | undefined}
      */
     name_bytes(symbol) { return this.strtab.get_bytes(symbol.st_name); }
 
     /**
-     * Returns the index of the symbol that contains an address, if there is one: of those with `st_value <= address < st_value + st_size` the
-     * one with the highest `st_value`, the first of several. These sums do not wrap around. If there is none, it is the first of size 0, as
-     * labels of assembly have, among the symbols with the highest `st_value` that is not above the address.
+     * Returns the index of the symbol that contains an address, if there is one: of those with
+     * `st_value <= address < st_value + st_size` the one with the highest `st_value`, the first of several. These sums
+     * do not wrap around. If there is none, it is the first of size 0, as labels of assembly have, among the symbols
+     * with the highest `st_value` that is not above the address.
      *
-     * Only symbols of a section count, whose `st_shndx` is from 1 to 0xfeff, or 0xffff (SHN_XINDEX). And only those of type STT_NOTYPE,
-     * STT_OBJECT, STT_FUNC or STT_GNU_IFUNC count. In a file of type ET_REL an `st_value` is an offset in a section, so symbols of different
-     * sections mix.
+     * Only symbols of a section count, whose `st_shndx` is from 1 to 0xfeff, or 0xffff (SHN_XINDEX). And only those of
+     * type STT_NOTYPE, STT_OBJECT, STT_FUNC or STT_GNU_IFUNC count. In a file of type ET_REL an `st_value` is an offset
+     * in a section, so symbols of different sections mix.
      *
      * Each call reads all symbols: for many addresses use `address_map`.
      * @param {number | bigint} address
@@ -1324,7 +1408,8 @@ export class Symtab extends List {
     address_map() { return new AddressMap(this); }
 
     /**
-     * Returns the index of the first symbol with a name, if there is one. Throws if the string table is not inside the file.
+     * Returns the index of the first symbol with a name, if there is one. Throws if the string table is not
+     * inside the file.
      * @param {string} name
      * @returns {number | undefined}
      */
@@ -1338,27 +1423,30 @@ export class Symtab extends List {
 }
 
 // Reports whether a symbol counts for its address: it is of a section, and has a type whose value is an address.
-const may_contain = ({ st_info, st_shndx }) => (st_shndx === SHN_XINDEX || (st_shndx !== SHN_UNDEF && st_shndx < SHN_LORESERVE))
+const may_contain = ({ st_info, st_shndx }) =>
+    (st_shndx === SHN_XINDEX || (st_shndx !== SHN_UNDEF && st_shndx < SHN_LORESERVE))
     && [STT_NOTYPE, STT_OBJECT, STT_FUNC, STT_GNU_IFUNC].includes(st_type(st_info));
 
 const LAST = (1n << 64n) - 1n;
 
 /**
- * A sorted map of the addresses of a symbol table, for many searches. It finds what `by_address` finds in a time that grows with the
- * logarithm of the number of symbols. It is sorted by JavaScript's own sort, and is not part of the library: it is compared with
- * `by_address`, but not proved.
+ * A sorted map of the addresses of a symbol table, for many searches. It finds what `by_address` finds in a time that
+ * grows with the logarithm of the number of symbols. It is sorted by JavaScript's own sort, and is not part of the
+ * library: it is compared with `by_address`, but not proved.
  */
 export class AddressMap {
     #symtab; #starts; #indices = [];
 
     constructor(symtab) {
         this.#symtab = symtab;
-        // the symbols that count, by their first address and then by their index, each with its last address if it has a size
+        // the symbols that count, by their first address and then by their index, each with its last address if it
+        // has a size
         const places = [];
         let number = 0;
         for (const symbol of symtab) {
             const { st_value: start, st_size } = symbol, end = start + st_size - 1n, index = number++;
-            if (may_contain(symbol)) places.push({ start, index, last: st_size ? (end < LAST ? end : LAST) : undefined });
+            if (may_contain(symbol))
+                places.push({ start, index, last: st_size ? (end < LAST ? end : LAST) : undefined });
         }
         places.sort((a, b) => (a.start < b.start ? -1 : a.start > b.start ? 1 : a.index - b.index));
         const ends = places.filter(({ last }) => last !== undefined && last < LAST).map(({ last }) => last + 1n);
@@ -1367,8 +1455,8 @@ export class AddressMap {
         this.#fill(places);
     }
 
-    // Finds the symbol from each start on. The symbols that contain an address are on a stack, below others that have ended. The topmost one
-    // has the highest value, and is the first of those with the same one.
+    // Finds the symbol from each start on. The symbols that contain an address are on a stack, below others that have
+    // ended. The topmost one has the highest value, and is the first of those with the same one.
     #fill(places) {
         const open = [];
         let label, next = 0;
@@ -1428,8 +1516,8 @@ export class Strtab {
     }
 
     /**
-     * Returns the string at an offset from the table's start, or `undefined` past its end. Throws if the table is not inside the file, or
-     * the string is not UTF-8.
+     * Returns the string at an offset from the table's start, or `undefined` past its end. Throws if the table is not
+     * inside the file, or the string is not UTF-8.
      * @param {number | bigint} offset
      * @returns {string | undefined}
      */
@@ -1439,8 +1527,8 @@ export class Strtab {
     }
 
     /**
-     * Returns the bytes of the string at an offset, which need not be UTF-8, or `undefined` past the end of the table. Throws if the table
-     * is not inside the file.
+     * Returns the bytes of the string at an offset, which need not be UTF-8, or `undefined` past the end of the table.
+     * Throws if the table is not inside the file.
      * @param {number | bigint} offset
      * @returns {Uint8Array | undefined}
      */
@@ -1480,8 +1568,8 @@ export const machine_to_str = (e_machine) => name_of('goblin_machine_to_str', e_
 /** Returns the name of a segment's type, such as PT_LOAD, or UNKNOWN_PT. @param {number} p_type @returns {string} */
 export const pt_to_str = (p_type) => name_of('goblin_pt_to_str', p_type, 32);
 /**
- * Returns the name of a section's type, such as SHT_PROGBITS, or UNKNOWN_SHT. As in goblin, 19 is SHT_NUM, which newer tools print as
- * RELR, and 0x70000001 is SHT_X86_64_UNWIND for every machine.
+ * Returns the name of a section's type, such as SHT_PROGBITS, or UNKNOWN_SHT. As in goblin, 19 is SHT_NUM, which newer
+ * tools print as RELR, and 0x70000001 is SHT_X86_64_UNWIND for every machine.
  * @param {number} sh_type
  * @returns {string}
  */
@@ -1496,11 +1584,15 @@ export const shf_to_str = (flag) => name_of('goblin_shf_to_str', unsigned(flag, 
 export const bind_to_str = (binding) => name_of('goblin_bind_to_str', binding, 8);
 /** Returns the name of a symbol's type, such as FUNC, or UNKNOWN_STT. @param {number} type @returns {string} */
 export const type_to_str = (type) => name_of('goblin_type_to_str', type, 8);
-/** Returns the name of a symbol's visibility, such as HIDDEN, or UNKNOWN_STV. @param {number} visibility @returns {string} */
+/**
+ * Returns the name of a symbol's visibility, such as HIDDEN, or UNKNOWN_STV.
+ * @param {number} visibility
+ * @returns {string}
+ */
 export const visibility_to_str = (visibility) => name_of('goblin_visibility_to_str', visibility, 8);
 /**
- * Returns the name of a note's type, such as NT_GNU_BUILD_ID, or NT_UNKNOWN. As in goblin, type 3 is NT_GNU_BUILD_ID for every name
- * but CORE.
+ * Returns the name of a note's type, such as NT_GNU_BUILD_ID, or NT_UNKNOWN. As in goblin, type 3 is NT_GNU_BUILD_ID
+ * for every name but CORE.
  * @param {Pick<Note, 'name' | 'n_type'>} note
  * @returns {string}
  */
@@ -1517,8 +1609,8 @@ export const st_type = (info) => info & 0xf;
 export const st_visibility = (other) => other & 0x7;
 
 /**
- * Returns the structs that `goblin_layout` fills, as this file reads them, each with its size in this file and in the library: for the
- * test.
+ * Returns the structs that `goblin_layout` fills, as this file reads them, each with its size in this file and in the
+ * library: for the test.
  * @returns {Record<string, { item: object, size: number, library_size: bigint }>}
  */
 export function layout() {

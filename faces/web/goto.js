@@ -13,7 +13,8 @@ function show(places) {
     get('goto').setAttribute('aria-expanded', places.length > 0);
     get('found').replaceChildren(...places.map((place, i) => make('li', {
         role: 'option', id: `found-${i}`, onpointerdown: (event) => { event.preventDefault(); take(place); },
-    }, put_text(make('b'), place.title), put_text(make('span'), place.read ? `${place.read}: ${place.detail}` : place.detail))));
+    }, put_text(make('b'), place.title),
+        put_text(make('span'), place.read ? `${place.read}: ${place.detail}` : place.detail))));
     mark();
 }
 
@@ -29,7 +30,8 @@ async function take({ title, to, read }) {
     close();
     await go(to);
     focus_chosen();
-    if (read) say(`${title}, ${read}`, ...(other ? [', or ', link_to({ text: `${other.title}, ${other.read}`, to: other.to })] : []));
+    if (read) say(`${title}, ${read}`,
+        ...(other ? [', or ', link_to({ text: `${other.title}, ${other.read}`, to: other.to })] : []));
 }
 
 function close() {

@@ -5,8 +5,8 @@ import { button, make, put_text, visible } from './dom.js';
 const HIGHEST = 6e6, BLOCK = 128, KEPT = 64;
 let ids = 0;
 
-// A list: columns { title, wide, least, is_right, is_dim, hint }, and rows(from, size), which promises the cells of some rows. `chosen` and
-// `opened` are called with the position of a row, and `sorted` with a column and an order.
+// A list: columns { title, wide, least, is_right, is_dim, hint }, and rows(from, size), which promises the cells of
+// some rows. `chosen` and `opened` are called with the position of a row, and `sorted` with a column and an order.
 export class Grid {
     constructor(label, columns, { rows, chosen = () => {}, opened = () => {}, sorted, high = 24, kind = '' }) {
         Object.assign(this, { columns, rows, chosen, opened, sorted, high, length: 0, active: -1, column: 0 });
@@ -16,7 +16,8 @@ export class Grid {
             class: 'body', role: 'rowgroup', onclick: (event) => this.click(event),
             ondblclick: () => { if (this.active >= 0) this.opened(this.active); },
         });
-        this.head = make('div', { class: 'row', role: 'row', id: `${this.id}-head`, 'aria-rowindex': '1' }, ...this.made_heads());
+        this.head = make('div', { class: 'row', role: 'row', id: `${this.id}-head`, 'aria-rowindex': '1' },
+            ...this.made_heads());
         this.head.style.gridTemplateColumns = this.columns_css;
         this.heads = make('div', { class: 'heads' }, this.head);
         const has_heads = columns.some(({ title }) => title);
@@ -72,7 +73,8 @@ export class Grid {
     // Returns the index and the position of the first visible row.
     first() {
         const { scrollTop } = this.scroller;
-        if (!this.is_long) return { index: Math.floor(scrollTop / this.high), top: Math.floor(scrollTop / this.high) * this.high };
+        if (!this.is_long)
+            return { index: Math.floor(scrollTop / this.high), top: Math.floor(scrollTop / this.high) * this.high };
         const part = scrollTop / Math.max(HIGHEST - this.room, 1);
         return { index: Math.round(Math.min(part, 1) * Math.max(this.length - this.seen, 0)), top: scrollTop };
     }
@@ -152,9 +154,11 @@ export class Grid {
     activate(at) {
         if (this.length === 0) return;
         this.active = Math.min(Math.max(at, 0), this.length - 1);
-        const { seen, is_long } = this, { index } = this.first(), first = Math.max(Math.min(index, this.active), this.active - seen + 1);
+        const { seen, is_long } = this, { index } = this.first(),
+            first = Math.max(Math.min(index, this.active), this.active - seen + 1);
         if (first !== index || (this.active === index && !is_long)) {
-            this.scroller.scrollTop = is_long ? first / Math.max(this.length - seen, 1) * (HIGHEST - this.room) : first * this.high;
+            this.scroller.scrollTop = is_long ? first / Math.max(this.length - seen, 1) * (HIGHEST - this.room)
+                : first * this.high;
         }
         this.draw();
     }
@@ -172,7 +176,8 @@ export class Grid {
 
     /** Returns the texts of the active row's cells. */
     get active_cells() {
-        const row = this.active < 0 ? undefined : this.blocks.get(Math.floor(this.active / BLOCK))?.rows?.[this.active % BLOCK];
+        const row = this.active < 0 ? undefined
+            : this.blocks.get(Math.floor(this.active / BLOCK))?.rows?.[this.active % BLOCK];
         return row?.slice(0, this.columns.length);
     }
 
@@ -180,7 +185,8 @@ export class Grid {
         const { length } = this, page = Math.max(this.seen - 1, 1), sides = { ArrowLeft: -1, ArrowRight: 1 };
         const steps = { ArrowDown: 1, ArrowUp: -1, PageDown: page, PageUp: -page, Home: -length, End: length };
         if (event.key in steps) {
-            this.choose(this.active < 0 ? (event.key === 'End' ? this.length : 0) : this.active + steps[event.key], true);
+            this.choose(this.active < 0 ? (event.key === 'End' ? this.length : 0)
+                : this.active + steps[event.key], true);
         } else if (event.key in sides && this.active >= 0) {
             this.column = Math.min(Math.max(this.column + sides[event.key], 0), this.columns.length - 1);
             this.draw();

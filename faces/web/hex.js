@@ -12,26 +12,34 @@ let lit;
 /** Marks a field of a record in its row and in its bytes, or none. */
 export function light(name) {
     lit = name;
-    for (const item of get('chosen').querySelectorAll('[data-field]')) item.classList.toggle('lit', item.dataset.field === name);
+    for (const item of get('chosen').querySelectorAll('[data-field]'))
+        item.classList.toggle('lit', item.dataset.field === name);
 }
 
 /** Returns how many bytes a row has in a view of a width. */
 export const bytes_in = (width) => (width >= 1060 ? 32 : width >= 590 ? 16 : 8);
 
-/** Returns a view of bytes of the file, with `each` in a row. Those of a record's fields have the fields' colours and names. */
+/**
+ * Returns a view of bytes of the file, with `each` in a row. Those of a record's fields have the fields' colours
+ * and names.
+ */
 export function hex_view(at, size, each, fields = []) {
     const first = Math.floor(at / each) * each;
     const node_of = (text, place) => {
-        const field = fields.findIndex(({ at: start, size: own }) => place >= start && place < start + own), { name } = fields[field] ?? {};
-        if (name) return make('i', { 'data-field': name, 'data-tint': field % 4, title: name, class: name === lit && 'lit' }, text);
+        const field = fields.findIndex(({ at: start, size: own }) => place >= start && place < start + own),
+            { name } = fields[field] ?? {};
+        if (name) return make('i',
+            { 'data-field': name, 'data-tint': field % 4, title: name, class: name === lit && 'lit' }, text);
         return place >= at && place < at + size ? text : make('span', { class: 'dim' }, text);
     };
     const put = (of) => (cell, row) => {
-        cell.replaceChildren(...(row ?? []).flatMap((byte, i) => [node_of(of(byte), row.at + i), of === printed || i === each - 1 ? '' : ' ']));
+        cell.replaceChildren(...(row ?? [])
+            .flatMap((byte, i) => [node_of(of(byte), row.at + i), of === printed || i === each - 1 ? '' : ' ']));
     };
     const wide = Math.ceil((3 * each - 1) * 7.3) + 10;
     const columns = [
-        { wide: '74px', least: 74, is_dim: true }, { wide: `${wide}px`, least: wide, put: put(two) }, { wide: '1fr', least: 60, put: put(printed) },
+        { wide: '74px', least: 74, is_dim: true }, { wide: `${wide}px`, least: wide, put: put(two) },
+        { wide: '1fr', least: 60, put: put(printed) },
     ];
     const rows = async (from, count) => {
         const bytes = await ask('bytes', [first + from * each, count * each]);
@@ -66,9 +74,11 @@ export function lines_of(bytes, first, each, is_marked) {
 }
 
 /** Returns a refusal: the library's text, what was being read, and the bytes that hold its offset. */
-export async function refusal_of({ text, kind, what, marks, words }, reader_ask = ask, each = innerWidth < 600 ? 8 : 16) {
+export async function refusal_of({ text, kind, what, marks, words }, reader_ask = ask,
+    each = innerWidth < 600 ? 8 : 16) {
     const box = make('div', { class: 'refused', role: 'group', 'aria-label': 'Refusal' },
-        ...(words ? [put_text(make('p', { class: 'plainly' }), words)] : []), make('h3', {}, 'Refused: ', put_text(make('span'), text)),
+        ...(words ? [put_text(make('p', { class: 'plainly' }), words)] : []),
+        make('h3', {}, 'Refused: ', put_text(make('span'), text)),
         make('p', { class: 'what' }, `Refusal ${kind}, while reading ${what}.`));
     if (marks.length === 0) return box;
     const least = Math.min(...marks.map(({ at }) => at)), most = Math.max(...marks.map(({ at, size }) => at + size));

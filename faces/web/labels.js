@@ -1,4 +1,5 @@
-// Names of numbers: the library's, which are goblin's, if they are right for the file's machine and system; else the page's own, or digits.
+// Names of numbers: the library's, which are goblin's, if they are right for the file's machine and system; else the
+// page's own, or digits.
 import * as goblin from './goblin.js';
 import { file, is_wide } from './file.js';
 import * as own from './names.js';
@@ -34,7 +35,8 @@ export const osabi = label('ELFOSABI_', own.osabi, () => 'UNKNOWN', String);
 /** Returns a name with its prefix, or only the number. */
 export const prefixed = (prefix, name) => (/^(0x|\d+$)/.test(name) ? name : `${prefix}${name}`);
 /** Returns the name of a relocation's type with its prefix, or the number. */
-export const relocation_type = once((type) => own.relocation_type(type, file.elf.header.e_machine, is_wide()) ?? `${type}`);
+export const relocation_type =
+    once((type) => own.relocation_type(type, file.elf.header.e_machine, is_wide()) ?? `${type}`);
 
 /** Returns the names of a section's flags. Flags without a name are numbers. */
 export const section_flags = once((flags) => {

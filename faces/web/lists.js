@@ -1,8 +1,8 @@
 // The lists of the page. Each is a source: its items, its columns, and whether an item holds an offset or address.
 import * as goblin from './goblin.js';
 import {
-    called, digits_of, file, name_of_section, part, read_or, refusal, RELOCATION_TYPES, RELR, section_at, section_refusal, sections,
-    segments, SYMBOL_TYPES,
+    called, digits_of, file, name_of_section, part, read_or, refusal, RELOCATION_TYPES, RELR, section_at,
+    section_refusal, sections, segments, SYMBOL_TYPES,
 } from './file.js';
 import { demangled } from './demangle.js';
 import { packed_offsets } from './dynamic.js';
@@ -13,15 +13,16 @@ import { has_mangled, name_of_symbol, section_of_symbol, symtab_at } from './res
 import { count, hex, once } from './text.js';
 
 const SPECIAL = new Map([[0n, 'undefined'], [0xfff1n, 'absolute'], [0xfff2n, 'common'], [0xffffn, 'extended index']]);
-// A column has a title, a hint, such as the standard's name of the field, the least width, the share of the rest of the width, and
-// functions that return an item's text, and perhaps another one for a saved list, and a number to sort by.
+// A column has a title, a hint, such as the standard's name of the field, the least width, the share of the rest of the
+// width, and functions that return an item's text, and perhaps another one for a saved list, and a number to sort by.
 const column = (title, hint, least, share, given) =>
     ({ title, hint, least, wide: share ? `minmax(${least}px, ${share}fr)` : `${least}px`, ...given });
 const text = (title, hint, least, share, say) => column(title, hint, least, share, { text: say });
 const number = (title, key, least, share, say = hex) =>
     column(title, key, least, share, { is_right: true, text: (item) => say(item[key]), number: (item) => item[key] });
 
-// Returns the widths of columns of some kinds of numbers, in which those of the file fit, but for some of damaged files.
+// Returns the widths of columns of some kinds of numbers, in which those of the file fit, but for some of
+// damaged files.
 const rooms = once(() => {
     let address = 0n, align = 0n, index = 0;
     const raise = (end) => { if (end > address && end < 1n << 64n) address = end; };
@@ -46,7 +47,8 @@ export function section_word(table, index, symbol) {
     return section_at(of) ? called(of) : `${of}`;
 }
 
-export const addend = ({ r_addend }) => (r_addend === undefined ? 'in place' : r_addend < 0n ? `−${hex(-r_addend)}` : hex(r_addend));
+export const addend = ({ r_addend }) =>
+    (r_addend === undefined ? 'in place' : r_addend < 0n ? `−${hex(-r_addend)}` : hex(r_addend));
 
 /** Returns the name of a relocation's symbol. */
 export function symbol_of_relocation(table, { r_sym }) {
@@ -58,21 +60,26 @@ export function symbol_of_relocation(table, { r_sym }) {
 const list_of = (length, get) => ({ length, get, *from(at = 0) { for (; at < length; at++) yield get(at); } });
 
 // Returns the list of packed relocations, which have nothing but their offsets. A number that is added is in place.
-const packed = (offsets) => list_of(offsets.length, (at) => ({ r_offset: offsets[at], r_type: 0, r_sym: 0, r_addend: undefined }));
+const packed = (offsets) =>
+    list_of(offsets.length, (at) => ({ r_offset: offsets[at], r_type: 0, r_sym: 0, r_addend: undefined }));
 
 const sources = {
     sections({ address, offset, align, index }) {
         return {
             list: file.elf.section_headers(), place: 30,
             columns: [
-                text('Name', 'sh_name', 126, 4, name_of_section), text('Type', 'sh_type', 92, 0.6, ({ sh_type }) => labels.section_type(sh_type)),
-                number('Address', 'sh_addr', address, 0.4), number('Offset', 'sh_offset', offset, 0.3), number('Size', 'sh_size', offset, 0.3),
-                text('Flags', 'sh_flags', 118, 0.3, ({ sh_flags }) => labels.section_flags(sh_flags)), number('Link', 'sh_link', index, 0, String),
+                text('Name', 'sh_name', 126, 4, name_of_section),
+                text('Type', 'sh_type', 92, 0.6, ({ sh_type }) => labels.section_type(sh_type)),
+                number('Address', 'sh_addr', address, 0.4), number('Offset', 'sh_offset', offset, 0.3),
+                number('Size', 'sh_size', offset, 0.3),
+                text('Flags', 'sh_flags', 118, 0.3, ({ sh_flags }) => labels.section_flags(sh_flags)),
+                number('Link', 'sh_link', index, 0, String),
                 number('Info', 'sh_info', index, 0, String), number('Align', 'sh_addralign', align, 0, String),
                 number('Entry', 'sh_entsize', 36, 0, String),
             ],
             mark: (item) => is_refused(() => file.elf.range(item)),
-            holds: ({ sh_addr, sh_offset, sh_size, sh_type, sh_flags }, value) => (sh_flags & 2n && within(sh_addr, sh_size, value))
+            holds: ({ sh_addr, sh_offset, sh_size, sh_type, sh_flags }, value) =>
+                (sh_flags & 2n && within(sh_addr, sh_size, value))
                 || (sh_type !== goblin.SHT_NOBITS && within(sh_offset, sh_size, value)),
         };
     },
@@ -82,28 +89,36 @@ const sources = {
         return {
             list: file.elf.program_headers(), place: 40,
             columns: [
-                text('Type', 'p_type', 104, 1, ({ p_type }) => labels.segment_type(p_type)), column('Flags', 'p_flags', 46, 0, flags),
-                number('Offset', 'p_offset', offset, 0.5), number('File size', 'p_filesz', offset, 0.5), number('Address', 'p_vaddr', address, 1),
-                number('Memory size', 'p_memsz', Math.max(offset, 80), 0.5), number('Physical', 'p_paddr', address, 1), number('Align', 'p_align', 66),
+                text('Type', 'p_type', 104, 1, ({ p_type }) => labels.segment_type(p_type)),
+                column('Flags', 'p_flags', 46, 0, flags), number('Offset', 'p_offset', offset, 0.5),
+                number('File size', 'p_filesz', offset, 0.5), number('Address', 'p_vaddr', address, 1),
+                number('Memory size', 'p_memsz', Math.max(offset, 80), 0.5), number('Physical', 'p_paddr', address, 1),
+                number('Align', 'p_align', 66),
             ],
             mark: (item) => is_refused(() => file.elf.range(item)),
-            holds: ({ p_offset, p_filesz, p_vaddr, p_memsz }, value) => within(p_offset, p_filesz, value) || within(p_vaddr, p_memsz, value),
+            holds: ({ p_offset, p_filesz, p_vaddr, p_memsz }, value) => within(p_offset, p_filesz, value)
+                || within(p_vaddr, p_memsz, value),
         };
     },
 
     symbols({ address }, table) {
-        const name = (item, index) => name_of_symbol(table, index, item), known = []; // (a search reads them again and again)
+        const name = (item, index) => name_of_symbol(table, index, item),
+            known = []; // (a search reads them again and again)
         const in_source = (item, index) => (known[index] ??= demangled(name(item, index)) ?? '');
-        const words = 'the name in C++, read by this page; empty if it is not read', list = symtab_at(table), is_mangled = has_mangled(table);
+        const words = 'the name in C++, read by this page; empty if it is not read', list = symtab_at(table),
+            is_mangled = has_mangled(table);
         return {
             list, place: 48,
             columns: [
                 text('Name', 'st_name', is_mangled ? 120 : 180, is_mangled ? 2 : 5, name),
                 ...(is_mangled ? [text('Demangled (not proved)', words, 240, 5, in_source)] : []),
                 number('Value', 'st_value', address, 0.3), number('Size', 'st_size', 62, 0, String),
-                text('Type', 'st_info, its low four bits', 74, 0, ({ st_info }) => labels.symbol_type(goblin.st_type(st_info))),
-                text('Binding', 'st_info, its high four bits', 64, 0, ({ st_info }) => labels.symbol_binding(goblin.st_bind(st_info))),
-                text('Visibility', 'st_other', 78, 0, ({ st_other }) => labels.symbol_visibility(goblin.st_visibility(st_other))),
+                text('Type', 'st_info, its low four bits', 74, 0,
+                    ({ st_info }) => labels.symbol_type(goblin.st_type(st_info))),
+                text('Binding', 'st_info, its high four bits', 64, 0,
+                    ({ st_info }) => labels.symbol_binding(goblin.st_bind(st_info))),
+                text('Visibility', 'st_other', 78, 0,
+                    ({ st_other }) => labels.symbol_visibility(goblin.st_visibility(st_other))),
                 text('Section', 'st_shndx', 90, 0.5, (item, index) => section_word(table, index, item)),
             ],
             holds: ({ st_value, st_size }, value) => st_value === value || within(st_value, st_size, value),
@@ -112,28 +127,35 @@ const sources = {
 
     relocations({ address }, of) {
         const section = section_at(of), half = 1n << 63n, is_packed = section.sh_type === RELR;
-        const type = { text: ({ r_type }) => (is_packed ? 'packed, relative' : labels.relocation_type(r_type)), number: ({ r_type }) => r_type };
-        const added = { is_right: true, text: addend, plain: (item) => addend(item).replace('−', '-'), number: ({ r_addend = 0n }) => r_addend + half };
+        const type = { text: ({ r_type }) => (is_packed ? 'packed, relative' : labels.relocation_type(r_type)),
+            number: ({ r_type }) => r_type };
+        const added = { is_right: true, text: addend, plain: (item) => addend(item).replace('−', '-'),
+            number: ({ r_addend = 0n }) => r_addend + half };
         return {
             list: is_packed ? packed(packed_offsets(section)) : file.elf.relocs(section), place: 48,
             columns: [
                 number('Offset', 'r_offset', address, 0.6), column('Type', 'r_type', 165, 0.5, type),
                 text('Symbol', 'the name of r_sym', 190, 4, (item) => symbol_of_relocation(section.sh_link, item)),
-                column('Addend', 'r_addend', address, 0.6, added), number('Index', 'r_sym', 56, 0, (index) => (is_packed ? '' : `${index}`)),
+                column('Addend', 'r_addend', address, 0.6, added),
+                number('Index', 'r_sym', 56, 0, (index) => (is_packed ? '' : `${index}`)),
             ],
             holds: ({ r_offset }, value) => r_offset === value,
         };
     },
 
     notes(_, by) {
-        const { items } = notes_of(by), type = { text: ({ note }) => labels.note_type(note), number: ({ note }) => note.n_type };
-        const of_thread = { is_right: true, text: ({ thread = '' }) => `${thread}`, number: ({ thread = 0n }) => thread };
-        const size = { is_right: true, text: ({ note }) => `${note.desc_range.size}`, number: ({ note }) => note.desc_range.size };
+        const { items } = notes_of(by),
+            type = { text: ({ note }) => labels.note_type(note), number: ({ note }) => note.n_type };
+        const of_thread = { is_right: true, text: ({ thread = '' }) => `${thread}`,
+            number: ({ thread = 0n }) => thread };
+        const size = { is_right: true, text: ({ note }) => `${note.desc_range.size}`,
+            number: ({ note }) => note.desc_range.size };
         return {
             list: list_of(items.length, (at) => items[at]), place: 40,
             columns: [
-                text('From', 'the section or segment', 120, 1, ({ holder }) => holder.title), text('Owner', 'the name', 72, 0.6, ({ note }) => note.name),
-                column('Type', 'n_type', 130, 0.8, type), column('Thread', 'of a core', 60, 0, of_thread), column('Size', 'n_descsz', 56, 0, size),
+                text('From', 'the section or segment', 120, 1, ({ holder }) => holder.title),
+                text('Owner', 'the name', 72, 0.6, ({ note }) => note.name), column('Type', 'n_type', 130, 0.8, type),
+                column('Thread', 'of a core', 60, 0, of_thread), column('Size', 'n_descsz', 56, 0, size),
                 text('Descriptor', 'its first bytes', 160, 2, ({ note }) => digits_of(note.desc_range, 64)),
             ],
             holds: ({ start, end }, value) => within(BigInt(start), BigInt(end - start), value),
@@ -142,16 +164,21 @@ const sources = {
 
     layout({ offset }) {
         const { starts, tops, depths } = parts(), size = (at) => starts[at + 1] - starts[at];
-        const share = (at) => (100 * size(at) / file.content.length).toFixed(2), title = (at) => (tops[at] ? titled(tops[at]).title : 'gap');
-        const sized = (title_of, hint, least, given) => column(title_of, hint, least, 0, { is_right: true, number: size, ...given });
-        const place = (name, by) => column(name, 'offset', offset, 0, { is_right: true, text: (at) => hex(starts[at + by]), number: (at) => starts[at + by] });
+        const share = (at) => (100 * size(at) / file.content.length).toFixed(2),
+            title = (at) => (tops[at] ? titled(tops[at]).title : 'gap');
+        const sized = (title_of, hint, least, given) =>
+            column(title_of, hint, least, 0, { is_right: true, number: size, ...given });
+        const place = (name, by) => column(name, 'offset', offset, 0,
+            { is_right: true, text: (at) => hex(starts[at + by]), number: (at) => starts[at + by] });
         return {
             list: list_of(tops.length, (at) => at), place: 56,
             columns: [
-                place('From', 0), place('To', 1), sized('Bytes', 'size', 96, { text: (at) => count(size(at)), plain: (at) => `${size(at)}` }),
-                sized('Share', 'of the file', 72, { text: (at) => `${share(at)} %`, plain: share }), text('What', 'the piece that is drawn', 160, 2, title),
-                column('Overlap', 'how many pieces lie there', 120, 1,
-                    { text: (at) => (depths[at] > 1 ? `${depths[at]} pieces overlap` : ''), number: (at) => depths[at] }),
+                place('From', 0), place('To', 1),
+                sized('Bytes', 'size', 96, { text: (at) => count(size(at)), plain: (at) => `${size(at)}` }),
+                sized('Share', 'of the file', 72, { text: (at) => `${share(at)} %`, plain: share }),
+                text('What', 'the piece that is drawn', 160, 2, title),
+                column('Overlap', 'how many pieces lie there', 120, 1, {
+                    text: (at) => (depths[at] > 1 ? `${depths[at]} pieces overlap` : ''), number: (at) => depths[at] }),
             ],
             holds: (at, value) => within(BigInt(starts[at]), BigInt(size(at)), value),
         };
@@ -165,15 +192,20 @@ function is_there(list, of) {
 }
 
 /** Returns the source of a list, or its refusal, or nothing if there is no such list. */
-export const open_source = (list, of) => part(() => (is_there(list, of) ? sources[list](rooms(), of) : undefined), (error) =>
-    (['symbols', 'relocations'].includes(list) ? section_refusal(error, `the ${list}`, of) : refusal(error, `the ${list}`, [])));
+export const open_source = (list, of) => part(() => (is_there(list, of) ? sources[list](rooms(), of) : undefined),
+    (error) => (['symbols', 'relocations'].includes(list) ? section_refusal(error, `the ${list}`, of)
+        : refusal(error, `the ${list}`, [])));
 
-/** Returns the columns of a list, for the page, or none if there is no such list or it is refused. The first is that of the index. */
+/**
+ * Returns the columns of a list, for the page, or none if there is no such list or it is refused. The first is that of
+ * the index.
+ */
 export const columns_of = ({ place = 0, columns = [] } = {}) =>
-    [column('#', 'index', place, 0, { is_right: true, is_dim: true }), ...columns].map(({ title, hint, least, wide, is_right, is_dim }) =>
-        ({ title, hint, least, wide, is_right, is_dim }));
+    [column('#', 'index', place, 0, { is_right: true, is_dim: true }), ...columns]
+        .map(({ title, hint, least, wide, is_right, is_dim }) => ({ title, hint, least, wide, is_right, is_dim }));
 /** Returns the cells of an item. The first is its index. */
-export const cells_of = ({ columns }, item, index) => [`${index}`, ...columns.map((column) => column.text(item, index))];
+export const cells_of = ({ columns }, item, index) =>
+    [`${index}`, ...columns.map((column) => column.text(item, index))];
 /** Returns the cells of an item in a saved list, where numbers are plain. */
 export const plain_cells_of = ({ columns }, item, index) =>
     [`${index}`, ...columns.map((column) => (column.plain ?? column.text)(item, index))];
@@ -196,7 +228,10 @@ export async function go_over(source, list, is_wanted, each) {
     return true;
 }
 
-/** Returns the indices of the items that a search finds, in their order, or nothing if these are all items in the list's own order. */
+/**
+ * Returns the indices of the items that a search finds, in their order, or nothing if these are all items in the list's
+ * own order.
+ */
 export async function arranged(source, { query, column, is_descending, list }, is_wanted) {
     const { length } = source.list;
     let order;
@@ -212,7 +247,8 @@ export async function arranged(source, { query, column, is_descending, list }, i
     }
     if (column === 0 && !is_descending) return order;
     order ??= Uint32Array.from({ length }, (_, index) => index);
-    const compare = column === 0 ? (a, b) => a - b : await comparison(source, source.columns[column - 1], list, is_wanted);
+    const compare = column === 0 ? (a, b) => a - b
+        : await comparison(source, source.columns[column - 1], list, is_wanted);
     if (!is_wanted()) return undefined;
     const sign = is_descending ? -1 : 1;
     return order.sort((a, b) => sign * compare(a, b) || a - b);

@@ -1,15 +1,19 @@
-// The map: the file's parts, drawn to scale, with the functions inside them, what their bytes are like, what is loaded, and what is chosen.
+// The map: the file's parts, drawn to scale, with the functions inside them, what their bytes are like, what is loaded,
+// and what is chosen.
 import { get, hex, make, number, plural, put_text, visible } from './dom.js';
 import { ask, shown_file } from './reader.js';
 import { go } from './route.js';
 import { first_after, visible_ranges } from './spans.js';
 
-// In pixels: the heights of a row's bar and of the strip below it, the distance to the next row, the space above, and the space on the right;
-// the least widths of a function, of a piece with a name, and of a byte with its digits; and how far a click moves, and the wheel for a step.
-const BAND = 14, STRIP = 4, STEP = 24, TOP = 8, RIGHT = 10, LEAST = 2, LEAST_NAMED = 34, DIGITS = 15, CLICK = 4, TURN = 60;
+// In pixels: the heights of a row's bar and of the strip below it, the distance to the next row, the space above, and
+// the space on the right; the least widths of a function, of a piece with a name, and of a byte with its digits; and
+// how far a click moves, and the wheel for a step.
+const BAND = 14, STRIP = 4, STEP = 24, TOP = 8, RIGHT = 10, LEAST = 2, LEAST_NAMED = 34, DIGITS = 15,
+    CLICK = 4, TURN = 60;
 // Of rows the greatest number, the share of the window, and the fewest bytes of one.
 const MOST_ROWS = 16, SHARE = 1 / 3, LOW = 600, FEWEST = 16;
-const KIND_WORDS = { header: 'ELF header', tables: 'header tables', names: 'symbols and names', debug: 'debug information' };
+const KIND_WORDS = { header: 'ELF header', tables: 'header tables', names: 'symbols and names',
+    debug: 'debug information' };
 const words_of = (kind) => KIND_WORDS[kind] ?? kind;
 export const colour = (kind) => getComputedStyle(document.documentElement).getPropertyValue(`--${kind}`);
 
@@ -25,7 +29,8 @@ const map = { rows: MOST_ROWS, view: { start: 0, each: 1 } };
 
 /** Shows the parts of a file. */
 export function show_map(parts, size) {
-    const nothing = { inside: { classes: [], bytes: [], symbols: [], parts: [] }, asked: {}, over: undefined, chosen: undefined, whole: undefined };
+    const nothing = { inside: { classes: [], bytes: [], symbols: [], parts: [] }, asked: {}, over: undefined,
+        chosen: undefined, whole: undefined };
     Object.assign(map, parts, nothing, { ends: parts.starts.subarray(1), size, at: -1 });
     get('canvas').setAttribute('aria-valuemax', Math.max(map.kinds.length - 1, 0));
     show_legend();
@@ -42,22 +47,29 @@ function show_legend() {
         if (map.cuts[i]) add(CUT, i);
     });
     const line = (content, shade) => make('li', {}, ...(shade ? [dot(shade)] : []), content);
-    const share = (name) => `${words_of(name)} ${(100 * sums.get(name) / map.size).toFixed(1)} %`, { words, to } = map.past;
-    const kinds = [...map.KINDS, 'gap'].filter((name) => sums.has(name)), is_small = (name) => sums.get(name) / map.size < 0.0005;
+    const share = (name) => `${words_of(name)} ${(100 * sums.get(name) / map.size).toFixed(1)} %`,
+        { words, to } = map.past;
+    const kinds = [...map.KINDS, 'gap'].filter((name) => sums.has(name)),
+        is_small = (name) => sums.get(name) / map.size < 0.0005;
     const small = kinds.filter(is_small).map(words_of).join(', ');
     get('legend').replaceChildren(...kinds.filter((name) => !is_small(name)).map((name) => line(share(name), name)),
         ...(small ? [line(`each below 0.05 %: ${small}`)] : []),
         ...[OVERLAPPING, CUT].filter((name) => sums.has(name)).map((name) => line(share(name))),
-        ...(words ? [line(put_text(make('a', { class: 'past', href: `#${to}` }), words))] : []),
-        line('strip below:'), ...map.CLASSES.map((name, i) => line(name, `in-${i}`)), ...(map.segments.length ? [line('line below: loaded')] : []));
+        ...(words ? [line(put_text(make('a', { class: 'past', href: `#${to}` }), words))] : []), line('strip below:'),
+        ...map.CLASSES.map((name, i) => line(name, `in-${i}`)),
+        ...(map.segments.length ? [line('line below: loaded')] : []));
 }
 
-// Computes the number of rows, which gives the map its share of the window, and the bytes of a row. The whole file is shown if it was before.
+// Computes the number of rows, which gives the map its share of the window, and the bytes of a row. The whole file is
+// shown if it was before.
 function fit() {
     if (!shown_file.summary) return;
-    const canvas = get('canvas'), others = canvas.parentElement.offsetHeight - canvas.offsetHeight, is_whole = !(map.view.each < map.whole);
-    map.rows = Math.min(Math.max(Math.floor((innerHeight * (innerHeight > LOW ? SHARE : SHARE / 3) - others - TOP - 4) / STEP), 1), MOST_ROWS);
-    const least = Math.max(map.size / map.rows, FEWEST), quarter = 2 ** Math.floor(Math.log2(least)) / 4; // (so offsets are round numbers)
+    const canvas = get('canvas'), others = canvas.parentElement.offsetHeight - canvas.offsetHeight,
+        is_whole = !(map.view.each < map.whole);
+    map.rows = Math.min(Math.max(
+        Math.floor((innerHeight * (innerHeight > LOW ? SHARE : SHARE / 3) - others - TOP - 4) / STEP), 1), MOST_ROWS);
+    const least = Math.max(map.size / map.rows, FEWEST),
+        quarter = 2 ** Math.floor(Math.log2(least)) / 4; // (so offsets are round numbers)
     map.whole = Math.ceil(least / quarter) * quarter;
     if (is_whole || map.view.each >= map.whole) map.view = { start: 0, each: map.whole };
     draw_map();
@@ -67,13 +79,15 @@ const part_at = (byte) => Math.min(first_after(map.ends, byte), map.kinds.length
 const end_of_view = () => Math.min(map.view.start + map.view.each * map.rows, map.size);
 const rows_of_view = () => Math.max(Math.ceil((end_of_view() - map.view.start) / map.view.each), 1);
 const is_in_view = (byte) => map.view.start <= byte && byte < end_of_view();
-const write = (pen, text, shade, x, y) => Object.assign(pen, { fillStyle: colour(shade) }).fillText(text, x, y + BAND / 2 + 1);
+const write = (pen, text, shade, x, y) => Object.assign(pen, { fillStyle: colour(shade) })
+    .fillText(text, x, y + BAND / 2 + 1);
 
 // Draws a range, cut at the ends of the rows, by to(x, width, y) for each piece, in units of the canvas.
 function over_rows(from, to, draw) {
     const { start, each } = map.view, last = Math.min(Math.ceil((to - start) / each), rows_of_view());
     for (let row = Math.max(Math.floor((from - start) / each), 0); row < last; row++) {
-        const base = start + row * each, left = Math.max(from - base, 0) / each * map.bar, right = Math.min(to - base, each) / each * map.bar;
+        const base = start + row * each, left = Math.max(from - base, 0) / each * map.bar,
+            right = Math.min(to - base, each) / each * map.bar;
         if (right > left) draw(map.left + left, right - left, TOP + row * STEP);
     }
 }
@@ -89,7 +103,8 @@ function sized_pen() {
     return pen;
 }
 
-// Draws the map. If bytes have room for their digits, these are in the bars, and the kinds in the strips below, else the other way round.
+// Draws the map. If bytes have room for their digits, these are in the bars, and the kinds in the strips below, else
+// the other way round.
 function draw_map() {
     const pen = sized_pen(), has_digits = map.inside.bytes.length && map.bar / map.view.each >= DIGITS;
     const fill = (shade, x, y, width, high) => { pen.fillStyle = shade; pen.fillRect(x, y, width, high); };
@@ -109,8 +124,10 @@ function draw_map() {
 
 // Asks the worker for what is inside the parts of the view, one view at a time, and draws the map again.
 async function ask_inside() {
-    const { view: { start, each }, bar, rows, asked } = map, columns = Math.min(each, Math.ceil(bar / 2)), least = LEAST * each / bar;
-    const view = { start, end: start + each * rows, step: each / columns, columns, least, least_named: LEAST_NAMED * each / bar };
+    const { view: { start, each }, bar, rows, asked } = map, columns = Math.min(each, Math.ceil(bar / 2)),
+        least = LEAST * each / bar;
+    const view = { start, end: start + each * rows, step: each / columns, columns, least,
+        least_named: LEAST_NAMED * each / bar };
     if (asked.is_busy || asked.key === JSON.stringify(view)) return;
     Object.assign(asked, { key: JSON.stringify(view), is_busy: true });
     const inside = await ask('inside', view);
@@ -120,14 +137,20 @@ async function ask_inside() {
     draw_map();
 }
 
-// Draws the parts. Those narrower than a pixel are drawn over the others, as a pixel. (A gap as narrow as that has the colour of what follows.)
+// Draws the parts. Those narrower than a pixel are drawn over the others, as a pixel. (A gap as narrow as that has the
+// colour of what follows.)
 function draw_parts(pen, { down, high, fill }) {
-    const shades = map.KINDS.map(colour), gap = colour('gap'), line = colour('raised'), hatch = hatching(pen, 'ink'), narrow = [];
+    const shades = map.KINDS.map(colour), gap = colour('gap'), line = colour('raised'),
+        hatch = hatching(pen, 'ink'), narrow = [];
     const { starts, ends, view, bar } = map;
     for (const i of visible_ranges(starts, ends, view.start, end_of_view(), view.each / bar)) {
-        const shade = shades[map.kinds[i]], is_hatched = map.depths[i] > 1 || map.cuts[i], is_narrow = ends[i] - starts[i] < view.each / bar;
+        const shade = shades[map.kinds[i]], is_hatched = map.depths[i] > 1 || map.cuts[i],
+            is_narrow = ends[i] - starts[i] < view.each / bar;
         over_rows(starts[i], ends[i], (x, width, y) => {
-            if (is_narrow) { narrow.push([shade ?? shades[map.kinds[i + 1]] ?? gap, Math.floor(x), y + down, 1, high]); return; }
+            if (is_narrow) {
+                narrow.push([shade ?? shades[map.kinds[i + 1]] ?? gap, Math.floor(x), y + down, 1, high]);
+                return;
+            }
             if (!shade) { fill(gap, x, y + down + high / 2 - 1, width, 2); return; }
             fill(shade, x, y + down, width, high);
             if (is_hatched) fill(hatch, x, y + down, width, high);
@@ -164,7 +187,8 @@ function draw_contents(pen, { down, high, fill }, has_digits) {
 // Writes the offsets of the rows.
 function draw_offsets(pen) {
     Object.assign(pen, { font: `11px ${colour('mono')}`, textAlign: 'right' });
-    for (let row = 0; row < rows_of_view(); row++) write(pen, hex(map.view.start + row * map.view.each), 'dim', map.left - 12, TOP + row * STEP);
+    for (let row = 0; row < rows_of_view(); row++)
+        write(pen, hex(map.view.start + row * map.view.each), 'dim', map.left - 12, TOP + row * STEP);
 }
 
 function hatching(pen, shade) {
@@ -179,23 +203,27 @@ function hatching(pen, shade) {
 function draw_segments(fill) {
     for (const [from, to, flags] of map.segments) {
         const shade = colour(flags & 1 ? 'code' : flags & 2 ? 'data' : 'constants');
-        over_rows(from, Math.min(to, map.size), (x, width, y) => fill(shade, x, y + BAND + STRIP + 1, Math.max(width, 1), 2));
+        over_rows(from, Math.min(to, map.size),
+            (x, width, y) => fill(shade, x, y + BAND + STRIP + 1, Math.max(width, 1), 2));
     }
 }
 
-// Writes the names of functions and variables, and those of the parts where none of these is, once each, if they have room.
+// Writes the names of functions and variables, and those of the parts where none of these is, once each, if they
+// have room.
 function draw_names(pen, symbols, fill) {
     const drawn = new Set(), put = (item, { x, width, y }, shade) => {
         const text = visible(item.title), wide = pen.measureText(text).width;
         if (!text || drawn.has(item) || wide > width - 10) return;
         drawn.add(item);
-        if (item.is_cut) fill(colour(item.kind), x + 2, y + 1, wide + 6, BAND - 2); // (so hatching doesn't cross the name)
+        if (item.is_cut)
+            fill(colour(item.kind), x + 2, y + 1, wide + 6, BAND - 2); // (so hatching doesn't cross the name)
         write(pen, text, shade, x + 5, y);
     };
     Object.assign(pen, { font: `11px ${colour('text')}`, textAlign: 'left' });
     symbols.forEach((piece) => put(piece.item, piece, 'on-kind'));
     map.inside.parts.forEach((part) => over_rows(part.start, part.end, (x, width, y) => {
-        const next = symbols.find((piece) => piece.y === y && piece.x + piece.width > x)?.x ?? Infinity; // (a function may begin soon)
+        const next = symbols.find((piece) => piece.y === y && piece.x + piece.width > x)?.x
+            ?? Infinity; // (a function may begin soon)
         put(part, { x, width: Math.min(width, next - x), y }, part.kind === 'header' ? 'paper' : 'on-kind');
     }));
 }
@@ -217,12 +245,15 @@ function outline(pen, { start, end }, shade, width) {
 
 // Describes what is at a byte in the line above the map, and outlines it, or describes how the map is drawn.
 async function describe(byte) {
-    const readout = get('readout'), { reader } = shown_file, found = (map.pointed = byte) === undefined ? undefined : await ask('under', byte);
+    const readout = get('readout'), { reader } = shown_file,
+        found = (map.pointed = byte) === undefined ? undefined : await ask('under', byte);
     if (map.pointed !== byte || reader !== shown_file.reader) return;
     const { title, kind, symbol, depth, content } = found ?? {}, { start, end } = symbol || found || {};
-    const words = found ? [symbol?.title, title, kind ? words_of(kind) : 'in no section or segment', `${hex(start)} to ${hex(end)}`,
-        plural(end - start, 'byte'), depth > 1 && `${depth} pieces overlap`, `${content} at ${hex(byte)}`].filter(Boolean).join(' · ')
-        : `${plural(map.kinds.length, 'part')}, drawn to scale; each row has ${number(map.view.each)} bytes; the wheel zooms, dragging moves`;
+    const words = found ? [symbol?.title, title, kind ? words_of(kind) : 'in no section or segment',
+        `${hex(start)} to ${hex(end)}`, plural(end - start, 'byte'), depth > 1 && `${depth} pieces overlap`,
+        `${content} at ${hex(byte)}`].filter(Boolean).join(' · ')
+        : `${plural(map.kinds.length, 'part')}, drawn to scale; each row has ${number(map.view.each)} bytes; `
+            + 'the wheel zooms, dragging moves';
     readout.title = put_text(readout, words).textContent;
     if (map.over?.start === start && map.over?.end === end) return;
     map.over = found && { start, end };
@@ -231,31 +262,37 @@ async function describe(byte) {
 
 /** Outlines the chosen range, or nothing, and scrolls to its first byte. */
 export function mark_range(range, title = '') {
-    map.chosen = range && range.size > 0 && range.at < map.size ? { start: range.at, end: range.at + range.size } : undefined;
+    map.chosen = range && range.size > 0 && range.at < map.size
+        ? { start: range.at, end: range.at + range.size } : undefined;
     if (!map.chosen) { draw_map(); return; }
     const { start, end } = map.chosen, canvas = get('canvas');
     if (map.at < start || map.at >= end) map.at = start;
     canvas.setAttribute('aria-valuenow', part_at(map.at));
-    canvas.setAttribute('aria-valuetext', `${visible(title)}: ${hex(start)} to ${hex(end)}, ${plural(range.size, 'byte')}`);
+    canvas.setAttribute('aria-valuetext',
+        `${visible(title)}: ${hex(start)} to ${hex(end)}, ${plural(range.size, 'byte')}`);
     if (is_in_view(map.at)) draw_map(); else move_to(map.at - map.view.each * Math.floor(map.rows / 2));
 }
 
-// Chooses the function or variable that holds a byte, if it is drawn, else the part. A step chooses one that starts there.
+// Chooses the function or variable that holds a byte, if it is drawn, else the part. A step chooses one that
+// starts there.
 function choose(byte, is_step = false) {
     map.at = byte;
-    const symbol = map.inside.symbols.find(({ start, end }) => (is_step ? start === byte : start <= byte && byte < end));
+    const symbol =
+        map.inside.symbols.find(({ start, end }) => (is_step ? start === byte : start <= byte && byte < end));
     go(symbol?.to ?? `part/${part_at(byte)}`, is_step);
 }
 
 // Chooses the next function, variable or part from a byte on, or the previous one up to it.
 function step(by, byte = map.at + by) {
-    const starts = [...map.inside.symbols.map(({ start }) => start), ...map.starts.slice(0, -1)].filter((start) => by * (start - byte) >= 0);
+    const starts = [...map.inside.symbols.map(({ start }) => start), ...map.starts.slice(0, -1)]
+        .filter((start) => by * (start - byte) >= 0);
     if (starts.length) choose(starts.reduce((best, start) => (by * (start - best) < 0 ? start : best)), true);
 }
 
 // Shows rows of a number of bytes, from a byte on.
 function move_to(start, each = map.view.each) {
-    const last = Math.max(map.size - each * (map.rows - 0.5), 0), unit = 2 ** Math.max(Math.floor(Math.log2(each / map.bar)), 0); // (a pixel)
+    const last = Math.max(map.size - each * (map.rows - 0.5), 0),
+        unit = 2 ** Math.max(Math.floor(Math.log2(each / map.bar)), 0); // (a pixel)
     map.view = { start: each === map.whole ? 0 : Math.round(Math.min(Math.max(start, 0), last) / unit) * unit, each };
     draw_map();
     describe(undefined);
@@ -263,7 +300,8 @@ function move_to(start, each = map.view.each) {
 
 const move_by = (rows) => move_to(map.view.start + rows * map.view.each);
 
-// Zooms, so that a byte stays where it is: the one below the pointer, the chosen one if it is shown, or that in the middle.
+// Zooms, so that a byte stays where it is: the one below the pointer, the chosen one if it is shown, or that in
+// the middle.
 function zoom(by, byte = is_in_view(map.at) ? map.at : (map.view.start + end_of_view()) / 2) {
     const { start, each } = map.view, next = Math.min(Math.max(each * by, FEWEST), map.whole);
     move_to(byte - (byte - start) * next / each, next);
@@ -271,18 +309,21 @@ function zoom(by, byte = is_in_view(map.at) ? map.at : (map.view.start + end_of_
 
 function byte_at({ clientX, clientY }) {
     const canvas = get('canvas'), { left, top } = canvas.getBoundingClientRect(), border = canvas.clientTop;
-    const row = Math.floor((clientY - top - border - TOP + 3) / STEP), part = (clientX - left - border - map.left) / map.bar;
+    const row = Math.floor((clientY - top - border - TOP + 3) / STEP),
+        part = (clientX - left - border - map.left) / map.bar;
     const byte = Math.floor(map.view.start + (row + part) * map.view.each);
     return row >= 0 && row < rows_of_view() && part >= 0 && part < 1 && byte < map.size ? byte : undefined;
 }
 
 const KEYS = {
-    ArrowRight: () => step(1), ArrowLeft: () => step(-1), ArrowDown: () => step(1, map.at + map.view.each), Home: () => step(1, 0),
-    ArrowUp: () => step(-1, map.at - map.view.each), End: () => step(-1, map.size), PageDown: () => move_by(map.rows - 1),
-    PageUp: () => move_by(1 - map.rows), 0: () => zoom(Infinity), '+': () => zoom(0.5), '-': () => zoom(2),
+    ArrowRight: () => step(1), ArrowLeft: () => step(-1), ArrowDown: () => step(1, map.at + map.view.each),
+    Home: () => step(1, 0), ArrowUp: () => step(-1, map.at - map.view.each), End: () => step(-1, map.size),
+    PageDown: () => move_by(map.rows - 1), PageUp: () => move_by(1 - map.rows), 0: () => zoom(Infinity),
+    '+': () => zoom(0.5), '-': () => zoom(2),
 };
 
-// What the keyboard, the wheel and the pointer do. The pointer moves the map by whole rows and by parts of one, or chooses what is below it.
+// What the keyboard, the wheel and the pointer do. The pointer moves the map by whole rows and by parts of one, or
+// chooses what is below it.
 let turned = 0, from;
 const ACTS = {
     keydown(event) {
@@ -321,8 +362,11 @@ const ACTS = {
 
 export function set_up_map() {
     for (const [name, act] of Object.entries(ACTS)) get('canvas').addEventListener(name, act, { passive: false });
-    for (const [id, pressed] of [['in', '+'], ['out', '-'], ['whole', '0']]) get(id).addEventListener('click', KEYS[pressed]);
-    new ResizeObserver(() => { if (get('canvas').clientWidth !== map.wide) fit(); }).observe(get('canvas').parentElement);
+    for (const [id, pressed] of [['in', '+'], ['out', '-'], ['whole', '0']])
+        get(id).addEventListener('click', KEYS[pressed]);
+    new ResizeObserver(() => { if (get('canvas').clientWidth !== map.wide) fit(); })
+        .observe(get('canvas').parentElement);
     addEventListener('resize', fit);
-    matchMedia('(prefers-color-scheme: dark)').addEventListener('change', () => { if (shown_file.summary) { show_legend(); draw_map(); } });
+    matchMedia('(prefers-color-scheme: dark)')
+        .addEventListener('change', () => { if (shown_file.summary) { show_legend(); draw_map(); } });
 }

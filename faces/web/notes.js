@@ -7,34 +7,42 @@ import { hex, name_of, NAME, once } from './text.js';
 const MOST_NOTES = 100000, MOST_REFUSALS = 20, NHDR = 12;
 // Returns the sections or segments that hold notes.
 const holders = (by) => (by === 'sections'
-    ? sections().filter(({ section }) => section.sh_type === goblin.SHT_NOTE)
-        .map(({ index, section }) => ({ index, title: called(index, section), start: section.sh_offset, item: section }))
-    : segments().filter(({ segment }) => segment.p_type === goblin.PT_NOTE)
-        .map(({ index, segment }) => ({ index, title: `segment ${index}`, start: segment.p_offset, item: segment })));
+    ? sections().filter(({ section }) => section.sh_type === goblin.SHT_NOTE).map(({ index, section }) =>
+        ({ index, title: called(index, section), start: section.sh_offset, item: section }))
+    : segments().filter(({ segment }) => segment.p_type === goblin.PT_NOTE).map(({ index, segment }) =>
+        ({ index, title: `segment ${index}`, start: segment.p_offset, item: segment })));
 
 // Returns a note with its name as text, without the zero byte that ends it. The name may be of any bytes and any size.
 function named({ n_type, name_range, desc_range, next }) {
     const [offset, size] = [Number(name_range.offset), Number(name_range.size)], { content } = file;
     const end = offset + (size > 0 && content[offset + size - 1] === 0 ? size - 1 : size);
-    return { n_type, name_range, desc_range, next, name: name_of(content.subarray(offset, Math.min(end, offset + NAME + 1))) };
+    return { n_type, name_range, desc_range, next,
+        name: name_of(content.subarray(offset, Math.min(end, offset + NAME + 1))) };
 }
 
 // The parts of a note that are refused.
-const PARTS = { [goblin.Item.NOTE_HEADER]: 'header', [goblin.Item.NOTE_NAME]: 'name', [goblin.Item.NOTE_DESC]: 'descriptor' };
+const PARTS = { [goblin.Item.NOTE_HEADER]: 'header', [goblin.Item.NOTE_NAME]: 'name',
+    [goblin.Item.NOTE_DESC]: 'descriptor' };
 
-/** Returns the notes of each section or segment up to the first refused one, at most a number: each with its type's name and offset. */
+/**
+ * Returns the notes of each section or segment up to the first refused one, at most a number: each with its type's name
+ * and offset.
+ */
 export const notes_of = once((by) => {
     const items = [], refusals = [];
     let is_cut = false;
     for (const holder of holders(by)) {
-        const left = MOST_NOTES - items.length, { notes, refusal: error } = file.elf.readable_notes_bytes(holder.item, left + 1);
+        const left = MOST_NOTES - items.length,
+            { notes, refusal: error } = file.elf.readable_notes_bytes(holder.item, left + 1);
         for (const note of notes.slice(0, left)) {
-            items.push({ holder, note: named(note), start: Number(note.name_range.offset) - NHDR, end: Number(note.next) });
+            items.push({ holder, note: named(note), start: Number(note.name_range.offset) - NHDR,
+                end: Number(note.next) });
         }
         is_cut = notes.length > left;
         if (error) {
             const next = Number(notes.at(-1)?.next ?? holder.start);
-            const marks = next < file.content.length ? [{ at: next, size: Math.min(NHDR, file.content.length - next) }] : [];
+            const marks = next < file.content.length
+                ? [{ at: next, size: Math.min(NHDR, file.content.length - next) }] : [];
             const part = PARTS[error.item] ? `the ${PARTS[error.item]} of ` : '';
             refusals.push(refusal(error, `${part}the note at ${hex(next)}, of ${holder.title}`, marks));
         }
@@ -44,8 +52,8 @@ export const notes_of = once((by) => {
     return { items, refusals, is_cut };
 });
 
-// Adds to each note of a core file its thread. A PRSTATUS has the thread's number. The notes up to the next one are of the same thread, but
-// for those of the process.
+// Adds to each note of a core file its thread. A PRSTATUS has the thread's number. The notes up to the next one are of
+// the same thread, but for those of the process.
 function name_threads(items) {
     if (file.elf.header.e_type !== goblin.ET_CORE) return;
     let thread;
@@ -58,7 +66,8 @@ function name_threads(items) {
     }
 }
 const OWNERS = new Set(['CORE', 'LINUX', 'GDB']);
-const OF_PROCESS = new Set(['PRPSINFO', 'AUXV', 'FILE', 'SIGINFO', 'PLATFORM', 'UTSNAME', 'GDB_TDESC', 'X86_XSAVE_LAYOUT', 'VMCOREDD']);
+const OF_PROCESS = new Set(['PRPSINFO', 'AUXV', 'FILE', 'SIGINFO', 'PLATFORM', 'UTSNAME', 'GDB_TDESC',
+    'X86_XSAVE_LAYOUT', 'VMCOREDD']);
 
 /** Returns the title of a note. */
 export function title_of({ note, thread }) {

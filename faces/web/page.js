@@ -28,7 +28,8 @@ function tab_of(place) {
     const [name, first, second] = place.split('/');
     if (name === 'header') return { name, field: first };
     if (!is_list(name)) return { name: name === 'sizes' ? name : 'summary' };
-    if (name === 'notes') return { name, of: ['sections', 'segments'].includes(first) ? first : undefined, index: whole(second) };
+    if (name === 'notes')
+        return { name, of: ['sections', 'segments'].includes(first) ? first : undefined, index: whole(second) };
     const of = /^DT_[A-Z]+$/.test(first) ? first : whole(first);
     if (name === 'symbols' || name === 'relocations') return { name, of, index: whole(second) };
     return { name, index: whole(first) };
@@ -44,7 +45,8 @@ async function item_of({ name, of, field, index }) {
 // Returns the text of an encoded one, or the text itself if it is none.
 const decoded = (text) => { try { return decodeURIComponent(text); } catch { return text; } };
 
-// Returns the location of a section or symbol that a location names, as `symbol=main`: so a link survives that a file is built anew.
+// Returns the location of a section or symbol that a location names, as `symbol=main`: so a link survives that a file
+// is built anew.
 async function found_by_name(place) {
     const [, kind, name] = /^(section|symbol)=(.+)$/.exec(place) ?? [];
     return kind ? await ask('named', [kind, decoded(name)]) ?? 'summary' : place;
@@ -75,12 +77,14 @@ async function show_place(given) {
 }
 
 // Returns what the side shows while nothing is chosen.
-const unchosen = () => ({ title: 'ELF header', kind: 'header', what: 'at the start of the file', blocks: [header_block('bytes')] });
+const unchosen = () =>
+    ({ title: 'ELF header', kind: 'header', what: 'at the start of the file', blocks: [header_block('bytes')] });
 
 // Returns why a file is not read, or nothing.
 function why_unread({ size }) {
     if (size === 0) return 'The file is empty: it has 0 bytes.';
-    return size > LIMIT ? `The file has ${number(size)} bytes. This page reads files of at most ${LIMIT_WORDS}.` : undefined;
+    return size > LIMIT
+        ? `The file has ${number(size)} bytes. This page reads files of at most ${LIMIT_WORDS}.` : undefined;
 }
 
 let loading;
@@ -131,8 +135,8 @@ function show_part(part, file, ...words) {
     get('trouble').hidden = true;
     document.body.classList.remove('chosen', 'wide');
     document.title = `${visible(file.name)}: goblin`;
-    get('file').replaceChildren(put_text(make('b', { title: visible(file.name) }), file.name), make('span', {}, plural(file.size, 'byte')),
-        ...words.map((word) => make('span', {}, word)));
+    get('file').replaceChildren(put_text(make('b', { title: visible(file.name) }), file.name),
+        make('span', {}, plural(file.size, 'byte')), ...words.map((word) => make('span', {}, word)));
 }
 
 // Replaces the previous file, whose worker ends.
@@ -151,11 +155,13 @@ function trouble(file, text) {
 }
 
 // What a file is that starts with some characters, each a byte, and is no ELF file.
-const OTHERS = [['MZ', 'a program for Windows or DOS (PE)'], ['\xcf\xfa\xed\xfe', 'a Mach-O file'], ['\xce\xfa\xed\xfe', 'a Mach-O file'],
-    ['\xfe\xed\xfa\xce', 'a Mach-O file'], ['\xfe\xed\xfa\xcf', 'a Mach-O file'], ['\xca\xfe\xba\xbe', 'a Mach-O file or a Java class'],
-    ['!<arch>\n', 'an archive (ar): its members may be ELF files'], ['!<thin>\n', 'a thin archive (ar)'], ['\x1f\x8b', 'compressed by gzip'],
-    ['BZh', 'compressed by bzip2'], ['\xfd7zXZ\0', 'compressed by xz'], ['\x28\xb5\x2f\xfd', 'compressed by zstd'], ['PK\x03\x04', 'a zip archive'],
-    ['#!', 'a script'], ['\0asm', 'a WebAssembly module'], ['BC\xc0\xde', 'LLVM bitcode']];
+const OTHERS = [['MZ', 'a program for Windows or DOS (PE)'], ['\xcf\xfa\xed\xfe', 'a Mach-O file'],
+    ['\xce\xfa\xed\xfe', 'a Mach-O file'], ['\xfe\xed\xfa\xce', 'a Mach-O file'], ['\xfe\xed\xfa\xcf', 'a Mach-O file'],
+    ['\xca\xfe\xba\xbe', 'a Mach-O file or a Java class'],
+    ['!<arch>\n', 'an archive (ar): its members may be ELF files'], ['!<thin>\n', 'a thin archive (ar)'],
+    ['\x1f\x8b', 'compressed by gzip'], ['BZh', 'compressed by bzip2'], ['\xfd7zXZ\0', 'compressed by xz'],
+    ['\x28\xb5\x2f\xfd', 'compressed by zstd'], ['PK\x03\x04', 'a zip archive'], ['#!', 'a script'],
+    ['\0asm', 'a WebAssembly module'], ['BC\xc0\xde', 'LLVM bitcode']];
 
 async function show_refusal(file, reader, { refused, start }) {
     replace(reader, file, undefined);
@@ -188,7 +194,10 @@ async function show_file(file, reader, summary) {
 }
 
 function set_up_files() {
-    get('pick').addEventListener('change', ({ target }) => { if (target.files[0]) open(target.files[0]); target.value = ''; });
+    get('pick').addEventListener('change', ({ target }) => {
+        if (target.files[0]) open(target.files[0]);
+        target.value = '';
+    });
     get('example').addEventListener('click', () => open(new File([bytes_of('example-file')], 'example')));
     let inside = 0;
     const over = (by) => { inside = Math.max(inside + by, 0); document.body.classList.toggle('over', inside > 0); };

@@ -1,12 +1,14 @@
 // The pieces of the file, and the parts that the ends of pieces divide it into.
 import * as goblin from './goblin.js';
-import { called, file, is_debug, RELOCATION_TYPES, section_at, sections, segments, size_of, SYMBOL_TYPES, read_or } from './file.js';
+import { called, file, is_debug, RELOCATION_TYPES, section_at, sections, segments, size_of, SYMBOL_TYPES,
+    read_or } from './file.js';
 import { segment_type } from './labels.js';
 import { notes_of, title_of } from './notes.js';
 import { first_after } from './spans.js';
 import { count, hex, once } from './text.js';
 
-export const KINDS = ['header', 'tables', 'code', 'data', 'constants', 'names', 'relocations', 'notes', 'debug', 'other'];
+export const KINDS = ['header', 'tables', 'code', 'data', 'constants', 'names', 'relocations',
+    'notes', 'debug', 'other'];
 
 export function kind_of(section) {
     const { sh_type, sh_flags } = section;
@@ -26,23 +28,28 @@ export function kind_of_segment({ p_type, p_flags }) {
 
 export const title_of_segment = (index, { p_type }) => `segment ${index}, ${segment_type(p_type)}`;
 
-// Collects pieces. Each is cut at the end of the file. Those that are cut are collected apart, and so are those that begin past the end.
+// Collects pieces. Each is cut at the end of the file. Those that are cut are collected apart, and so are those that
+// begin past the end.
 function collector() {
     const found = [], cut = [], past = [];
     const add = (offset, size, given) => {
-        const start = Number(offset), whole_end = start + Number(size), end = Math.min(whole_end, file.content.length), is_cut = end < whole_end;
-        if (whole_end > start) (start >= end ? past : is_cut ? cut : found).push({ ...given, start, end, whole_end, size, is_cut });
+        const start = Number(offset), whole_end = start + Number(size), end = Math.min(whole_end, file.content.length),
+            is_cut = end < whole_end;
+        if (whole_end > start)
+            (start >= end ? past : is_cut ? cut : found).push({ ...given, start, end, whole_end, size, is_cut });
     };
     return { found, cut, past, add };
 }
 
-// Collects the pieces that are drawn first: the header, the tables of headers, and the bytes of sections, also if the library refuses them.
+// Collects the pieces that are drawn first: the header, the tables of headers, and the bytes of sections, also if the
+// library refuses them.
 function pieces_of_sections() {
     const { add, ...collected } = collector();
     const { e_phoff, e_phnum, e_shoff, e_shnum } = file.elf.header;
     add(0, size_of('header'), { title: 'ELF header', kind: 'header', to: 'header' });
     const segments = read_or(e_phnum, () => file.elf.program_headers().length);
-    if (segments) add(e_phoff, segments * size_of('segment'), { title: 'Program headers', kind: 'tables', to: 'segments' });
+    if (segments)
+        add(e_phoff, segments * size_of('segment'), { title: 'Program headers', kind: 'tables', to: 'segments' });
     const length = read_or(e_shnum, () => file.elf.section_headers().length);
     if (length) add(e_shoff, length * size_of('section'), { title: 'Section headers', kind: 'tables', to: 'sections' });
     for (const { index, section } of sections()) {
@@ -52,20 +59,23 @@ function pieces_of_sections() {
     return collected;
 }
 
-// Collects the pieces that are drawn elsewhere: segments, and their notes above them. In a file with sections, what a loaded segment has
-// outside of them is mostly padding, and neither code nor data.
+// Collects the pieces that are drawn elsewhere: segments, and their notes above them. In a file with sections, what a
+// loaded segment has outside of them is mostly padding, and neither code nor data.
 function pieces_of_segments() {
-    const { add, ...collected } = collector(), has_sections = sections().some(({ section }) => section.sh_type !== goblin.SHT_NULL);
+    const { add, ...collected } = collector(),
+        has_sections = sections().some(({ section }) => section.sh_type !== goblin.SHT_NULL);
     for (const { index, segment } of segments()) {
-        const { p_type, p_offset, p_filesz } = segment, kind = has_sections && p_type === goblin.PT_LOAD ? 'other' : kind_of_segment(segment);
+        const { p_type, p_offset, p_filesz } = segment,
+            kind = has_sections && p_type === goblin.PT_LOAD ? 'other' : kind_of_segment(segment);
         add(p_offset, p_filesz, { title: title_of_segment(index, segment), kind, to: `segments/${index}` });
     }
-    notes_of('segments').items.forEach((item, index) => add(item.start, Math.min(item.end, file.content.length) - item.start,
-        { title: title_of(item), kind: 'notes', to: `notes/segments/${index}` }));
+    notes_of('segments').items.forEach((item, index) => add(item.start, Math.min(item.end, file.content.length)
+        - item.start, { title: title_of(item), kind: 'notes', to: `notes/segments/${index}` }));
     return collected;
 }
 
-// The pieces that hold a byte, for ascending bytes. The one that starts last is on top, and of those with the same start the shortest.
+// The pieces that hold a byte, for ascending bytes. The one that starts last is on top, and of those with the same
+// start the shortest.
 class Cover {
     #in_order; #ends; #stack = []; #opened = 0; #closed = 0;
 
@@ -86,7 +96,10 @@ class Cover {
 const ends_of = (pieces) => pieces.flatMap(({ start, end }) => [start, end]);
 
 // A part ends where a piece of sections ends, and where another piece of segments is drawn.
-/** Returns the parts: their starts and ends, the pieces that are drawn, and how many of sections lie there; and the pieces past the end. */
+/**
+ * Returns the parts: their starts and ends, the pieces that are drawn, and how many of sections lie there; and the
+ * pieces past the end.
+ */
 export const parts = once(() => {
     const of_sections = pieces_of_sections(), of_segments = pieces_of_segments(), size = file.content.length;
     const first = of_sections.found, second = [...of_sections.cut, ...of_segments.found, ...of_segments.cut];
@@ -101,14 +114,16 @@ export const parts = once(() => {
         depths.push(depth);
     }
     starts.push(size);
-    return { starts, ends: starts.slice(1), tops, depths, first, second, past: [...of_sections.past, ...of_segments.past] };
+    return { starts, ends: starts.slice(1), tops, depths, first, second,
+        past: [...of_sections.past, ...of_segments.past] };
 });
 
 /** Returns a piece with its title. That of a piece that is cut says how much of it is in the file. */
 export function titled({ section, title = called(section, section_at(section)), ...piece }) {
     const { start, end, size, is_cut } = piece;
     if (is_cut && start >= end) return { ...piece, title: `${title} at ${hex(start)}` };
-    return { ...piece, title: is_cut ? `${title} (cut: ${count(end - start)} of ${count(size)} bytes are here)` : title };
+    return { ...piece,
+        title: is_cut ? `${title} (cut: ${count(end - start)} of ${count(size)} bytes are here)` : title };
 }
 
 // How many pieces of a part are named at most.
@@ -118,7 +133,8 @@ const MOST_NAMED = 8;
 export function pieces_at(index) {
     const { starts, ends, tops, first, second, depths } = parts(), top = tops[index];
     const is_other = (piece) => piece !== top && piece.start <= starts[index] && ends[index] <= piece.end;
-    return [...(top ? [top] : []), ...(depths[index] > 0 ? first : second).filter(is_other).slice(0, MOST_NAMED)].map((piece) => titled(piece));
+    return [...(top ? [top] : []), ...(depths[index] > 0 ? first : second).filter(is_other).slice(0, MOST_NAMED)]
+        .map((piece) => titled(piece));
 }
 
 /** Returns the part that holds a byte. */

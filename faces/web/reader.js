@@ -1,4 +1,5 @@
-// The workers, each of which reads one file. The page shows what the current one sends. A new one replaces it once its file is read.
+// The workers, each of which reads one file. The page shows what the current one sends. A new one replaces it once its
+// file is read.
 import { bytes_of, get } from './dom.js';
 
 // A module with only a 64-bit memory.

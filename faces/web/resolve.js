@@ -1,7 +1,8 @@
 // Resolves symbols, relocations and addresses: to sections, segments, symbols and bytes of the file.
 import * as goblin from './goblin.js';
 import { demangled } from './demangle.js';
-import { called, file, name_at, read_or, section_at, sections, segment_of, segments, SYMBOL_TYPES, symbol_tables } from './file.js';
+import { called, file, name_at, read_or, section_at, sections, segment_of, segments, SYMBOL_TYPES,
+    symbol_tables } from './file.js';
 import { hex, once } from './text.js';
 
 /** Reports whether the file has addresses. In an object file they are offsets in sections. */
@@ -13,15 +14,16 @@ export const symtab_at = once((index) => {
     return section?.strtab ? Object.assign(symtab, { strtab: section.strtab }) : symtab;
 });
 // Returns the section with the indices of sections from 65,280 on, for the symbols of a table.
-const extended_of = once((table) =>
-    sections().find(({ section }) => section.sh_type === goblin.SHT_SYMTAB_SHNDX && section.sh_link === table)?.section);
+const extended_of = once((table) => sections()
+    .find(({ section }) => section.sh_type === goblin.SHT_SYMTAB_SHNDX && section.sh_link === table)?.section);
 
 /** Returns the index of a symbol's section, or nothing. */
 export function section_of_symbol(table, index, { st_shndx }) {
     if (st_shndx === goblin.SHN_XINDEX) {
         const indices = extended_of(table);
         if (!indices || BigInt(index) * 4n + 4n > indices.sh_size) return undefined;
-        return Number(read_or(undefined, () => file.elf.number(indices.sh_offset + BigInt(index) * 4n, 4)) ?? 0) || undefined;
+        return Number(read_or(undefined, () => file.elf.number(indices.sh_offset + BigInt(index) * 4n, 4)) ?? 0)
+            || undefined;
     }
     return st_shndx === 0n || st_shndx >= goblin.SHN_LORESERVE ? undefined : Number(st_shndx);
 }
@@ -42,19 +44,25 @@ export function has_mangled(table) {
     return false;
 }
 
-/** Returns the address of a symbol. (For ARM the lowest bit marks a function in Thumb code. Thread-local symbols have offsets instead.) */
+/**
+ * Returns the address of a symbol. (For ARM the lowest bit marks a function in Thumb code. Thread-local symbols have
+ * offsets instead.)
+ */
 export function address_of_symbol({ st_value, st_info }) {
     const type = goblin.st_type(st_info);
     if (file.elf.header.e_machine === goblin.EM_ARM && type === goblin.STT_FUNC) return st_value & ~1n;
-    return type === goblin.STT_TLS && has_addresses() ? (segment_of(goblin.PT_TLS)?.segment.p_vaddr ?? 0n) + st_value : st_value;
+    return type === goblin.STT_TLS && has_addresses()
+        ? (segment_of(goblin.PT_TLS)?.segment.p_vaddr ?? 0n) + st_value : st_value;
 }
 
 // How many bytes are shown of a symbol of unknown size, and of a relocation, whose number of bytes depends on its type.
 const UNSIZED = 16n, PLACE = 8n;
 
-// Returns bytes at an address, or in an object file at an offset of a section, cut at the section's end; or nothing if the file lacks them.
+// Returns bytes at an address, or in an object file at an offset of a section, cut at the section's end; or nothing if
+// the file lacks them.
 function bytes_at(of, address, size) {
-    const section = of === undefined ? undefined : section_at(of), from = address - (has_addresses() ? section?.sh_addr ?? 0n : 0n);
+    const section = of === undefined ? undefined : section_at(of),
+        from = address - (has_addresses() ? section?.sh_addr ?? 0n : 0n);
     if (!section) {
         const at = has_addresses() ? offset_of_address(address) : undefined;
         return at === undefined ? undefined : { at, size: Math.min(Number(size), file.content.length - at) };
@@ -78,19 +86,21 @@ export function place_of_relocation({ sh_info }, { r_offset }) {
 
 const holds = (start, size, address) => start <= address && address < start + size;
 /** Returns the loaded segments that hold an address. */
-export const segments_of_address = (address) => (has_addresses()
-    ? segments().filter(({ segment }) => segment.p_type === goblin.PT_LOAD && holds(segment.p_vaddr, segment.p_memsz, address)) : []);
+export const segments_of_address = (address) => (has_addresses() ? segments().filter(({ segment }) =>
+    segment.p_type === goblin.PT_LOAD && holds(segment.p_vaddr, segment.p_memsz, address)) : []);
 
 /** Returns the index of the section that holds an address, or nothing. */
 export function section_of_address(address) {
-    const is_in = ({ sh_flags, sh_type }) => sh_flags & goblin.SHF_ALLOC && !(sh_type === goblin.SHT_NOBITS && sh_flags & goblin.SHF_TLS);
+    const is_in = ({ sh_flags, sh_type }) => sh_flags & goblin.SHF_ALLOC
+        && !(sh_type === goblin.SHT_NOBITS && sh_flags & goblin.SHF_TLS);
     const found = sections().find(({ section }) => is_in(section) && holds(section.sh_addr, section.sh_size, address));
     return has_addresses() ? found?.index : undefined;
 }
 
 /** Returns the offset of the byte that is loaded at an address, or nothing. */
 export function offset_of_address(address) {
-    const segment = segments_of_address(address).find(({ segment: { p_vaddr, p_filesz } }) => holds(p_vaddr, p_filesz, address))?.segment;
+    const segment = segments_of_address(address)
+        .find(({ segment: { p_vaddr, p_filesz } }) => holds(p_vaddr, p_filesz, address))?.segment;
     const index = section_of_address(address), section = index === undefined ? undefined : section_at(index);
     const at = segment ? segment.p_offset + address - segment.p_vaddr
         : section && section.sh_type !== goblin.SHT_NOBITS ? section.sh_offset + address - section.sh_addr : undefined;
@@ -99,7 +109,8 @@ export function offset_of_address(address) {
 
 /** Returns the address at which a byte of the file is loaded, or nothing. */
 export function address_of_offset(offset) {
-    const at = BigInt(offset), is_there = ({ p_type, p_offset, p_filesz }) => p_type === goblin.PT_LOAD && holds(p_offset, p_filesz, at);
+    const at = BigInt(offset),
+        is_there = ({ p_type, p_offset, p_filesz }) => p_type === goblin.PT_LOAD && holds(p_offset, p_filesz, at);
     const of = has_addresses() ? segments().find(({ segment }) => is_there(segment))?.segment : undefined;
     return of && of.p_vaddr + at - of.p_offset;
 }
@@ -120,6 +131,7 @@ export function symbol_of_address(address) {
 /** Returns a name with a distance from its start. */
 export const with_offset = (name, from) => (from > 0n ? `${name} + ${hex(from)}` : name);
 export const to_section = (index) => ({ text: called(index), to: `sections/${index}` });
-export const to_symbol = ({ table, index, name, from = 0n }) => ({ text: with_offset(name, from), to: `symbols/${table}/${index}` });
+export const to_symbol = ({ table, index, name, from = 0n }) =>
+    ({ text: with_offset(name, from), to: `symbols/${table}/${index}` });
 export const to_address = (address) => ({ text: hex(address), to: `address/${hex(address)}` });
 export const to_offset = (offset) => ({ text: hex(offset), to: `offset/${hex(offset)}` });

@@ -1,4 +1,5 @@
-// The locations of the page, in the address bar: `sections/5`, `symbols/6/12` (symbol 12 of section 6), `offset/0x2020`.
+// The locations of the page, in the address bar: `sections/5`, `symbols/6/12` (symbol 12 of section 6),
+// `offset/0x2020`.
 
 let show = () => {};
 
@@ -20,5 +21,6 @@ export function go(place, is_replaced = false) {
 /** Writes a location that is already shown into the address bar. */
 export function note_place(place, is_replaced = false) {
     if (place === current_place()) return;
-    history[is_replaced ? 'replaceState' : 'pushState']({}, '', place ? `#${place}` : location.pathname + location.search);
+    history[is_replaced ? 'replaceState' : 'pushState']({}, '',
+        place ? `#${place}` : location.pathname + location.search);
 }

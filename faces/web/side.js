@@ -11,7 +11,8 @@ export const link_to = ({ text, to }) => put_text(make('a', { href: `#${to}` }),
 // Returns the cell of a field: its value, its meaning and its links.
 function value_of({ value, meaning, links }) {
     const said = meaning && put_text(make('span', { class: 'meaning' }), meaning);
-    return make('td', {}, ...joined([value && put_text(make('span'), value), said, ...links.map(link_to)].filter((part) => part)));
+    return make('td', {},
+        ...joined([value && put_text(make('span'), value), said, ...links.map(link_to)].filter((part) => part)));
 }
 
 /** Returns the row of a field, with a name or an element at its head, and perhaps other cells. */
@@ -19,12 +20,14 @@ export const row_of = (field, given = {}, head = field.name, ...cells) =>
     make('tr', given, make('th', { scope: 'row' }, head), value_of(field), ...cells);
 
 // Returns the width that bytes have. In a low window they are beside the fields.
-const room = () => (matchMedia('(max-height: 600px) and (min-width: 561px)').matches ? SIDE_WIDTH : get('chosen').clientWidth);
+const room = () =>
+    (matchMedia('(max-height: 600px) and (min-width: 561px)').matches ? SIDE_WIDTH : get('chosen').clientWidth);
 
 async function content_of({ at, size, refused, fields }) {
     if (refused) return [await refusal_of(refused, ask, SIDE_BYTES)];
     const lies = at === undefined ? 'no bytes in the file' : `${hex(at)} to ${hex(at + size)}, ${plural(size, 'byte')}`;
-    return [make('p', { class: 'lies' }, lies), ...(size > 0 ? [hex_view(at, size, shown_each = bytes_in(room()), fields)] : [])];
+    return [make('p', { class: 'lies' }, lies),
+        ...(size > 0 ? [hex_view(at, size, shown_each = bytes_in(room()), fields)] : [])];
 }
 
 // Returns the view of the chosen block of bytes, at first the first one.
@@ -32,7 +35,8 @@ async function bytes_box(blocks) {
     let current;
     const content = make('div', { class: 'content' });
     const copying = button('Copy hex', () => copy_hex(current.at, current.size), { class: 'copy' });
-    const choices = blocks.map((block) => button(visible(block.word), () => show(block), { title: visible(block.word) }));
+    const choices =
+        blocks.map((block) => button(visible(block.word), () => show(block), { title: visible(block.word) }));
     const show = async (block) => {
         current = block;
         choices.forEach((choice, i) => choice.setAttribute('aria-pressed', blocks[i] === block));
@@ -42,7 +46,8 @@ async function bytes_box(blocks) {
     };
     shown_again = () => show(current);
     await show(blocks[0]);
-    return { box: make('div', { class: 'bytes' }, make('div', { class: 'blocks' }, ...choices, copying), content), show };
+    return { box: make('div', { class: 'bytes' }, make('div', { class: 'blocks' }, ...choices, copying), content),
+        show };
 }
 
 // How many bytes a row has, and what shows the bytes again once the width has changed.
@@ -58,7 +63,8 @@ export function set_up_side() {
 function widening() {
     const { classList } = document.body;
     const widen = ({ target }) => { target.setAttribute('aria-pressed', classList.toggle('wide')); shown_again?.(); };
-    return button('Wide', widen, { class: 'copy widen', 'aria-pressed': `${classList.contains('wide')}`, title: 'in place of the list' });
+    return button('Wide', widen,
+        { class: 'copy widen', 'aria-pressed': `${classList.contains('wide')}`, title: 'in place of the list' });
 }
 
 let asked = 0;
@@ -70,14 +76,18 @@ export async function show_side({ title, what, kind, link, fields = [], blocks =
     const sub = put_text(make('p', { class: 'sub' }), what);
     if (kind) sub.prepend(dot(kind));
     sub.append(widening());
-    if (link) sub.append(button('Copy link', () => copy(`${location.href.split('#')[0]}#${link}`, 'a link by the name'), { class: 'copy' }));
+    if (link) sub.append(button('Copy link', () => copy(`${location.href.split('#')[0]}#${link}`, 'a link by the name'),
+        { class: 'copy' }));
     // (the name of a field of a record shows its bytes)
     const rows = fields.filter(Boolean).map((field) => {
         const tint = record?.fields.findIndex(({ name }) => name === field.name) ?? -1;
         if (tint < 0) return row_of(field);
-        const head = button(field.name, () => bytes.show(record).then(() => light(field.name)), { title: 'show its bytes' });
+        const head = button(field.name, () => bytes.show(record).then(() => light(field.name)),
+            { title: 'show its bytes' });
         return row_of(field, { 'data-field': field.name, 'data-tint': tint % 4 }, head);
     });
-    const table = rows.length ? [make('div', { class: 'list' }, make('table', { class: 'fields' }, make('tbody', {}, ...rows)))] : [];
-    get('chosen').replaceChildren(put_text(make('h2', { tabindex: '-1' }), title), sub, ...table, ...(bytes ? [bytes.box] : []));
+    const table = rows.length
+        ? [make('div', { class: 'list' }, make('table', { class: 'fields' }, make('tbody', {}, ...rows)))] : [];
+    get('chosen')
+        .replaceChildren(put_text(make('h2', { tabindex: '-1' }), title), sub, ...table, ...(bytes ? [bytes.box] : []));
 }

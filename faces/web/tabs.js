@@ -19,7 +19,8 @@ function sum_of({ refused, found, all }) {
     return all > found.length ? `${number(known)}+` : number(known);
 }
 
-// Returns the number of notes of sections, or of segments if these have more, as text, with `+` if there are more, or `refused`.
+// Returns the number of notes of sections, or of segments if these have more, as text, with `+` if there are more,
+// or `refused`.
 function notes_sum({ sections, segments }) {
     if (sections.length === undefined && !segments.length) return 'refused';
     const { length, refusals, is_cut } = (segments.length ?? 0) > (sections.length ?? 0) ? segments : sections;
@@ -37,14 +38,16 @@ export function show_tabs() {
         ['layout', 'Layout', number(summary.map.kinds.length)], ['sizes', 'Sizes', ''],
     ];
     get('tabs').replaceChildren(...list.map(([name, title, count]) => make('button', {
-        type: 'button', role: 'tab', id: `tab-${name}`, 'aria-controls': 'panel', 'aria-selected': 'false', tabindex: '-1',
+        type: 'button', role: 'tab', id: `tab-${name}`, 'aria-controls': 'panel',
+        'aria-selected': 'false', tabindex: '-1',
         onclick: () => go(name),
     }, `${title} `, make('span', { class: count === 'refused' ? 'bad' : '' }, count))));
 }
 
 export function set_up_tabs() {
     get('tabs').addEventListener('keydown', (event) => {
-        const all = [...get('tabs').children], at = all.findIndex((tab) => tab.getAttribute('aria-selected') === 'true');
+        const all = [...get('tabs').children],
+            at = all.findIndex((tab) => tab.getAttribute('aria-selected') === 'true');
         const next = { ArrowRight: at + 1, ArrowLeft: at - 1 + all.length, Home: 0, End: all.length - 1 }[event.key];
         if (next === undefined) return;
         event.preventDefault();
@@ -94,11 +97,13 @@ async function summary_panel() {
         if (fact.is_own) row.lastChild.append(' ', mark());
         return row;
     };
-    const group = ([title, rows]) => make('section', {}, make('h3', {}, title), make('table', { class: 'fields', 'aria-label': title },
-        make('tbody', {}, ...rows.map(line))));
+    const group = ([title, rows]) => make('section', {}, make('h3', {}, title),
+        make('table', { class: 'fields', 'aria-label': title }, make('tbody', {}, ...rows.map(line))));
     const said = make('p', { class: 'others' }, 'Facts rest on fields that proved calls return. Those marked ', mark(),
-        ' rest on the dynamic section or on the contents of notes, which this page reads itself, by numbers, or are names of C++.');
-    return [make('div', { class: 'scroll', tabindex: '0' }, make('div', { class: 'summary' }, ...(await ask('summary')).map(group)), said)];
+        ' rest on the dynamic section or on the contents of notes, which this page reads itself, by numbers,'
+            + ' or are names of C++.');
+    return [make('div', { class: 'scroll', tabindex: '0' },
+        make('div', { class: 'summary' }, ...(await ask('summary')).map(group)), said)];
 }
 
 async function header_panel() {
@@ -110,16 +115,18 @@ async function header_panel() {
             event.preventDefault();
             show();
         };
-        return row_of(field, { tabindex: '0', 'data-field': name, onclick, onkeydown }, name, make('td', { class: 'words' }, words),
-            make('td', { class: 'dim' }, `${hex(at)}, ${plural(size, 'byte')}`));
+        return row_of(field, { tabindex: '0', 'data-field': name, onclick, onkeydown }, name,
+            make('td', { class: 'words' }, words), make('td', { class: 'dim' }, `${hex(at)}, ${plural(size, 'byte')}`));
     });
-    const table = make('table', { class: 'fields header', role: 'grid', 'aria-label': 'Fields of the header' }, make('tbody', {}, ...rows));
+    const table = make('table', { class: 'fields header', role: 'grid', 'aria-label': 'Fields of the header' },
+        make('tbody', {}, ...rows));
     return [make('div', { class: 'scroll' }, table)];
 }
 
 /** Marks a field of the header as chosen, and returns what is shown of it, or nothing if there is no such field. */
 export function choose_field(wanted) {
-    for (const row of get('panel').querySelectorAll('[data-field]')) row.setAttribute('aria-selected', row.dataset.field === wanted);
+    for (const row of get('panel').querySelectorAll('[data-field]'))
+        row.setAttribute('aria-selected', row.dataset.field === wanted);
     const field = shown_file.summary.header.find(({ name }) => name === wanted);
     if (!field) return undefined;
     const { name, at, size, words, value, meaning, links } = field;
@@ -128,31 +135,36 @@ export function choose_field(wanted) {
 }
 
 /** Returns the block of the header's bytes. */
-export const header_block = (word) => ({ word, at: 0, size: shown_file.summary.header_size, fields: shown_file.summary.header });
+export const header_block = (word) =>
+    ({ word, at: 0, size: shown_file.summary.header_size, fields: shown_file.summary.header });
 
 // Returns the tables of symbols, relocations or notes to choose from.
 function choices(name) {
     const { summary } = shown_file;
-    const choice = (of, title, length) => ({ of, length, text: `${title} (${length === undefined ? 'refused' : number(length)})` });
+    const choice = (of, title, length) =>
+        ({ of, length, text: `${title} (${length === undefined ? 'refused' : number(length)})` });
     if (name === 'notes') return ['sections', 'segments'].map((of) => choice(of, `of ${of}`, summary.notes[of].length));
     return summary[name].found.map(({ index, name: title, length }) => choice(index, title, length));
 }
 
 const NONE = {
     symbols: 'The file has no symbols: no section of them (SHT_SYMTAB, SHT_DYNSYM), and no DT_SYMTAB.',
-    relocations: 'The file has no relocations: no section of them (SHT_RELA, SHT_REL, SHT_RELR), and no DT_RELA, DT_REL, DT_JMPREL or DT_RELR.',
+    relocations: 'The file has no relocations: no section of them (SHT_RELA, SHT_REL, SHT_RELR), and no DT_RELA,'
+        + ' DT_REL, DT_JMPREL or DT_RELR.',
 };
 // What is said of tables that are not wholly read by proved calls.
 const OWN = {
     packed: 'Packed relocations are read by this page itself, by numbers. They are outside of what is proved.',
-    own: 'This page found this table by the numbers of the dynamic section, which is outside of what is proved. Proved calls read its entries.',
+    own: 'This page found this table by the numbers of the dynamic section, which is outside of what is proved. Proved'
+        + ' calls read its entries.',
 };
 
 async function list_panel(mine, wanted) {
     const { name } = mine, { summary } = shown_file;
     if (summary[name]?.refused) return [await refusal_of(summary[name].refused)];
     let list = Object.hasOwn(NONE, name) || name === 'notes' ? choices(name) : [{ of: undefined }];
-    if (wanted !== undefined && !list.some(({ of }) => of === wanted)) list = [{ of: wanted, text: `section ${wanted}` }, ...list];
+    if (wanted !== undefined && !list.some(({ of }) => of === wanted))
+        list = [{ of: wanted, text: `section ${wanted}` }, ...list];
     if (list.length === 0) return [make('p', { class: 'empty' }, NONE[name])];
     // (a refusal is shown before an empty list)
     const [longest] = list.toSorted((a, b) => (b.length ?? 0.5) - (a.length ?? 0.5)), of = wanted ?? longest.of;
@@ -175,7 +187,8 @@ async function refresh(mine) {
     shown_file.reader.on_progress = ({ progress, done }) => {
         if (progress === name) output.textContent = `reading … ${Math.floor(100 * done)} %`;
     };
-    const { is_over, refused, is_none, length, all } = await ask('view', { list: name, of, query, column, is_descending });
+    const { is_over, refused, is_none, length, all } =
+        await ask('view', { list: name, of, query, column, is_descending });
     if (is_over) return;
     below.replaceChildren(...await notices_of(mine, { refused, is_none }));
     const is_shown = !refused && !is_none;
@@ -192,7 +205,8 @@ async function notices_of({ name, of }, { refused, is_none }) {
     if (name === 'notes') return note_refusals(of);
     if (is_none) return [make('p', { class: 'empty' }, `Section ${of} holds no ${name}.`)];
     if (refused) return [await refusal_of(refused)];
-    const table = shown_file.summary[name]?.found?.find(({ index }) => index === of), said = table?.is_packed ? OWN.packed : table?.is_own && OWN.own;
+    const table = shown_file.summary[name]?.found?.find(({ index }) => index === of),
+        said = table?.is_packed ? OWN.packed : table?.is_own && OWN.own;
     return said ? [make('p', { class: 'others' }, said)] : [];
 }
 
@@ -248,7 +262,8 @@ function tools(mine) {
     if (hidden > 0) bar.append(make('span', {}, `and ${number(hidden)} more: choose them among the sections`));
     mine.saving = make('span', { class: 'saving' },
         button('Copy cell', () => copy_active(grid, ({ [grid.column]: cell }) => cell, 'the cell')),
-        button('Copy row', () => copy_active(grid, (cells) => cells.join('\t'), 'the row')), button('Save CSV', () => save(mine)));
+        button('Copy row', () => copy_active(grid, (cells) => cells.join('\t'), 'the row')),
+        button('Save CSV', () => save(mine)));
     bar.append(mine.search = search_field(mine), output, mine.saving);
     return bar;
 }
@@ -262,8 +277,9 @@ function search_field(mine) {
         await refresh(mine);
     };
     return make('input', {
-        type: 'search', placeholder: 'Search: text or 0x…', 'aria-label': `Search ${mine.name} by text, offset or address`,
-        spellcheck: 'false', autocomplete: 'off', oninput: () => { clearTimeout(soon); soon = setTimeout(look, 120); },
+        type: 'search', placeholder: 'Search: text or 0x…',
+        'aria-label': `Search ${mine.name} by text, offset or address`, spellcheck: 'false', autocomplete: 'off',
+        oninput: () => { clearTimeout(soon); soon = setTimeout(look, 120); },
         onkeydown: async ({ key }) => {
             if (key !== 'Enter') return;
             await look();

@@ -1,5 +1,6 @@
-// Tests goblin.js against C: test.mjs FOLDER DUMP FILE.. What goblin.js in FOLDER reads of the files and of damaged copies must be, line by
-// line, what DUMP prints, the program of faces/c/dump.c. The module must have no imports, and goblin.js goblin.h's structs and refusals.
+// Tests goblin.js against C: test.mjs FOLDER DUMP FILE.. What goblin.js in FOLDER reads of the files and of damaged
+// copies must be, line by line, what DUMP prints, the program of faces/c/dump.c. The module must have no imports, and
+// goblin.js goblin.h's structs and refusals.
 import assert from 'node:assert/strict';
 import { spawnSync } from 'node:child_process';
 import { mkdtempSync, readFileSync, rmSync, writeFileSync } from 'node:fs';
@@ -23,22 +24,25 @@ function check_layout() {
         assert.equal(BigInt(size), library_size, kind);
         const values = Object.values(item);
         assert.equal(values.length, fields[kind], kind);
-        values.forEach((value, i) => assert.match(value.toString(16), new RegExp(`^(0?${(i + 1).toString(16)})+$`), kind));
+        values.forEach((value, i) =>
+            assert.match(value.toString(16), new RegExp(`^(0?${(i + 1).toString(16)})+$`), kind));
     }
 }
 
 function check_module() {
     const module = new WebAssembly.Module(readFileSync(join(web, 'goblin_c.wasm')));
     assert.deepEqual(WebAssembly.Module.imports(module), []);
-    const exported = WebAssembly.Module.exports(module).map(({ name }) => name).filter((name) => name.startsWith('goblin_'));
-    const declared = [...header.matchAll(/^uint\d+_t (goblin_\w+)\(|^void (goblin_\w+)\(/gm)].map(([, call, other]) => call ?? other);
+    const exported = WebAssembly.Module.exports(module).map(({ name }) => name)
+        .filter((name) => name.startsWith('goblin_'));
+    const declared = [...header.matchAll(/^uint\d+_t (goblin_\w+)\(|^void (goblin_\w+)\(/gm)]
+        .map(([, call, other]) => call ?? other);
     assert.deepEqual(exported.sort(), declared.sort());
     console.log(`goblin_c.wasm has no imports, and exports the ${declared.length} calls of goblin.h`);
 }
 
 function check_kinds() {
-    const numbers_after = (start) => Object.fromEntries(Array.from(header.split(start)[1].split('};')[0].matchAll(/GOBLIN_(\w+) = (\d+)/g),
-        ([, name, number]) => [name, Number(number)]));
+    const numbers_after = (start) => Object.fromEntries(Array.from(header.split(start)[1].split('};')[0]
+        .matchAll(/GOBLIN_(\w+) = (\d+)/g), ([, name, number]) => [name, Number(number)]));
     const kinds = numbers_after('GOBLIN_END = 1,\n');
     assert.equal(Object.keys(kinds).length, 21);
     assert.deepEqual({ ...goblin.Item }, numbers_after('0 for refusals that have none. */\nenum {'));
@@ -53,28 +57,32 @@ function check_arguments() {
     const long = 'x'.repeat(1 << 20); // (the memory must grow for it, with the file in it)
     assert.equal(elf.section_by_name(long), undefined);
     assert.deepEqual(elf.section_by_name('.text'), { index: 1, section: elf.section_header(1) });
-    const [all, ...parts] = [symbols, symbols.from(1), symbols.from(2, 3)].map((list) => Array.from(list, (symbol) => symbols.name(symbol)));
+    const [all, ...parts] = [symbols, symbols.from(1), symbols.from(2, 3)]
+        .map((list) => Array.from(list, (symbol) => symbols.name(symbol)));
     assert.equal(all[0], '');
     assert.deepEqual(parts, [all.slice(1), all.slice(2, 5)]);
     assert.equal(Buffer.from(names.get_start(1, 4)).toString(), names.get(1).slice(0, 4));
     assert.equal(names.get_start(names.range.size, 4), undefined);
 }
 
-// Cells that a spreadsheet would run as formulas if it splits lines at commas or at semicolons, and characters that can't be seen.
+// Cells that a spreadsheet would run as formulas if it splits lines at commas or at semicolons, and characters that
+// can't be seen.
 function check_csv() {
     const cells = [
-        ['=1+1', "'=1+1"], ['+1', "'+1"], ['-1+1', "'-1+1"], ['@a', "'@a"], ["'a", "''a"], [' =1', "' =1"], ['\uff1d1', "'\uff1d1"],
-        ['1;=1+1', "1;'=1+1"], ['1; -1', "1;' -1"], ['1;"@a', `"1;'""@a"`], ['-0x10', '-0x10'], [';-0x10', ";'-0x10"], ['a-b=c', 'a-b=c'],
-        ['a,"b"', '"a,""b"""'], ['a\\x1b', 'a\\x5cx1b'], ['\x1b[1m', '\\x1b[1m'], ['\t=1\r\n', '\\x09=1\\x0d\\x0a'],
-        ['a\u202eb\u2066', 'a\\xe2\\x80\\xaeb\\xe2\\x81\\xa6'], ['\u200f\udce9\u0085', '\\xe2\\x80\\x8f\\xe9\\xc2\\x85'], ['\u00e9t\u00e9', '\u00e9t\u00e9'],
+        ['=1+1', "'=1+1"], ['+1', "'+1"], ['-1+1', "'-1+1"], ['@a', "'@a"], ["'a", "''a"], [' =1', "' =1"],
+        ['\uff1d1', "'\uff1d1"], ['1;=1+1', "1;'=1+1"], ['1; -1', "1;' -1"], ['1;"@a', `"1;'""@a"`], ['-0x10', '-0x10'],
+        [';-0x10', ";'-0x10"], ['a-b=c', 'a-b=c'], ['a,"b"', '"a,""b"""'], ['a\\x1b', 'a\\x5cx1b'],
+        ['\x1b[1m', '\\x1b[1m'], ['\t=1\r\n', '\\x09=1\\x0d\\x0a'],
+        ['a\u202eb\u2066', 'a\\xe2\\x80\\xaeb\\xe2\\x81\\xa6'],
+        ['\u200f\udce9\u0085', '\\xe2\\x80\\x8f\\xe9\\xc2\\x85'], ['\u00e9t\u00e9', '\u00e9t\u00e9'],
     ];
     for (const [text, cell] of cells) assert.equal(csv_line([text, '0']), `${cell},0\r\n`);
 }
 
 // The names in goblin.h of the fields that have other names in goblin.js.
 const IN_C = {
-    sh_offset: 'file.offset', sh_size: 'file.size', p_offset: 'file.offset', p_filesz: 'file.size', name_offset: 'name.offset',
-    name_size: 'name.size', desc_offset: 'desc.offset', desc_size: 'desc.size',
+    sh_offset: 'file.offset', sh_size: 'file.size', p_offset: 'file.offset', p_filesz: 'file.size',
+    name_offset: 'name.offset', name_size: 'name.size', desc_offset: 'desc.offset', desc_size: 'desc.size',
 };
 const length = ({ length }) => ` ${hex(length)}`;
 // Returns a section with another type and the same bytes in the file.
@@ -112,7 +120,8 @@ class Dump {
     // Adds the lines of some numbers of a range.
     numbers_in(size, read) {
         const last = BigInt.asUintN(64, size - 1n);
-        this.ask_each('goblin_number_in', [[0, 8], [size / 2n, 2], [last, 1]], ([offset, width]) => read(offset, width));
+        this.ask_each('goblin_number_in', [[0, 8], [size / 2n, 2], [last, 1]],
+            ([offset, width]) => read(offset, width));
     }
 
     string(strtab, offset) {
@@ -130,7 +139,8 @@ class Dump {
 
     symbol(section, symtab, index, read = () => symtab.get(index)) {
         const names = ({ st_info, st_other }) => ` ${goblin.bind_to_str(goblin.st_bind(st_info))} `
-            + `${goblin.type_to_str(goblin.st_type(st_info))} ${goblin.visibility_to_str(goblin.st_visibility(st_other))}`;
+            + `${goblin.type_to_str(goblin.st_type(st_info))} `
+            + `${goblin.visibility_to_str(goblin.st_visibility(st_other))}`;
         const symbol = this.ask('goblin_symbol', read, (item) => fields(item) + names(item));
         if (!symbol) return;
         const name = this.string(symtab.strtab, symbol.st_name);
@@ -160,14 +170,16 @@ class Dump {
     relocs(elf, section) {
         const is_list = section.sh_type === goblin.SHT_RELA || section.sh_type === goblin.SHT_REL;
         const put = ({ r_offset, r_sym, r_addend, r_type }) =>
-            fields({ r_offset, r_sym, r_addend: r_addend ?? 0, r_type, has_addend: Number(r_addend !== undefined) }) + ` ${r_addend ?? 0}`;
+            fields({ r_offset, r_sym, r_addend: r_addend ?? 0, r_type, has_addend: Number(r_addend !== undefined) })
+            + ` ${r_addend ?? 0}`;
         const table = is_list ? section : as_type(section, goblin.SHT_REL);
         const relocs = this.ask('goblin_reloc_count', () => elf.relocs(table), length);
         if (!relocs) return;
         let index = 0;
         for (const reloc of relocs.from(0, is_list ? relocs.length : FEW)) {
             this.ask('goblin_reloc', () => reloc, put);
-            const at = index++, changed = { ...reloc, r_offset: reloc.r_offset ^ 1n, r_sym: reloc.r_sym + any_high(at) };
+            const at = index++,
+                changed = { ...reloc, r_offset: reloc.r_offset ^ 1n, r_sym: reloc.r_sym + any_high(at) };
             if (at < FEW) this.write('goblin_put_reloc', (writer) => writer.put_reloc(table, at, changed));
         }
         this.ask('goblin_reloc', () => relocs.get(relocs.length), put);
@@ -175,11 +187,13 @@ class Dump {
 
     // Adds the lines of the notes of a section or segment, first with names that must be UTF-8, and then as bytes.
     notes(elf, holder) {
-        for (const [call, { notes, refusal }] of [['goblin_note', elf.readable_notes(holder)], ['goblin_note_bytes', elf.readable_notes_bytes(holder)]]) {
+        for (const [call, { notes, refusal }] of [['goblin_note', elf.readable_notes(holder)],
+            ['goblin_note_bytes', elf.readable_notes_bytes(holder)]]) {
             const put = ({ name_range, desc_range, next, n_type, name, desc }) => fields({
-                name_offset: name_range.offset, name_size: name_range.size, desc_offset: desc_range.offset, desc_size: desc_range.size,
-                next, n_type,
-            }) + (call === 'goblin_note' ? ` ${goblin.note_type_to_str({ name, n_type })}` : '') + bytes(name) + bytes(desc);
+                name_offset: name_range.offset, name_size: name_range.size, desc_offset: desc_range.offset,
+                desc_size: desc_range.size, next, n_type,
+            }) + (call === 'goblin_note' ? ` ${goblin.note_type_to_str({ name, n_type })}` : '')
+                + bytes(name) + bytes(desc);
             for (const note of notes) this.ask(call, () => note, put);
             this.ask(call, () => { if (refusal) throw refusal; });
         }
@@ -197,7 +211,8 @@ class Dump {
             const addresses = [0n, half, 2n * half].map((before) => BigInt.asUintN(64, p_vaddr + before));
             this.ask_each('goblin_address_to_offset', addresses, (address) => elf.address_to_offset(address));
             this.notes(elf, segment);
-            const changed = { ...segment, p_flags: segment.p_flags ^ goblin.PF_X, p_memsz: segment.p_memsz + any_high(index) };
+            const changed = { ...segment, p_flags: segment.p_flags ^ goblin.PF_X,
+                p_memsz: segment.p_memsz + any_high(index) };
             if (index < FEW) this.write('goblin_put_segment', (writer) => writer.put_program_header(index, changed));
         }
         this.ask('goblin_segment', () => list.get(list.length));
@@ -209,20 +224,26 @@ class Dump {
         const names = this.ask('goblin_section_names', () => elf.shdr_strtab(), ({ range }) => fields(range));
         if (!names) return;
         for (const [index, section] of list.entries()) {
-            const flags = Array.from({ length: 32 }, (_, bit) => 2 ** bit).filter((flag) => section.sh_flags & BigInt(flag));
-            this.ask('goblin_section', () => section, (item) =>
-                fields(item) + [goblin.sht_to_str(item.sh_type), ...flags.map(goblin.shf_to_str)].map((name) => ` ${name}`).join(''));
-            const name = this.string(names, section.sh_name), found = ({ index: at, section: it }) => ` ${hex(at)}${fields(it)}`;
+            const flags = Array.from({ length: 32 }, (_, bit) => 2 ** bit)
+                .filter((flag) => section.sh_flags & BigInt(flag));
+            this.ask('goblin_section', () => section,
+                (item) => fields(item) + [goblin.sht_to_str(item.sh_type), ...flags.map(goblin.shf_to_str)]
+                    .map((name) => ` ${name}`).join(''));
+            const name = this.string(names, section.sh_name),
+                found = ({ index: at, section: it }) => ` ${hex(at)}${fields(it)}`;
             const firsts = name === undefined ? [] : [0, index, 2 * index], { sh_type } = section;
             this.ask_each('goblin_section_by_name', firsts, (first) => elf.section_by_name(name, first), found);
-            this.ask_each('goblin_section_by_type', [index >> 1, index + 1], (first) => elf.section_by_type(sh_type, first), found);
+            this.ask_each('goblin_section_by_type', [index >> 1, index + 1],
+                (first) => elf.section_by_type(sh_type, first), found);
             this.ask('goblin_section_bytes', () => elf.range(section));
             this.ask('goblin_range_in_file', () => elf.readable_data(section), size_and_first);
-            this.numbers_in(as_type(section, sh_type).sh_size, (offset, width) => elf.number_in(section, offset, width));
+            this.numbers_in(as_type(section, sh_type).sh_size,
+                (offset, width) => elf.number_in(section, offset, width));
             this.symbols(elf, section);
             this.relocs(elf, section);
             this.notes(elf, section);
-            const changed = { ...section, sh_flags: section.sh_flags ^ goblin.SHF_WRITE, sh_name: section.sh_name + any_high(index) };
+            const changed = { ...section, sh_flags: section.sh_flags ^ goblin.SHF_WRITE,
+                sh_name: section.sh_name + any_high(index) };
             if (index < FEW) this.write('goblin_put_section', (writer) => writer.put_section_header(index, changed));
         }
         this.ask('goblin_section', () => list.get(list.length));
@@ -245,7 +266,8 @@ class Dump {
     writing({ header }, length) {
         const { e_type, e_entry } = header, changed = { ...header, e_type: e_type ^ 1, e_entry: e_entry ^ 1n };
         const high = { ...changed, e_entry: BigInt.asUintN(64, changed.e_entry + any_high(1)) };
-        for (const given of [changed, high, { ...high, ei_data: 3 }]) this.write('goblin_put_header', (writer) => writer.put_header(given));
+        for (const given of [changed, high, { ...high, ei_data: 3 }])
+            this.write('goblin_put_header', (writer) => writer.put_header(given));
         for (const width of [1, 2, 4, 8]) {
             this.write('goblin_put_number', (writer) => writer.put_number(Math.floor(length / 2), width, 0x7f));
             this.write('goblin_put_number', (writer) => writer.put_number(length - 4, width, 0x7f00));
@@ -255,7 +277,8 @@ class Dump {
     numbers(elf, length) {
         const half = BigInt(Math.floor(length / 2));
         for (let width = 0; width <= 9; width++) {
-            const number = (place) => ([1, 2, 4, 8].includes(width) ? elf.number(BigInt.asUintN(64, place), width) : undefined);
+            const number = (place) =>
+                ([1, 2, 4, 8].includes(width) ? elf.number(BigInt.asUintN(64, place), width) : undefined);
             this.ask_each('goblin_number', [0n, half, 2n * half - 4n], number);
         }
     }
@@ -263,7 +286,8 @@ class Dump {
     file(content, number) {
         this.lines.push(`file ${number}`);
         const elf = this.ask('goblin_header', () => goblin.Elf.parse(content), ({ header }) => fields(header)
-            + ` ${goblin.class_to_str(header.ei_class)} ${goblin.et_to_str(header.e_type)} ${goblin.machine_to_str(header.e_machine)}`);
+            + ` ${goblin.class_to_str(header.ei_class)} ${goblin.et_to_str(header.e_type)}`
+            + ` ${goblin.machine_to_str(header.e_machine)}`);
         if (!elf) return;
         this.elf = elf;
         this.content = content;
@@ -284,7 +308,8 @@ function any(below) {
     return Number(state % BigInt(below));
 }
 
-// Returns a copy with some bytes changed, most of them among those that hold offsets and sizes, or with the end cut off.
+// Returns a copy with some bytes changed, most of them among those that hold offsets and sizes, or with the
+// end cut off.
 function damaged(content) {
     const copy = Buffer.from(any(4) ? content : content.subarray(0, any(content.length + 1)));
     for (let changes = any(9); changes > 0 && copy.length > 0; changes--) {
@@ -320,7 +345,8 @@ try {
     let lines = compare(files).length, refusals = 0, copies = 0;
     for (const file of files) {
         const content = readFileSync(file);
-        const paths = Array.from({ length: content.length > 0x4000 ? COPIES / 10 : COPIES }, (_, i) => join(folder, `${i}`));
+        const paths = Array.from({ length: content.length > 0x4000 ? COPIES / 10 : COPIES },
+            (_, i) => join(folder, `${i}`));
         for (const path of paths) writeFileSync(path, damaged(content));
         const compared = compare(paths);
         copies += paths.length;
@@ -328,7 +354,8 @@ try {
         refusals += compared.filter((line) => line.includes(' kind=')).length;
     }
     assert.ok(copies >= 4 * COPIES && refusals > copies && lines > 100 * copies, 'too little was compared');
-    console.log(`goblin.js returns the same as C for ${files.length} files and ${copies} damaged copies: ${lines} lines, ${refusals} refusals`);
+    console.log(`goblin.js returns the same as C for ${files.length} files and ${copies} damaged copies: `
+        + `${lines} lines, ${refusals} refusals`);
 } finally {
     rmSync(folder, { recursive: true });
 }

@@ -4,7 +4,8 @@
 export const NAME = 1024;
 const strict = new TextDecoder('utf-8', { fatal: true, ignoreBOM: true });
 
-// Returns the text of bytes. If they are not UTF-8, each byte from 0x80 on is the character U+DC00 plus the byte, which UTF-8 doesn't have.
+// Returns the text of bytes. If they are not UTF-8, each byte from 0x80 on is the character U+DC00 plus the byte, which
+// UTF-8 doesn't have.
 function text_of(bytes) {
     try {
         return strict.decode(bytes);

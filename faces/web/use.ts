@@ -1,6 +1,7 @@
-// A program in TypeScript over goblin.d.ts. checks/faces/webassembly.sh compiles it if there is tsc, and does not run it. A line that must
-// be an error has a comment before it, at which the compiler fails if there is none.
-import init, { AddressMap, Elf, GoblinError, Kind, List, Range, SectionHeader, SHF_ALLOC, SHT_SYMTAB, Symtab, Writer, json, machine_to_str } from 'goblin_c';
+// A program in TypeScript over goblin.d.ts. checks/faces/webassembly.sh compiles it if there is tsc, and does not run
+// it. A line that must be an error has a comment before it, at which the compiler fails if there is none.
+import init, { AddressMap, Elf, GoblinError, Kind, List, Range, SectionHeader, SHF_ALLOC, SHT_SYMTAB, Symtab, Writer,
+    json, machine_to_str } from 'goblin_c';
 
 export async function main(bytes: ArrayBuffer, view: Uint16Array): Promise<string[]> {
     await init();
@@ -9,18 +10,26 @@ export async function main(bytes: ArrayBuffer, view: Uint16Array): Promise<strin
     const sections: List<SectionHeader> = elf.section_headers();
     const names: (string | undefined)[] = sections.map((section) => elf.section_name(section));
     const loaded: SectionHeader[] = sections.filter(({ sh_flags }) => (sh_flags & SHF_ALLOC) !== 0n);
-    const total: bigint = sections.reduce((sum: bigint, { sh_size }) => sum + sh_size, 0n), second: SectionHeader | undefined = sections[1];
-    lines.push(`${total} ${second?.sh_size} ${sections.slice(1).length} ${sections.some(({ sh_size }) => sh_size === 0n)}`);
+    const total: bigint = sections.reduce((sum: bigint, { sh_size }) => sum + sh_size, 0n),
+        second: SectionHeader | undefined = sections[1];
+    lines.push(
+        `${total} ${second?.sh_size} ${sections.slice(1).length} ${sections.some(({ sh_size }) => sh_size === 0n)}`);
     for (const [index, { sh_size }] of sections.entries()) lines.push(`${names[index]} ${sh_size + 1n}`);
-    const found = elf.section_by_type(SHT_SYMTAB), index: number | undefined = found?.index, range: Range | undefined = elf.range(loaded[0]);
-    lines.push(`${index} ${found?.section.sh_size} ${range?.offset} ${machine_to_str(elf.header.e_machine)}`, JSON.stringify({ ...loaded[0] }, json));
-    const whole: Elf = elf.whole(), writer: Writer = whole.writer(new Uint8Array(bytes)), first: bigint = elf.number_in(loaded[0], 0, 4);
-    const is_written: boolean = writer.put_section_header(1, { ...loaded[0], sh_flags: loaded[0].sh_flags | SHF_ALLOC });
-    lines.push(`${is_written} ${first} ${elf.address_to_offset(elf.header.e_entry)} ${elf.section_by_name('.text', 1)?.index}`);
+    const found = elf.section_by_type(SHT_SYMTAB), index: number | undefined = found?.index,
+        range: Range | undefined = elf.range(loaded[0]);
+    lines.push(`${index} ${found?.section.sh_size} ${range?.offset} ${machine_to_str(elf.header.e_machine)}`,
+        JSON.stringify({ ...loaded[0] }, json));
+    const whole: Elf = elf.whole(), writer: Writer = whole.writer(new Uint8Array(bytes)),
+        first: bigint = elf.number_in(loaded[0], 0, 4);
+    const is_written: boolean =
+        writer.put_section_header(1, { ...loaded[0], sh_flags: loaded[0].sh_flags | SHF_ALLOC });
+    lines.push(`${is_written} ${first} ${elf.address_to_offset(elf.header.e_entry)} `
+        + `${elf.section_by_name('.text', 1)?.index}`);
     const symbols: Symtab | undefined = elf.syms(), addresses: AddressMap | undefined = symbols?.address_map();
     lines.push(`${addresses?.at(elf.header.e_entry)} ${addresses?.symbol(0)?.st_value}`);
     for (const symbol of symbols ?? []) lines.push(`${symbols?.name(symbol)} ${symbol.st_value}`);
-    for (const [section, relocs] of elf.shdr_relocs()) lines.push(`${section.sh_info} ${relocs.at(-1)?.r_addend ?? 0n}`);
+    for (const [section, relocs] of elf.shdr_relocs())
+        lines.push(`${section.sh_info} ${relocs.at(-1)?.r_addend ?? 0n}`);
     for (const { name, desc } of elf.iter_note_headers()) lines.push(`${name} ${desc.length}`);
     for (const section of sections) lines.push(`${elf.strtab(elf.linked_section(section)).get(1)}`);
     try {

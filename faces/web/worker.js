@@ -1,10 +1,12 @@
-// Reads one file for the page. A message { id, call, given } is answered with { id, result } or { id, failed }. A refusal of the library is
-// { refused } in `result`. What takes long is done in steps, and ends if the same is requested again.
+// Reads one file for the page. A message { id, call, given } is answered with { id, result } or { id, failed }. A
+// refusal of the library is { refused } in `result`. What takes long is done in steps, and ends if the same is
+// requested again.
 import init, * as goblin from './goblin.js';
 import { csv_line } from './csv.js';
 import { address_details, header_fields, is_address, item_details, offset_details } from './details.js';
 import {
-    all_sections, called, file, header_refusal, list_refusal, part, read_or, RELOCATION_TYPES, RELR, segments, size_of, SYMBOL_TYPES,
+    all_sections, called, file, header_refusal, list_refusal, part, read_or, RELOCATION_TYPES, RELR, segments,
+    size_of, SYMBOL_TYPES,
     symbol_tables,
 } from './file.js';
 import { find_own_sections, packed_offsets } from './dynamic.js';
@@ -32,7 +34,8 @@ async function bytes_of(given) {
     return bytes;
 }
 
-// Returns the sections that hold a list: the index, name and number of items of the first ones, and the number of the others.
+// Returns the sections that hold a list: the index, name and number of items of the first ones, and the number of
+// the others.
 const MOST_TABLES = 200;
 function tables(types, list_of) {
     const all = all_sections().filter(({ section }) => types.includes(section.sh_type));
@@ -55,16 +58,20 @@ function notes_summary(by, headers) {
 // Returns in words what lies past the end of the file, if something does, and the list of the first piece.
 function past_end() {
     const { past } = parts(), words = past.slice(0, 2).map((piece) => titled(piece).title).join(', ');
-    return words ? { words: `past the end: ${words}${past.length > 2 ? ` and ${past.length - 2} more` : ''}`, to: past[0].to } : {};
+    return words ? { words: `past the end: ${words}${past.length > 2 ? ` and ${past.length - 2} more` : ''}`,
+        to: past[0].to } : {};
 }
 
 const MOST_LOADED = 1000;
 function map() {
-    const { starts, tops, depths } = parts(), loaded = segments().filter(({ segment }) => segment.p_type === 1).slice(0, MOST_LOADED)
-        .map(({ segment: { p_offset, p_filesz, p_flags } }) => [Number(p_offset), Number(p_offset + p_filesz), p_flags & 7]);
+    const { starts, tops, depths } = parts(),
+        loaded = segments().filter(({ segment }) => segment.p_type === 1).slice(0, MOST_LOADED)
+            .map(({ segment: { p_offset, p_filesz, p_flags } }) =>
+                [Number(p_offset), Number(p_offset + p_filesz), p_flags & 7]);
     const kinds = Int8Array.from(tops, (top) => (top ? KINDS.indexOf(top.kind) : -1));
     const cuts = Uint8Array.from(tops, (top) => Number(top?.is_cut ?? false));
-    return { starts: Float64Array.from(starts), kinds, depths: Uint32Array.from(depths), cuts, segments: loaded, past: past_end(), KINDS, CLASSES };
+    return { starts: Float64Array.from(starts), kinds, depths: Uint32Array.from(depths), cuts, segments: loaded,
+        past: past_end(), KINDS, CLASSES };
 }
 
 function overview() {
@@ -79,16 +86,19 @@ function overview() {
     const { refused } = headers.sections;
     return {
         ...headers, header: header_fields(), header_size: size_of('header'),
-        words: [kind_in_words(), labels.file_class(header.ei_class), elf.little_endian() ? 'little endian' : 'big endian',
-            labels.file_type(header.e_type), labels.machine(header.e_machine), `entry ${hex(header.e_entry)}`],
+        words: [kind_in_words(), labels.file_class(header.ei_class),
+            elf.little_endian() ? 'little endian' : 'big endian', labels.file_type(header.e_type),
+            labels.machine(header.e_machine), `entry ${hex(header.e_entry)}`],
         symbols: refused ? { refused } : tables(SYMBOL_TYPES, (section, index) => symtab_at(index)),
         relocations: refused ? { refused } : tables(RELOCATION_TYPES, relocations_of),
-        notes: { sections: notes_summary('sections', headers.sections), segments: notes_summary('segments', headers.segments) },
+        notes: { sections: notes_summary('sections', headers.sections),
+            segments: notes_summary('segments', headers.segments) },
         map: map(),
     };
 }
 
-// What each list shows: the source, and the indices in their order if it isn't the list's own. And its last request, and that of a search.
+// What each list shows: the source, and the indices in their order if it isn't the list's own. And its last request,
+// and that of a search.
 const views = {}, runs = {};
 const source_of = (list, of) => (views[list]?.of === of && views[list] ? views[list].source : open_source(list, of));
 
@@ -154,14 +164,16 @@ const calls = {
 
     item({ list, index, of }) {
         const source = source_of(list, of);
-        return source && !source.refused && index < source.list.length ? item_details(source, { list, index, of }) : undefined;
+        return source && !source.refused && index < source.list.length
+            ? item_details(source, { list, index, of }) : undefined;
     },
     offset: (offset) => (offset < file.content.length ? offset_details(offset) : undefined),
     address: (address) => (is_address(address) ? address_details(address) : undefined),
     find: (text) => find(text, begin('find')),
     // Returns the location of the section or symbol with a name. Of symbols the first one that is defined is preferred.
     named([kind, name]) {
-        const found = (of) => read_or(undefined, of), section = kind === 'section' && found(() => file.elf.section_by_name(name));
+        const found = (of) => read_or(undefined, of),
+            section = kind === 'section' && found(() => file.elf.section_by_name(name));
         if (kind === 'section') return section && `sections/${section.index}`;
         const tables = symbol_tables().map((table) => ({ table, index: found(() => symtab_at(table).by_name(name)) }));
         const all = tables.filter(({ index }) => index !== undefined);

@@ -99,7 +99,8 @@ def damaged(count, sources, seed):
         content = bytearray(chance.choice(sources))
         for _ in range(chance.choice((0, 1, 1, 2, 8))):
             # (a number somewhere, mostly in a header)
-            place = chance.choice((chance.randrange(len(content)), chance.randrange(16, 64), chance.randrange(max(0, len(content) - 2048), len(content))))
+            place = chance.choice((chance.randrange(len(content)), chance.randrange(16, 64),
+                                   chance.randrange(max(0, len(content) - 2048), len(content))))
             width = chance.choice((1, 2, 4, 8))
             value = chance.choice((0, 1, 255, 1 << 31, (1 << 64) - 1, len(content), chance.getrandbits(64)))
             content[place:place + width] = (value & (1 << 8 * width) - 1).to_bytes(width, chance.choice(('little', 'big')))

@@ -255,7 +255,8 @@ class Refusals(unittest.TestCase):
 
     def test_names_of_kinds(self):
         error = refusal(Elf, MADE.bytes[:63])
-        self.assertEqual((str(error.kind), f'{error.kind} {error.kind:#x} {error.kind:2}', repr(error.kind)), ('TOO_BIG', 'TOO_BIG 0x3  3', '<Kind.TOO_BIG: 3>'))
+        self.assertEqual((str(error.kind), f'{error.kind} {error.kind:#x} {error.kind:2}', repr(error.kind)),
+                         ('TOO_BIG', 'TOO_BIG 0x3  3', '<Kind.TOO_BIG: 3>'))
         self.assertEqual((str(Item.NOTE_NAME), int(Kind.BAD_OFFSET), Kind.BAD_OFFSET == 4), ('NOTE_NAME', 4, True))
 
 

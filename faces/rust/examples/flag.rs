@@ -1,7 +1,7 @@
 //! Changes a flag of a section in a buffer: flag FILE SECTION
 //!
-//! It reads the file, turns over `SHF_WRITE` of the first section with that name, and prints the flags before and after. The file stays as it
-//! is.
+//! It reads the file, turns over `SHF_WRITE` of the first section with that name, and prints the flags before and
+//! after. The file stays as it is.
 use goblin_rs::section_header::SHF_WRITE;
 use goblin_rs::Elf;
 use std::process::ExitCode;

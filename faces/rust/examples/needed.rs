@@ -1,9 +1,10 @@
-//! Lists what an ELF file needs of the dynamic linker: its interpreter and, from its dynamic section, the libraries that it needs, its
-//! soname and its search paths. It finds the dynamic section by the section headers. If the file has none, or they are not all inside it, it
-//! uses the program headers, as a loader does.
+//! Lists what an ELF file needs of the dynamic linker: its interpreter and, from its dynamic section, the libraries
+//! that it needs, its soname and its search paths. It finds the dynamic section by the section headers. If the file has
+//! none, or they are not all inside it, it uses the program headers, as a loader does.
 //!
-//! The library does not read the dynamic section, which is a table of pairs of numbers, a tag and a value. Some values are offsets of
-//! strings. The calls for numbers and strings are proved; what this program does with them is only tested.
+//! The library does not read the dynamic section, which is a table of pairs of numbers, a tag and a value. Some
+//! values are offsets of strings. The calls for numbers and strings are proved; what this program does with them is
+//! only tested.
 use goblin_rs::error::Result;
 use goblin_rs::program_header::{PT_DYNAMIC, PT_INTERP};
 use goblin_rs::section_header::{SectionHeader, SHT_DYNAMIC, SHT_STRTAB};
@@ -19,7 +20,10 @@ const DT_STRSZ: u64 = 10;
 
 /// Returns the name that is printed for a tag of the dynamic section, if its value is listed.
 fn name_of(tag: u64) -> Option<&'static str> {
-    [(1, "needed"), (14, "soname"), (15, "rpath"), (29, "runpath")].iter().find(|(known, _)| *known == tag).map(|(_, name)| *name)
+    [(1, "needed"), (14, "soname"), (15, "rpath"), (29, "runpath")]
+        .iter()
+        .find(|(known, _)| *known == tag)
+        .map(|(_, name)| *name)
 }
 
 /// Returns the path of the interpreter, without the zero byte at its end.
@@ -64,7 +68,12 @@ fn dynamic<'a>(elf: &Elf<'a>) -> Result<Option<(Entries, Strtab<'a>)>> {
     let all = entries(elf, &segment, segment.p_filesz)?;
     let value = |tag| all.iter().rfind(|entry| entry.0 == tag).map_or(0, |entry| entry.1);
     let strings = elf.address_to_offset(value(DT_STRTAB))?.map(|sh_offset| {
-        elf.strtab(&SectionHeader { sh_type: SHT_STRTAB, sh_offset, sh_size: value(DT_STRSZ), ..SectionHeader::default() })
+        elf.strtab(&SectionHeader {
+            sh_type: SHT_STRTAB,
+            sh_offset,
+            sh_size: value(DT_STRSZ),
+            ..SectionHeader::default()
+        })
     });
     Ok(strings.map(|strings| (all, strings)))
 }

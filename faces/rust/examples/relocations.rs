@@ -1,5 +1,5 @@
-//! Lists the relocations of an ELF file: the name of each relocation section, and then a line for each relocation, with its offset, the
-//! number of its type, the index and the name of its symbol, and its addend.
+//! Lists the relocations of an ELF file: the name of each relocation section, and then a line for each relocation, with
+//! its offset, the number of its type, the index and the name of its symbol, and its addend.
 use goblin_rs::error::Result;
 use goblin_rs::reloc::Reloc;
 use goblin_rs::section_header::SectionHeader;

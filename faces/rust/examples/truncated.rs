@@ -1,7 +1,7 @@
 //! Shows what is left of an ELF file that ends in its last section header: truncated FILE
 //!
-//! It reads the file, and then only as many bytes of it. One section header of such a file is not inside it, so `section_headers` fails.
-//! `whole` returns a file with the others.
+//! It reads the file, and then only as many bytes of it. One section header of such a file is not inside it, so
+//! `section_headers` fails. `whole` returns a file with the others.
 use goblin_rs::section_header::{section_header32, section_header64, sht_to_str};
 use goblin_rs::Elf;
 use std::process::ExitCode;

@@ -2,9 +2,9 @@
 use crate::section_header::{SHN_LORESERVE, SHN_UNDEF, SHN_XINDEX};
 use crate::sym::{Sym, Symtab, STT_FUNC, STT_GNU_IFUNC, STT_NOTYPE, STT_OBJECT};
 
-/// A sorted map of the addresses of a symbol table, for many searches. It finds what [`Symtab::at`] finds in a time that grows with the
-/// logarithm of the number of symbols. It is sorted by Rust's own sort, and is not part of the library: it is compared with [`Symtab::at`],
-/// but not proved.
+/// A sorted map of the addresses of a symbol table, for many searches. It finds what [`Symtab::at`] finds in a time
+/// that grows with the logarithm of the number of symbols. It is sorted by Rust's own sort, and is not part of the
+/// library: it is compared with [`Symtab::at`], but not proved.
 ///
 /// ```
 /// # fn main() -> Result<(), Box<dyn std::error::Error>> {
@@ -31,7 +31,8 @@ pub struct AddressMap<'a> {
 
 impl<'a> AddressMap<'a> {
     pub(crate) fn of(symbols: Symtab<'a>) -> Self {
-        // the symbols that count, by their first address and then by their index, each with its last address if it has a size
+        // the symbols that count, by their first address and then by their index, each with its last address if it
+        // has a size
         let counted = symbols.iter().enumerate().filter(|(_, symbol)| may_contain(symbol));
         let last = |s: &Sym| s.st_size.checked_sub(1).map(|more| s.st_value.saturating_add(more));
         let mut places: Vec<_> = counted.map(|(index, symbol)| (symbol.st_value, index, last(&symbol))).collect();
@@ -40,8 +41,8 @@ impl<'a> AddressMap<'a> {
         let mut starts: Vec<_> = places.iter().map(|place| place.0).chain(ends).collect();
         starts.sort_unstable();
         starts.dedup();
-        // The symbols that contain an address are on a stack, below others that have ended. The topmost one has the highest value, and is
-        // the first of those with the same one.
+        // The symbols that contain an address are on a stack, below others that have ended. The topmost one has the
+        // highest value, and is the first of those with the same one.
         let (mut open, mut label, mut left) = (Vec::new(), None, &places[..]);
         let pieces = starts.into_iter().map(|start| {
             let (here, others) = left.split_at(left.partition_point(|place| place.0 <= start));

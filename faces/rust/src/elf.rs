@@ -28,7 +28,8 @@ use crate::sys;
 #[derive(Clone, Copy, Debug)]
 pub struct Elf<'a> {
     pub(crate) file: File<'a>,
-    /// The header. Everything else is read by its class, byte order and machine, and by the offsets and counts of its tables.
+    /// The header. Everything else is read by its class, byte order and machine, and by the offsets and counts of
+    /// its tables.
     pub header: Header,
 }
 
@@ -51,8 +52,9 @@ impl<'a> Elf<'a> {
         Ok(Elf { file: File(bytes), header })
     }
 
-    /// Returns the same file with a header that counts only the headers that are whole inside it. With it no list of headers is refused, of
-    /// a file that is cut or damaged, and what [`Elf::section_headers`] and [`Elf::program_headers`] return of this file is the same.
+    /// Returns the same file with a header that counts only the headers that are whole inside it. With it no list of
+    /// headers is refused, of a file that is cut or damaged, and what [`Elf::section_headers`] and
+    /// [`Elf::program_headers`] return of this file is the same.
     ///
     /// In most files the header of the section names is one of the last. If it is cut off, sections have no names.
     ///
@@ -102,8 +104,8 @@ impl<'a> Elf<'a> {
         sys::goblin_segment(&self.file, &self.header, index as u64)
     }
 
-    /// Returns all program headers. If they end past the end of the file, those of [`Elf::whole`] are inside it. Their number is `e_phnum`, or
-    /// if that is 0xffff, `sh_info` of the first section.
+    /// Returns all program headers. If they end past the end of the file, those of [`Elf::whole`] are inside it. Their
+    /// number is `e_phnum`, or if that is 0xffff, `sh_info` of the first section.
     ///
     /// # Errors
     /// If they are not inside the file, or the first section has their number and is not inside the file.
@@ -177,7 +179,8 @@ impl<'a> Elf<'a> {
         self.shdr_strtab()?.get(section.sh_name)
     }
 
-    /// Returns the bytes of a section, or `None` if it has none in the file: its type is `SHT_NULL` or `SHT_NOBITS`, or its size is 0.
+    /// Returns the bytes of a section, or `None` if it has none in the file: its type is `SHT_NULL` or `SHT_NOBITS`, or
+    /// its size is 0.
     ///
     /// # Errors
     /// If they are not inside the file.
@@ -186,9 +189,9 @@ impl<'a> Elf<'a> {
         Ok(range.map(|range| self.file.slice(range)))
     }
 
-    /// Returns those bytes of a section or a segment that are inside the file. If [`Elf::section_data`] or [`Elf::segment_data`] fails, there
-    /// are fewer than `sh_size` or `p_filesz`. There are none, `Some(&[])`, if they start at the end of the file or past it. Returns `None`
-    /// only where those calls do.
+    /// Returns those bytes of a section or a segment that are inside the file. If [`Elf::section_data`] or
+    /// [`Elf::segment_data`] fails, there are fewer than `sh_size` or `p_filesz`. There are none, `Some(&[])`, if they
+    /// start at the end of the file or past it. Returns `None` only where those calls do.
     ///
     /// ```
     /// # fn main() -> Result<(), Box<dyn std::error::Error>> {
@@ -216,8 +219,8 @@ impl<'a> Elf<'a> {
         Ok(range.map(|range| self.file.slice(range)))
     }
 
-    /// Returns the sections of a segment, in the sense of [`ProgramHeader::holds`]. The section header at index 0, which means no
-    /// section, is left out.
+    /// Returns the sections of a segment, in the sense of [`ProgramHeader::holds`]. The section header at index 0,
+    /// which means no section, is left out.
     ///
     /// # Errors
     /// If the section headers are not inside the file.
@@ -226,8 +229,8 @@ impl<'a> Elf<'a> {
         Ok(self.section_headers()?.iter().skip(1).filter(move |section| segment.holds(section)))
     }
 
-    /// Returns the number in `width` bytes at an offset of the file, in the file's byte order. Returns `None` if the width is not 1,
-    /// 2, 4 or 8.
+    /// Returns the number in `width` bytes at an offset of the file, in the file's byte order. Returns `None` if the
+    /// width is not 1, 2, 4 or 8.
     ///
     /// # Errors
     /// If the bytes are not inside the file.
@@ -235,8 +238,9 @@ impl<'a> Elf<'a> {
         sys::goblin_number(&self.file, &self.header, offset, width as u64)
     }
 
-    /// Returns the number in `width` bytes at an offset of a section or of a segment's bytes in the file, in the file's byte order. The offset
-    /// counts from the start of the section or the segment. Returns `None` if the width is not 1, 2, 4 or 8.
+    /// Returns the number in `width` bytes at an offset of a section or of a segment's bytes in the file, in the file's
+    /// byte order. The offset counts from the start of the section or the segment. Returns `None` if the width is not
+    /// 1, 2, 4 or 8.
     ///
     /// ```
     /// # fn main() -> Result<(), Box<dyn std::error::Error>> {
@@ -250,14 +254,15 @@ impl<'a> Elf<'a> {
     /// ```
     ///
     /// # Errors
-    /// If the section's or the segment's bytes are not inside the file, or the number is not inside them. A section of type `SHT_NOBITS`
-    /// has no bytes in the file, so no number is inside it.
+    /// If the section's or the segment's bytes are not inside the file, or the number is not inside them. A section of
+    /// type `SHT_NOBITS` has no bytes in the file, so no number is inside it.
     pub fn number_in(&self, part: &impl Part, offset: u64, width: usize) -> Result<Option<u64>> {
         sys::goblin_number_in(&self.file, &self.header, &part.range(), offset, width as u64)
     }
 
-    /// Returns the offset in the file of the byte that is loaded at an address, or `None` if no byte of the file is loaded there. It is
-    /// that of the first segment of type `PT_LOAD` for which `p_vaddr <= address < p_vaddr + p_filesz`.
+    /// Returns the offset in the file of the byte that is loaded at an address, or `None` if no byte of the file is
+    /// loaded there. It is that of the first segment of type `PT_LOAD` for which
+    /// `p_vaddr <= address < p_vaddr + p_filesz`.
     ///
     /// ```
     /// # fn main() -> Result<(), Box<dyn std::error::Error>> {
@@ -275,8 +280,8 @@ impl<'a> Elf<'a> {
         sys::goblin_address_to_offset(&self.file, &self.header, address)
     }
 
-    /// Returns the string table of the section names. It is empty if the file has none: the index of its section is 0 or past the end,
-    /// or that section has no bytes in the file.
+    /// Returns the string table of the section names. It is empty if the file has none: the index of its section is 0
+    /// or past the end, or that section has no bytes in the file.
     ///
     /// # Errors
     /// If the section headers are not inside the file.
@@ -285,14 +290,14 @@ impl<'a> Elf<'a> {
         Ok(self.strtab(&names))
     }
 
-    /// Returns a section as a string table. It is empty if the section's type is `SHT_NOBITS`, or its size is 0. Of the header only
-    /// `sh_type`, `sh_offset` and `sh_size` are read, so a program may make it.
+    /// Returns a section as a string table. It is empty if the section's type is `SHT_NOBITS`, or its size is 0. Of the
+    /// header only `sh_type`, `sh_offset` and `sh_size` are read, so a program may make it.
     pub fn strtab(&self, section: &SectionHeader) -> Strtab<'a> {
         Strtab { file: self.file, range: section.range() }
     }
 
-    /// Returns the section that a section links to by its `sh_link`, such as the string table of a symbol table. Returns `None` if
-    /// `sh_link` is 0 or past the end, or that section has no bytes in the file (`SHT_NOBITS`).
+    /// Returns the section that a section links to by its `sh_link`, such as the string table of a symbol table.
+    /// Returns `None` if `sh_link` is 0 or past the end, or that section has no bytes in the file (`SHT_NOBITS`).
     ///
     /// # Errors
     /// If the section headers are not inside the file.
@@ -352,11 +357,12 @@ impl<'a> Elf<'a> {
         RelocSections::of(*self)
     }
 
-    /// Returns the notes of a section or a segment. If one is damaged, [`Elf::readable_notes`] returns those before it. If the name of one is
-    /// not UTF-8, [`Elf::notes_bytes`] reads it.
+    /// Returns the notes of a section or a segment. If one is damaged, [`Elf::readable_notes`] returns those before it.
+    /// If the name of one is not UTF-8, [`Elf::notes_bytes`] reads it.
     ///
     /// # Errors
-    /// If the alignment is neither 4 nor 8, a note is not inside the file, or a name is not UTF-8. An alignment below 4 counts as 4.
+    /// If the alignment is neither 4 nor 8, a note is not inside the file, or a name is not UTF-8. An alignment below 4
+    /// counts as 4.
     pub fn notes(&self, part: &impl Part) -> Result<Notes<'a>> {
         all_notes(self.readable_notes(part))
     }
@@ -366,8 +372,8 @@ impl<'a> Elf<'a> {
         Notes::of(self, part.range(), part.alignment())
     }
 
-    /// Returns the notes of a section or a segment as bytes, so that names need not be UTF-8. Each note must be inside the section or the
-    /// segment. If one is damaged, [`Elf::readable_notes_bytes`] returns those before it.
+    /// Returns the notes of a section or a segment as bytes, so that names need not be UTF-8. Each note must be inside
+    /// the section or the segment. If one is damaged, [`Elf::readable_notes_bytes`] returns those before it.
     ///
     /// ```
     /// # fn main() -> Result<(), Box<dyn std::error::Error>> {
@@ -382,8 +388,8 @@ impl<'a> Elf<'a> {
     /// ```
     ///
     /// # Errors
-    /// If the alignment is neither 4 nor 8, or a note is not inside the section or the segment and the file. An alignment below 4 counts as 4.
-    /// [`Error::item`] returns which part of the note is not inside.
+    /// If the alignment is neither 4 nor 8, or a note is not inside the section or the segment and the file. An
+    /// alignment below 4 counts as 4. [`Error::item`] returns which part of the note is not inside.
     pub fn notes_bytes(&self, part: &impl Part) -> Result<Notes<'a, NoteBytes<'a>>> {
         all_notes(self.readable_notes_bytes(part))
     }

@@ -17,8 +17,8 @@ use std::{error, fmt, io, result};
 #[derive(Clone, Copy, PartialEq, Eq, Hash)]
 pub struct Error(raw::Refusal);
 
-// The only kind of error that is this crate's own, with a number that the library doesn't use. `first` is the type of a section, and
-// `item` an index in `HELD`: what was expected of the section.
+// The only kind of error that is this crate's own, with a number that the library doesn't use. `first` is the type of a
+// section, and `item` an index in `HELD`: what was expected of the section.
 const SECTION_TYPE: u32 = u32::MAX;
 const HELD: [&str; 2] = ["symbols", "relocations"];
 pub(crate) const SYMBOLS: u32 = 0;
@@ -27,7 +27,8 @@ pub(crate) const RELOCATIONS: u32 = 1;
 /// A result with this crate's [`Error`].
 pub type Result<T> = result::Result<T, Error>;
 
-/// The kind of an error, with the numbers that belong to it, in the order of `goblin.h`. Later versions may have more kinds.
+/// The kind of an error, with the numbers that belong to it, in the order of `goblin.h`. Later versions may have
+/// more kinds.
 ///
 /// ```
 /// use goblin_rs::{Elf, Kind};
@@ -40,20 +41,20 @@ pub type Result<T> = result::Result<T, Error>;
 pub enum Kind {
     /// The file does not start with the magic number. The first eight bytes as a little-endian number.
     BadMagic(u64),
-    /// An item ends past the end of the file. A number in a section or a segment, or a part of a note that is read as bytes, may end
-    /// past the end of the section or the segment instead. Of a list of headers the item is one header that ends past the end of the
-    /// file, while [`Error::offset`] is the list's.
+    /// An item ends past the end of the file. A number in a section or a segment, or a part of a note that is read as
+    /// bytes, may end past the end of the section or the segment instead. Of a list of headers the item is one header
+    /// that ends past the end of the file, while [`Error::offset`] is the list's.
     TooBig {
         /// Its size.
         size: u64,
         /// How many bytes there are from its offset to that end.
         len: u64,
     },
-    /// An item starts at the end of the file or past it, or in the cases of [`Kind::TooBig`] at the end of the section or the segment
-    /// or past it. This is its offset:
+    /// An item starts at the end of the file or past it, or in the cases of [`Kind::TooBig`] at the end of the section
+    /// or the segment or past it. This is its offset:
     /// - of a number in a section or a segment: from the start of the section or the segment;
-    /// - of a part of a note: from the start of the note. But if a note that is not read as bytes starts there: from the start of the
-    ///   file;
+    /// - of a part of a note: from the start of the note. But if a note that is not read as bytes starts there: from
+    ///   the start of the file;
     /// - of any other item: from the start of the file.
     ///
     /// [`Error::offset`] always counts from the start of the file.
@@ -144,7 +145,8 @@ pub enum Kind {
         /// True.
         overflow: bool,
     },
-    /// A number that is to be written does not fit its bytes, or a relocation has an addend where its section has none, or the reverse.
+    /// A number that is to be written does not fit its bytes, or a relocation has an addend where its section has none,
+    /// or the reverse.
     IntegerFit,
     /// A section was read as symbols or relocations, and has another type.
     SectionType {
@@ -205,9 +207,9 @@ impl Error {
         }
     }
 
-    /// Returns where in the file the thing begins that is refused: 0 for the header, the offset of a list of headers, of a table or of
-    /// a string table, or that of the string, the note, the bytes, or the record that is to be written. For a header that is read of a list
-    /// it is the list's offset.
+    /// Returns where in the file the thing begins that is refused: 0 for the header, the offset of a list of headers,
+    /// of a table or of a string table, or that of the string, the note, the bytes, or the record that is to be
+    /// written. For a header that is read of a list it is the list's offset.
     pub fn offset(&self) -> u64 {
         self.0.offset
     }
@@ -329,7 +331,14 @@ pub(crate) mod tests {
         let refusals = constants_after("GOBLIN_END = 1,\n");
         assert_eq!(refusals.len(), 21);
         for (comment, name, number) in refusals {
-            let why = raw::Refusal { kind: number, first: 101, second: 102, third: 103, fourth: 1, ..raw::Refusal::default() };
+            let why = raw::Refusal {
+                kind: number,
+                first: 101,
+                second: 102,
+                third: 103,
+                fourth: 1,
+                ..raw::Refusal::default()
+            };
             let printed = format!("{:?}", Error::new(why).kind()).replace("true", "1");
             let words: Vec<_> = printed.split(|c: char| !c.is_alphanumeric()).filter(|word| !word.is_empty()).collect();
             assert_eq!(words[0], camel(&name), "{number}");

@@ -21,8 +21,9 @@ impl Header {
     }
 }
 
-/// The calls that write. Each changes the bytes of its record in a file's bytes, in the class and byte order of this header, and no others.
-/// What is written is read again as the same record, unless section 0 has the number of headers and the call changes it.
+/// The calls that write. Each changes the bytes of its record in a file's bytes, in the class and byte order of this
+/// header, and no others. What is written is read again as the same record, unless section 0 has the number of headers
+/// and the call changes it.
 ///
 /// ```
 /// use goblin_rs::section_header::SHF_WRITE;
@@ -40,11 +41,12 @@ impl Header {
 /// # }
 /// ```
 impl Header {
-    /// Writes this header at the start of a file's bytes, in the class and byte order that it names. Writes the magic number, too, and leaves
-    /// the padding, the bytes 9 to 15.
+    /// Writes this header at the start of a file's bytes, in the class and byte order that it names. Writes the magic
+    /// number, too, and leaves the padding, the bytes 9 to 15.
     ///
     /// # Errors
-    /// If the class or the byte order is neither 1 nor 2, if there are too few bytes, or if a number does not fit the class.
+    /// If the class or the byte order is neither 1 nor 2, if there are too few bytes, or if a number does not fit
+    /// the class.
     pub fn put(&self, bytes: &mut [u8]) -> Result<()> {
         sys::goblin_put_header(bytes, self).map(|_| ())
     }
@@ -65,7 +67,8 @@ impl Header {
         sys::goblin_put_segment(bytes, self, index as u64, segment)
     }
 
-    /// Writes the symbol at an index of a section of type `SHT_SYMTAB` or `SHT_DYNSYM`. Returns `false`, and writes nothing, past the end.
+    /// Writes the symbol at an index of a section of type `SHT_SYMTAB` or `SHT_DYNSYM`. Returns `false`, and writes
+    /// nothing, past the end.
     ///
     /// # Errors
     /// If the section has another type, if the symbols are not inside the bytes, or if a number does not fit the class.
@@ -76,20 +79,28 @@ impl Header {
         sys::goblin_put_symbol(bytes, self, &section.range(), index as u64, symbol)
     }
 
-    /// Writes the relocation at an index of a section of type `SHT_RELA` or `SHT_REL`. Returns `false`, and writes nothing, past the end.
+    /// Writes the relocation at an index of a section of type `SHT_RELA` or `SHT_REL`. Returns `false`, and writes
+    /// nothing, past the end.
     ///
     /// # Errors
-    /// If the section has another type, if the relocations are not inside the bytes, if a number does not fit the class, or if the relocation
-    /// has an addend and those of the section have none, or the reverse.
+    /// If the section has another type, if the relocations are not inside the bytes, if a number does not fit the
+    /// class, or if the relocation has an addend and those of the section have none, or the reverse.
     pub fn put_reloc(&self, bytes: &mut [u8], section: &SectionHeader, index: usize, reloc: &Reloc) -> Result<bool> {
         if !holds_relocs(section) {
             return Err(Error::section_type(section, RELOCATIONS));
         }
-        sys::goblin_put_reloc(bytes, self, &section.range(), section.sh_type == SHT_RELA, index as u64, &(*reloc).into())
+        sys::goblin_put_reloc(
+            bytes,
+            self,
+            &section.range(),
+            section.sh_type == SHT_RELA,
+            index as u64,
+            &(*reloc).into(),
+        )
     }
 
-    /// Writes a number of `width` bytes at an offset, in the file's byte order. Returns `false`, and writes nothing, if the width is not 1, 2,
-    /// 4 or 8.
+    /// Writes a number of `width` bytes at an offset, in the file's byte order. Returns `false`, and writes nothing, if
+    /// the width is not 1, 2, 4 or 8.
     ///
     /// # Errors
     /// If the bytes at the offset are not inside the file, or if the number does not fit.

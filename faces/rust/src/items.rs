@@ -1,7 +1,7 @@
 //! What all lists of a file have in common, and the iterator over their items.
 //!
-//! The call that makes a list fails if the list can't be read. So a list has all of its items, and they are plain values: no
-//! iterator adaptor can drop an error.
+//! The call that makes a list fails if the list can't be read. So a list has all of its items, and they are plain
+//! values: no iterator adaptor can drop an error.
 //!
 //! ```
 //! # fn main() -> Result<(), Box<dyn std::error::Error>> {
@@ -78,8 +78,8 @@ pub(crate) fn fill_each<L: List>(list: &L, first: u64, items: &mut [L::Raw]) -> 
     Ok(Some(filled))
 }
 
-/// Returns what the library read of a list that was made. This is no error: by its contracts the library refuses a list at every
-/// index or at none, and the bytes have not changed.
+/// Returns what the library read of a list that was made. This is no error: by its contracts the library refuses a list
+/// at every index or at none, and the bytes have not changed.
 #[inline]
 pub(crate) fn made<T>(read: Result<T>) -> T {
     match read {
@@ -94,7 +94,8 @@ fn refused_late(e: &Error) -> ! {
     panic!("a list was made, so it must be refused at no index, but is refused: {e}")
 }
 
-// The methods of all lists. A list has a `count`, and its iterator is made from the list. The texts name one item and several.
+// The methods of all lists. A list has a `count`, and its iterator is made from the list. The texts name one item
+// and several.
 macro_rules! list {
     ($list:ident $(<$of:ident: $bound:ident>)? of $item:ty, by $iterator:ty, $one:literal, $more:literal) => {
         impl<'a $(, $of: $bound<'a>)?> $list<'a $(, $of)?> {
@@ -188,8 +189,8 @@ impl<L: List> Items<L> {
         Items { list, batch: L::batch(), front: 0..0, middle: 0..list.count(), back: 0..0 }
     }
 
-    // Returns the item at an index of the batch. The remainder changes nothing, but the compiler then needs no bounds check if the
-    // length is a power of two.
+    // Returns the item at an index of the batch. The remainder changes nothing, but the compiler then needs no bounds
+    // check if the length is a power of two.
     #[inline]
     fn item(&self, index: u64) -> L::Item {
         let batch = self.batch.as_ref();
@@ -201,12 +202,17 @@ impl<L: List> Items<L> {
         self.batch.as_ref().len() as u64 - BACK
     }
 
-    // Reads the items at some indices of the list into the batch, from an index of the batch on. Returns their indices there.
+    // Reads the items at some indices of the list into the batch, from an index of the batch on. Returns their
+    // indices there.
     fn fill(&mut self, start: u64, indices: Range<u64>) -> Range<u64> {
         let in_batch = start..start + (indices.end - indices.start);
         let items = &mut self.batch.as_mut()[in_batch.start as usize..in_batch.end as usize];
         let filled = made(self.list.fill(indices.start, items));
-        assert_eq!(filled, Some(items.len() as u64), "the library must fill an array that the list has enough items for");
+        assert_eq!(
+            filled,
+            Some(items.len() as u64),
+            "the library must fill an array that the list has enough items for"
+        );
         in_batch
     }
 

@@ -1,7 +1,7 @@
 //! Safe Rust over `goblin_c`, the static library of a verified port of goblin's ELF layer.
 //!
-//! A file is a slice of bytes. [`Elf::parse`] reads its header, and everything else is read on demand. The library's results are
-//! proved, and this crate passes them on. Names are goblin's for everything that goblin has.
+//! A file is a slice of bytes. [`Elf::parse`] reads its header, and everything else is read on demand. The library's
+//! results are proved, and this crate passes them on. Names are goblin's for everything that goblin has.
 //!
 //! ```
 //! # fn main() -> Result<(), Box<dyn std::error::Error>> {
@@ -16,28 +16,30 @@
 //! ```
 //!
 //! # Lists
-//! The call that makes a list fails if the list can't be read. So a list has all of its items, and they are plain values: no iterator
-//! adaptor can drop an error. Each list has `len`, `is_empty` and `iter`, and can be iterated over by value or by reference. Lists
-//! whose items have indices also have `get`.
+//! The call that makes a list fails if the list can't be read. So a list has all of its items, and they are plain
+//! values: no iterator adaptor can drop an error. Each list has `len`, `is_empty` and `iter`, and can be iterated over
+//! by value or by reference. Lists whose items have indices also have `get`.
 //!
 //! # Files that are cut
-//! The call for a whole fails if a part of it is not inside the file. [`Error::offset`] is where the whole begins, such as the list of
-//! headers. Of notes it is where the damaged note begins. [`Elf::whole`] returns the same file with only the headers that are whole inside
-//! it: its lists of headers, and searches in them, never fail for the list. The calls whose names begin with `readable_` never fail: they
-//! return what is left of notes, or of the bytes of a section or a segment. The example `truncated` shows them.
+//! The call for a whole fails if a part of it is not inside the file. [`Error::offset`] is where the whole begins, such
+//! as the list of headers. Of notes it is where the damaged note begins. [`Elf::whole`] returns the same file with only
+//! the headers that are whole inside it: its lists of headers, and searches in them, never fail for the list. The calls
+//! whose names begin with `readable_` never fail: they return what is left of notes, or of the bytes of a section or a
+//! segment. The example `truncated` shows them.
 //!
 //! # Headers that a program makes
-//! A header that a call takes need not be one of the file. [`Elf::strtab`], [`Elf::section_data`], [`Elf::number_in`] and
-//! [`Elf::relocs`] read only `sh_type`, `sh_offset` and `sh_size`. [`Elf::symtab`] also reads `sh_link`, and the calls for notes
-//! `sh_addralign`. So a string table can be read at any offset: `elf.strtab(&SectionHeader { sh_offset, sh_size, ..section })`.
+//! A header that a call takes need not be one of the file. [`Elf::strtab`], [`Elf::section_data`], [`Elf::number_in`]
+//! and [`Elf::relocs`] read only `sh_type`, `sh_offset` and `sh_size`. [`Elf::symtab`] also reads `sh_link`, and the
+//! calls for notes `sh_addralign`. So a string table can be read at any offset: `elf.strtab(&SectionHeader { sh_offset,
+//! sh_size, ..section })`.
 //!
 //! # Writing
-//! The calls of [`header::Header`] whose names begin with `put` change a record in a `&mut [u8]`. What they write reads as the same record,
-//! and no other byte changes, which is proved.
+//! The calls of [`header::Header`] whose names begin with `put` change a record in a `&mut [u8]`. What they write reads
+//! as the same record, and no other byte changes, which is proved.
 //!
 //! # Coming from goblin
-//! Here each part of the file is read on demand, which can fail, and a list is not a slice. So some lines that work with goblin don't
-//! compile. They are the comments below, each before what to write instead:
+//! Here each part of the file is read on demand, which can fail, and a list is not a slice. So some lines that work
+//! with goblin don't compile. They are the comments below, each before what to write instead:
 //!
 //! ```
 //! # fn main() -> Result<(), Box<dyn std::error::Error>> {
@@ -104,8 +106,8 @@
 //! # }
 //! ```
 //!
-//! This crate does not read the dynamic section, so it has no `elf.libraries`, `elf.soname`, `elf.rpaths`, `elf.runpaths` and
-//! `elf.interpreter`. The example `needed` reads them in a few lines.
+//! This crate does not read the dynamic section, so it has no `elf.libraries`, `elf.soname`, `elf.rpaths`,
+//! `elf.runpaths` and `elf.interpreter`. The example `needed` reads them in a few lines.
 #![deny(missing_docs, unsafe_code)]
 
 mod address_map;

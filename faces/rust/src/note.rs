@@ -30,8 +30,8 @@ pub struct Note<'a> {
 }
 
 impl Note<'_> {
-    /// Returns the name of its type, such as `NT_GNU_BUILD_ID`, or `NT_UNKNOWN`. Type 3 is `NT_GNU_BUILD_ID` for every name but
-    /// `CORE`, as in goblin.
+    /// Returns the name of its type, such as `NT_GNU_BUILD_ID`, or `NT_UNKNOWN`. Type 3 is `NT_GNU_BUILD_ID` for every
+    /// name but `CORE`, as in goblin.
     pub fn type_to_str(&self) -> Name {
         Name::written_by(|text| sys::goblin_note_type_to_str(self.name.as_bytes(), self.n_type, text))
     }

@@ -22,19 +22,20 @@ impl ProgramHeader {
 
     /// Reports whether the segment holds a section, as `readelf -l` maps sections to segments.
     ///
-    /// The section's range in the file, if it has one, must be inside the segment's. If it is loaded (`SHF_ALLOC`), its addresses must
-    /// be inside the segment's, too. Some segments hold only some sections:
+    /// The section's range in the file, if it has one, must be inside the segment's. If it is loaded (`SHF_ALLOC`), its
+    /// addresses must be inside the segment's, too. Some segments hold only some sections:
     /// - `PT_PHDR` holds none.
-    /// - `PT_TLS` holds only sections with `SHF_TLS`. Of these, `PT_LOAD` and `PT_GNU_RELRO` hold those with bytes in the file, and
-    ///   other segments hold none.
+    /// - `PT_TLS` holds only sections with `SHF_TLS`. Of these, `PT_LOAD` and `PT_GNU_RELRO` hold those with bytes in
+    ///   the file, and other segments hold none.
     /// - `PT_LOAD`, `PT_GNU_RELRO`, `PT_DYNAMIC`, `PT_GNU_EH_FRAME` and `PT_GNU_STACK` hold only loaded sections.
-    /// - An empty section is not held at the segment's end, nor at the start of `PT_DYNAMIC` or `PT_NOTE`, unless the segment is
-    ///   empty, too.
+    /// - An empty section is not held at the segment's end, nor at the start of `PT_DYNAMIC` or `PT_NOTE`, unless the
+    ///   segment is empty, too.
     ///
     /// This rule is not part of the library. It is tested, and compared with `readelf`, but not proved.
     pub fn holds(&self, section: &SectionHeader) -> bool {
         let has_bytes = section.sh_type != SHT_NOBITS;
-        let first = u64::from(section.sh_size == 0 && self.p_memsz != 0 && [PT_DYNAMIC, PT_NOTE].contains(&self.p_type));
+        let first =
+            u64::from(section.sh_size == 0 && self.p_memsz != 0 && [PT_DYNAMIC, PT_NOTE].contains(&self.p_type));
         let lies_in = |start: u64, from: u64, size: u64| {
             let before = start.checked_sub(from).filter(|before| *before >= first && (*before < size || size == 0));
             before.and_then(|before| before.checked_add(section.sh_size)).map_or(false, |end| end <= size)
@@ -85,7 +86,8 @@ impl ProgramHeader {
 /// let elf = goblin_rs::Elf::parse(&bytes)?;
 /// use goblin_rs::program_header::PT_LOAD;
 ///
-/// let loaded: u64 = elf.program_headers()?.iter().filter(|segment| segment.p_type == PT_LOAD).map(|segment| segment.p_memsz).sum();
+/// let loaded: u64 =
+///     elf.program_headers()?.iter().filter(|segment| segment.p_type == PT_LOAD).map(|segment| segment.p_memsz).sum();
 /// assert!(loaded > 0);
 /// # Ok(())
 /// # }

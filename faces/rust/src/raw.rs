@@ -1,5 +1,5 @@
-//! The structs of `goblin.h`, which the library reads and writes. Some are public types of this crate. The test compares the offset
-//! and the size of each field with the library's.
+//! The structs of `goblin.h`, which the library reads and writes. Some are public types of this crate. The test
+//! compares the offset and the size of each field with the library's.
 
 const _: () = assert!(usize::BITS == 64, "the library is only for 64-bit machines");
 
@@ -62,7 +62,8 @@ records! {
         e_shentsize: u16,
         /// The number of section headers. If it is 0, the first section's `sh_size` has the number.
         e_shnum: u16,
-        /// The index of the section that holds the section names, or 0xffff if the first section's `sh_link` has the index.
+        /// The index of the section that holds the section names, or 0xffff if the first section's `sh_link` has
+        /// the index.
         e_shstrndx: u16,
         /// 2 for 64 bits. Any other number counts as 1, for 32 bits.
         ei_class: u8,
@@ -80,7 +81,8 @@ records! {
     /// ```
     /// use goblin_rs::section_header::{SectionHeader, SHF_ALLOC, SHF_WRITE, SHT_PROGBITS};
     ///
-    /// let section = SectionHeader { sh_type: SHT_PROGBITS, sh_flags: SHF_ALLOC | SHF_WRITE, ..SectionHeader::default() };
+    /// let section =
+    ///     SectionHeader { sh_type: SHT_PROGBITS, sh_flags: SHF_ALLOC | SHF_WRITE, ..SectionHeader::default() };
     /// assert!(section.sh_flags & SHF_ALLOC != 0 && section.is_writable());
     /// ```
     SectionHeader {

@@ -82,7 +82,13 @@ impl<'a> RelocSection<'a> {
     pub(crate) fn of(elf: &Elf<'a>, range: raw::Range, is_rela: bool) -> Result<Self> {
         let Elf { file, header } = *elf;
         let count = sys::goblin_reloc_count(&file, &header, &range, is_rela)?;
-        Ok(RelocSection { file, header, range, is_rela, count: count.expect("a section that is not refused has a count") })
+        Ok(RelocSection {
+            file,
+            header,
+            range,
+            is_rela,
+            count: count.expect("a section that is not refused has a count"),
+        })
     }
 }
 
@@ -142,7 +148,8 @@ impl<'a> RelocSections<'a> {
     }
 }
 
-list!(RelocSections of (SectionHeader, RelocSection<'a>), by RelocSectionIterator<'a>, "relocation section", "relocation sections");
+list!(RelocSections of (SectionHeader, RelocSection<'a>), by RelocSectionIterator<'a>,
+    "relocation section", "relocation sections");
 
 pub(crate) fn holds_relocs(header: &SectionHeader) -> bool {
     header.sh_type == SHT_RELA || header.sh_type == SHT_REL

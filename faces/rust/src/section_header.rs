@@ -9,9 +9,9 @@ use crate::{raw, sys};
 use std::ops::Range;
 
 impl SectionHeader {
-    /// Returns the section's range in the file, inside the file or not, or `None` if its type is `SHT_NOBITS`. For any other type it is
-    /// `sh_offset` and `sh_size` as they stand, and may be empty. Its end is at most `usize::MAX`. [`Elf::section_data`] returns the
-    /// bytes.
+    /// Returns the section's range in the file, inside the file or not, or `None` if its type is `SHT_NOBITS`. For any
+    /// other type it is `sh_offset` and `sh_size` as they stand, and may be empty. Its end is at most `usize::MAX`.
+    /// [`Elf::section_data`] returns the bytes.
     pub fn file_range(&self) -> Option<Range<usize>> {
         let start = self.sh_offset as usize;
         let range = start..start.saturating_add(self.sh_size as usize);
@@ -24,8 +24,8 @@ impl SectionHeader {
         start..start.saturating_add(self.sh_size as usize)
     }
 
-    /// Reports whether the section holds relocations with addends (`SHT_RELA`). As in goblin, it is false for those without
-    /// (`SHT_REL`).
+    /// Reports whether the section holds relocations with addends (`SHT_RELA`). As in goblin, it is false for those
+    /// without (`SHT_REL`).
     pub fn is_relocation(&self) -> bool {
         self.sh_type == SHT_RELA
     }
@@ -108,8 +108,8 @@ impl List for SectionHeaders<'_> {
     }
 }
 
-/// Returns the name of a section's type, such as `SHT_PROGBITS`, or `UNKNOWN_SHT`. As in goblin, 19 is `SHT_NUM`, which newer tools
-/// print as `RELR`, and 0x70000001 is `SHT_X86_64_UNWIND` for every machine.
+/// Returns the name of a section's type, such as `SHT_PROGBITS`, or `UNKNOWN_SHT`. As in goblin, 19 is `SHT_NUM`, which
+/// newer tools print as `RELR`, and 0x70000001 is `SHT_X86_64_UNWIND` for every machine.
 pub fn sht_to_str(sh_type: u32) -> Name {
     Name::written_by(|text| sys::goblin_sht_to_str(sh_type, text))
 }

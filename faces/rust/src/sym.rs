@@ -52,7 +52,8 @@ pub fn st_visibility(other: u8) -> u8 {
     other & 0x7
 }
 
-/// Reports whether a symbol is global and its value is 0. As in goblin, it is false for a weak symbol, unlike [`Sym::is_import`].
+/// Reports whether a symbol is global and its value is 0. As in goblin, it is false for a weak symbol,
+/// unlike [`Sym::is_import`].
 pub fn is_import(info: u8, value: u64) -> bool {
     st_bind(info) == STB_GLOBAL && value == 0
 }
@@ -111,7 +112,8 @@ impl<'a> Symtab<'a> {
         self.strtab.get(symbol.st_name)
     }
 
-    /// Returns the bytes of a symbol's name, which need not be UTF-8, or `None` if its offset is past the end of the string table.
+    /// Returns the bytes of a symbol's name, which need not be UTF-8, or `None` if its offset is past the end of the
+    /// string table.
     ///
     /// # Errors
     /// If the string table is not inside the file.
@@ -120,13 +122,14 @@ impl<'a> Symtab<'a> {
         self.strtab.get_bytes(symbol.st_name)
     }
 
-    /// Returns the index of the symbol that contains an address: of those with `st_value <= address < st_value + st_size` the one with the
-    /// highest `st_value`, the first of several. These sums do not wrap around. If there is none, it is the first of size 0, as labels of
-    /// assembly have, among the symbols with the highest `st_value` that is not above the address.
+    /// Returns the index of the symbol that contains an address: of those with
+    /// `st_value <= address < st_value + st_size` the one with the highest `st_value`, the first of several. These sums
+    /// do not wrap around. If there is none, it is the first of size 0, as labels of assembly have, among the symbols
+    /// with the highest `st_value` that is not above the address.
     ///
-    /// Only symbols of a section count, whose `st_shndx` is from 1 to 0xfeff, or 0xffff (`SHN_XINDEX`). And only those of type
-    /// `STT_NOTYPE`, `STT_OBJECT`, `STT_FUNC` or `STT_GNU_IFUNC` count. In a file of type `ET_REL` an `st_value` is an offset in a section,
-    /// so symbols of different sections mix.
+    /// Only symbols of a section count, whose `st_shndx` is from 1 to 0xfeff, or 0xffff (`SHN_XINDEX`). And only those
+    /// of type `STT_NOTYPE`, `STT_OBJECT`, `STT_FUNC` or `STT_GNU_IFUNC` count. In a file of type `ET_REL` an
+    /// `st_value` is an offset in a section, so symbols of different sections mix.
     ///
     /// Each call reads all symbols: for many addresses use [`Symtab::address_map`].
     pub fn at(&self, address: u64) -> Option<usize> {

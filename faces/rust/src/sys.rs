@@ -1,25 +1,27 @@
 //! The calls of the library, which `goblin.h` declares and documents. All unsafe code of this crate is here.
 //!
-//! Each call is a safe function, since its types say all that it needs: it reads only its slices and references, and writes only its
-//! mutable ones, within their lengths. Only the tests compare these declarations with the library's.
+//! Each call is a safe function, since its types say all that it needs: it reads only its slices and references, and
+//! writes only its mutable ones, within their lengths. Only the tests compare these declarations with the library's.
 use crate::error::{Error, Result};
 use crate::file::File;
 use crate::raw::{Header, Note, ProgramHeader, Range, Refusal, Reloc, SectionHeader, Sym};
 use std::str;
 
-// A call takes the file's bytes and further arguments: after `by` a slice to read, after `into` an array to fill. It returns an item (the
-// number of items that were filled, for an array), `None` for GOBLIN_END, or the error for a refusal.
+// A call takes the file's bytes and further arguments: after `by` a slice to read, after `into` an array to fill.
+// It returns an item (the number of items that were filled, for an array), `None` for GOBLIN_END, or the error for
+// a refusal.
 macro_rules! calls {
     ($(fn $name:ident($($given:ident: $type:ty),*) $(by $by:ident)? $(into [$each:ty])? -> $item:ty;)*) => {$(
         #[inline]
-        pub fn $name(bytes: &[u8] $(, $given: $type)* $(, $by: &[u8])? $(, items: &mut [$each])?) -> Result<Option<$item>> {
+        pub fn $name(bytes: &[u8] $(, $given: $type)* $(, $by: &[u8])? $(, items: &mut [$each])?)
+            -> Result<Option<$item>> {
             extern "C" {
                 fn $name(bytes: *const u8, len: usize $(, $given: $type)* $(, $by: *const u8, _: usize)?
                     $(, items: *mut $each, _: usize)?, item: *mut $item, why: *mut Refusal) -> u32;
             }
             let (mut item, mut why) = <($item, Refusal)>::default();
-            // SAFETY: each pointer of a slice is passed with the slice's length. `item` and `why` are this function's own, and all
-            // references and slices outlive the call. It writes only numbers.
+            // SAFETY: each pointer of a slice is passed with the slice's length. `item` and `why` are this function's
+            // own, and all references and slices outlive the call. It writes only numbers.
             let status = unsafe {
                 $name(bytes.as_ptr(), bytes.len() $(, $given)* $(, $by.as_ptr(), $by.len())?
                     $(, items.as_mut_ptr() as *mut $each, items.len())?, &mut item, &mut why)
@@ -71,16 +73,18 @@ calls! {
 macro_rules! searches {
     ($(fn $name:ident($given:ident: $type:ty $(, by $by:ident)?);)*) => {$(
         #[inline]
-        pub fn $name(bytes: &[u8], header: &Header, $given: $type $(, $by: &[u8])?, first: u64) -> Result<Option<(u64, SectionHeader)>> {
+        pub fn $name(bytes: &[u8], header: &Header, $given: $type $(, $by: &[u8])?, first: u64)
+            -> Result<Option<(u64, SectionHeader)>> {
             extern "C" {
-                fn $name(bytes: *const u8, len: usize, header: &Header, $given: $type $(, $by: *const u8, _: usize)?, first: u64,
-                    index: *mut u64, section: *mut SectionHeader, why: *mut Refusal) -> u32;
+                fn $name(bytes: *const u8, len: usize, header: &Header, $given: $type $(, $by: *const u8, _: usize)?,
+                    first: u64, index: *mut u64, section: *mut SectionHeader, why: *mut Refusal) -> u32;
             }
             let (mut index, mut section, mut why) = <(u64, SectionHeader, Refusal)>::default();
-            // SAFETY: each pointer of a slice is passed with the slice's length. The results are this function's own, and all references
-            // and slices outlive the call. It writes only numbers.
+            // SAFETY: each pointer of a slice is passed with the slice's length. The results are this function's own,
+            // and all references and slices outlive the call. It writes only numbers.
             let status = unsafe {
-                $name(bytes.as_ptr(), bytes.len(), header, $given $(, $by.as_ptr(), $by.len())?, first, &mut index, &mut section, &mut why)
+                $name(bytes.as_ptr(), bytes.len(), header, $given $(, $by.as_ptr(), $by.len())?, first,
+                    &mut index, &mut section, &mut why)
             };
             result(status, (index, section), why)
         }
@@ -96,10 +100,12 @@ searches! {
 macro_rules! writes {
     ($(fn $name:ident($($given:ident: $type:ty),*);)*) => {$(
         pub fn $name(bytes: &mut [u8], header: &Header $(, $given: $type)*) -> Result<bool> {
-            extern "C" { fn $name(bytes: *mut u8, len: usize, header: &Header $(, $given: $type)*, why: *mut Refusal) -> u32; }
+            extern "C" {
+                fn $name(bytes: *mut u8, len: usize, header: &Header $(, $given: $type)*, why: *mut Refusal) -> u32;
+            }
             let mut why = Refusal::default();
-            // SAFETY: the pointer of the slice is passed with the slice's length. `why` is this function's own, and all references and
-            // slices outlive the call. It writes only numbers.
+            // SAFETY: the pointer of the slice is passed with the slice's length. `why` is this function's own, and all
+            // references and slices outlive the call. It writes only numbers.
             let status = unsafe { $name(bytes.as_mut_ptr(), bytes.len(), header $(, $given)*, &mut why) };
             result(status, (), why).map(|written| written.is_some())
         }
@@ -146,7 +152,9 @@ pub fn string<'a>(bytes: &'a [u8], strings: &Range, offset: u64) -> Result<Optio
 macro_rules! texts {
     ($(fn $name:ident($given:ident: $type:ty $(, by $by:ident)?);)*) => {$(
         pub fn $name($($by: &[u8], )? $given: $type, text: &mut [u8]) -> usize {
-            extern "C" { fn $name($($by: *const u8, _: usize, )? $given: $type, text: *mut u8, capacity: usize) -> u64; }
+            extern "C" {
+                fn $name($($by: *const u8, _: usize, )? $given: $type, text: *mut u8, capacity: usize) -> u64;
+            }
             // SAFETY: each pointer is passed with the length of its slice, and all outlive the call.
             unsafe { $name($($by.as_ptr(), $by.len(), )? $given, text.as_mut_ptr(), text.len()) as usize }
         }

@@ -177,7 +177,10 @@ fn the_first_section_header_has_the_number_of_headers() {
         assert_eq!(elf.whole().header, elf.header);
         let cut = Elf::parse(&file[..at + 3 * size + 1]).unwrap();
         let whole = cut.whole();
-        assert_eq!((whole.header.e_shnum, whole.section_header(2), whole.section_header(3)), (3, elf.section_header(2), Ok(None)));
+        assert_eq!(
+            (whole.header.e_shnum, whole.section_header(2), whole.section_header(3)),
+            (3, elf.section_header(2), Ok(None))
+        );
         let without = Elf::parse(&file[..at + size - 1]).unwrap();
         let refused = Kind::TooBig { size: size as u64, len: size as u64 - 1 };
         assert_eq!(without.section_header(6).map_err(|e| e.kind()), Err(refused));
@@ -205,7 +208,8 @@ fn symbols_are_refused_or_all_there() {
                 Some(available) if available < requested => Err(Kind::SymtabPast { requested, available }),
                 Some(_) => Ok(size / entry),
             };
-            let section = SectionHeader { sh_type: SHT_DYNSYM, sh_offset: offset, sh_size: size, ..SectionHeader::default() };
+            let section =
+                SectionHeader { sh_type: SHT_DYNSYM, sh_offset: offset, sh_size: size, ..SectionHeader::default() };
             let symbols = elf.symtab(&section).map_err(|e| e.kind());
             assert_eq!(symbols.map(|symbols| symbols.len() as u64), wanted, "{offset} {size}");
             if let Ok(symbols) = symbols {
@@ -222,7 +226,9 @@ fn relocations_are_refused_or_all_there() {
         let file = made(form, 0);
         let elf = Elf::parse(&file).unwrap();
         let len = file.len() as u64;
-        for ((offset, size), (sh_type, numbers)) in ranges(len).into_iter().flat_map(|range| [(range, (SHT_RELA, 3)), (range, (SHT_REL, 2))]) {
+        for ((offset, size), (sh_type, numbers)) in
+            ranges(len).into_iter().flat_map(|range| [(range, (SHT_RELA, 3)), (range, (SHT_REL, 2))])
+        {
             let wanted = match len.checked_sub(offset) {
                 _ if size == 0 => Ok(0),
                 None | Some(0) => Err(Kind::BadOffset(offset)),
@@ -271,7 +277,10 @@ fn notes_are_refused_or_all_there() {
             assert_eq!(elf.iter_note_sections().unwrap_err(), refused);
             assert_eq!(elf.iter_note_headers().unwrap_err(), refused);
             for (before, why) in [elf.readable_notes(&section), elf.readable_notes(&segment)] {
-                assert_eq!((forwards(|| before.iter()), why), (forwards(|| notes[..readable].iter().copied()), Some(refused)));
+                assert_eq!(
+                    (forwards(|| before.iter()), why),
+                    (forwards(|| notes[..readable].iter().copied()), Some(refused))
+                );
             }
         }
         let (all, why) = elf.readable_notes(&section);
@@ -295,11 +304,16 @@ fn notes_as_bytes_are_refused_or_all_there() {
         assert_eq!(forwards(|| elf.notes_bytes(&segment).unwrap().into_iter()), wanted);
         // the first byte of the second name is not UTF-8
         let damaged = with_byte(&file, 1, 32, 0xff);
-        let read: Vec<_> = Elf::parse(&damaged).unwrap().notes_bytes(&section).unwrap().iter().map(|note| note.name).collect();
+        let read: Vec<_> =
+            Elf::parse(&damaged).unwrap().notes_bytes(&section).unwrap().iter().map(|note| note.name).collect();
         assert_eq!(read, [&b"GNU\0"[..], b"\xffoblin\0"]);
         // the range ends in the first note's header, name and descriptor, and then in those of the second
         for (size, readable, item) in [
-            (11, 0, Item::NoteHeader), (15, 0, Item::NoteName), (19, 0, Item::NoteDesc), (31, 1, Item::NoteHeader), (38, 1, Item::NoteName),
+            (11, 0, Item::NoteHeader),
+            (15, 0, Item::NoteName),
+            (19, 0, Item::NoteDesc),
+            (31, 1, Item::NoteHeader),
+            (38, 1, Item::NoteName),
             (44, 1, Item::NoteDesc),
         ] {
             let section = SectionHeader { sh_size: size, ..section };
@@ -308,7 +322,10 @@ fn notes_as_bytes_are_refused_or_all_there() {
             assert_eq!((refused.item(), refused.offset()), (Some(item), section.sh_offset + 20 * readable as u64));
             assert_eq!(elf.notes_bytes(&segment).unwrap_err(), refused);
             for (before, why) in [elf.readable_notes_bytes(&section), elf.readable_notes_bytes(&segment)] {
-                assert_eq!((forwards(|| before.iter()), why), (forwards(|| notes[..readable].iter().copied()), Some(refused)));
+                assert_eq!(
+                    (forwards(|| before.iter()), why),
+                    (forwards(|| notes[..readable].iter().copied()), Some(refused))
+                );
             }
         }
         let unaligned = SectionHeader { sh_addralign: 16, ..section };
@@ -325,16 +342,19 @@ fn sections_of_relocations_are_refused_or_all_there() {
         let file = made(form, 0);
         let elf = Elf::parse(&file).unwrap();
         let sections = elf.section_headers().unwrap();
-        let wanted: Vec<_> = [4, 5].iter().map(|index| sections.get(*index).unwrap()).map(|h| (h, elf.relocs(&h).unwrap())).collect();
+        let wanted: Vec<_> =
+            [4, 5].iter().map(|index| sections.get(*index).unwrap()).map(|h| (h, elf.relocs(&h).unwrap())).collect();
         has_each(elf.shdr_relocs().unwrap(), wanted);
         for (index, len) in [(4, 6 * form.wide()), (5, 2 * form.wide())] {
             // `sh_offset` of this section is that of the file's last byte
             let mut damaged = file.clone();
             let offset = elf.header.e_shoff as usize + if form.is_64 { 64 * index + 24 } else { 40 * index + 16 };
-            damaged[offset..offset + form.wide()].copy_from_slice(&form.numbers(&[(form.wide(), file.len() as u64 - 1)]));
+            damaged[offset..offset + form.wide()]
+                .copy_from_slice(&form.numbers(&[(form.wide(), file.len() as u64 - 1)]));
             let elf = Elf::parse(&damaged).unwrap();
             assert_eq!(elf.shdr_relocs().unwrap_err().kind(), Kind::TooBig { size: len as u64, len: 1 });
-            let read: Vec<_> = [4, 5].iter().map(|index| elf.relocs(&elf.section_header(*index).unwrap().unwrap()).is_ok()).collect();
+            let read: Vec<_> =
+                [4, 5].iter().map(|index| elf.relocs(&elf.section_header(*index).unwrap().unwrap()).is_ok()).collect();
             assert_eq!(read, [index != 4, index != 5]);
         }
         let cut = Elf::parse(&file[..200]).unwrap();
@@ -352,7 +372,10 @@ fn a_table_of_another_type_is_refused() {
         for section in elf.section_headers().unwrap() {
             let sh_type = section.sh_type;
             let of_symbols = elf.symtab(&section).err().map(|e| e.kind());
-            assert_eq!(of_symbols, (sh_type != SHT_SYMTAB).then_some(Kind::SectionType { sh_type, expected: "symbols" }));
+            assert_eq!(
+                of_symbols,
+                (sh_type != SHT_SYMTAB).then_some(Kind::SectionType { sh_type, expected: "symbols" })
+            );
             let of_relocs = elf.relocs(&section).err().map(|e| e.kind());
             let is_of_relocs = [SHT_RELA, SHT_REL].contains(&sh_type);
             assert_eq!(of_relocs, (!is_of_relocs).then_some(Kind::SectionType { sh_type, expected: "relocations" }));

@@ -1,7 +1,8 @@
 //! Tests what is read of small files that are made here, of both classes and byte orders, whole and damaged.
 use goblin_rs::error::Kind;
 use goblin_rs::program_header::{
-    ProgramHeader, PT_DYNAMIC, PT_GNU_EH_FRAME, PT_GNU_RELRO, PT_GNU_STACK, PT_INTERP, PT_LOAD, PT_NOTE, PT_PHDR, PT_TLS,
+    ProgramHeader, PT_DYNAMIC, PT_GNU_EH_FRAME, PT_GNU_RELRO, PT_GNU_STACK, PT_INTERP, PT_LOAD, PT_NOTE, PT_PHDR,
+    PT_TLS,
 };
 use goblin_rs::reloc::Reloc;
 use goblin_rs::section_header::{
@@ -13,8 +14,8 @@ use goblin_rs::{header, program_header, section_header, sym, Elf, Result};
 mod made;
 use made::{made, Form, FORMS, STRINGS};
 
-/// Returns a file with another number in the header of a section: four bytes at an offset in the 32-bit class, and at another one in the
-/// 64-bit class.
+/// Returns a file with another number in the header of a section: four bytes at an offset in the 32-bit class, and at
+/// another one in the 64-bit class.
 fn with_section(form: Form, index: usize, offsets: (usize, usize), number: u64) -> Vec<u8> {
     let mut file = made(form, 0);
     let at = Elf::parse(&file).unwrap().header.e_shoff as usize;
@@ -103,25 +104,41 @@ fn segments() {
 fn sections_in_segments() {
     // the segment has 0x50 bytes at offset 0x100, and 0x80 addresses from 0x1100 on
     let holds = |p_type, sh_flags, sh_type, (before, size): (u64, u64)| {
-        let segment = ProgramHeader { p_type, p_offset: 0x100, p_filesz: 0x50, p_vaddr: 0x1100, p_memsz: 0x80, ..Default::default() };
+        let segment = ProgramHeader {
+            p_type,
+            p_offset: 0x100,
+            p_filesz: 0x50,
+            p_vaddr: 0x1100,
+            p_memsz: 0x80,
+            ..Default::default()
+        };
         let (sh_offset, sh_addr) = (0x100u64.wrapping_add(before), 0x1100u64.wrapping_add(before));
         segment.holds(&SectionHeader { sh_type, sh_flags, sh_offset, sh_addr, sh_size: size, ..Default::default() })
     };
     let loaded = |p_type, range| holds(p_type, SHF_ALLOC, SHT_PROGBITS, range);
     assert!(loaded(PT_LOAD, (0, 0x50)) && loaded(PT_LOAD, (0x4f, 1)));
-    assert!(!loaded(PT_LOAD, (0, 0x51)) && !loaded(PT_LOAD, (u64::MAX, 1)) && !loaded(PT_LOAD, (0x50, 1)) && !loaded(PT_LOAD, (1, u64::MAX)));
+    assert!(
+        !loaded(PT_LOAD, (0, 0x51))
+            && !loaded(PT_LOAD, (u64::MAX, 1))
+            && !loaded(PT_LOAD, (0x50, 1))
+            && !loaded(PT_LOAD, (1, u64::MAX))
+    );
     assert!(loaded(PT_LOAD, (0, 0)) && !loaded(PT_LOAD, (0x50, 0)));
     // without bytes in the file only the addresses count
     let zeros = |range| holds(PT_LOAD, SHF_ALLOC, SHT_NOBITS, range);
     assert!(zeros((0x50, 0x30)) && !zeros((0x50, 0x31)) && !zeros((0x80, 0)));
     // some segments hold only loaded sections
-    let found = [PT_LOAD, PT_DYNAMIC, PT_GNU_EH_FRAME, PT_GNU_RELRO, PT_GNU_STACK].map(|p_type| holds(p_type, 0, SHT_PROGBITS, (1, 1)));
+    let found = [PT_LOAD, PT_DYNAMIC, PT_GNU_EH_FRAME, PT_GNU_RELRO, PT_GNU_STACK]
+        .map(|p_type| holds(p_type, 0, SHT_PROGBITS, (1, 1)));
     assert_eq!(found, [false; 5]);
     assert!(holds(PT_INTERP, 0, SHT_PROGBITS, (1, 1)) && holds(PT_NOTE, 0, SHT_NOTE, (1, 1)));
     assert!(!loaded(PT_PHDR, (1, 1)) && loaded(PT_DYNAMIC, (1, 1)));
     // thread-local storage
     let of_thread = |p_type, sh_type| holds(p_type, SHF_ALLOC | SHF_TLS, sh_type, (1, 1));
-    assert_eq!([PT_TLS, PT_LOAD, PT_GNU_RELRO, PT_NOTE, PT_GNU_STACK].map(|p| of_thread(p, SHT_PROGBITS)), [true, true, true, false, false]);
+    assert_eq!(
+        [PT_TLS, PT_LOAD, PT_GNU_RELRO, PT_NOTE, PT_GNU_STACK].map(|p| of_thread(p, SHT_PROGBITS)),
+        [true, true, true, false, false]
+    );
     assert_eq!([PT_TLS, PT_LOAD, PT_GNU_RELRO].map(|p| of_thread(p, SHT_NOBITS)), [true, false, false]);
     assert!(!loaded(PT_TLS, (1, 1)));
     // an empty section at the start of a segment of notes is not held
@@ -180,7 +197,8 @@ fn sections_and_their_names() {
     }
 }
 
-/// The refusal of the name that is not UTF-8. From its offset to the end of the strings there are two bytes: it and a zero byte.
+/// The refusal of the name that is not UTF-8. From its offset to the end of the strings there are two bytes: it and a
+/// zero byte.
 const NOT_UTF_8: Kind = Kind::BadInput { size: 2, msg: "invalid utf8" };
 
 #[test]
@@ -237,7 +255,11 @@ fn no_section_is_no_table() {
         assert_eq!(first_section(&with_section(form, 6, SH_TYPE, SHT_NOBITS.into())), none);
         assert_eq!(first_symbol(&made(form, 0)), (Ok(Some("first".to_string())), Ok(Some(1))));
         assert_eq!(linked(&made(form, 0)), Ok(Some((SHT_STRTAB, ".strtab".to_string()))));
-        for unlinked in [with_section(form, 2, SH_LINK, 0), with_section(form, 2, SH_LINK, 7), with_section(form, 3, SH_TYPE, SHT_NOBITS.into())] {
+        for unlinked in [
+            with_section(form, 2, SH_LINK, 0),
+            with_section(form, 2, SH_LINK, 7),
+            with_section(form, 3, SH_TYPE, SHT_NOBITS.into()),
+        ] {
             assert_eq!(first_symbol(&unlinked), none);
             assert_eq!(linked(&unlinked), Ok(None));
         }
@@ -312,12 +334,17 @@ fn headers_are_written() {
     for form in FORMS {
         let before = made(form, 0);
         let (elf, mut file) = (Elf::parse(&before).unwrap(), before.clone());
-        let (header, of_section, of_segment) = (elf.header, if form.is_64 { 64 } else { 40 }, if form.is_64 { 56 } else { 32 });
+        let (header, of_section, of_segment) =
+            (elf.header, if form.is_64 { 64 } else { 40 }, if form.is_64 { 56 } else { 32 });
         let found = (elf.section_header(3).unwrap().unwrap(), elf.program_header(1).unwrap().unwrap());
         header.put(&mut file).unwrap();
-        let written = (header.put_section_header(&mut file, 3, &found.0), header.put_program_header(&mut file, 1, &found.1));
+        let written =
+            (header.put_section_header(&mut file, 3, &found.0), header.put_program_header(&mut file, 1, &found.1));
         assert_eq!((written, changed(&before, &file)), ((Ok(true), Ok(true)), None));
-        let (section, segment) = (SectionHeader { sh_info: 5, sh_type: 0x1234, ..found.0 }, ProgramHeader { p_flags: 7, p_align: 2, ..found.1 });
+        let (section, segment) = (
+            SectionHeader { sh_info: 5, sh_type: 0x1234, ..found.0 },
+            ProgramHeader { p_flags: 7, p_align: 2, ..found.1 },
+        );
         let written = header.put_section_header(&mut file, 3, &section);
         assert_eq!(Elf::parse(&file).unwrap().section_header(3), Ok(Some(section)));
         has_written(&mut file, &before, (header.e_shoff + 3 * of_section as u64, of_section), written);
@@ -328,9 +355,13 @@ fn headers_are_written() {
         let written = other.put(&mut file).map(|_| true);
         assert_eq!(Elf::parse(&file).unwrap().header, other);
         has_written(&mut file, &before, (0, form.header_size()), written);
-        let past = (header.put_section_header(&mut file, 7, &section), header.put_program_header(&mut file, 2, &segment));
+        let past =
+            (header.put_section_header(&mut file, 7, &section), header.put_program_header(&mut file, 2, &segment));
         assert_eq!(past, (Ok(false), Ok(false)));
-        assert_eq!(why(header.put_section_header(&mut file[..200], 0, &section)), (Kind::BadOffset(header.e_shoff), header.e_shoff));
+        assert_eq!(
+            why(header.put_section_header(&mut file[..200], 0, &section)),
+            (Kind::BadOffset(header.e_shoff), header.e_shoff)
+        );
         assert_eq!(why(header::Header { ei_class: 3, ..header }.put(&mut file)), (Kind::InvalidClass(3), 0));
         assert_eq!(why(header::Header { ei_data: 0, ..header }.put(&mut file)), (Kind::Data(0), 0));
         let long_name = SectionHeader { sh_name: 1 << 32, ..section };
@@ -377,7 +408,10 @@ fn symbols_relocations_and_numbers_are_written() {
         assert_eq!(why(header.put_symbol(&mut file, &table, 0, &high)), (Kind::IntegerFit, table.sh_offset));
         assert_eq!(why(header.put_number(&mut file, 18, 2, 0x10000)), (Kind::IntegerFit, 18));
         let of_type = (header.put_symbol(&mut file, &rel, 0, &symbol), header.put_reloc(&mut file, &table, 0, &reloc));
-        let refused = (Kind::SectionType { sh_type: SHT_REL, expected: "symbols" }, Kind::SectionType { sh_type: SHT_SYMTAB, expected: "relocations" });
+        let refused = (
+            Kind::SectionType { sh_type: SHT_REL, expected: "symbols" },
+            Kind::SectionType { sh_type: SHT_SYMTAB, expected: "relocations" },
+        );
         assert_eq!((of_type.0.unwrap_err().kind(), of_type.1.unwrap_err().kind()), refused);
         assert_eq!(changed(&before, &file), None);
     }
@@ -396,7 +430,10 @@ fn the_first_section_header_has_the_number_of_segments() {
         assert_eq!(elf.whole().header, count);
         // (the file ends in that header, so the number can't be read, and then of the segments none is inside)
         let cut = Elf::parse(&file[..sections as usize + 3]).unwrap();
-        assert_eq!(why(cut.program_headers()), (Kind::TooBig { size: if form.is_64 { 64 } else { 40 }, len: 3 }, sections));
+        assert_eq!(
+            why(cut.program_headers()),
+            (Kind::TooBig { size: if form.is_64 { 64 } else { 40 }, len: 3 }, sections)
+        );
         assert_eq!(cut.whole().header, header::Header { e_phnum: 0, e_shoff: 0, e_shnum: 0, ..count });
         let without = header::Header { e_shoff: 0, ..count };
         without.put(&mut file).unwrap();
@@ -451,7 +488,9 @@ fn errors_of_lists_begin_where_the_list_does() {
         let size = if form.is_64 { 64 } else { 40 };
         let header_5 = list + 5 * size;
         // the file ends in section header 5, and then where it begins
-        for (len, kind) in [(header_5 + size - 2, Kind::TooBig { size, len: size - 2 }), (header_5, Kind::BadOffset(header_5))] {
+        for (len, kind) in
+            [(header_5 + size - 2, Kind::TooBig { size, len: size - 2 }), (header_5, Kind::BadOffset(header_5))]
+        {
             let cut = Elf::parse(&file[..len as usize]).unwrap();
             assert_eq!(why(cut.section_headers()), (kind, list));
             assert_eq!(why(cut.section_header(1)), (kind, list));
@@ -473,10 +512,14 @@ fn offsets_of_errors_count_from_the_start_of_their_whole() {
         let file = made(form, 0);
         let elf = Elf::parse(&file).unwrap();
         let (strings, size) = (elf.section(".strtab").unwrap().unwrap(), STRINGS.len() as u64);
-        assert_eq!(why(elf.number_in(&strings, size + 5, 1)), (Kind::BadOffset(size + 5), strings.sh_offset + size + 5));
+        assert_eq!(
+            why(elf.number_in(&strings, size + 5, 1)),
+            (Kind::BadOffset(size + 5), strings.sh_offset + size + 5)
+        );
         let past = SectionHeader { sh_offset: file.len() as u64 + 7, ..strings };
         assert_eq!(why(elf.number_in(&past, 3, 1)), (Kind::BadOffset(past.sh_offset), past.sh_offset));
-        // the second note begins 20 bytes after the first, its name 12 bytes after that, and its descriptor 8 bytes later
+        // the second note begins 20 bytes after the first, its name 12 bytes after that, and its descriptor 8
+        // bytes later
         let section = elf.section_header(1).unwrap().unwrap();
         let (first, second) = (section.sh_offset, section.sh_offset + 20);
         for (len, note, of_text, of_bytes) in [
@@ -493,7 +536,10 @@ fn offsets_of_errors_count_from_the_start_of_their_whole() {
         for alignment in 0..=9 {
             let section = SectionHeader { sh_addralign: alignment, ..section };
             match alignment {
-                0..=4 => assert_eq!((elf.notes(&section).unwrap().len(), elf.notes_bytes(&section).unwrap().len()), (2, 2)),
+                0..=4 => assert_eq!(
+                    (elf.notes(&section).unwrap().len(), elf.notes_bytes(&section).unwrap().len()),
+                    (2, 2)
+                ),
                 8 => {}
                 _ => assert_eq!(why(elf.notes(&section)), (Kind::NoteAlign(alignment), first)),
             }
@@ -538,7 +584,9 @@ fn parts_of_sections_and_segments() {
             assert_eq!(elf.readable_data(&segment), elf.segment_data(&segment).unwrap());
         }
         let (section, segment) = (elf.section_header(3).unwrap().unwrap(), elf.program_header(1).unwrap().unwrap());
-        for (offset, size, left) in [(len - 3, 4, 3), (len - 3, u64::MAX, 3), (len, 1, 0), (len + 1, 5, 0), (u64::MAX, u64::MAX, 0)] {
+        for (offset, size, left) in
+            [(len - 3, 4, 3), (len - 3, u64::MAX, 3), (len, 1, 0), (len + 1, 5, 0), (u64::MAX, u64::MAX, 0)]
+        {
             let section = SectionHeader { sh_offset: offset, sh_size: size, ..section };
             let segment = ProgramHeader { p_offset: offset, p_filesz: size, ..segment };
             assert!(elf.section_data(&section).is_err() && elf.segment_data(&segment).is_err());
@@ -558,7 +606,8 @@ fn sections_of_one_name() {
         // the sections at 4 and 5 have the name ".rela"
         let file = with_section(form, 5, SH_NAME, 23);
         let elf = Elf::parse(&file).unwrap();
-        let found: Vec<_> = (0..9).map(|first| elf.section_by_name(".rela", first).unwrap().map(|(index, _)| index)).collect();
+        let found: Vec<_> =
+            (0..9).map(|first| elf.section_by_name(".rela", first).unwrap().map(|(index, _)| index)).collect();
         assert_eq!(found, [&[Some(4); 5][..], &[Some(5)], &[None; 3]].concat());
         assert_eq!(elf.section_by_name(".rela", usize::MAX), Ok(None));
         assert_eq!(elf.section(".rela"), elf.section_header(4));
@@ -573,8 +622,8 @@ fn symbols_by_a_map_of_their_addresses() {
         let file = made(form, more);
         let symbols = Elf::parse(&file).unwrap().syms().unwrap().unwrap();
         let map = symbols.address_map();
-        // symbol 1 has the value 0x1020 and the size 0x30, and each symbol from 5 on the number before which it was added and no size; others
-        // are of no section
+        // symbol 1 has the value 0x1020 and the size 0x30, and each symbol from 5 on the number before which it was
+        // added and no size; others are of no section
         for address in (0..0x1100).chain([u64::MAX]) {
             let wanted = match address {
                 0x1020..=0x104f => Some(1),
@@ -591,7 +640,8 @@ fn symbols_by_a_map_of_their_addresses() {
 
 /// Returns the symbol of an address, by trying all symbols.
 fn expected_at(symbols: &[Sym], address: u64) -> Option<usize> {
-    let counts = |s: &Sym| ((1..0xff00).contains(&s.st_shndx) || s.st_shndx == 0xffff) && [0, 1, 2, 10].contains(&s.st_type());
+    let counts =
+        |s: &Sym| ((1..0xff00).contains(&s.st_shndx) || s.st_shndx == 0xffff) && [0, 1, 2, 10].contains(&s.st_type());
     let below = || symbols.iter().enumerate().filter(|(_, s)| counts(s) && s.st_value <= address);
     let containing = || below().filter(|(_, s)| address - s.st_value < s.st_size);
     let highest = |value: Option<u64>| move |(_, s): &(usize, &Sym)| Some(s.st_value) == value;
@@ -613,16 +663,24 @@ fn maps_of_nested_symbols() {
         let start = file.len() as u64;
         for _ in 0..any(14) {
             let (value, size) = (any(24), if any(9) == 0 { u64::MAX } else { any(12) });
-            let (value, section) = (if any(9) == 0 { u64::MAX - value } else { value }, [1, 1, 1, 2, 0xffff, 0, 0xfff1][any(7) as usize]);
+            let (value, section) =
+                (if any(9) == 0 { u64::MAX - value } else { value }, [1, 1, 1, 2, 0xffff, 0, 0xfff1][any(7) as usize]);
             let info = [2, 2, 0, 1, 10, 3, 0x12][any(7) as usize];
             file.extend(form.symbol(0, value, size, info, 0, section));
         }
         file.push(0);
         let elf = Elf::parse(&file).unwrap();
-        let section = SectionHeader { sh_type: SHT_SYMTAB, sh_offset: start, sh_size: file.len() as u64 - start, ..Default::default() };
+        let section = SectionHeader {
+            sh_type: SHT_SYMTAB,
+            sh_offset: start,
+            sh_size: file.len() as u64 - start,
+            ..Default::default()
+        };
         let symbols = elf.symtab(&section).unwrap();
         let (map, all) = (symbols.address_map(), symbols.iter().collect::<Vec<_>>());
-        for address in (0..40).chain((0..40).map(|less| u64::MAX - less)).chain((0..40).map(|less| u64::from(u32::MAX) - less)) {
+        for address in
+            (0..40).chain((0..40).map(|less| u64::MAX - less)).chain((0..40).map(|less| u64::from(u32::MAX) - less))
+        {
             let wanted = expected_at(&all, address);
             assert_eq!((map.at(address), symbols.at(address)), (wanted, wanted), "{address:#x} {all:?}");
         }

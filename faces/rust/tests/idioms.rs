@@ -14,7 +14,8 @@ use std::fmt::Debug;
 mod made;
 use made::{made, FORMS, STRINGS};
 
-/// Asserts that an iterator returns the items of a list, converted by `of`: from both ends, alternating, skipping, cloned and counted.
+/// Asserts that an iterator returns the items of a list, converted by `of`: from both ends, alternating, skipping,
+/// cloned and counted.
 fn has_items<L: List, T: Clone + Debug + PartialEq>(items: Items<L>, of: impl Fn(L::Item) -> T, list: &[T]) {
     assert_eq!((items.len(), items.size_hint()), (list.len(), (list.len(), Some(list.len()))));
     assert_eq!(items.clone().map(&of).collect::<Vec<_>>(), list);
@@ -110,9 +111,12 @@ fn what_symbols_and_headers_are() {
         let first = symbols.get(1).unwrap();
         assert!(first.is_function() && !first.is_import());
         // global and weak symbols with the value 0 are imported, and local ones are not
-        for (st_info, is_import, is_global_import, is_function) in
-            [(0x10, true, true, false), (0x22, true, false, true), (0x02, false, false, true), (0x1a, true, true, false)]
-        {
+        for (st_info, is_import, is_global_import, is_function) in [
+            (0x10, true, true, false),
+            (0x22, true, false, true),
+            (0x02, false, false, true),
+            (0x1a, true, true, false),
+        ] {
             let symbol = Sym { st_info, st_value: 0, ..first };
             assert_eq!((symbol.is_import(), symbol.is_function()), (is_import, is_function));
             assert_eq!(sym::is_import(st_info, 0), is_global_import);
@@ -130,7 +134,10 @@ fn what_symbols_and_headers_are() {
         let far = SectionHeader { sh_flags: 7, sh_type: SHT_RELA, ..far };
         assert!(far.is_alloc() && far.is_writable() && far.is_executable() && far.is_relocation());
         let load = elf.program_header(1).unwrap().unwrap();
-        assert_eq!((load.file_range(), load.vm_range()), (0..elf.header.e_shoff as usize, 0x4000..0x4001 + elf.header.e_shoff as usize));
+        assert_eq!(
+            (load.file_range(), load.vm_range()),
+            (0..elf.header.e_shoff as usize, 0x4000..0x4001 + elf.header.e_shoff as usize)
+        );
         assert!(load.is_executable() && load.is_read() && !load.is_write());
         let of_flags = |p_flags| ProgramHeader { p_flags, ..load };
         assert!(of_flags(PF_W).is_write() && of_flags(PF_R).is_read() && of_flags(PF_X).is_executable());
@@ -166,26 +173,45 @@ fn names_are_values() {
     assert_eq!(name, "X86_64");
     assert_eq!("X86_64", name);
     assert!(*name == *"X86_64" && name.starts_with("X86") && name != machine_to_str(EM_386));
-    assert_eq!((format!("{name:>8}"), format!("{name:?}"), String::from(name)), ("  X86_64".into(), "\"X86_64\"".into(), "X86_64".into()));
-    let of_machines: HashMap<_, _> = [EM_386, EM_X86_64, EM_AARCH64].map(|machine| (machine_to_str(machine), machine)).into();
+    assert_eq!(
+        (format!("{name:>8}"), format!("{name:?}"), String::from(name)),
+        ("  X86_64".into(), "\"X86_64\"".into(), "X86_64".into())
+    );
+    let of_machines: HashMap<_, _> =
+        [EM_386, EM_X86_64, EM_AARCH64].map(|machine| (machine_to_str(machine), machine)).into();
     assert_eq!(of_machines.get("AARCH64"), Some(&183));
     assert!(machine_to_str(EM_386) < name);
-    let refusals: HashSet<Error> = [0, 3, 15, 16].iter().filter_map(|len| Elf::parse(&made(FORMS[0], 0)[..*len]).err()).collect();
+    let refusals: HashSet<Error> =
+        [0, 3, 15, 16].iter().filter_map(|len| Elf::parse(&made(FORMS[0], 0)[..*len]).err()).collect();
     assert_eq!(refusals.len(), 2);
 }
 
 #[test]
 fn constants_are_the_standard_s() {
-    let of_32 = [header32::SIZEOF_EHDR, program_header32::SIZEOF_PHDR, section_header32::SIZEOF_SHDR, sym32::SIZEOF_SYM];
-    let of_64 = [header64::SIZEOF_EHDR, program_header64::SIZEOF_PHDR, section_header64::SIZEOF_SHDR, sym64::SIZEOF_SYM];
+    let of_32 =
+        [header32::SIZEOF_EHDR, program_header32::SIZEOF_PHDR, section_header32::SIZEOF_SHDR, sym32::SIZEOF_SYM];
+    let of_64 =
+        [header64::SIZEOF_EHDR, program_header64::SIZEOF_PHDR, section_header64::SIZEOF_SHDR, sym64::SIZEOF_SYM];
     assert_eq!((of_32, of_64), ([52, 32, 40, 16], [64, 56, 64, 24]));
     assert_eq!([reloc32::SIZEOF_REL, reloc32::SIZEOF_RELA, reloc64::SIZEOF_REL, reloc64::SIZEOF_RELA], [8, 12, 16, 24]);
     assert_eq!((ELFMAG, header32::ELFCLASS, header64::ELFCLASS), (b"\x7fELF", 1, 2));
-    assert_eq!([ET_REL, ET_EXEC, ET_DYN, ET_CORE, EM_386, EM_ARM, EM_X86_64, EM_AARCH64, EM_RISCV], [1, 2, 3, 4, 3, 40, 62, 183, 243]);
-    assert_eq!([PT_LOAD, PT_DYNAMIC, PT_INTERP, PT_NOTE, PT_TLS, PT_GNU_STACK, PF_X, PF_W, PF_R], [1, 2, 3, 4, 7, 0x6474_e551, 1, 2, 4]);
-    assert_eq!([SHT_SYMTAB, SHT_STRTAB, SHT_DYNAMIC, SHT_GROUP, SHT_SYMTAB_SHNDX, SHT_GNU_HASH], [2, 3, 6, 17, 18, 0x6fff_fff6]);
+    assert_eq!(
+        [ET_REL, ET_EXEC, ET_DYN, ET_CORE, EM_386, EM_ARM, EM_X86_64, EM_AARCH64, EM_RISCV],
+        [1, 2, 3, 4, 3, 40, 62, 183, 243]
+    );
+    assert_eq!(
+        [PT_LOAD, PT_DYNAMIC, PT_INTERP, PT_NOTE, PT_TLS, PT_GNU_STACK, PF_X, PF_W, PF_R],
+        [1, 2, 3, 4, 7, 0x6474_e551, 1, 2, 4]
+    );
+    assert_eq!(
+        [SHT_SYMTAB, SHT_STRTAB, SHT_DYNAMIC, SHT_GROUP, SHT_SYMTAB_SHNDX, SHT_GNU_HASH],
+        [2, 3, 6, 17, 18, 0x6fff_fff6]
+    );
     assert_eq!([SHF_WRITE, SHF_ALLOC, SHF_EXECINSTR, SHF_TLS], [1, 2, 4, 0x400]);
     assert_eq!([SHN_UNDEF, SHN_ABS, SHN_COMMON, SHN_XINDEX], [0, 0xfff1, 0xfff2, 0xffff]);
-    assert_eq!([STB_GLOBAL, STB_WEAK, STT_FUNC, STT_SECTION, STT_GNU_IFUNC, STV_HIDDEN, STV_PROTECTED], [1, 2, 2, 3, 10, 2, 3]);
+    assert_eq!(
+        [STB_GLOBAL, STB_WEAK, STT_FUNC, STT_SECTION, STT_GNU_IFUNC, STV_HIDDEN, STV_PROTECTED],
+        [1, 2, 2, 3, 10, 2, 3]
+    );
     assert_eq!([NT_GNU_BUILD_ID, NT_GNU_PROPERTY_TYPE_0, NT_PRSTATUS, NT_FILE], [3, 5, 1, 0x4649_4c45]);
 }

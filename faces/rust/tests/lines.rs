@@ -6,7 +6,8 @@ use goblin_rs::note::{Note, NT_GNU_BUILD_ID};
 use goblin_rs::program_header::{self, ProgramHeader, PF_X, PT_INTERP, PT_LOAD, PT_NOTE};
 use goblin_rs::reloc::{Reloc, RelocSection};
 use goblin_rs::section_header::{
-    self, SectionHeader, SHF_ALLOC, SHF_EXECINSTR, SHF_WRITE, SHN_ABS, SHN_UNDEF, SHT_NOBITS, SHT_NOTE, SHT_RELA, SHT_STRTAB, SHT_SYMTAB,
+    self, SectionHeader, SHF_ALLOC, SHF_EXECINSTR, SHF_WRITE, SHN_ABS, SHN_UNDEF, SHT_NOBITS, SHT_NOTE, SHT_RELA,
+    SHT_STRTAB, SHT_SYMTAB,
 };
 use goblin_rs::strtab::Strtab;
 use goblin_rs::sym::{self, Sym, Symtab, STB_GLOBAL, STB_WEAK, STT_FUNC, STT_OBJECT, STV_HIDDEN};
@@ -52,7 +53,11 @@ fn of_sections() -> Tried {
     for (index, section) in elf.section_headers()?.iter().enumerate() {
         assert_eq!(elf.section_header(index)?, Some(section));
     }
-    let named: Vec<&str> = elf.section_headers()?.iter().map(|s| elf.section_name(&s).map(Option::unwrap_or_default)).collect::<Result<_, _>>()?;
+    let named: Vec<&str> = elf
+        .section_headers()?
+        .iter()
+        .map(|s| elf.section_name(&s).map(Option::unwrap_or_default))
+        .collect::<Result<_, _>>()?;
     assert_eq!(named, ["", ".note", ".symtab", ".strtab", ".rela", ".rel", ".names"]);
     let text: Option<SectionHeader> = elf.section(".strtab")?;
     assert_eq!(text.map(|s| s.sh_type), Some(SHT_STRTAB));
@@ -61,18 +66,29 @@ fn of_sections() -> Tried {
     assert_eq!(elf.section_data(&strings)?.unwrap_or(&[]).len() as u64, strings.sh_size);
     assert_eq!(elf.number_in(&strings, 1, 1)?, Some(u64::from(b'f')));
     let next = |last: &(usize, _)| elf.section_by_name(".rel", last.0 + 1).unwrap();
-    let all_named: Vec<usize> = std::iter::successors(elf.section_by_name(".rel", 0)?, next).map(|found| found.0).collect();
+    let all_named: Vec<usize> =
+        std::iter::successors(elf.section_by_name(".rel", 0)?, next).map(|found| found.0).collect();
     assert_eq!(all_named, [5]);
     let mut changed = bytes.clone();
-    elf.header.put_section_header(&mut changed, 3, &SectionHeader { sh_flags: strings.sh_flags | SHF_WRITE, ..strings })?;
+    elf.header.put_section_header(
+        &mut changed,
+        3,
+        &SectionHeader { sh_flags: strings.sh_flags | SHF_WRITE, ..strings },
+    )?;
     assert!(Elf::parse(&changed)?.section(".strtab")?.map_or(false, |s| s.is_writable()));
     assert_eq!(strings.file_range().and_then(|range| bytes.get(range)), Some(STRINGS));
     assert!(elf.section(".debug_info")?.is_none());
-    assert_eq!(elf.section_headers()?.iter().skip(1).map(|s| s.sh_size).max(), elf.section(".symtab")?.map(|s| s.sh_size));
+    assert_eq!(
+        elf.section_headers()?.iter().skip(1).map(|s| s.sh_size).max(),
+        elf.section(".symtab")?.map(|s| s.sh_size)
+    );
     assert_eq!(elf.section_headers()?.iter().filter(|s| s.sh_type == SHT_NOTE).count(), 1);
     assert!(elf.section_headers()?.iter().any(|s| s.sh_type == SHT_SYMTAB));
     assert!(elf.section_headers()?.iter().all(|s| s.sh_type != SHT_NOBITS));
-    assert_eq!(elf.section_headers()?.iter().position(|s| s.sh_type == SHT_SYMTAB), elf.section_by_name(".symtab", 0)?.map(|found| found.0));
+    assert_eq!(
+        elf.section_headers()?.iter().position(|s| s.sh_type == SHT_SYMTAB),
+        elf.section_by_name(".symtab", 0)?.map(|found| found.0)
+    );
     assert_eq!(elf.section_headers()?.iter().find(|s| s.is_relocation()).map(|s| s.sh_type), Some(SHT_RELA));
     assert_eq!(elf.section_headers()?.get(1), elf.section(".note")?);
     assert_eq!(elf.section_headers()?.iter().last(), elf.section(".names")?);
@@ -85,7 +101,15 @@ fn of_sections() -> Tried {
     let by_name: HashMap<&str, SectionHeader> = named.iter().copied().zip(elf.section_headers()?).collect();
     assert_eq!(by_name[".strtab"], strings);
     assert_eq!(section_header::sht_to_str(strings.sh_type).to_string(), "SHT_STRTAB");
-    assert_eq!(elf.section_headers()?.iter().step_by(2).map(|s| section_header::shf_to_str(s.sh_flags & SHF_ALLOC)).filter(|name| name == "SHF_ALLOC").count(), 3);
+    assert_eq!(
+        elf.section_headers()?
+            .iter()
+            .step_by(2)
+            .map(|s| section_header::shf_to_str(s.sh_flags & SHF_ALLOC))
+            .filter(|name| name == "SHF_ALLOC")
+            .count(),
+        3
+    );
     assert_eq!(elf.section_headers()?, Elf::parse(&bytes)?.section_headers()?);
     Ok(())
 }
@@ -118,7 +142,11 @@ fn of_symbols() -> Tried {
     let elf = Elf::parse(&bytes)?;
     let symbols: Symtab = elf.syms()?.ok_or("no symbols")?;
     for symbol in &symbols {
-        println!("{:016x} {}", symbol.st_value, symbols.name_bytes(&symbol)?.map(String::from_utf8_lossy).unwrap_or_default());
+        println!(
+            "{:016x} {}",
+            symbol.st_value,
+            symbols.name_bytes(&symbol)?.map(String::from_utf8_lossy).unwrap_or_default()
+        );
     }
     for symbol in symbols {
         assert!(symbol.st_size < 0x100);
@@ -128,14 +156,18 @@ fn of_symbols() -> Tried {
     assert_eq!(functions.len(), 1);
     let names: Vec<_> = symbols.iter().take(4).map(|s| symbols.name(&s)).collect::<Result<Vec<_>, Error>>()?;
     assert_eq!(names, [Some(""), Some("first"), Some("second"), Some("été")]);
-    let names: Vec<&str> = symbols.iter().filter_map(|s| symbols.name(&s).ok().flatten()).filter(|name| !name.is_empty()).collect();
+    let names: Vec<&str> =
+        symbols.iter().filter_map(|s| symbols.name(&s).ok().flatten()).filter(|name| !name.is_empty()).collect();
     assert_eq!(names.join(" "), "first second été");
     assert_eq!(symbols.find("second")?.and_then(|index| symbols.get(index)).map(|s| s.st_value), Some(0x2030));
     assert_eq!(symbols.iter().filter(|s| s.st_shndx == SHN_UNDEF).count(), 3);
     assert!(symbols.iter().any(|s| s.st_shndx == SHN_ABS && s.st_bind() == STB_WEAK && s.st_type() == STT_OBJECT));
     assert_eq!(symbols.iter().filter(|s| s.st_bind() == STB_GLOBAL).map(|s| s.st_type()).max(), Some(STT_FUNC));
     assert_eq!(symbols.iter().find(|s| s.st_visibility() == STV_HIDDEN).map(|s| s.st_value), Some(0x1020));
-    assert_eq!(symbols.at(0x1025).and_then(|index| symbols.get(index)).map(|s| symbols.name(&s)), Some(Ok(Some("first"))));
+    assert_eq!(
+        symbols.at(0x1025).and_then(|index| symbols.get(index)).map(|s| symbols.name(&s)),
+        Some(Ok(Some("first")))
+    );
     let by_address: BTreeMap<u64, Sym> = symbols.iter().map(|s| (s.st_value, s)).collect();
     assert_eq!(by_address.range(..=0x2fff).next_back().map(|(value, _)| *value), Some(0x2030));
     assert_eq!((symbols.len(), symbols.is_empty(), symbols.get(symbols.len())), (5, false, None));
@@ -146,7 +178,10 @@ fn of_symbols() -> Tried {
     assert_eq!(symbols.iter().map(|s| s.st_size).sum::<u64>(), 0x120);
     assert_eq!(symbols.iter().max_by_key(|s| s.st_size), symbols.get(4));
     let section = elf.section(".strtab")?.ok_or("no .strtab")?;
-    assert!(matches!(elf.symtab(&section), Err(e) if e.kind() == Kind::SectionType { sh_type: SHT_STRTAB, expected: "symbols" }));
+    assert!(matches!(
+        elf.symtab(&section),
+        Err(e) if e.kind() == Kind::SectionType { sh_type: SHT_STRTAB, expected: "symbols" }
+    ));
     Ok(())
 }
 
@@ -165,15 +200,25 @@ fn of_relocations_and_notes() -> Tried {
     let with_addends: RelocSection = elf.relocs(&elf.section(".rela")?.ok_or("no .rela")?)?;
     assert_eq!(with_addends.get(1).map(|r| r.r_offset), Some(0x18));
     let symbols = elf.syms()?.ok_or("no symbols")?;
-    let named = with_addends.iter().filter_map(|r| symbols.get(r.r_sym)).map(|s| symbols.name(&s)).collect::<Result<Vec<_>, _>>()?;
+    let named = with_addends
+        .iter()
+        .filter_map(|r| symbols.get(r.r_sym))
+        .map(|s| symbols.name(&s))
+        .collect::<Result<Vec<_>, _>>()?;
     assert_eq!(named, [Some("first"), Some("second")]);
-    let build_id = elf.iter_note_headers()?.find(|note| note.n_type == NT_GNU_BUILD_ID && note.name == "GNU").map(|note| note.desc);
+    let build_id = elf
+        .iter_note_headers()?
+        .find(|note| note.n_type == NT_GNU_BUILD_ID && note.name == "GNU")
+        .map(|note| note.desc);
     assert_eq!(build_id, Some(&b"abcd"[..]));
     let hex: String = build_id.unwrap_or(&[]).iter().map(|byte| format!("{byte:02x}")).collect();
     assert_eq!(hex, "61626364");
     let notes: Vec<Note> = elf.notes(&elf.section(".note")?.ok_or("no .note")?)?.into_iter().collect();
     assert_eq!(notes.last().map(|note| note.desc), Some(&b"hello"[..]));
-    assert_eq!(elf.iter_note_sections()?.map(|note| note.type_to_str().to_string()).collect::<Vec<_>>(), ["NT_GNU_BUILD_ID", "NT_UNKNOWN"]);
+    assert_eq!(
+        elf.iter_note_sections()?.map(|note| note.type_to_str().to_string()).collect::<Vec<_>>(),
+        ["NT_GNU_BUILD_ID", "NT_UNKNOWN"]
+    );
     assert_eq!(elf.number(18, 2)?, Some(u64::from(EM_X86_64)));
     Ok(())
 }

@@ -1,5 +1,5 @@
-//! Tests this crate's source, and what it has in common with the rest of the repository. This file is not installed, since it needs the
-//! repository.
+//! Tests this crate's source, and what it has in common with the rest of the repository. This file is not installed,
+//! since it needs the repository.
 use std::path::Path;
 use std::{fs, mem};
 
@@ -79,7 +79,11 @@ fn each_type_has_an_example() {
     for (name, source) in sources("faces/rust/src") {
         let lines: Vec<_> = source.lines().map(str::trim).collect();
         for (number, declaration) in declarations(&name, &source) {
-            let mut comment = lines[..number].iter().rev().skip_while(|line| line.starts_with("#[")).take_while(|line| line.starts_with("///"));
+            let mut comment = lines[..number]
+                .iter()
+                .rev()
+                .skip_while(|line| line.starts_with("#["))
+                .take_while(|line| line.starts_with("///"));
             assert!(comment.any(|line| *line == "/// ```"), "{name}: {declaration}");
             found += 1;
         }

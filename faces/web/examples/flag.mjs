@@ -1,7 +1,7 @@
 // Changes a flag of a section in a buffer: node flag.mjs FILE SECTION
 //
-// It reads the file, turns over SHF_WRITE of the first section with that name, and prints the flags before and after. The file stays as it
-// is.
+// It reads the file, turns over SHF_WRITE of the first section with that name, and prints the flags before and after.
+// The file stays as it is.
 import init, { Elf, SHF_WRITE } from '../goblin.js';
 import { readFileSync } from 'node:fs';
 

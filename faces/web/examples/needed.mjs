@@ -1,10 +1,11 @@
 // Lists what ELF files need of the dynamic linker: node needed.mjs FILE..
-// These are the interpreter and, from the dynamic section, the libraries that a file needs, its soname and its search paths. If there are
-// several files, a line names each. It finds the dynamic section by the section headers. If a file has none, or they are not all inside it,
-// it uses the program headers, as a loader does.
+// These are the interpreter and, from the dynamic section, the libraries that a file needs, its soname and its search
+// paths. If there are several files, a line names each. It finds the dynamic section by the section headers. If a file
+// has none, or they are not all inside it, it uses the program headers, as a loader does.
 //
-// The library does not read the dynamic section, which is a table of pairs of numbers, a tag and a value. Some values are offsets of
-// strings. The calls for numbers and strings are proved; what this program does with them is only tested.
+// The library does not read the dynamic section, which is a table of pairs of numbers, a tag and a value. Some
+// values are offsets of strings. The calls for numbers and strings are proved; what this program does with them is
+// only tested.
 import init, { Elf, GoblinError, PT_DYNAMIC, PT_INTERP, SHT_DYNAMIC, SHT_STRTAB } from '../goblin.js';
 import { readFileSync } from 'node:fs';
 
@@ -14,7 +15,8 @@ const NAMES = new Map([[1n, 'needed'], [14n, 'soname'], [15n, 'rpath'], [29n, 'r
 
 // Returns the path of the interpreter, without the zero byte at its end.
 function interpreter(elf) {
-    const segment = elf.program_headers().find(({ p_type }) => p_type === PT_INTERP), bytes = segment && elf.segment_data(segment);
+    const segment = elf.program_headers().find(({ p_type }) => p_type === PT_INTERP),
+        bytes = segment && elf.segment_data(segment);
     if (!bytes) return [];
     const end = bytes.indexOf(0);
     return [['interpreter', end < 0 ? bytes : bytes.subarray(0, end)]];
@@ -48,15 +50,18 @@ function dynamic(elf) {
         return section ? [entries(elf, section, section.sh_size), elf.strtab(elf.linked_section(section))] : [[]];
     }
     const segment = elf.program_headers().find(({ p_type }) => p_type === PT_DYNAMIC);
-    const all = segment ? entries(elf, segment, segment.p_filesz) : [], value = (tag) => all.findLast((entry) => entry[0] === tag)?.[1] ?? 0n;
+    const all = segment ? entries(elf, segment, segment.p_filesz) : [],
+        value = (tag) => all.findLast((entry) => entry[0] === tag)?.[1] ?? 0n;
     const sh_offset = segment && elf.address_to_offset(value(DT_STRTAB));
-    return sh_offset === undefined ? [[]] : [all, elf.strtab({ sh_type: SHT_STRTAB, sh_offset, sh_size: value(DT_STRSZ) })];
+    return sh_offset === undefined ? [[]]
+        : [all, elf.strtab({ sh_type: SHT_STRTAB, sh_offset, sh_size: value(DT_STRSZ) })];
 }
 
 // Returns the strings of the dynamic section, which need not be UTF-8, each after its name.
 function strings(elf) {
     const [all, texts] = dynamic(elf);
-    return all.filter(([tag]) => NAMES.has(tag)).map(([tag, value]) => [NAMES.get(tag), texts.get_bytes(value) ?? new Uint8Array()]);
+    return all.filter(([tag]) => NAMES.has(tag))
+        .map(([tag, value]) => [NAMES.get(tag), texts.get_bytes(value) ?? new Uint8Array()]);
 }
 
 function list(path) {

@@ -1,7 +1,7 @@
 // Shows what is left of an ELF file that ends in its last section header: node truncated.mjs FILE
 //
-// It reads the file, and then only as many bytes of it. One section header of such a file is not inside it, so `section_headers` throws.
-// `whole` returns a file with the others.
+// It reads the file, and then only as many bytes of it. One section header of such a file is not inside it, so
+// `section_headers` throws. `whole` returns a file with the others.
 import init, { Elf, section_header32, section_header64, sht_to_str } from '../goblin.js';
 import { readFileSync } from 'node:fs';
 
@@ -19,7 +19,8 @@ function list(path) {
     console.log(`${sections.length} of ${count} headers are whole`);
     return sections.forEach((section, index) => {
         const left = cut.readable_data(section);
-        console.log(`${index} ${sht_to_str(section.sh_type)}: ${left ? `${left.length} of ${section.sh_size} bytes` : 'no bytes'}`);
+        console.log(`${index} ${sht_to_str(section.sh_type)}: `
+            + `${left ? `${left.length} of ${section.sh_size} bytes` : 'no bytes'}`);
     });
 }
 

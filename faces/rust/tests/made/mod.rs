@@ -62,7 +62,8 @@ const W: usize = 0;
 const SECTION_NAMES: &[u8] = b"\0.note\0.symtab\0.strtab\0.rela\0.rel\0.names\0\xff\0";
 pub const STRINGS: &[u8] = b"\0first\0second\0\xc3\xa9t\xc3\xa9\0\xff\0";
 
-/// Returns a file with seven sections, two segments and four named symbols, and with a number of unnamed symbols after these.
+/// Returns a file with seven sections, two segments and four named symbols, and with a number of unnamed symbols
+/// after these.
 pub fn made(form: Form, more: usize) -> Vec<u8> {
     let mut file = vec![0; form.header_size()];
     let mut sections = vec![0; if form.is_64 { 64 } else { 40 }];
@@ -88,7 +89,8 @@ pub fn made(form: Form, more: usize) -> Vec<u8> {
     }
     add(7, 2, symbols, 3, 1);
     add(15, 3, STRINGS.to_vec(), 0, 0);
-    let with_addends = [(W, 0x8), (W, form.reloc_info(1, 7)), (W, -4i64 as u64), (W, 0x18), (W, form.reloc_info(2, 9)), (W, 5)];
+    let with_addends =
+        [(W, 0x8), (W, form.reloc_info(1, 7)), (W, -4i64 as u64), (W, 0x18), (W, form.reloc_info(2, 9)), (W, 5)];
     add(23, 4, form.numbers(&with_addends), 2, 1);
     add(29, 9, form.numbers(&[(W, 0x28), (W, form.reloc_info(3, 11))]), 2, 1);
     add(34, 3, SECTION_NAMES.to_vec(), 0, 0);
