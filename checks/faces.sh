@@ -3,8 +3,6 @@
 # It runs the scripts of checks/faces, one for each subject, in folders of this run. If the machine lacks a compiler, an emulator or a
 # browser, a line says what is left out, and the test passes. No file of the machine decides what comes of it.
 . checks/faces/shared.sh
-start=$(date +%s)
-left='c python rust webassembly aarch64 archive comparison'
 python3 faces/constants.py --check
 echo "the constants in C are the library's, and those in Rust, JavaScript and Python are made of it"
 
@@ -12,8 +10,6 @@ echo "the constants in C are the library's, and those in Rust, JavaScript and Py
 try() {
     from=$folder/$1
     shift
-    left=${left#*"$*"}
-    echo "faces: $*, after $(($(date +%s) - start)) seconds; left:${left:- nothing}"
     for subject; do
         cp -R "$from" "$folder/$subject"
         { sh "checks/faces/$subject.sh" "$folder/$subject" > "$folder/$subject.said" 2>&1 || touch "$folder/$subject.failed"; } &
@@ -34,7 +30,6 @@ try library c python
 try c rust webassembly
 # (the toolchain makes one library at a time)
 try c aarch64 archive
-echo "faces: comparison, after $(($(date +%s) - start)) seconds"
 for made in rust/target webassembly/web webassembly/node; do if [ -e "$folder/$made" ]; then mv "$folder/$made" "$folder/c/"; fi; done
 python3 checks/faces/comparison.py "$folder/c"
 echo "faces: the calls from C, Rust, JavaScript and Python are as expected"

@@ -34,7 +34,7 @@ if [ -e "$folder/node" ]; then
             if tsc "$@" --module ${modules%:*} --moduleResolution ${modules#*:} "$folder/app/use.mts" > "$folder/output"; then
                 echo "TypeScript accepts a program over goblin.d.ts by ${modules#*:}, without the types of a browser"
             else
-                ! grep -q -v -E '^error TS(5023|5101|5102|5107|5108):|^  ' "$folder/output" || fail "TypeScript refuses goblin.d.ts: $(cat "$folder/output")"
+                if grep -v -E '^error TS(5023|5101|5102|5107|5108):|^  ' "$folder/output"; then fail 'TypeScript refuses goblin.d.ts'; fi
                 left_out "this TypeScript lacks an option, so goblin.d.ts is not compiled by ${modules#*:}: $(head -n 1 "$folder/output")"
             fi
         done
