@@ -8,6 +8,8 @@
                                           constant is not in the table that the library's are compared with, crates/goblin_names/stdout
     python3 faces/constants.py --fields   prints STRUCT(name) for each struct of goblin.h, and FIELD(name, field, number) for each of its fields
                                           in order, for the tests in faces/c
+    python3 faces/constants.py --nulls    prints a program whose lines pass a null pointer for each argument that may not be null, and read no
+                                          status, for a test of what compilers warn of
 
 The names, values, types and comments are those of crates/goblin_headers and crates/goblin_records. So a constant is written by
 hand only there. Git has goblin.h, because it is read as documentation, and the files for Rust, so that cargo can take the crate from
@@ -335,7 +337,7 @@ def py_interface():
     # (not each item has a comment)
     parts = re.findall(r'GOBLIN_(\w+) = (\d+)', items)
     calls = [(name, CODES[result] + ''.join('p' if '*' in argument else CODES[argument.split()[0]] for argument in arguments.split(',')))
-             for result, name, arguments in re.findall(r'^(\w+) goblin_(\w+)\(([^)]*)\);', header, re.M)]
+             for result, name, arguments in re.findall(r'^(\w+) goblin_(\w+)\(([^)]*)\)[^;)]*(?:\(\(.*\)\))?;', header, re.M)]
     all_structs = list(structs())
     text = f"""\"\"\"What goblin.h declares: its refusals, its structs and its calls.
 
@@ -394,6 +396,16 @@ from ._library import text, unsigned
 
 
 # ---- C ----
+
+def nulls():
+    """Yields for each argument that a declaration of goblin.h lists by its number a call that passes a null pointer for it."""
+    declared = re.findall(r'^\w+ (goblin_\w+)\(([^()]*)\)\s+GOBLIN_(?:STATUS|GIVEN)\(\(([\d, ]+)\)\);', read(HEADER), re.M)
+    for call, parameters, listed_ones in declared:
+        kinds = [re.fullmatch(r'(.*?)\w+', ' '.join(parameter.split()))[1] for parameter in parameters.split(',')]
+        for number in map(int, listed_ones.split(',')):
+            given = ['NULL' if i == number else f'({kind.strip()})p' if '*' in kind else '0' for i, kind in enumerate(kinds, 1)]
+            yield f'    {call}({", ".join(given)});'
+
 
 START = '/* ---- constants ----\n'
 END = '\n#endif\n'
@@ -483,8 +495,11 @@ def missing():
 
 
 def main(arguments):
-    if arguments not in ([], ['--made'], ['--check'], ['--fields']):
-        sys.exit('usage: python3 faces/constants.py [--made | --check | --fields]')
+    if arguments not in ([], ['--made'], ['--check'], ['--fields'], ['--nulls']):
+        sys.exit('usage: python3 faces/constants.py [--made | --check | --fields | --nulls]')
+    if arguments == ['--nulls']:
+        print('#include "goblin.h"', 'void nulls(void *p);', 'void nulls(void *p) {', *nulls(), '}', sep='\n')
+        return 0
     if arguments == ['--fields']:
         for name, _, fields in structs(in_c=True):
             print(f'STRUCT({name})', *(f'FIELD({name}, {field}, {number})' for number, (field, _, _) in enumerate(fields, 1)), sep='\n')

@@ -7,13 +7,6 @@
 root=$folder/above/other/root
 export LIBRARY="$folder/libgoblin_c.a" TARGET='' CPU=''
 
-# Installs with an umask, a LIBDIR and more variables: install_as UMASK LIBDIR [VARIABLE=VALUE ..]
-install_as() {
-    mask=$1 libdir=$2
-    shift 2
-    (umask "$mask" && quietly env LIBDIR="$libdir" "$@" sh faces/install.sh "$root")
-}
-
 # (a program in place of goblin_show, which another part of a test may build meanwhile)
 printf '#!/bin/sh\ncat "%s/crates/goblin_show/stdout"\n' "$PWD" > "$folder/program"
 for mask in 077 022; do
@@ -28,7 +21,7 @@ python3 checks/readme.py "$folder/libgoblin_c.a" "$folder/goblin_c.022.tar.gz" "
 
 # With another LIBDIR and a shared library.
 multiarch=lib/x86_64-linux-gnu
-install_as 077 $multiarch SHARED=1 PROGRAM="$folder/program"
+(umask 077 && quietly env LIBDIR=$multiarch SHARED=1 PROGRAM="$folder/program" sh faces/install.sh "$root")
 ends_with 0 '' find "$root" -mindepth 1 '(' -type f ! -perm 644 ! -path '*/bin/*' -o -path '*/bin/*' ! -perm 755 -o -type d ! -perm 755 ')'
 mkdir "$folder/packed"
 cp -R "$root" "$folder/packed/goblin_c-$version-x86_64-unknown-linux-gnu"
@@ -38,12 +31,12 @@ python3 checks/installed.py "$folder/multiarch.tar.gz"
 # (as if an earlier version had installed a file more)
 echo share/goblin_c/rust/src/earlier.rs >> "$root/share/goblin_c/library.files"
 touch "$root/share/goblin_c/rust/src/earlier.rs"
-install_as 022 lib
+(umask 022 && quietly env LIBDIR=lib sh faces/install.sh "$root")
 ends_with 0 '' find "$root" -path '*/x86_64-linux-gnu/*' ! -type d -o -name earlier.rs -o -name '*-shared*'
 quietly sh faces/install.sh --uninstall "$root"
 [ ! -e "$folder/above" ] || fail "an uninstallation leaves: $(find "$folder/above")"
 mkdir -p "$root/share/man"
-install_as 022 lib
+(umask 022 && quietly env LIBDIR=lib sh faces/install.sh "$root")
 touch "$root/include/own.h"
 quietly sh faces/install.sh --uninstall "$root"
 for own in share/man include/own.h; do [ -e "$root/$own" ] || fail "an uninstallation removes $own, which the installation didn't make"; done

@@ -68,6 +68,15 @@ check_examples() {
         for standard in c89 c99 c11; do strictly $compiler -std=$standard -Ifaces/c -c -o "$folder/examples.o" "$folder/examples.c"; done
     done
     echo "the $(grep -c '^    { ' "$folder/examples.c") examples of goblin.h can be compiled"
+    python3 faces/constants.py --nulls > "$folder/nulls.c"
+    # (how many arguments the declarations list in all)
+    listed() { grep -o -E "GOBLIN_($1)\(\([0-9, ]+\)\)" faces/c/goblin.h | grep -o -w -E '[0-9]+' | wc -l; }
+    for compiler in cc clang 'c++ -x c++'; do
+        has "${compiler%% *}" 'its warnings of null pointers are not looked for' || continue
+        $compiler -Wall -Ifaces/c -c -o "$folder/nulls.o" "$folder/nulls.c" 2> "$folder/output" || fail "$(cat "$folder/output")"
+        warned="$(grep -c Wnonnull "$folder/output") $(grep -c Wunused-result "$folder/output")"
+        [ "$warned" = "$(listed 'STATUS|GIVEN') $(listed STATUS)" ] || fail "$compiler warns of other nulls and statuses than are listed: $warned"
+    done
     echo "$(wc -l < checks/files/elf_constants) constants have the same number in goblin.h and elf.h"
 }
 

@@ -44,8 +44,7 @@ static uint64_t each_section(void) {
 
 static uint64_t all_sections(void) {
     uint64_t filled = 0;
-    goblin_sections(bytes, len, &header, 0, (goblin_section_t *)array, ITEMS, &filled, &why);
-    return filled;
+    return goblin_sections(bytes, len, &header, 0, (goblin_section_t *)array, ITEMS, &filled, &why) ? 0 : filled;
 }
 
 static uint64_t section_of_no_type(void) {
@@ -125,8 +124,7 @@ static uint64_t each_symbol(void) {
 static uint64_t all_symbols(void) {
     goblin_range_t table = range_of(ITEMS, sizeof(Elf64_Sym));
     uint64_t filled = 0;
-    goblin_symbols(bytes, len, &header, &table, 0, (goblin_symbol_t *)array, ITEMS, &filled, &why);
-    return filled;
+    return goblin_symbols(bytes, len, &header, &table, 0, (goblin_symbol_t *)array, ITEMS, &filled, &why) ? 0 : filled;
 }
 
 static uint64_t symbol_at_no_address(void) {
@@ -171,8 +169,9 @@ static uint64_t each_reloc(void) {
 static uint64_t all_relocs(void) {
     goblin_range_t relocs = range_of(ITEMS, sizeof(Elf64_Rela));
     uint64_t filled = 0;
-    goblin_relocs(bytes, len, &header, &relocs, true, 0, (goblin_reloc_t *)array, ITEMS, &filled, &why);
-    return filled;
+    return goblin_relocs(bytes, len, &header, &relocs, true, 0, (goblin_reloc_t *)array, ITEMS, &filled, &why)
+               ? 0
+               : filled;
 }
 
 static uint64_t each_note(void) {
@@ -212,8 +211,8 @@ static uint64_t all_strings(void) {
     goblin_range_t strings = range_of(ITEMS, 1);
     uint64_t filled = 0;
     for (uint64_t i = 0; i < ITEMS; i++) offsets[i] = i;
-    goblin_strings(bytes, len, &strings, offsets, ITEMS, (goblin_range_t *)array, ITEMS, &filled, &why);
-    return filled;
+    goblin_range_t *found = (goblin_range_t *)array;
+    return goblin_strings(bytes, len, &strings, offsets, ITEMS, found, ITEMS, &filled, &why) ? 0 : filled;
 }
 
 static uint64_t bytes_of_each_string(void) {

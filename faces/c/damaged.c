@@ -619,7 +619,9 @@ static void file(void) {
     if (any(4) == 0) { /* a number of segments that the first section has */
         if (any(2)) h.e_phoff = any_offset(len), h.e_shoff = any_offset(len);
         h.e_phnum = 0xffff;
-        goblin_put_number(bytes, len, &h, h.e_shoff + (h.ei_class == 2 ? 44 : 28), 4, any(4) ? any(6) : odd(), &why);
+        /* (it is refused where the first section is not inside the file) */
+        uint64_t place = h.e_shoff + (h.ei_class == 2 ? 44 : 28), number = any(4) ? any(6) : odd();
+        if (goblin_put_number(bytes, len, &h, place, 4, number, &why) > GOBLIN_OK) h.e_phnum = 0xffff;
     }
     uint64_t count = 0;
     goblin_section_t section, names, found;

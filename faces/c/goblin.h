@@ -25,9 +25,10 @@
 
    Pointers
      `bytes` points to the `len` bytes of the whole file. `bytes`, an array, a name or a text may be null if its length
-     or capacity is 0. Nothing else may be null. A caller that does not read `why` passes `&unread`, with
-     `goblin_refusal_t unread;` before it. What a call writes must not overlap anything else that it is given. Names and
-     texts are `const void *`, so a string literal and bytes are both passed without a cast.
+     or capacity is 0. Nothing else may be null: GOBLIN_STATUS and GOBLIN_GIVEN list these arguments by their numbers,
+     for compilers that warn of a null there. They warn too of a status that is not read. A caller that does not read
+     `why` passes GOBLIN_UNREAD. What a call writes must not overlap anything else that it is given. Names and texts are
+     `const void *`, so a string literal and bytes are both passed without a cast.
 
    Files that change
      Nothing else may write the bytes during a call. They may change between two calls, since each call checks all that
@@ -264,6 +265,27 @@ typedef struct {
     goblin_note_t note;
 } goblin_layout_t;
 
+/* A refusal that is written and not read, for `why`: in C up to the end of the block, in C++ (11 or later) one for
+   each thread. */
+#ifndef __cplusplus
+#define GOBLIN_UNREAD (&(goblin_refusal_t){0})
+#elif __cplusplus >= 201103L
+static inline goblin_refusal_t *goblin_unread(void) {
+    static thread_local goblin_refusal_t unread;
+    return &unread;
+}
+#define GOBLIN_UNREAD goblin_unread()
+#endif
+
+/* The status of a call is to be read, and these arguments may not be null. */
+#ifdef __GNUC__
+#define GOBLIN_STATUS(arguments) __attribute__((warn_unused_result, nonnull arguments))
+#define GOBLIN_GIVEN(arguments) __attribute__((nonnull arguments))
+#else
+#define GOBLIN_STATUS(arguments)
+#define GOBLIN_GIVEN(arguments)
+#endif
+
 /* ---- the library itself ---- */
 
 /* Returns the library's number of the interface. It is GOBLIN_VERSION if this file belongs to the library.
@@ -274,7 +296,7 @@ uint32_t goblin_version(void);
    1, those of the second field 2, and so on, in the order of this file. A range counts as two fields. A field whose
    offset or size differs in C and in the library reads as another number.
    Example: goblin_layout_t layout; goblin_layout(&layout); */
-void goblin_layout(goblin_layout_t *layout);
+void goblin_layout(goblin_layout_t *layout) GOBLIN_GIVEN((1));
 
 /* ---- the header ---- */
 
@@ -282,7 +304,8 @@ void goblin_layout(goblin_layout_t *layout);
    Returns GOBLIN_TOO_SMALL, GOBLIN_BAD_MAGIC, GOBLIN_ELF_CLASS, GOBLIN_DATA_TYPE or GOBLIN_TOO_BIG, the first of these
    that applies, in this order. Never returns GOBLIN_END.
    Example: if (goblin_header(bytes, len, &header, &why) != GOBLIN_OK) return 1; */
-uint32_t goblin_header(const uint8_t *bytes, size_t len, goblin_header_t *header, goblin_refusal_t *why);
+uint32_t goblin_header(const uint8_t *bytes, size_t len, goblin_header_t *header, goblin_refusal_t *why)
+    GOBLIN_STATUS((3, 4));
 
 /* Copies a header, and makes the copy count only the headers that are whole inside the file. With the copy the other
    calls work on a file that is cut or damaged, searches too.
@@ -293,7 +316,8 @@ uint32_t goblin_header(const uint8_t *bytes, size_t len, goblin_header_t *header
    `header`, the calls return and write the same with the copy. In most files the header of the section names is one of
    the last, so goblin_section_names returns GOBLIN_END if the end is cut. Cannot fail.
    Example: goblin_whole_header(bytes, len, &header, &whole); */
-void goblin_whole_header(const uint8_t *bytes, size_t len, const goblin_header_t *header, goblin_header_t *whole);
+void goblin_whole_header(const uint8_t *bytes, size_t len, const goblin_header_t *header, goblin_header_t *whole)
+    GOBLIN_GIVEN((3, 4));
 
 /* ---- sections and segments ---- */
 
@@ -304,13 +328,13 @@ void goblin_whole_header(const uint8_t *bytes, size_t len, const goblin_header_t
    later header is not inside the file. Never returns GOBLIN_END.
    Example: if (goblin_section_count(bytes, len, &header, &count, &why) != GOBLIN_OK) return 1; */
 uint32_t goblin_section_count(const uint8_t *bytes, size_t len, const goblin_header_t *header, uint64_t *count,
-                              goblin_refusal_t *why);
+    goblin_refusal_t *why) GOBLIN_STATUS((3, 4, 5));
 
 /* Reads the section header at an index. GOBLIN_END if the index is not below the number of sections.
    Refused as goblin_section_count is.
    Example: while (goblin_section(bytes, len, &header, index, &section, &why) == GOBLIN_OK) index++; */
 uint32_t goblin_section(const uint8_t *bytes, size_t len, const goblin_header_t *header, uint64_t index,
-                        goblin_section_t *section, goblin_refusal_t *why);
+    goblin_section_t *section, goblin_refusal_t *why) GOBLIN_STATUS((3, 5, 6));
 
 /* Reads the section headers from the index `first` on into an array of `capacity` items, until the table or the array
    ends. `*filled` is the number of items that are written; those after them are unchanged. GOBLIN_END if `first` is not
@@ -318,7 +342,7 @@ uint32_t goblin_section(const uint8_t *bytes, size_t len, const goblin_header_t 
    Example: while (goblin_sections(bytes, len, &header, index, sections, 64, &filled, &why) == GOBLIN_OK)
                 index += filled; */
 uint32_t goblin_sections(const uint8_t *bytes, size_t len, const goblin_header_t *header, uint64_t first,
-                         goblin_section_t *sections, size_t capacity, uint64_t *filled, goblin_refusal_t *why);
+    goblin_section_t *sections, size_t capacity, uint64_t *filled, goblin_refusal_t *why) GOBLIN_STATUS((3, 7, 8));
 
 /* Reads the section that a section header links to by its sh_link, such as the string table of a symbol table.
    GOBLIN_END if the index is 0, which means no section, if it is not below the number of sections, or if the section is
@@ -326,14 +350,14 @@ uint32_t goblin_sections(const uint8_t *bytes, size_t len, const goblin_header_t
    goblin_section_count is.
    Example: if (goblin_linked_section(bytes, len, &header, table.sh_link, &names, &why) > GOBLIN_END) return 1; */
 uint32_t goblin_linked_section(const uint8_t *bytes, size_t len, const goblin_header_t *header, uint64_t index,
-                               goblin_section_t *section, goblin_refusal_t *why);
+    goblin_section_t *section, goblin_refusal_t *why) GOBLIN_STATUS((3, 5, 6));
 
 /* Reads the section that holds the section names. Its index is e_shstrndx, or sh_link of section 0 if e_shstrndx is
    0xffff (GOBLIN_SHN_XINDEX). GOBLIN_END if goblin_linked_section returns that for this index, or if there is no
    section 0. Refused as goblin_section_count is.
    Example: if (goblin_section_names(bytes, len, &header, &names, &why) > GOBLIN_END) return 1; */
 uint32_t goblin_section_names(const uint8_t *bytes, size_t len, const goblin_header_t *header,
-                              goblin_section_t *section, goblin_refusal_t *why);
+    goblin_section_t *section, goblin_refusal_t *why) GOBLIN_STATUS((3, 4, 5));
 
 /* Finds the first section with a name, from the index `first` on. Writes its index and its header. `names` is the range
    of the section names in the file. A section has no name if its name is not UTF-8 or lies past the names. The empty
@@ -341,23 +365,24 @@ uint32_t goblin_section_names(const uint8_t *bytes, size_t len, const goblin_hea
    zero byte at the end of `name`. GOBLIN_END if no section has the name.
    Refused as goblin_section_count is, and then as goblin_string is for the range `names`, but never
    by GOBLIN_BAD_INPUT.
-   Example: goblin_section_by_name(bytes, len, &header, &names.file, ".text", 5, 0, &index, &section, &why); */
+   Example: if (goblin_section_by_name(bytes, len, &header, &names.file, ".text", 5, 0, &index, &section, &why))
+            return 1; */
 uint32_t goblin_section_by_name(const uint8_t *bytes, size_t len, const goblin_header_t *header,
-                                const goblin_range_t *names, const void *name, size_t name_len, uint64_t first,
-                                uint64_t *index, goblin_section_t *section, goblin_refusal_t *why);
+    const goblin_range_t *names, const void *name, size_t name_len, uint64_t first, uint64_t *index,
+    goblin_section_t *section, goblin_refusal_t *why) GOBLIN_STATUS((3, 4, 8, 9, 10));
 
 /* Finds the first section of a type, a GOBLIN_SHT_ number, from the index `first` on. Writes its index and its header.
    GOBLIN_END if there is none. Refused as goblin_section_count is.
-   Example: goblin_section_by_type(bytes, len, &header, GOBLIN_SHT_SYMTAB, 0, &index, &section, &why); */
+   Example: if (goblin_section_by_type(bytes, len, &header, GOBLIN_SHT_SYMTAB, 0, &index, &section, &why)) return 1; */
 uint32_t goblin_section_by_type(const uint8_t *bytes, size_t len, const goblin_header_t *header, uint32_t sh_type,
-                                uint64_t first, uint64_t *index, goblin_section_t *section, goblin_refusal_t *why);
+    uint64_t first, uint64_t *index, goblin_section_t *section, goblin_refusal_t *why) GOBLIN_STATUS((3, 6, 7, 8));
 
 /* Finds the range of a section's bytes, which is its `file`, if it is inside the file. GOBLIN_END if the section has no
    bytes in the file: its type is GOBLIN_SHT_NULL or GOBLIN_SHT_NOBITS, or its size is 0. This is tested before any
    refusal. GOBLIN_BAD_OFFSET or GOBLIN_TOO_BIG: the bytes are not inside the file.
-   Example: goblin_section_bytes(bytes, len, &section, &range, &why); */
+   Example: if (goblin_section_bytes(bytes, len, &section, &range, &why)) return 1; */
 uint32_t goblin_section_bytes(const uint8_t *bytes, size_t len, const goblin_section_t *section, goblin_range_t *range,
-                              goblin_refusal_t *why);
+    goblin_refusal_t *why) GOBLIN_STATUS((3, 4, 5));
 
 /* Counts the program headers. Their number is e_phnum, unless that is 0xffff (PN_XNUM). Then it is sh_info of the first
    section, or 0xffff if e_shoff is 0.
@@ -367,19 +392,19 @@ uint32_t goblin_section_bytes(const uint8_t *bytes, size_t len, const goblin_sec
    returns GOBLIN_END.
    Example: if (goblin_segment_count(bytes, len, &header, &count, &why) != GOBLIN_OK) return 1; */
 uint32_t goblin_segment_count(const uint8_t *bytes, size_t len, const goblin_header_t *header, uint64_t *count,
-                              goblin_refusal_t *why);
+    goblin_refusal_t *why) GOBLIN_STATUS((3, 4, 5));
 
 /* Finds the range of a segment's bytes in the file. GOBLIN_END if it has none: its type is GOBLIN_PT_NULL, or its size
    in the file is 0. This is tested before any refusal. Refused as goblin_section_bytes is.
-   Example: goblin_segment_bytes(bytes, len, &segment, &range, &why); */
+   Example: if (goblin_segment_bytes(bytes, len, &segment, &range, &why)) return 1; */
 uint32_t goblin_segment_bytes(const uint8_t *bytes, size_t len, const goblin_segment_t *segment, goblin_range_t *range,
-                              goblin_refusal_t *why);
+    goblin_refusal_t *why) GOBLIN_STATUS((3, 4, 5));
 
 /* Reads the program header at an index. GOBLIN_END if the index is not below the number of program headers.
    Refused as goblin_segment_count is.
    Example: while (goblin_segment(bytes, len, &header, index, &segment, &why) == GOBLIN_OK) index++; */
 uint32_t goblin_segment(const uint8_t *bytes, size_t len, const goblin_header_t *header, uint64_t index,
-                        goblin_segment_t *segment, goblin_refusal_t *why);
+    goblin_segment_t *segment, goblin_refusal_t *why) GOBLIN_STATUS((3, 5, 6));
 
 /* Finds the offset in the file of the byte that is loaded at an address: that of the first segment of type
    GOBLIN_PT_LOAD for which p_vaddr <= address < p_vaddr + file.size. These sums do not wrap around. GOBLIN_END if there
@@ -390,7 +415,7 @@ uint32_t goblin_segment(const uint8_t *bytes, size_t len, const goblin_header_t 
                 && goblin_address_to_offset(bytes, len, &header, header.e_entry, &value, &why) != GOBLIN_OK)
                 return 1; */
 uint32_t goblin_address_to_offset(const uint8_t *bytes, size_t len, const goblin_header_t *header, uint64_t address,
-                                  uint64_t *offset, goblin_refusal_t *why);
+    uint64_t *offset, goblin_refusal_t *why) GOBLIN_STATUS((3, 5, 6));
 
 /* ---- symbols ---- */
 
@@ -400,28 +425,29 @@ uint32_t goblin_address_to_offset(const uint8_t *bytes, size_t len, const goblin
    the symbols end past the end of the file.
    Example: while (goblin_symbol(bytes, len, &header, &table.file, index, &symbol, &why) == GOBLIN_OK) index++; */
 uint32_t goblin_symbol(const uint8_t *bytes, size_t len, const goblin_header_t *header, const goblin_range_t *table,
-                       uint64_t index, goblin_symbol_t *symbol, goblin_refusal_t *why);
+    uint64_t index, goblin_symbol_t *symbol, goblin_refusal_t *why) GOBLIN_STATUS((3, 4, 6, 7));
 
 /* Counts the symbols that lie in a range whole. Refused as goblin_symbol is. Never returns GOBLIN_END.
-   Example: goblin_symbol_count(bytes, len, &header, &table.file, &count, &why); */
+   Example: if (goblin_symbol_count(bytes, len, &header, &table.file, &count, &why)) return 1; */
 uint32_t goblin_symbol_count(const uint8_t *bytes, size_t len, const goblin_header_t *header,
-                             const goblin_range_t *table, uint64_t *count, goblin_refusal_t *why);
+    const goblin_range_t *table, uint64_t *count, goblin_refusal_t *why) GOBLIN_STATUS((3, 4, 5, 6));
 
 /* Reads the symbols from the index `first` on, as goblin_sections reads sections. Refused as goblin_symbol is.
    Example: while (!goblin_symbols(bytes, len, &header, &table.file, index, symbols, 64, &filled, &why))
                 index += filled; */
 uint32_t goblin_symbols(const uint8_t *bytes, size_t len, const goblin_header_t *header, const goblin_range_t *table,
-                        uint64_t first, goblin_symbol_t *symbols, size_t capacity, uint64_t *filled,
-                        goblin_refusal_t *why);
+    uint64_t first, goblin_symbol_t *symbols, size_t capacity, uint64_t *filled, goblin_refusal_t *why)
+    GOBLIN_STATUS((3, 4, 8, 9));
 
 /* Finds the index of the first symbol with a name. `names` is the range of the table's strings. A symbol has no name if
    its name is not UTF-8 or lies past the strings. The empty name and names with zero bytes are as for
    goblin_section_by_name; symbol 0 has the empty name in most files. GOBLIN_END if no symbol has the name.
    Refused as goblin_symbol is, and then as goblin_string is for the range `names`, but never by GOBLIN_BAD_INPUT.
-   Example: goblin_symbol_by_name(bytes, len, &header, &table.file, &names.file, "main", 4, &index, &why); */
+   Example: if (goblin_symbol_by_name(bytes, len, &header, &table.file, &names.file, "main", 4, &index, &why))
+            return 1; */
 uint32_t goblin_symbol_by_name(const uint8_t *bytes, size_t len, const goblin_header_t *header,
-                               const goblin_range_t *table, const goblin_range_t *names, const void *name,
-                               size_t name_len, uint64_t *index, goblin_refusal_t *why);
+    const goblin_range_t *table, const goblin_range_t *names, const void *name, size_t name_len, uint64_t *index,
+    goblin_refusal_t *why) GOBLIN_STATUS((3, 4, 5, 8, 9));
 
 /* Finds the index of the symbol that contains an address. Only symbols of a section (st_shndx from 1 to 0xfeff, or
    0xffff) and of type GOBLIN_STT_NOTYPE, _OBJECT, _FUNC or _GNU_IFUNC count. Of those with st_value <= address <
@@ -431,10 +457,9 @@ uint32_t goblin_symbol_by_name(const uint8_t *bytes, size_t len, const goblin_he
    are none. Each call reads all symbols. For many addresses read them once and sort them, as symbolize.c does. Refused
    as goblin_symbol is. In a file of type GOBLIN_ET_REL an st_value is an offset in a section, so symbols of different
    sections mix.
-   Example: goblin_symbol_by_address(bytes, len, &header, &table.file, 0x401000, &index, &why); */
+   Example: if (goblin_symbol_by_address(bytes, len, &header, &table.file, 0x401000, &index, &why)) return 1; */
 uint32_t goblin_symbol_by_address(const uint8_t *bytes, size_t len, const goblin_header_t *header,
-                                  const goblin_range_t *table, uint64_t address, uint64_t *index,
-                                  goblin_refusal_t *why);
+    const goblin_range_t *table, uint64_t address, uint64_t *index, goblin_refusal_t *why) GOBLIN_STATUS((3, 4, 6, 7));
 
 /* ---- relocations ---- */
 
@@ -451,19 +476,19 @@ uint32_t goblin_symbol_by_address(const uint8_t *bytes, size_t len, const goblin
    inside the file.
    Example: while (goblin_reloc(bytes, len, &header, &table.file, true, index, &reloc, &why) == GOBLIN_OK) index++; */
 uint32_t goblin_reloc(const uint8_t *bytes, size_t len, const goblin_header_t *header, const goblin_range_t *table,
-                      bool is_rela, uint64_t index, goblin_reloc_t *reloc, goblin_refusal_t *why);
+    bool is_rela, uint64_t index, goblin_reloc_t *reloc, goblin_refusal_t *why) GOBLIN_STATUS((3, 4, 7, 8));
 
 /* Counts the relocations that lie in a range whole. Refused as goblin_reloc is. Never returns GOBLIN_END.
-   Example: goblin_reloc_count(bytes, len, &header, &table.file, true, &count, &why); */
+   Example: if (goblin_reloc_count(bytes, len, &header, &table.file, true, &count, &why)) return 1; */
 uint32_t goblin_reloc_count(const uint8_t *bytes, size_t len, const goblin_header_t *header,
-                            const goblin_range_t *table, bool is_rela, uint64_t *count, goblin_refusal_t *why);
+    const goblin_range_t *table, bool is_rela, uint64_t *count, goblin_refusal_t *why) GOBLIN_STATUS((3, 4, 6, 7));
 
 /* Reads the relocations from the index `first` on, as goblin_sections reads sections. Refused as goblin_reloc is.
    Example: while (!goblin_relocs(bytes, len, &header, &table.file, true, index, relocs, 64, &filled, &why))
                 index += filled; */
 uint32_t goblin_relocs(const uint8_t *bytes, size_t len, const goblin_header_t *header, const goblin_range_t *table,
-                       bool is_rela, uint64_t first, goblin_reloc_t *relocs, size_t capacity, uint64_t *filled,
-                       goblin_refusal_t *why);
+    bool is_rela, uint64_t first, goblin_reloc_t *relocs, size_t capacity, uint64_t *filled, goblin_refusal_t *why)
+    GOBLIN_STATUS((3, 4, 9, 10));
 
 #ifdef __clang__
 #pragma clang diagnostic pop
@@ -481,9 +506,10 @@ uint32_t goblin_relocs(const uint8_t *bytes, size_t len, const goblin_header_t *
    its name. GOBLIN_BAD_INPUT: the name is not UTF-8; goblin_note_bytes reads such a note. GOBLIN_BAD_OFFSET or
    GOBLIN_TOO_BIG: the descriptor is not inside the file. But for the first, the numbers of these refusals count from
    the start of the note.
-   Example: goblin_note(bytes, len, &header, &section.file, section.sh_addralign, section.file.offset, &note, &why); */
+   Example: if (goblin_note(bytes, len, &header, &section.file, section.sh_addralign, section.file.offset, &note, &why))
+            return 1; */
 uint32_t goblin_note(const uint8_t *bytes, size_t len, const goblin_header_t *header, const goblin_range_t *notes,
-                     uint64_t alignment, uint64_t offset, goblin_note_t *note, goblin_refusal_t *why);
+    uint64_t alignment, uint64_t offset, goblin_note_t *note, goblin_refusal_t *why) GOBLIN_STATUS((3, 4, 7, 8));
 
 /* Reads the note at an offset of the file as goblin_note does, with two differences. Its name need not be UTF-8, and
    `name` is all of it, as many bytes as the note says: with the zero byte that closes it and any others at its end. And
@@ -493,10 +519,10 @@ uint32_t goblin_note(const uint8_t *bytes, size_t len, const goblin_header_t *he
    GOBLIN_NOTE_HEADER, GOBLIN_NOTE_NAME or GOBLIN_NOTE_DESC, and the numbers count from the start of the note up to the
    end of the range or of the file. If goblin_note finds a note whose descriptor is inside the range, this call finds
    the same one, with its longer name.
-   Example: goblin_note_bytes(bytes, len, &header, &section.file, section.sh_addralign, section.file.offset, &note,
-                              &why); */
+   Example: if (goblin_note_bytes(bytes, len, &header, &section.file, section.sh_addralign, section.file.offset, &note,
+            &why)) return 1; */
 uint32_t goblin_note_bytes(const uint8_t *bytes, size_t len, const goblin_header_t *header, const goblin_range_t *notes,
-                           uint64_t alignment, uint64_t offset, goblin_note_t *note, goblin_refusal_t *why);
+    uint64_t alignment, uint64_t offset, goblin_note_t *note, goblin_refusal_t *why) GOBLIN_STATUS((3, 4, 7, 8));
 
 /* ---- strings ---- */
 
@@ -505,19 +531,19 @@ uint32_t goblin_note_bytes(const uint8_t *bytes, size_t len, const goblin_header
    table, and is UTF-8. GOBLIN_END if the offset is not below the size of the table.
    GOBLIN_STRTAB_OFFSET: the table starts past the end of the file. GOBLIN_STRTAB_RANGE: it ends past the end of the
    file. GOBLIN_BAD_INPUT: the string is not UTF-8.
-   Example: goblin_string(bytes, len, &names.file, symbol.st_name, &string, &why); */
+   Example: if (goblin_string(bytes, len, &names.file, symbol.st_name, &string, &why)) return 1; */
 uint32_t goblin_string(const uint8_t *bytes, size_t len, const goblin_range_t *strings, uint64_t offset,
-                       goblin_range_t *string, goblin_refusal_t *why);
+    goblin_range_t *string, goblin_refusal_t *why) GOBLIN_STATUS((3, 5, 6));
 
 /* Finds the ranges of the strings at many offsets of a string table, in the order of `offsets`: at each as
    goblin_string does, up to the first offset at which that does not return GOBLIN_OK. `*filled` is the number of items
    of `ranges` that are written; those after them are unchanged. GOBLIN_OK if all offsets have a string, or as many as
    there are items of `ranges`. Else the call returns what goblin_string returns at offsets[*filled], and writes the
    same refusal. This call writes `ranges` and `*filled` then, too.
-   Example: goblin_strings(bytes, len, &names.file, offsets, 64, ranges, 64, &filled, &why); */
+   Example: if (goblin_strings(bytes, len, &names.file, offsets, 64, ranges, 64, &filled, &why)) return 1; */
 uint32_t goblin_strings(const uint8_t *bytes, size_t len, const goblin_range_t *strings, const uint64_t *offsets,
-                        size_t offsets_len, goblin_range_t *ranges, size_t capacity, uint64_t *filled,
-                        goblin_refusal_t *why);
+    size_t offsets_len, goblin_range_t *ranges, size_t capacity, uint64_t *filled, goblin_refusal_t *why)
+    GOBLIN_STATUS((3, 8, 9));
 
 /* As goblin_string, for a string that need not be UTF-8: never returns GOBLIN_BAD_INPUT. If goblin_string finds a
    string, this call finds the same range.
@@ -527,27 +553,27 @@ uint32_t goblin_strings(const uint8_t *bytes, size_t len, const goblin_range_t *
      uint32_t status = goblin_string_bytes(bytes, len, &names.file, section.sh_name, &string, &why);
      bool is = status == GOBLIN_OK && string.size == 5 && memcmp(bytes + string.offset, ".text", 5) == 0;
      bool starts = status == GOBLIN_OK && string.size >= 5 && memcmp(bytes + string.offset, ".text", 5) == 0;
-   Example: goblin_string_bytes(bytes, len, &names.file, symbol.st_name, &string, &why); */
+   Example: if (goblin_string_bytes(bytes, len, &names.file, symbol.st_name, &string, &why)) return 1; */
 uint32_t goblin_string_bytes(const uint8_t *bytes, size_t len, const goblin_range_t *strings, uint64_t offset,
-                             goblin_range_t *string, goblin_refusal_t *why);
+    goblin_range_t *string, goblin_refusal_t *why) GOBLIN_STATUS((3, 5, 6));
 
 /* ---- numbers ---- */
 
 /* Reads the number in `width` bytes at an offset of the file, in the byte order of the header. `width` is 1, 2, 4 or 8.
    GOBLIN_END if it is none of these. This is tested before any refusal.
    GOBLIN_BAD_OFFSET or GOBLIN_TOO_BIG: the bytes are not inside the file.
-   Example: goblin_number(bytes, len, &header, section.file.offset, 4, &value, &why); */
+   Example: if (goblin_number(bytes, len, &header, section.file.offset, 4, &value, &why)) return 1; */
 uint32_t goblin_number(const uint8_t *bytes, size_t len, const goblin_header_t *header, uint64_t offset, uint64_t width,
-                       uint64_t *value, goblin_refusal_t *why);
+    uint64_t *value, goblin_refusal_t *why) GOBLIN_STATUS((3, 6, 7));
 
 /* Reads the number in `width` bytes at an offset in a range of the file, as goblin_number does. The offset counts from
    the range's start. GOBLIN_END as for goblin_number, before any refusal.
    GOBLIN_BAD_OFFSET or GOBLIN_TOO_BIG: the range is not inside the file, or then the number is not inside the range.
    The numbers of the second refusal count from the range's start, with the range's end in place of the file's;
    `why->offset` is an offset of the file. One that does not fit in 64 bits is reported as UINT64_MAX.
-   Example: goblin_number_in(bytes, len, &header, &section.file, 8, 4, &value, &why); */
+   Example: if (goblin_number_in(bytes, len, &header, &section.file, 8, 4, &value, &why)) return 1; */
 uint32_t goblin_number_in(const uint8_t *bytes, size_t len, const goblin_header_t *header, const goblin_range_t *range,
-                          uint64_t offset, uint64_t width, uint64_t *value, goblin_refusal_t *why);
+    uint64_t offset, uint64_t width, uint64_t *value, goblin_refusal_t *why) GOBLIN_STATUS((3, 4, 7, 8));
 
 /* ---- ranges ---- */
 
@@ -555,7 +581,8 @@ uint32_t goblin_number_in(const uint8_t *bytes, size_t len, const goblin_header_
    the file. The part of a range that starts at `len` or past it has the offset `len` and the size 0; goblin_symbol
    refuses it. Cannot fail.
    Example: goblin_range_in_file(bytes, len, &section.file, &range); */
-void goblin_range_in_file(const uint8_t *bytes, size_t len, const goblin_range_t *range, goblin_range_t *part);
+void goblin_range_in_file(const uint8_t *bytes, size_t len, const goblin_range_t *range, goblin_range_t *part)
+    GOBLIN_GIVEN((3, 4));
 
 /* ---- writing ----
 
@@ -572,24 +599,27 @@ void goblin_range_in_file(const uint8_t *bytes, size_t len, const goblin_range_t
    and leaves the padding, the bytes 9 to 15.
    Returns GOBLIN_INVALID_CLASS, GOBLIN_DATA, GOBLIN_BAD_OFFSET or GOBLIN_TOO_BIG (the bytes have no room for a header
    of the class) or GOBLIN_INTEGER_FIT, the first of these that applies, in this order. Never returns GOBLIN_END.
-   Example: header.e_type = GOBLIN_ET_DYN; goblin_put_header(own, len, &header, &why); */
-uint32_t goblin_put_header(uint8_t *bytes, size_t len, const goblin_header_t *header, goblin_refusal_t *why);
+   Example: header.e_type = GOBLIN_ET_DYN; if (goblin_put_header(own, len, &header, &why)) return 1; */
+uint32_t goblin_put_header(uint8_t *bytes, size_t len, const goblin_header_t *header, goblin_refusal_t *why)
+    GOBLIN_STATUS((3, 4));
 
 /* Writes the section header at an index.
-   Example: section.sh_flags &= ~GOBLIN_SHF_WRITE; goblin_put_section(own, len, &header, index, &section, &why); */
+   Example: section.sh_flags &= ~GOBLIN_SHF_WRITE; if (goblin_put_section(own, len, &header, index, &section, &why))
+            return 1; */
 uint32_t goblin_put_section(uint8_t *bytes, size_t len, const goblin_header_t *header, uint64_t index,
-                            const goblin_section_t *section, goblin_refusal_t *why);
+    const goblin_section_t *section, goblin_refusal_t *why) GOBLIN_STATUS((3, 5, 6));
 
 /* Writes the program header at an index.
-   Example: segment.p_flags &= ~GOBLIN_PF_X; goblin_put_segment(own, len, &header, index, &segment, &why); */
+   Example: segment.p_flags &= ~GOBLIN_PF_X; if (goblin_put_segment(own, len, &header, index, &segment, &why))
+            return 1; */
 uint32_t goblin_put_segment(uint8_t *bytes, size_t len, const goblin_header_t *header, uint64_t index,
-                            const goblin_segment_t *segment, goblin_refusal_t *why);
+    const goblin_segment_t *segment, goblin_refusal_t *why) GOBLIN_STATUS((3, 5, 6));
 
 /* Writes the symbol at an index of a symbol table.
-   Example: symbol.st_other = GOBLIN_STV_HIDDEN;
-            goblin_put_symbol(own, len, &header, &table.file, index, &symbol, &why); */
+   Example: symbol.st_other = GOBLIN_STV_HIDDEN; if (goblin_put_symbol(own, len, &header, &table.file, index, &symbol,
+            &why)) return 1; */
 uint32_t goblin_put_symbol(uint8_t *bytes, size_t len, const goblin_header_t *header, const goblin_range_t *table,
-                           uint64_t index, const goblin_symbol_t *symbol, goblin_refusal_t *why);
+    uint64_t index, const goblin_symbol_t *symbol, goblin_refusal_t *why) GOBLIN_STATUS((3, 4, 6, 7));
 
 #ifdef __clang__
 #pragma clang diagnostic push
@@ -599,18 +629,19 @@ uint32_t goblin_put_symbol(uint8_t *bytes, size_t len, const goblin_header_t *he
 /* Writes the relocation at an index of a relocation section. If `is_rela`, has_addend must be 1. If not, has_addend and
    r_addend must be 0. Else GOBLIN_INTEGER_FIT. In a 32-bit file r_sym has 3 bytes, r_type 1 and r_addend 4, else they
    have 4, 4 and 8. In a little-endian MIPS64 file r_sym and r_type are written in the format of those files.
-   Example: reloc.r_addend += 8; goblin_put_reloc(own, len, &header, &table.file, true, index, &reloc, &why); */
+   Example: reloc.r_addend += 8; if (goblin_put_reloc(own, len, &header, &table.file, true, index, &reloc, &why))
+            return 1; */
 uint32_t goblin_put_reloc(uint8_t *bytes, size_t len, const goblin_header_t *header, const goblin_range_t *table,
-                          bool is_rela, uint64_t index, const goblin_reloc_t *reloc, goblin_refusal_t *why);
+    bool is_rela, uint64_t index, const goblin_reloc_t *reloc, goblin_refusal_t *why) GOBLIN_STATUS((3, 4, 7, 8));
 
 #ifdef __clang__
 #pragma clang diagnostic pop
 #endif
 
 /* Writes a number of `width` bytes at an offset of the file, as goblin_number reads it. It must fit in these bytes.
-   Example: goblin_put_number(own, len, &header, section.file.offset, 4, value, &why); */
+   Example: if (goblin_put_number(own, len, &header, section.file.offset, 4, value, &why)) return 1; */
 uint32_t goblin_put_number(uint8_t *bytes, size_t len, const goblin_header_t *header, uint64_t offset, uint64_t width,
-                           uint64_t value, goblin_refusal_t *why);
+    uint64_t value, goblin_refusal_t *why) GOBLIN_STATUS((3, 7));
 
 /* ---- texts ----
 
@@ -656,7 +687,7 @@ uint64_t goblin_note_type_to_str(const void *name, size_t name_len, uint32_t n_t
    on `*why` alone, which a caller may fill itself: a `fourth` that means yes or no is yes unless it is 0; an `item`
    that is none of GOBLIN_INVALID_UTF8 and the like has the empty name; a `kind` that is no refusal has the empty text.
    Example: goblin_refusal_text(&why, text, sizeof text); */
-uint64_t goblin_refusal_text(const goblin_refusal_t *why, void *text, size_t capacity);
+uint64_t goblin_refusal_text(const goblin_refusal_t *why, void *text, size_t capacity) GOBLIN_GIVEN((1));
 
 #ifdef __cplusplus
 }

@@ -26,7 +26,8 @@ static int refused(const char *what) {
 /* Returns the string at an offset, or an empty one if there is none or it is not UTF-8. */
 static goblin_range_t string(const goblin_section_t *strings, uint64_t offset) {
     goblin_range_t found = {0, 0};
-    goblin_string(bytes, len, &strings->file, offset, &found, &why);
+    uint32_t status = goblin_string(bytes, len, &strings->file, offset, &found, GOBLIN_UNREAD);
+    if (status != GOBLIN_OK) found.size = 0;
     return found;
 }
 
