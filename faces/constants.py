@@ -11,10 +11,10 @@
     python3 faces/constants.py --nulls    prints a program whose lines pass a null pointer for each argument that may not be null, and read no
                                           status, for a test of what compilers warn of
 
-The names, values, types and comments are those of crates/goblin_headers and crates/goblin_records. So a constant is written by
-hand only there. Git has goblin.h, because it is read as documentation, and the files for Rust, so that cargo can take the crate from
-a repository. It ignores the files for JavaScript and Python, which faces/install.sh makes; by hand they must be made before node or Python
-reads them.
+The names, values, types and comments are those of crates/goblin_headers and crates/goblin_records, and of faces/other_constants.rs for what
+the library doesn't have. So a constant is written by hand only there. Git has goblin.h, because it is read as documentation, and the files
+for Rust, so that cargo can take the crate from a repository. It ignores the files for JavaScript and Python, which faces/install.sh makes;
+by hand they must be made before node or Python reads them.
 
 Flags of sections and indices of sections get the type of the field that holds them: `sh_flags` and `st_shndx`. JavaScript and Python also
 get the number of the interface, from goblin.h, and Python all that it declares.
@@ -35,11 +35,13 @@ RECORDS = [
     ('sym', 'goblin_records', 'symbols', 'The constants of symbols'),
     ('reloc', 'goblin_records', 'relocations', 'The sizes of relocations'),
     ('note', 'goblin_records', 'notes', 'The constants of notes'),
+    ('other', '', 'what the library does not have', 'Constants that the library does not have'),
 ]
 # What stands elsewhere.
-MORE = {'program_header': ['crates/goblin_headers/src/whole_part.rt']}
+MORE = {'program_header': ['crates/goblin_headers/src/whole_part.rt'], 'other': ['faces/other_constants.rs']}
 CLASSES = (32, 64)
 MADE = "Made by faces/constants.py of the library's constants: do not edit."
+MADE_OTHER = 'Made by faces/constants.py of faces/other_constants.rs: do not edit.'
 
 
 class Constant:
@@ -143,7 +145,7 @@ def rust_module(record, bits, constants):
 
 def rust_files():
     for record, crate, _, content in RECORDS:
-        text = f'//! {content}, as the library has them.\n// {MADE}\n'
+        text = f'//! {content}{", as the library has them" if crate else ""}.\n// {MADE if crate else MADE_OTHER}\n'
         text += listed(constants_of(record, crate), rust_constant, '// {}')
         for bits in CLASSES:
             constants = constants_of_class(record, crate, bits)
@@ -427,8 +429,9 @@ def c_value(constant):
     value = re.sub(r'\b([A-Z]\w*)', r'GOBLIN_\1', value)
     if constant.has_wide_field():
         value = re.sub(r'^(\d\w*)', r'UINT64_C(\1)', value)
-    elif constant.kind == 'u32':
-        value = re.sub(r'^(\d\w*)', r'\1u', value)
+    elif not constant.is_text():
+        # (a shift has the type of its first operand)
+        value = re.sub(r'(?<!<< )\b(\d\w*)', r'\1u', value)
     return f'({value})' if ' ' in value else value
 
 
@@ -457,12 +460,10 @@ def c_part():
 """
     for title, constants, of_class in records:
         text += f'\n/* -- {title} -- */\n' + listed(constants, c_constant('', known), '/* {} */')
-        for bits, more in of_class.items():
-            # (as the class byte of a class, which is a constant already)
-            more = [constant for constant in more if f'{constant.name}{bits}' not in known]
-            if more:
-                text += f'\n/* What the {bits}-bit class has of its own. */\n'
-                text += ''.join(c_constant(bits, known)(constant) for constant in more)
+        # (the class byte of a class is a constant already)
+        own = ''.join(c_constant(bits, known)(constant) for bits, more in of_class.items() for constant in more
+                      if f'{constant.name}{bits}' not in known)
+        text += f'\n/* What each class has of its own. */\n{own}' if own else ''
     return text
 
 
@@ -487,7 +488,7 @@ def write(name, text):
 def missing():
     """The paths of the library's constants that are not in the table."""
     table = {line.split()[0] for line in read('crates/goblin_names/stdout').splitlines()}
-    files = [name for record, crate, _, _ in RECORDS for name in
+    files = [name for record, crate, _, _ in RECORDS if crate for name in
              [*MORE.get(record, []), *(f'crates/{crate}/src/{file}.rt' for file in (f'constants_{record}', f'{record}32', f'{record}64'))]]
     paths = [f'{os.path.basename(name)[:-3].replace("constants_", "")}::{constant.name}' for name in files if os.path.exists(path_of(name))
              for constant in constants_in(name)]

@@ -761,6 +761,7 @@ function constants_of_library() {
         .map((crate) => fileURLToPath(new URL(`../../crates/${crate}/src`, import.meta.url)));
     const sources = folders.flatMap((folder) => readdirSync(folder).filter((name) => name.endsWith('.rt'))
         .map((name) => join(folder, name)));
+    sources.push(fileURLToPath(new URL('../other_constants.rs', import.meta.url)));
     // (those of both classes first, since the others are made from them)
     for (const path of sources.sort((a, b) => b.includes('constants_') - a.includes('constants_'))) {
         const module = /\/(\w+\d\d)\.rt$/.exec(path)?.[1], source = readFileSync(path, 'utf8');

@@ -129,6 +129,7 @@ pub mod sym;
 #[allow(unsafe_code)]
 mod sys;
 
+pub use constants::other;
 pub use elf::Elf;
 pub use error::{Error, Kind, Result};
 pub use names::Name;
