@@ -3,9 +3,9 @@
    The calls allocate nothing, keep nothing from call to call, and return on every input.
 
    Linking
-     Link with libgoblin_c.a, which needs only memcpy of the C library, or with the shared library. The linker's option
-     --gc-sections (`-Wl,--gc-sections`) leaves out the calls that a program does not use: of the examples, about two
-     thirds of the library. It also leaves out sections of your own that nothing refers to.
+     Link a 64-bit program with libgoblin_c.a, which needs only memcpy of the C library, or with the shared library. The
+     linker's option --gc-sections (`-Wl,--gc-sections`) leaves out the calls that a program does not use: of the
+     examples, about two thirds of the library. It also leaves out sections of your own that nothing refers to.
      A backtrace ends at a call, because the library has no unwind tables.
      Inside a shared library of your own, `-Wl,--exclude-libs,libgoblin_c.a` hides the calls.
 
@@ -31,10 +31,10 @@
      `const void *`, so a string literal and bytes are both passed without a cast.
 
    Files that change
-     Nothing else may write the bytes during a call. They may change between two calls, since each call checks all that
-     it reads. But what an earlier call returned may then be out of date. If a mapped file is made shorter, the
-     operating system ends a program that reads past its new end (SIGBUS). Read a file into a buffer if others may
-     shorten it.
+     Nothing else may write the bytes during a call: calls may run at once in several threads, but for goblin_put_ calls
+     into the same bytes. They may change between two calls, since each call checks all that it reads. But what an
+     earlier call returned may then be out of date. If a mapped file is made shorter, the operating system ends a
+     program that reads past its new end (SIGBUS). Read a file into a buffer if others may shorten it.
 
    Files that are cut
      If one section header is not inside the file, each call that reads section headers is refused, searches too;
@@ -51,8 +51,8 @@
      counts of its tables. A caller may also fill a header itself.
 
    One item or many
-     To read a whole table, use the plural calls, such as goblin_symbols: they check the table once for each array that
-     they fill. With 64 items at once an item takes about half the time of a goblin_symbol.
+     To read a whole table, use the plural calls, such as goblin_symbols: with 64 items at once an item takes 0.51 to
+     0.67 of the time of a call for one. With a capacity of 0 they return GOBLIN_OK and fill nothing.
 
    Examples
      Each call has an example. All are compiled with these variables:
@@ -231,7 +231,7 @@ typedef struct {
 typedef struct {
     uint64_t r_offset;   /* where it applies: an offset in a section, or an address, which depends on the file's type */
     uint64_t r_sym;      /* the index of the symbol, or 0 for none */
-    int64_t r_addend;    /* the addend; 0 if the relocation has none of its own */
+    int64_t r_addend;    /* the addend, signed in both classes; 0 if the relocation has none of its own */
     uint32_t r_type;     /* its type, whose meaning depends on the machine */
     uint32_t has_addend; /* 1 if r_addend was read, else 0 */
 } goblin_reloc_t;
@@ -314,7 +314,8 @@ uint32_t goblin_header(const uint8_t *bytes, size_t len, goblin_header_t *header
    how many of them are, at most 0xfffe. If their number can't be read (see goblin_segment_count), it is how many of
    0xfffe are. All other fields stay. With the copy no list of headers is refused. Where one is not refused with
    `header`, the calls return and write the same with the copy. In most files the header of the section names is one of
-   the last, so goblin_section_names returns GOBLIN_END if the end is cut. Cannot fail.
+   the last, so goblin_section_names returns GOBLIN_END if the end is cut. Cannot fail. The copy is for reading:
+   goblin_put_header would write its counts over the file's own.
    Example: goblin_whole_header(bytes, len, &header, &whole); */
 void goblin_whole_header(const uint8_t *bytes, size_t len, const goblin_header_t *header, goblin_header_t *whole)
     GOBLIN_GIVEN((3, 4));
@@ -638,7 +639,8 @@ uint32_t goblin_put_reloc(uint8_t *bytes, size_t len, const goblin_header_t *hea
 #pragma clang diagnostic pop
 #endif
 
-/* Writes a number of `width` bytes at an offset of the file, as goblin_number reads it. It must fit in these bytes.
+/* Writes a number of `width` bytes at an offset of the file, as goblin_number reads it. It must fit in these bytes: of
+   a negative number pass the low ones, as (uint32_t)-8.
    Example: if (goblin_put_number(own, len, &header, section.file.offset, 4, value, &why)) return 1; */
 uint32_t goblin_put_number(uint8_t *bytes, size_t len, const goblin_header_t *header, uint64_t offset, uint64_t width,
     uint64_t value, goblin_refusal_t *why) GOBLIN_STATUS((3, 7));
