@@ -110,13 +110,13 @@ def constants_of_class(record, crate, bits):
     return constants_in(name) if os.path.exists(path_of(name)) else []
 
 
-def listed(constants, write, heading_format):
+def listed(constants, write, heading_format, has_gaps=True):
     """The constants as some text each, with their headings and the empty lines between them."""
     text = ''
     for constant in constants:
         if constant.heading:
             text += '\n' + heading_format.format(constant.heading) + '\n\n'
-        elif constant.is_apart:
+        elif constant.is_apart and has_gaps:
             text += '\n'
         text += write(constant)
     return text
@@ -459,7 +459,7 @@ def c_part():
    {MADE} */
 """
     for title, constants, of_class in records:
-        text += f'\n/* -- {title} -- */\n' + listed(constants, c_constant('', known), '/* {} */')
+        text += f'\n/* -- {title} -- */\n' + listed(constants, c_constant('', known), '/* {} */', False)
         # (the class byte of a class is a constant already)
         own = ''.join(c_constant(bits, known)(constant) for bits, more in of_class.items() for constant in more
                       if f'{constant.name}{bits}' not in known)

@@ -277,7 +277,11 @@ static inline goblin_refusal_t *goblin_unread(void) {
 #define GOBLIN_UNREAD goblin_unread()
 #endif
 
-/* The status of a call is to be read, and these arguments may not be null. */
+/* The status of a call is to be read, and these arguments may not be null. (In C89 clang warns of bool.) */
+#ifdef __clang__
+#pragma clang diagnostic push
+#pragma clang diagnostic ignored "-Wc99-extensions"
+#endif
 #ifdef __GNUC__
 #define GOBLIN_STATUS(arguments) __attribute__((warn_unused_result, nonnull arguments))
 #define GOBLIN_GIVEN(arguments) __attribute__((nonnull arguments))
@@ -464,12 +468,6 @@ uint32_t goblin_symbol_by_address(const uint8_t *bytes, size_t len, const goblin
 
 /* ---- relocations ---- */
 
-#ifdef __clang__
-/* (in C89 clang warns of bool, which is an extension there) */
-#pragma clang diagnostic push
-#pragma clang diagnostic ignored "-Wc99-extensions"
-#endif
-
 /* Reads the relocation at an index of a relocation section. `table` is the range of the section, and `is_rela` says
    whether its relocations have addends (type GOBLIN_SHT_RELA) or not (GOBLIN_SHT_REL). The last one is the last that
    lies in the range whole. GOBLIN_END after that one. In a little-endian MIPS64 file, r_sym and r_type are read in
@@ -490,10 +488,6 @@ uint32_t goblin_reloc_count(const uint8_t *bytes, size_t len, const goblin_heade
 uint32_t goblin_relocs(const uint8_t *bytes, size_t len, const goblin_header_t *header, const goblin_range_t *table,
     bool is_rela, uint64_t first, goblin_reloc_t *relocs, size_t capacity, uint64_t *filled, goblin_refusal_t *why)
     GOBLIN_STATUS((3, 4, 9, 10));
-
-#ifdef __clang__
-#pragma clang diagnostic pop
-#endif
 
 /* ---- notes ---- */
 
@@ -622,11 +616,6 @@ uint32_t goblin_put_segment(uint8_t *bytes, size_t len, const goblin_header_t *h
 uint32_t goblin_put_symbol(uint8_t *bytes, size_t len, const goblin_header_t *header, const goblin_range_t *table,
     uint64_t index, const goblin_symbol_t *symbol, goblin_refusal_t *why) GOBLIN_STATUS((3, 4, 6, 7));
 
-#ifdef __clang__
-#pragma clang diagnostic push
-#pragma clang diagnostic ignored "-Wc99-extensions"
-#endif
-
 /* Writes the relocation at an index of a relocation section. If `is_rela`, has_addend must be 1. If not, has_addend and
    r_addend must be 0. Else GOBLIN_INTEGER_FIT. In a 32-bit file r_sym has 3 bytes, r_type 1 and r_addend 4, else they
    have 4, 4 and 8. In a little-endian MIPS64 file r_sym and r_type are written in the format of those files.
@@ -634,10 +623,6 @@ uint32_t goblin_put_symbol(uint8_t *bytes, size_t len, const goblin_header_t *he
             return 1; */
 uint32_t goblin_put_reloc(uint8_t *bytes, size_t len, const goblin_header_t *header, const goblin_range_t *table,
     bool is_rela, uint64_t index, const goblin_reloc_t *reloc, goblin_refusal_t *why) GOBLIN_STATUS((3, 4, 7, 8));
-
-#ifdef __clang__
-#pragma clang diagnostic pop
-#endif
 
 /* Writes a number of `width` bytes at an offset of the file, as goblin_number reads it. It must fit in these bytes: of
    a negative number pass the low ones, as (uint32_t)-8.
@@ -691,6 +676,9 @@ uint64_t goblin_note_type_to_str(const void *name, size_t name_len, uint32_t n_t
    Example: goblin_refusal_text(&why, text, sizeof text); */
 uint64_t goblin_refusal_text(const goblin_refusal_t *why, void *text, size_t capacity) GOBLIN_GIVEN((1));
 
+#ifdef __clang__
+#pragma clang diagnostic pop
+#endif
 #ifdef __cplusplus
 }
 #endif
@@ -704,7 +692,6 @@ uint64_t goblin_refusal_text(const goblin_refusal_t *why, void *text, size_t cap
    Made by faces/constants.py of the library's constants: do not edit. */
 
 /* -- file headers -- */
-
 #define GOBLIN_ET_NONE 0u /* No file type. */
 #define GOBLIN_ET_REL 1u /* A relocatable file. */
 #define GOBLIN_ET_EXEC 2u /* An executable file. */
@@ -715,24 +702,19 @@ uint64_t goblin_refusal_text(const goblin_refusal_t *why, void *text, size_t cap
 #define GOBLIN_ET_HIOS 0xfeffu /* The last OS-specific type. */
 #define GOBLIN_ET_LOPROC 0xff00u /* The first processor-specific type. */
 #define GOBLIN_ET_HIPROC 0xffffu /* The last processor-specific type. */
-
 #define GOBLIN_ELFMAG "\177ELF" /* The first four bytes of every ELF file. */
 #define GOBLIN_SELFMAG 4u /* The size of GOBLIN_ELFMAG in bytes. */
-
 #define GOBLIN_EI_CLASS 4u /* The offset of the class byte in the identification. */
 #define GOBLIN_ELFCLASSNONE 0u /* No class: not valid in a file. */
 #define GOBLIN_ELFCLASS32 1u /* The 32-bit class. */
 #define GOBLIN_ELFCLASS64 2u /* The 64-bit class. */
 #define GOBLIN_ELFCLASSNUM 3u /* One more than the greatest class. */
-
 #define GOBLIN_EI_DATA 5u /* The offset of the data byte, which names the byte order, in the identification. */
 #define GOBLIN_ELFDATANONE 0u /* No byte order: not valid in a file. */
 #define GOBLIN_ELFDATA2LSB 1u /* Little endian, in two's complement. */
 #define GOBLIN_ELFDATA2MSB 2u /* Big endian, in two's complement. */
-
 #define GOBLIN_EI_VERSION 6u /* The offset of the version byte in the identification. */
 #define GOBLIN_EV_CURRENT 1u /* The current version of the format. */
-
 #define GOBLIN_EI_OSABI 7u /* The offset of the OS/ABI byte in the identification. */
 #define GOBLIN_ELFOSABI_NONE 0u /* System V, or none. */
 #define GOBLIN_ELFOSABI_SYSV GOBLIN_ELFOSABI_NONE /* System V: the same as GOBLIN_ELFOSABI_NONE. */
@@ -750,11 +732,8 @@ uint64_t goblin_refusal_text(const goblin_refusal_t *why, void *text, size_t cap
 #define GOBLIN_ELFOSABI_ARM_AEABI 64u /* ARM, by its embedded ABI. */
 #define GOBLIN_ELFOSABI_ARM 97u /* ARM. */
 #define GOBLIN_ELFOSABI_STANDALONE 255u /* A standalone (embedded) program. */
-
 #define GOBLIN_EI_ABIVERSION 8u /* The offset of the ABI version in the identification. */
-
 #define GOBLIN_SIZEOF_IDENT 16u /* The size of the identification in bytes. */
-
 #define GOBLIN_EM_NONE 0u /* No machine. */
 #define GOBLIN_EM_M32 1u /* AT&T WE 32100. */
 #define GOBLIN_EM_SPARC 2u /* SPARC. */
@@ -976,7 +955,6 @@ uint64_t goblin_refusal_text(const goblin_refusal_t *why, void *text, size_t cap
 #define GOBLIN_PF_R (1u << 2) /* The segment may be read. */
 #define GOBLIN_PF_MASKOS 0x0ff00000u /* The OS-specific flags. */
 #define GOBLIN_PF_MASKPROC 0xf0000000u /* The processor-specific flags. */
-
 /* The e_phnum of a file whose number of segments is the sh_info of section 0: System V gABI, "ELF Header",
    GOBLIN_PN_XNUM. */
 #define GOBLIN_PN_XNUM 0xffffu
@@ -1062,7 +1040,6 @@ uint64_t goblin_refusal_text(const goblin_refusal_t *why, void *text, size_t cap
 #define GOBLIN_SHF_ORDERED (UINT64_C(1) << 30) /* The section needs a special order (Solaris). */
 #define GOBLIN_SHF_NUM_REGULAR_FLAGS 12u /* The number of flags in GOBLIN_SHF_FLAGS. */
 #define GOBLIN_SHF_EXCLUDE UINT64_C(0x80000000) /* The section is dropped if nothing refers to it (Solaris). */
-
 /* The flags that have a name. */
 #define GOBLIN_SHF_FLAGS { \
     GOBLIN_SHF_WRITE, GOBLIN_SHF_ALLOC, GOBLIN_SHF_EXECINSTR, GOBLIN_SHF_MERGE, GOBLIN_SHF_STRINGS, \
@@ -1127,40 +1104,32 @@ uint64_t goblin_refusal_text(const goblin_refusal_t *why, void *text, size_t cap
 #define GOBLIN_SIZEOF_REL64 (8u + 8u) /* The size of a relocation without an addend, in bytes. */
 
 /* -- notes -- */
-
 /* The system that a file was built for, as words: the system's number, and the major, minor and subminor version of its
    binary interface. */
 #define GOBLIN_NT_GNU_ABI_TAG 1u
 #define GOBLIN_ELF_NOTE_ABI GOBLIN_NT_GNU_ABI_TAG /* The older name of GOBLIN_NT_GNU_ABI_TAG. */
-
 /* Linux, as the first word of a note of type GOBLIN_NT_GNU_ABI_TAG numbers systems. */
 #define GOBLIN_ELF_NOTE_OS_LINUX 0u
 #define GOBLIN_ELF_NOTE_OS_GNU 1u /* The Hurd. */
 #define GOBLIN_ELF_NOTE_OS_SOLARIS2 2u /* Solaris. */
 #define GOBLIN_ELF_NOTE_OS_FREEBSD 3u /* FreeBSD. */
-
 /* Synthetic hardware capabilities: their number, a mask of those that are enabled, and for each the number of its bit
    and its name. */
 #define GOBLIN_NT_GNU_HWCAP 2u
 #define GOBLIN_NT_GNU_BUILD_ID 3u /* The build ID, as linkers make it. */
 #define GOBLIN_NT_GNU_GOLD_VERSION 4u /* The version of the linker gold, as text. */
 #define GOBLIN_NT_GNU_PROPERTY_TYPE_0 5u /* Properties of the program. */
-
 #define GOBLIN_NT_PRSTATUS 1u /* In a core file: the state of a thread. */
 #define GOBLIN_NT_PRPSINFO 3u /* In a core file: information on the process. */
 #define GOBLIN_NT_SIGINFO 0x53494749u /* In a core file: the signal that ended the process. */
 #define GOBLIN_NT_FILE 0x46494c45u /* In a core file: which files were mapped where. */
 
 /* -- what the library does not have -- */
-
 #define GOBLIN_ELFCOMPRESS_ZLIB 1u /* A section is compressed by zlib (System V gABI, "Section Compression"). */
 #define GOBLIN_ELFCOMPRESS_ZSTD 2u /* A section is compressed by Zstandard. */
-
 /* The bits of e_flags that number the ABI (64-Bit ELF V2 ABI for Power, "File Class"). */
 #define GOBLIN_EF_PPC64_ABI 3u
-
 #define GOBLIN_STT_REGISTER 13u /* A global register (SPARC V9 ABI, "Symbol Table"). */
-
 /* The property whose bits all objects of a program have (x86-64 psABI, "Program Property"). */
 #define GOBLIN_GNU_PROPERTY_X86_FEATURE_1_AND 0xc0000002u
 #define GOBLIN_GNU_PROPERTY_X86_FEATURE_1_IBT 1u /* Its bit for indirect branch tracking. */
