@@ -21,7 +21,7 @@ pub trait Target {
 
     /// Puts a part of the text. After an error it is open how much of it was put.
     fn put(&mut self, part: &str) -> Result<(), Self::Error>
-        ensures put { Puts (state self.old) (state self.new) result part.now }
+        ensures put { Prints (state self.old) (state self.new) result part.now }
         ensures same_writer { writer_name self.new ≡ writer_name self.old };
 }
 
