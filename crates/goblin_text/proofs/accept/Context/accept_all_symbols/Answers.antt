@@ -8,3 +8,6 @@ loop-number-preserved c = record {
       c.loop-number.invariant.reading c.in_ok-accept_symbols.ensures.reading;
   shown = grind (arith, common_steps);
 }
+
+pub returns-in_err-accept_symbols-clause-added : goal.returns-in_err-accept_symbols-clause-added
+returns-in_err-accept_symbols-clause-added c = grind (arith, common_steps)
