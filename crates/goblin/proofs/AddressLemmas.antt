@@ -6,19 +6,20 @@
 use Rattle.std.proofs.Common.{◌≡◌, ◌≤◌, ◌<◌, ◌+◌, ◌*◌, ◌&&◌, ◌||◌, not, ℕ, zero, suc, Bool, true, false, ltb, leb}
 use Rattle.std.proofs.Common.{◌==◌, if◌then◌else◌, List, [], ◌∷◌, length, get_or, slice_get, Option, Some, None, inl}
 use Rattle.std.proofs.Common.{inr, refl, sym, ap, subst, ◌∙◌, arith, position}
-use Rattle.std.proofs.lemmas.Bool.{and_parts, and_from, cases_lt, lt-ltb, le-ltb, ltb-true, ltb-false, leb-true}
-use Rattle.std.proofs.lemmas.Bool.{false≢true, eqb-true, eq-eqb}
+use Rattle.std.proofs.lemmas.Bool.{and_parts, and_from, cases_lt, lt-ltb, le-ltb, le-leb, ltb-true, ltb-false, leb-true}
+use Rattle.std.proofs.lemmas.Bool.{false≢true, eqb-true, eqb-false, eq-eqb, ne_eqb, or_left, or_right}
 use Rattle.std.proofs.lemmas.Bool.Decides.{nat_tests}
 use Rattle.std.proofs.lemmas.List.Elements.{All-from_get_or}
 use Rattle.std.proofs.lemmas.List.Folds.{list_any_at, list_any_none}
 use Rattle.std.proofs.lemmas.List.Sums.{position_or_len_is}
 use Rattle.std.proofs.lemmas.Option.{slice_get_within, slice_get-get_or, slice_get_cases, get_or_from_slice_get}
 use Rattle.std.specs.List.{list_any, position_or_len}
-use Rattle.std.specs.Option.{option_or}
+use Rattle.std.specs.Option.{option_map, option_or, unwrap_or}
+use Rattle.goblin_headers.specs.declared.section_header.SectionHeader.{SectionHeader}
 use Rattle.goblin_records.specs.declared.sym.Sym.{Sym}
-use Rattle.goblin.specs.Addresses.{ContainsFirst, HasNone, IsSymbolAt, LabelsFirst, NoneContains, SymbolAtComesFirst}
-use Rattle.goblin.specs.Addresses.{contains, found_at, has_place, is_below, is_highest, is_nearer, reaches, symbol_at}
-use Rattle.goblin.specs.Addresses.{taken}
+use Rattle.goblin.specs.Addresses.{ContainsFirst, HasNone, HoldsAddress, IsBelowInSection, IsSymbolAt, LabelsFirst}
+use Rattle.goblin.specs.Addresses.{NoneContains, SymbolAtComesFirst, contains, found_at, has_place, holds, is_below}
+use Rattle.goblin.specs.Addresses.{is_candidate, is_held, is_highest, is_nearer, reaches, symbol_at, taken}
 
 -- how near a symbol of some value is to an address, which it isn't above: those that contain the address are nearer
 -- than all others; of those the higher one is nearer, and of others equally high the one of size 0
@@ -35,6 +36,102 @@ not_above address s below =
     let parts = and_parts (has_place s) (leb s.st_value address) below in
     leb-true s.st_value address parts.1
 
+-- ---- candidates
+if_so : (x : Bool) → (x ≡ true → x ≡ false) → x ≡ false
+if_so true h = h refl
+if_so false h = refl
+
+left_false : (x : Bool) → (x && true) ≡ false → x ≡ false
+left_false true e = e
+left_false false e = refl
+
+-- a section holds an address as the law says
+abbrev start_of : ℕ → SectionHeader → ℕ
+start_of e_type section = if e_type == 1 then 0 else section.sh_addr
+
+start_is : (e_type : ℕ) (section : SectionHeader) (is_rel : Bool)
+    → (e_type == 1) ≡ is_rel → start_of e_type section ≡ (if is_rel then 0 else section.sh_addr)
+start_is e_type section is_rel is = ap (λ (b : Bool). if b then 0 else section.sh_addr) is
+
+holds_parts : (address e_type : ℕ) (section : SectionHeader)
+    → holds address e_type section ≡ true
+    → (start_of e_type section ≤ address) × (address < start_of e_type section + section.sh_size)
+holds_parts address e_type section h =
+    let start = start_of e_type section in
+    let parts = and_parts (leb start address) (ltb address (start + section.sh_size)) h in
+    (leb-true start address parts.0, ltb-true address (start + section.sh_size) parts.1)
+
+holds_in : (address e_type : ℕ) (section : SectionHeader) (is_rel : Bool)
+    → (e_type == 1) ≡ is_rel → holds address e_type section ≡ true → HoldsAddress address e_type section
+holds_in address e_type section true is h =
+    let start : start_of e_type section ≡ 0 = start_is e_type section true is in
+    let parts = holds_parts address e_type section h in
+    inl (eqb-true e_type 1 is, omega (arith, start, parts.1))
+holds_in address e_type section false is h =
+    let start : start_of e_type section ≡ section.sh_addr = start_is e_type section false is in
+    let parts = holds_parts address e_type section h in
+    inr (eqb-false e_type 1 is, omega (arith, start, parts.0), omega (arith, start, parts.1))
+
+holds_by : (address e_type : ℕ) (section : SectionHeader)
+    → start_of e_type section ≤ address → address < start_of e_type section + section.sh_size
+    → holds address e_type section ≡ true
+holds_by address e_type section above below =
+    let start = start_of e_type section in
+    and_from (leb start address) (ltb address (start + section.sh_size)) (le-leb start address above)
+    (lt-ltb address (start + section.sh_size) below)
+
+holds_from : (address e_type : ℕ) (section : SectionHeader)
+    → HoldsAddress address e_type section → holds address e_type section ≡ true
+holds_from address e_type section (inl (is, below)) =
+    let start : start_of e_type section ≡ 0 = start_is e_type section true (eq-eqb e_type 1 is) in
+    holds_by address e_type section (omega (arith, start)) (omega (arith, start, below))
+holds_from address e_type section (inr (is, above, below)) =
+    let start : start_of e_type section ≡ section.sh_addr = start_is e_type section false (ne_eqb e_type 1 is) in
+    holds_by address e_type section (omega (arith, start, above)) (omega (arith, start, below))
+
+-- the section that holds it
+holder : (test : SectionHeader → Bool) (section : Option SectionHeader)
+    → unwrap_or (option_map test section) false ≡ true
+    → (x : SectionHeader) × (section ≡ Some x) × (test x ≡ true)
+holder test None e = absurd (false≢true e)
+holder test (Some x) e = (x, refl, e)
+
+module _ (address : ℕ) (sections : List SectionHeader) (e_type : ℕ) (s : Sym) where
+  below_of : is_candidate address sections e_type s ≡ true → is_below address s ≡ true
+  below_of fits = (and_parts (is_below address s) (reaches address s || is_held address sections e_type s) fits).0
+
+  -- those that contain the address are candidates
+  candidate_if : is_below address s ≡ true → reaches address s ≡ true → is_candidate address sections e_type s ≡ true
+  candidate_if below inside =
+      and_from (is_below address s) (reaches address s || is_held address sections e_type s) below
+      (or_left (reaches address s) (is_held address sections e_type s) inside)
+
+  -- so are those in a section that holds it, and no others
+  candidate_in : IsBelowInSection address sections e_type s → is_candidate address sections e_type s ≡ true
+  candidate_in lies =
+      let has = holds_from address e_type lies.section lies.has in
+      let held : unwrap_or (option_map (holds address e_type) (slice_get sections s.st_shndx)) false ≡ true =
+      ap (λ (x : Option SectionHeader). unwrap_or (option_map (holds address e_type) x) false) lies.there ∙ has in
+      and_from (is_below address s) (reaches address s || is_held address sections e_type s) lies.below
+      (or_right (reaches address s) (is_held address sections e_type s)
+      (and_from (ltb s.st_shndx 0xff00) _ (lt-ltb s.st_shndx 0xff00 lies.named) held))
+
+  lies_in : is_candidate address sections e_type s ≡ true → reaches address s ≡ false
+      → IsBelowInSection address sections e_type s
+  lies_in fits outside =
+      let parts = and_parts (is_below address s) (reaches address s || is_held address sections e_type s) fits in
+      let held : is_held address sections e_type s ≡ true =
+      sym (ap (λ (b : Bool). b || is_held address sections e_type s) outside) ∙ parts.1 in
+      let named = and_parts (ltb s.st_shndx 0xff00) _ held in
+      let section = holder (holds address e_type) (slice_get sections s.st_shndx) named.1 in
+      record {
+        below = parts.0;
+        named = ltb-true s.st_shndx 0xff00 named.0;
+        section = section.0;
+        there = section.1;
+        has = holds_in address e_type section.0 (e_type == 1) refl section.2;
+      }
+
 -- how ranks compare
 by_rank : (address : ℕ) (s other : Sym)
     → is_below address s ≡ true → is_below address other ≡ true
@@ -46,27 +143,33 @@ by_rank address s other below other_below =
 
 -- ---- a search through the symbols, one after another
 -- this one, with its index, is what is found among the first i
-pub record IsSoFar (address : ℕ) (symbols : List Sym) (i : ℕ) (found : ℕ × Sym) : Type 0 where
+pub record IsSoFar (address : ℕ) (sections : List SectionHeader) (e_type : ℕ) (symbols : List Sym)
+    (i : ℕ) (found : ℕ × Sym) : Type 0 where
   pub within : found.0 < i
   pub there : slice_get symbols found.0 ≡ Some found.1
-  pub below : is_below address found.1 ≡ true
+  pub fits : is_candidate address sections e_type found.1 ≡ true
   pub highest : (k : ℕ) (other : Sym)
-      → k < i → slice_get symbols k ≡ Some other → is_below address other ≡ true
+      → k < i → slice_get symbols k ≡ Some other → is_candidate address sections e_type other ≡ true
       → rank_of address other ≤ rank_of address found.1
   pub first : (k : ℕ) (other : Sym)
-      → k < found.0 → slice_get symbols k ≡ Some other → is_below address other ≡ true
+      → k < found.0 → slice_get symbols k ≡ Some other → is_candidate address sections e_type other ≡ true
       → rank_of address other < rank_of address found.1
 
-abbrev pub IsFound : ℕ → List Sym → ℕ → Option (ℕ × Sym) → Type 0
-IsFound address symbols i (Some found) = IsSoFar address symbols i found
-IsFound address symbols i None =
-    (k : ℕ) (other : Sym) → k < i → slice_get symbols k ≡ Some other → is_below address other ≡ false
+abbrev pub IsFound : ℕ → List SectionHeader → ℕ → List Sym → ℕ → Option (ℕ × Sym) → Type 0
+IsFound address sections e_type symbols i (Some found) = IsSoFar address sections e_type symbols i found
+IsFound address sections e_type symbols i None =
+    (k : ℕ) (other : Sym)
+    → k < i → slice_get symbols k ≡ Some other → is_candidate address sections e_type other ≡ false
 
 same_item : (symbols : List Sym) (i k : ℕ) (s other : Sym)
     → slice_get symbols i ≡ Some s → slice_get symbols k ≡ Some other → k ≡ i → other ≡ s
 same_item symbols i k s other got got_other same = let at = ap (slice_get symbols) same in cc
 
-module _ (address i : ℕ) (symbols : List Sym) (s : Sym) (got : slice_get symbols i ≡ Some s) where
+module _ (address : ℕ) (sections : List SectionHeader) (e_type i : ℕ) (symbols : List Sym) (s : Sym)
+    (got : slice_get symbols i ≡ Some s) where
+  abbrev fits : Sym → Bool
+  fits other = is_candidate address sections e_type other
+
   -- a property of the new symbol and of those before it
   one_of : (k : ℕ) (other : Sym) (P : Sym → Type 0)
       → k < i + 1 → slice_get symbols k ≡ Some other → P s → (k < i → P other) → P other
@@ -77,31 +180,33 @@ module _ (address i : ℕ) (symbols : List Sym) (s : Sym) (got : slice_get symbo
       ]
 
   first_one : (test : Bool)
-      → is_below address s ≡ test → IsFound address symbols i None
-      → IsFound address symbols (i + 1) (if test then Some (i, s) else None)
-  first_one true below none = record {
+      → (fits s && true) ≡ test → IsFound address sections e_type symbols i None
+      → IsFound address sections e_type symbols (i + 1) (if test then Some (i, s) else None)
+  first_one true tested none = record {
     within = omega arith;
     there = got;
-    below = below;
+    fits = (and_parts (fits s) true tested).0;
     highest = λ k other l g b.
         one_of k other (λ x. rank_of address x ≤ rank_of address s) l g (omega arith)
         (λ m. absurd (false≢true (sym (none k other m g) ∙ b)));
     first = λ k other m g b. absurd (false≢true (sym (none k other m g) ∙ b));
   }
-  first_one false above none =
-      λ k other l g. one_of k other (λ x. is_below address x ≡ false) l g above (λ m. none k other m g)
+  first_one false tested none =
+      λ k other l g. one_of k other (λ x. fits x ≡ false) l g (left_false (fits s) tested) (λ m. none k other m g)
 
   next_one : (found : ℕ × Sym) (test : Bool)
-      → (is_below address s && is_nearer address s found.1) ≡ test → IsSoFar address symbols i found
-      → IsFound address symbols (i + 1) (if test then Some (i, s) else Some found)
+      → (fits s && is_nearer address s found.1) ≡ test → IsSoFar address sections e_type symbols i found
+      → IsFound address sections e_type symbols (i + 1) (if test then Some (i, s) else Some found)
   next_one found true tested so =
-      let parts = and_parts (is_below address s) (is_nearer address s found.1) tested in
+      let parts = and_parts (fits s) (is_nearer address s found.1) tested in
+      let below = below_of address sections e_type s parts.0 in
+      let found_below = below_of address sections e_type found.1 so.fits in
       let higher : rank_of address found.1 < rank_of address s =
-      ltb-true _ _ (sym (by_rank address s found.1 parts.0 so.below) ∙ parts.1) in
+      ltb-true _ _ (sym (by_rank address s found.1 below found_below) ∙ parts.1) in
       record {
         within = omega arith;
         there = got;
-        below = parts.0;
+        fits = parts.0;
         highest = λ k other l g b.
             one_of k other (λ x. rank_of address x ≤ rank_of address s) l g (omega arith)
             (λ m. let low = so.highest k other m g b in omega (arith, low, higher));
@@ -110,30 +215,35 @@ module _ (address i : ℕ) (symbols : List Sym) (s : Sym) (got : slice_get symbo
   next_one found false tested so = record {
     within = let before = so.within in omega (arith, before);
     there = so.there;
-    below = so.below;
+    fits = so.fits;
     highest = λ k other l g b.
-        one_of k other (λ x. is_below address x ≡ true → rank_of address x ≤ rank_of address found.1) l g
-        (λ below. ltb-false _ _ (sym (by_rank address s found.1 below so.below) ∙ rw below at tested))
-        (λ m below. so.highest k other m g below) b;
+        one_of k other (λ x. fits x ≡ true → rank_of address x ≤ rank_of address found.1) l g
+        (λ fitting.
+        let below = below_of address sections e_type s fitting in
+        let found_below = below_of address sections e_type found.1 so.fits in
+        ltb-false _ _ (sym (by_rank address s found.1 below found_below)
+        ∙ sym (ap (λ (b : Bool). b && is_nearer address s found.1) fitting) ∙ tested))
+        (λ m fitting. so.highest k other m g fitting) b;
     first = so.first;
   }
 
   pub one_more : (found next : Option (ℕ × Sym))
-      → next ≡ taken address i s found → IsFound address symbols i found → IsFound address symbols (i + 1) next
-  one_more None next is none = rw is (first_one (is_below address s) refl none)
-  one_more (Some found) next is so = rw is (next_one found (is_below address s && is_nearer address s found.1) refl so)
+      → next ≡ taken address sections e_type i s found → IsFound address sections e_type symbols i found
+      → IsFound address sections e_type symbols (i + 1) next
+  one_more None next is none = rw is (first_one (fits s && true) refl none)
+  one_more (Some found) next is so = rw is (next_one found (fits s && is_nearer address s found.1) refl so)
 
 -- something is found in the end
-found_up_to : (address : ℕ) (symbols : List Sym) (i : ℕ)
-    → i ≤ length symbols → (found : Option (ℕ × Sym)) × IsFound address symbols i found
-found_up_to address symbols zero all = (None, λ k other l g. absurd (omega arith))
-found_up_to address symbols (suc i) all =
-    let before = found_up_to address symbols i (omega arith) in
+found_up_to : (address : ℕ) (sections : List SectionHeader) (e_type : ℕ) (symbols : List Sym) (i : ℕ)
+    → i ≤ length symbols → (found : Option (ℕ × Sym)) × IsFound address sections e_type symbols i found
+found_up_to address sections e_type symbols zero all = (None, λ k other l g. absurd (omega arith))
+found_up_to address sections e_type symbols (suc i) all =
+    let before = found_up_to address sections e_type symbols i (omega arith) in
     let more : i + 1 ≡ suc i = omega arith in
     elim (slice_get_cases symbols i).1 [
       | inl here ↦ (
-        taken address i here.0 before.0,
-        rw more at (one_more address i symbols here.0 here.2 before.0 _ refl before.1),
+        taken address sections e_type i here.0 before.0,
+        rw more at (one_more address sections e_type i symbols here.0 here.2 before.0 _ refl before.1),
       )
       | inr past ↦ absurd (omega (arith, past.0))
     ]
@@ -142,8 +252,8 @@ found_up_to address symbols (suc i) all =
 and_false : (x y : Bool) → (x ≡ true → y ≡ false) → (x && y) ≡ false
 and_false x y h = grind (arith, nat_tests)
 
-module _ (address : ℕ) (symbols : List Sym) where
-  module _ (found : ℕ × Sym) (so : IsSoFar address symbols (length symbols) found) where
+module _ (address : ℕ) (sections : List SectionHeader) (e_type : ℕ) (symbols : List Sym) where
+  module _ (found : ℕ × Sym) (so : IsSoFar address sections e_type symbols (length symbols) found) where
     abbrev s : Sym
     s = found.1
 
@@ -154,39 +264,56 @@ module _ (address : ℕ) (symbols : List Sym) where
     empty other = other.st_size == 0
 
     low : (k : ℕ) (other : Sym)
-        → slice_get symbols k ≡ Some other → is_below address other ≡ true
+        → slice_get symbols k ≡ Some other → is_candidate address sections e_type other ≡ true
         → rank_of address other ≤ rank_of address s
     low k other g b = so.highest k other (slice_get_within symbols k other g) g b
+
+    s_below : is_below address s ≡ true
+    s_below = below_of address sections e_type s so.fits
 
     -- none contains the address if the one that was found doesn't
     none_contains : inside s ≡ false → NoneContains address symbols
     none_contains outside k other g =
         and_false (is_below address other) (inside other)
-        (λ b.
-        let l = low k other g b in
-        let m = not_above address s so.below in
-        grind (arith, nat_tests))
+        (λ b. if_so (inside other)
+        (λ is.
+        let l = low k other g (candidate_if address sections e_type other b is) in
+        let m = not_above address s s_below in
+        grind (arith, nat_tests)))
 
     outside_of : inside s ≡ false → (k : ℕ) (other : Sym)
-        → slice_get symbols k ≡ Some other → is_below address other ≡ true → inside other ≡ false
-    outside_of outside k other g b = sym (ap (λ (x : Bool). x && inside other) b) ∙ none_contains outside k other g
+        → slice_get symbols k ≡ Some other → is_candidate address sections e_type other ≡ true
+        → inside other ≡ false
+    outside_of outside k other g b =
+        sym (ap (λ (x : Bool). x && inside other) (below_of address sections e_type other b))
+        ∙ none_contains outside k other g
+
+    -- another one in a section that holds the address is no nearer
+    other_in : inside s ≡ false → (k : ℕ) (other : Sym)
+        → slice_get symbols k ≡ Some other → IsBelowInSection address sections e_type other
+        → (inside other ≡ false) × (is_candidate address sections e_type other ≡ true)
+        × (rank_of address other ≤ rank_of address s)
+    other_in outside k other g lies =
+        let b = candidate_in address sections e_type other lies in
+        (outside_of outside k other g b, b, low k other g b)
 
     final : (x e : Bool)
-        → inside s ≡ x → empty s ≡ e → IsSymbolAt address symbols (if x || e then Some found.0 else None)
+        → inside s ≡ x → empty s ≡ e
+        → IsSymbolAt address sections e_type symbols (if x || e then Some found.0 else None)
     final true e is size = (
       s,
       so.there,
       inl (record {
-        inside = and_from _ _ so.below is;
+        inside = and_from _ _ s_below is;
         high = λ k other g c.
             let parts = and_parts (is_below address other) (inside other) c in
-            let l = low k other g parts.0 in
+            let l = low k other g (candidate_if address sections e_type other parts.0 parts.1) in
             grind (arith, nat_tests, parts.1);
         early = λ k other g c same.
             elim (cases_lt k found.0) [
               | inl l ↦
                   let parts = and_parts (is_below address other) (inside other) c in
-                  let lower = so.first k other l g parts.0 in
+                  let lower = so.first k other l g (candidate_if address sections e_type other parts.0 parts.1) in
                   grind (arith, nat_tests, parts.1)
               | inr l ↦ l
             ];
@@ -197,17 +324,19 @@ module _ (address : ℕ) (symbols : List Sym) where
       so.there,
       inr (record {
         none = none_contains is;
-        below = so.below;
+        below = lies_in address sections e_type s so.fits is;
         empty = eqb-true s.st_size 0 size;
-        high = λ k other g b.
-            let outside = outside_of is k other g b in
-            let l = low k other g b in
+        high = λ k other g lies.
+            let there = other_in is k other g lies in
+            let outside = there.0 in
+            let l = there.2 in
             grind (arith, nat_tests);
-        early = λ k other g b same none.
+        early = λ k other g lies same none.
             elim (cases_lt k found.0) [
               | inl l ↦
-                  let outside = outside_of is k other g b in
-                  let lower = so.first k other l g b in
+                  let there = other_in is k other g lies in
+                  let outside = there.0 in
+                  let lower = so.first k other l g there.1 in
                   grind (arith, nat_tests)
               | inr l ↦ l
             ];
@@ -215,20 +344,26 @@ module _ (address : ℕ) (symbols : List Sym) where
     )
     final false false is size = record {
       none = none_contains is;
-      higher = λ k other g b none.
-          let outside = outside_of is k other g b in
-          let l = low k other g b in
-          (found.0, s, so.there, so.below, grind (arith, nat_tests));
+      higher = λ k other g lies none.
+          let there = other_in is k other g lies in
+          let outside = there.0 in
+          let l = there.2 in
+          (found.0, s, so.there, lies_in address sections e_type s so.fits is, grind (arith, nat_tests));
     }
 
   found_comes_first : (found : Option (ℕ × Sym))
-      → IsFound address symbols (length symbols) found → IsSymbolAt address symbols (found_at address found)
-  found_comes_first None none = record {
-    none = λ k other g. and_false (is_below address other) (reaches address other)
-        (λ b. absurd (false≢true (sym (none k other (slice_get_within symbols k other g) g) ∙ b)));
-    higher = λ k other g b empty.
-        absurd (false≢true (sym (none k other (slice_get_within symbols k other g) g) ∙ b));
-  }
+      → IsFound address sections e_type symbols (length symbols) found
+      → IsSymbolAt address sections e_type symbols (found_at address found)
+  found_comes_first None none =
+      let unfit : (k : ℕ) (other : Sym)
+      → slice_get symbols k ≡ Some other → is_candidate address sections e_type other ≡ true → ⊥ =
+      (λ k other g b. false≢true (sym (none k other (slice_get_within symbols k other g) g) ∙ b)) in
+      record {
+        none = λ k other g. and_false (is_below address other) (reaches address other)
+            (λ b. if_so (reaches address other)
+            (λ is. absurd (unfit k other g (candidate_if address sections e_type other b is))));
+        higher = λ k other g lies empty. absurd (unfit k other g (candidate_in address sections e_type other lies));
+      }
   found_comes_first (Some found) so = final found so (reaches address found.1) (found.1.st_size == 0) refl refl
 
 -- ---- and so does the definition
@@ -281,9 +416,12 @@ module _ (test : Sym → Bool) (symbols : List Sym) (s : Sym) where
       let hit = list_any_at higher symbols i s within (ap higher there ∙ and_from _ _ passes (lt-ltb _ _ lower)) in
       grind (arith, nat_tests)
 
-module _ (address : ℕ) (symbols : List Sym) where
+module _ (address : ℕ) (sections : List SectionHeader) (e_type : ℕ) (symbols : List Sym) where
+  abbrev fitting : Sym → Bool
+  fitting s = is_candidate address sections e_type s
+
   abbrev is_label : Sym → Bool
-  is_label s = is_highest (is_below address) symbols s && s.st_size == 0
+  is_label s = is_highest (is_candidate address sections e_type) symbols s && s.st_size == 0
 
   no_holder : NoneContains address symbols → position (is_highest (contains address) symbols) symbols ≡ None
   no_holder none =
@@ -291,13 +429,22 @@ module _ (address : ℕ) (symbols : List Sym) where
       (λ k s g. ap (λ b. b && not (list_any (λ other. contains address other && ltb s.st_value other.st_value) symbols))
       (none k s g))
 
+  -- where none contains the address, each candidate lies in a section that holds it
+  lies_by : NoneContains address symbols → (k : ℕ) (s : Sym)
+      → slice_get symbols k ≡ Some s → fitting s ≡ true → IsBelowInSection address sections e_type s
+  lies_by none k s g b =
+      lies_in address sections e_type s b
+      (sym (ap (λ (x : Bool). x && reaches address s) (below_of address sections e_type s b)) ∙ none k s g)
+
   not_label : (s : Sym)
-      → (is_below address s ≡ true → s.st_size ≡ 0 → is_highest (is_below address) symbols s ≡ false)
+      → (fitting s ≡ true → s.st_size ≡ 0
+      → is_highest (is_candidate address sections e_type) symbols s ≡ false)
       → is_label s ≡ false
   not_label s lower = grind (arith, nat_tests)
 
   contains_first : (i : ℕ) (s : Sym)
-      → slice_get symbols i ≡ Some s → ContainsFirst address symbols i s → symbol_at address symbols ≡ Some i
+      → slice_get symbols i ≡ Some s → ContainsFirst address symbols i s
+      → symbol_at address sections e_type symbols ≡ Some i
   unfolding symbol_at
   contains_first i s got first =
       let before : (k : ℕ) (other : Sym)
@@ -316,47 +463,59 @@ module _ (address : ℕ) (symbols : List Sym) where
       ap (λ (found : Option ℕ). option_or found (position is_label symbols)) at
 
   labels_first : (i : ℕ) (s : Sym)
-      → slice_get symbols i ≡ Some s → LabelsFirst address symbols i s → symbol_at address symbols ≡ Some i
+      → slice_get symbols i ≡ Some s → LabelsFirst address sections e_type symbols i s
+      → symbol_at address sections e_type symbols ≡ Some i
   unfolding symbol_at
   labels_first i s got first =
+      let test = is_candidate address sections e_type in
+      let fits = candidate_in address sections e_type s first.below in
+      let high : (k : ℕ) (other : Sym)
+      → slice_get symbols k ≡ Some other → fitting other ≡ true → other.st_value ≤ s.st_value =
+      (λ k other g b. first.high k other g (lies_by first.none k other g b)) in
       let before : (k : ℕ) (other : Sym) → k < i → slice_get symbols k ≡ Some other → is_label other ≡ false =
       (λ k other l g.
       not_label other (λ b empty.
-      let high = first.high k other g b in
-      let early = first.early k other g b in
+      let lies = lies_by first.none k other g b in
+      let high = first.high k other g lies in
+      let early = first.early k other g lies in
       let lower : other.st_value < s.st_value = grind (arith, nat_tests) in
-      highest_is_not (is_below address) symbols other i s got first.below lower)) in
+      highest_is_not test symbols other i s got fits lower)) in
       let at = first_passes is_label symbols i s got
-      (and_from _ _ (highest_is (is_below address) symbols s first.below first.high) (eq-eqb s.st_size 0 first.empty))
+      (and_from _ _ (highest_is test symbols s fits high) (eq-eqb s.st_size 0 first.empty))
       before in
       ap (λ (found : Option ℕ). option_or found (position is_label symbols)) (no_holder first.none) ∙ at
 
-  has_none : HasNone address symbols → symbol_at address symbols ≡ None
+  has_none : HasNone address sections e_type symbols → symbol_at address sections e_type symbols ≡ None
   unfolding symbol_at
   has_none has =
       let no = no_position is_label symbols (λ k s g.
       not_label s (λ b empty.
-      let higher = has.higher k s g b empty in
-      highest_is_not (is_below address) symbols s higher.0 higher.1 higher.2 higher.3 higher.4)) in
+      let higher = has.higher k s g (lies_by has.none k s g b) empty in
+      highest_is_not (is_candidate address sections e_type) symbols s higher.0 higher.1 higher.2
+      (candidate_in address sections e_type higher.1 higher.3) higher.4)) in
       ap (λ (found : Option ℕ). option_or found (position is_label symbols)) (no_holder has.none) ∙ no
 
-  at_is : (answer : Option ℕ) → IsSymbolAt address symbols answer → symbol_at address symbols ≡ answer
+  at_is : (answer : Option ℕ)
+      → IsSymbolAt address sections e_type symbols answer → symbol_at address sections e_type symbols ≡ answer
   at_is (Some i) (s, got, inl first) = contains_first i s got first
   at_is (Some i) (s, got, inr first) = labels_first i s got first
   at_is None none = has_none none
 
 pub symbol_at_comes_first : SymbolAtComesFirst
-symbol_at_comes_first address symbols answer = (
+symbol_at_comes_first address sections e_type symbols answer = (
   λ is.
-      let end = found_up_to address symbols (length symbols) (omega arith) in
-      let law = found_comes_first address symbols end.0 end.1 in
-      subst (IsSymbolAt address symbols) (sym (at_is address symbols (found_at address end.0) law) ∙ is) law,
-  at_is address symbols answer,
+      let end = found_up_to address sections e_type symbols (length symbols) (omega arith) in
+      let law = found_comes_first address sections e_type symbols end.0 end.1 in
+      subst (IsSymbolAt address sections e_type symbols)
+      (sym (at_is address sections e_type symbols (found_at address end.0) law) ∙ is) law,
+  at_is address sections e_type symbols answer,
 )
 
-pub found_all : (address : ℕ) (symbols : List Sym) (i : ℕ) (found : Option (ℕ × Sym))
-    → i ≡ length symbols → IsFound address symbols i found
-    → found_at address found ≡ symbol_at address symbols
-found_all address symbols i found all so =
-    sym (at_is address symbols (found_at address found)
-    (found_comes_first address symbols found (subst (λ (n : ℕ). IsFound address symbols n found) all so)))
+pub found_all : (address : ℕ) (sections : List SectionHeader) (e_type : ℕ) (symbols : List Sym) (i : ℕ)
+    (found : Option (ℕ × Sym))
+    → i ≡ length symbols → IsFound address sections e_type symbols i found
+    → found_at address found ≡ symbol_at address sections e_type symbols
+found_all address sections e_type symbols i found all so =
+    sym (at_is address sections e_type symbols (found_at address found)
+    (found_comes_first address sections e_type symbols found
+    (subst (λ (n : ℕ). IsFound address sections e_type symbols n found) all so)))

@@ -187,11 +187,12 @@ symbol_by_name_expected bytes h range names name = do
   strings ← strings_expected bytes names
   Ok (position (λ symbol. is_named strings name symbol.st_name) symbols)
 
--- the index of the symbol of an address, among those of a range
+-- the index of the symbol of an address, among those of a range, by the sections of the file
 abbrev pub symbol_by_address_expected : List ℕ → GoblinHeader → GoblinRange → ℕ → Result (Option ℕ) RefusalAt
 symbol_by_address_expected bytes h range address = do
   symbols ← symbols_expected bytes h range
-  Ok (symbol_at address symbols)
+  sections ← sections_expected bytes h
+  Ok (symbol_at address sections h.e_type symbols)
 
 -- the section at an index for C, if it is a table that others name by that index
 abbrev pub table_at : List SectionHeader → ℕ → Option GoblinSection

@@ -190,7 +190,8 @@ refusals_have_same_text bytes h range names name is_rela index offset address al
       segment_count = same_text (segment_count_expected bytes h) (grind (arith, segments));
       symbol_count = same_text (symbol_count_expected bytes h range) (grind (arith, symbols));
       reloc_count = same_text (reloc_count_expected bytes h range is_rela) (grind (arith, relocs));
-      symbol_by_address = same_text (symbol_by_address_expected bytes h range address) (grind (arith, symbols));
+      symbol_by_address = same_text (symbol_by_address_expected bytes h range address)
+          (grind (arith, symbols, sections));
       section_by_type = same_text (section_by_type_expected bytes h sh_type index) (grind (arith, sections));
       section_bytes = same_text (section_bytes_expected bytes s) (grind (arith, known_room));
       segment_bytes = same_text (segment_bytes_expected bytes p) (grind (arith, known_room));

@@ -224,7 +224,24 @@ pub extern "C" fn goblin_symbol_by_name(
     store(found, index, why)
 }
 
-/// Stores the index of the symbol of an address: one that contains it, or a label at or below it.
+/// Returns the index of the symbol of an address.
+pub fn symbol_by_address(
+    bytes: &[u8],
+    header: &GoblinHeader,
+    range: &GoblinRange,
+    address: u64,
+) -> Result<Option<u64>>
+    ensures { Returns (λ found. found) result
+        (symbol_by_address_expected bytes.now header.now range.now address) }
+{
+    let symbols = symbols_of(bytes, header, range)?;
+    let sections = sections_of(bytes, header)?;
+    let found = symbols.at(address, &sections, header.e_type);
+    Ok(found.map(|index| index as u64))
+}
+
+/// Stores the index of the symbol of an address: one that contains it, or a label at or below it in a section that
+/// holds it.
 #[unsafe(no_mangle)]
 pub extern "C" fn goblin_symbol_by_address(
     bytes: &[u8],
@@ -237,7 +254,5 @@ pub extern "C" fn goblin_symbol_by_address(
     ensures { Stores (symbol_by_address_expected bytes.now header.now table.now address)
         index.old why.old result index.new why.new }
 {
-    let symbols = symbols_of(bytes, header, table);
-    let found = symbols.map(|symbols| symbols.at(address).map(|index| index as u64));
-    store(found, index, why)
+    store(symbol_by_address(bytes, header, table, address), index, why)
 }

@@ -169,6 +169,51 @@ fn finds_names(rt: HostRuntime) {
     assert!(rt; finds_section(b"f", 0) == (1, 9, 0x0808_0808));
 }
 
+// The status of the call for an address, and the index.
+fn symbol_at(bytes: &[u8], header: &GoblinHeader, table: &GoblinRange, address: u64) -> (u32, u64) {
+    let (status, index, _) = called!(goblin_symbol_by_address(bytes, header, table, address), 9);
+    (status, index)
+}
+
+// The same where the symbol has a size of 0, and its section holds the addresses from 0x1000 to 0x1003.
+fn label_at(address: u64) -> (u32, u64) {
+    let mut file = changed(80, 0);
+    file[88 + 40 + 13] = 0x10;
+    symbol_at(&file, &header(), &SYMBOLS, address)
+}
+
+// The same in a relocatable file, with the value 0.
+fn label_at_offset(address: u64) -> (u32, u64) {
+    let (mut file, mut header) = (changed(80, 0), header());
+    file[77] = 0;
+    file[88 + 40 + 13] = 0x10;
+    header.e_type = 1;
+    symbol_at(&file, &header, &SYMBOLS, address)
+}
+
+// The kind and the offset of the refusal, where the sections are said to lie past the file.
+fn symbol_refused(table: GoblinRange) -> (u32, u64) {
+    let mut header = header();
+    header.e_shoff = 300;
+    let (status, _, why) = called!(goblin_symbol_by_address(FILE, &header, &table, 0x1000), 9);
+    (status, why.offset)
+}
+
+#[test]
+fn finds_symbols_by_addresses(rt: HostRuntime) {
+    assert!(rt; symbol_at(FILE, &header(), &SYMBOLS, 0xfff) == (1, 9));
+    assert!(rt; symbol_at(FILE, &header(), &SYMBOLS, 0x1000) == (0, 1));
+    assert!(rt; symbol_at(FILE, &header(), &SYMBOLS, 0x1004) == (0, 1));
+    assert!(rt; symbol_at(FILE, &header(), &SYMBOLS, 0x1005) == (1, 9));
+    assert!(rt; symbol_at(&changed(80, 0), &header(), &SYMBOLS, 0x1000) == (1, 9));
+    assert!(rt; label_at(0xfff) == (1, 9) && label_at(0x1000) == (0, 1));
+    assert!(rt; label_at(0x1003) == (0, 1) && label_at(0x1004) == (1, 9));
+    assert!(rt; label_at_offset(0) == (0, 1) && label_at_offset(3) == (0, 1));
+    assert!(rt; label_at_offset(4) == (1, 9) && label_at_offset(0x1000) == (1, 9));
+    assert!(rt; symbol_refused(SYMBOLS) == (4, 300));
+    assert!(rt; symbol_refused(range(208, 0)) == (17, 208));
+}
+
 // The file with another byte at a place.
 pub fn changed(place: usize, byte: u8) -> [u8; 208] {
     let mut file = *FILE;

@@ -4,12 +4,15 @@
 use crate::compare::{differs, is};
 use crate::container::LITTLE32;
 use crate::sym::ZERO;
+use goblin::elf::header::ET_EXEC;
 use goblin::elf::note::NoteDataIterator;
 use goblin::elf::reloc::{Reloc, RelocSection};
 use goblin::elf::section_header::SectionHeader;
 use goblin::elf::sym::Symtab;
+use goblin_base::container::Ctx;
 use goblin_base::options::ParseOptions;
 use goblin_base::strtab::Strtab;
+use goblin_base::table::Table;
 use std::alloc::{AllocError, Global};
 
 // Whether a table lists as many strings as it has bytes.
@@ -137,9 +140,10 @@ fn gets_symbols(rt: HostRuntime, bytes: &[u8]) -> bool {
             return differs(rt, &"another symbol", &index);
         }
     }
+    let sections = Table::<SectionHeader, Ctx>::of(&[], 0, LITTLE32);
     is(
         rt,
-        (symbols.iter().count(), symbols.at(0)),
+        (symbols.iter().count(), symbols.at(0, &sections, ET_EXEC)),
         (bytes.len() / 16, None),
     )
 }

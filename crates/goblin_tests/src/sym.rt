@@ -6,6 +6,8 @@ use crate::record::{
     SHORT, has_form, is_apart, lacks_room, lists, refuses, with_each_default, writes,
 };
 use crate::table::yields;
+use goblin::elf::header::{ET_DYN, ET_EXEC, ET_REL};
+use goblin::elf::section_header::SectionHeader;
 use goblin::elf::sym::Symtab;
 use goblin_base::container::{BE, Ctx, LE};
 use goblin_base::error::Result;
@@ -536,10 +538,21 @@ fn finds_the_first_of_a_name(rt: HostRuntime) {
     assert!(rt; is(rt, found(b""), [None; 2]));
 }
 
+// The null section, and one that holds the addresses from 8 to 0x57, in the 32-bit class and little endian.
+static ONE_SECTION: &[u8; 80] =
+    b"\0\0\0\0\0\0\0\0\0\0\0\0\0\0\0\0\0\0\0\0\0\0\0\0\0\0\0\0\0\0\0\0\0\0\0\0\0\0\0\0\
+    \0\0\0\0\x01\0\0\0\0\0\0\0\x08\0\0\0\0\0\0\0\x50\0\0\0\0\0\0\0\0\0\0\0\0\0\0\0\0\0\0\0";
+
+// A table of sections.
+fn sections_of(bytes: &[u8]) -> Table<'_, SectionHeader, Ctx> {
+    Table::in_range(bytes, 0, bytes.len() / 40, LITTLE32).unwrap_or(Table::of(&[], 0, LITTLE32))
+}
+
 // A symbol of nothing; two functions at 0x10, of 4 bytes and of 8; at 0x20 an absolute symbol and a section's; one of
 // no type and no size at 0x30, whose section index stands elsewhere; a thread's at 0x40; a function at 0x50 that is not
-// defined; and an indirect function of 4 bytes at 8.
-const ADDRESSED: &[u8; 144] = b"\0\0\0\0\0\0\0\0\0\0\0\0\0\0\0\0\
+// defined; an indirect function of 4 bytes at 8; a label at 0x2c; and a function of 4 bytes at 0x38 whose section index
+// stands elsewhere.
+const ADDRESSED: &[u8; 176] = b"\0\0\0\0\0\0\0\0\0\0\0\0\0\0\0\0\
     \x01\0\0\0\x10\0\0\0\x04\0\0\0\x12\0\x01\0\
     \x01\0\0\0\x10\0\0\0\x08\0\0\0\x12\0\x01\0\
     \x01\0\0\0\x20\0\0\0\0\0\0\0\x10\0\xf1\xff\
@@ -547,10 +560,12 @@ const ADDRESSED: &[u8; 144] = b"\0\0\0\0\0\0\0\0\0\0\0\0\0\0\0\0\
     \x01\0\0\0\x30\0\0\0\0\0\0\0\0\0\xff\xff\
     \x01\0\0\0\x40\0\0\0\x04\0\0\0\x16\0\x01\0\
     \x01\0\0\0\x50\0\0\0\x04\0\0\0\x12\0\0\0\
-    \x01\0\0\0\x08\0\0\0\x04\0\0\0\x1a\0\x01\0";
+    \x01\0\0\0\x08\0\0\0\x04\0\0\0\x1a\0\x01\0\
+    \x01\0\0\0\x2c\0\0\0\0\0\0\0\0\0\x01\0\
+    \x01\0\0\0\x38\0\0\0\x04\0\0\0\x12\0\xff\xff";
 
-// Addresses, and the index of the symbol of each: the first that contains it, or else a label.
-static ADDRESSES: [(u64, Option<usize>); 14] = [
+// Addresses, and the index of the symbol of each: the first that contains it, or else a label of its section.
+static ADDRESSES: [(u64, Option<usize>); 19] = [
     (0, None),
     (8, Some(8)),
     (0xb, Some(8)),
@@ -561,18 +576,28 @@ static ADDRESSES: [(u64, Option<usize>); 14] = [
     (0x14, Some(2)),
     (0x17, Some(2)),
     (0x18, None),
-    (0x2f, None),
-    (0x30, Some(5)),
-    (0x51, Some(5)),
-    (18446744073709551615, Some(5)),
+    (0x2b, None),
+    (0x2c, Some(9)),
+    (0x2f, Some(9)),
+    (0x30, Some(9)),
+    (0x3b, Some(10)),
+    (0x3c, Some(9)),
+    (0x51, Some(9)),
+    (0x58, None),
+    (18446744073709551615, None),
 ];
 
 #[test]
 fn finds_the_symbol_at_an_address(rt: HostRuntime) {
-    let table = table_of(ADDRESSED, 0, 9, LITTLE32);
+    let table = table_of(ADDRESSED, 0, 11, LITTLE32);
+    let sections = sections_of(ONE_SECTION);
     for row in &ADDRESSES {
-        assert!(rt; holds(rt, row, is(rt, table.at(row.0), row.1)));
+        assert!(rt; holds(rt, row, is(rt, table.at(row.0, &sections, ET_EXEC), row.1)));
     }
+    // Without sections only the bytes of symbols count.
+    let none = sections_of(&[]);
+    assert!(rt; is(rt, table.at(0x14, &none, ET_EXEC), Some(2)));
+    assert!(rt; is(rt, table.at(0x30, &none, ET_EXEC), None));
 }
 
 // A symbol of nothing; a function of 0x30 bytes at 0x10; in it one of 4 bytes at 0x20, and two labels at 0x28; a label
@@ -587,7 +612,7 @@ const NESTED: &[u8; 128] = b"\0\0\0\0\0\0\0\0\0\0\0\0\0\0\0\0\
     \x01\0\0\0\x60\0\0\0\x04\0\0\0\x12\0\x01\0";
 
 // Addresses, and the index of the symbol of each.
-static NESTED_ADDRESSES: [(u64, Option<usize>); 13] = [
+static NESTED_ADDRESSES: [(u64, Option<usize>); 15] = [
     (0xf, None),
     (0x1f, Some(1)),
     (0x20, Some(2)),
@@ -599,6 +624,8 @@ static NESTED_ADDRESSES: [(u64, Option<usize>); 13] = [
     (0x4f, Some(3)),
     (0x50, Some(6)),
     (0x54, Some(5)),
+    (0x57, Some(5)),
+    (0x58, None),
     (0x63, Some(7)),
     (0x64, None),
 ];
@@ -606,7 +633,118 @@ static NESTED_ADDRESSES: [(u64, Option<usize>); 13] = [
 #[test]
 fn finds_the_symbol_that_contains_an_address(rt: HostRuntime) {
     let table = table_of(NESTED, 0, 8, LITTLE32);
+    let sections = sections_of(ONE_SECTION);
     for row in &NESTED_ADDRESSES {
-        assert!(rt; holds(rt, row, is(rt, table.at(row.0), row.1)));
+        assert!(rt; holds(rt, row, is(rt, table.at(row.0, &sections, ET_DYN), row.1)));
+    }
+}
+
+// The null section, code at 0x1000 of 0x100 bytes, constants of 0x80 bytes after it, and variables of 0x10 bytes at
+// 0x2000.
+static FOUR_SECTIONS: &[u8; 160] =
+    b"\0\0\0\0\0\0\0\0\0\0\0\0\0\0\0\0\0\0\0\0\0\0\0\0\0\0\0\0\0\0\0\0\0\0\0\0\0\0\0\0\
+    \0\0\0\0\x01\0\0\0\0\0\0\0\0\x10\0\0\0\0\0\0\0\x01\0\0\0\0\0\0\0\0\0\0\0\0\0\0\0\0\0\0\
+    \0\0\0\0\x01\0\0\0\0\0\0\0\0\x11\0\0\0\0\0\0\x80\0\0\0\0\0\0\0\0\0\0\0\0\0\0\0\0\0\0\0\
+    \0\0\0\0\x01\0\0\0\0\0\0\0\0\x20\0\0\0\0\0\0\x10\0\0\0\0\0\0\0\0\0\0\0\0\0\0\0\0\0\0\0";
+
+// A symbol of nothing; a label at 0x1010, a function of 0x10 bytes at 0x1020 and a label at 0x1040 in the code; an
+// object of 8 bytes at 0x1110 and a label at 0x1160 in the constants; a label at the variables' end; a label at 0x1120
+// of a section that isn't there, and one at 0x1130 whose index stands elsewhere; and a function of 0x20 bytes at 0x10f0
+// that ends after the code.
+const SCATTERED: &[u8; 160] = b"\0\0\0\0\0\0\0\0\0\0\0\0\0\0\0\0\
+    \x01\0\0\0\x10\x10\0\0\0\0\0\0\0\0\x01\0\
+    \x01\0\0\0\x20\x10\0\0\x10\0\0\0\x12\0\x01\0\
+    \x01\0\0\0\x40\x10\0\0\0\0\0\0\0\0\x01\0\
+    \x01\0\0\0\x10\x11\0\0\x08\0\0\0\x11\0\x02\0\
+    \x01\0\0\0\x60\x11\0\0\0\0\0\0\x10\0\x02\0\
+    \x01\0\0\0\x10\x20\0\0\0\0\0\0\x10\0\x03\0\
+    \x01\0\0\0\x20\x11\0\0\0\0\0\0\0\0\x04\0\
+    \x01\0\0\0\x30\x11\0\0\0\0\0\0\0\0\xff\xff\
+    \x01\0\0\0\xf0\x10\0\0\x20\0\0\0\x12\0\x01\0";
+
+// Addresses, and the index of the symbol of each.
+static SCATTERED_ADDRESSES: [(u64, Option<usize>); 24] = [
+    (0x1000, None),
+    (0x100f, None),
+    (0x1010, Some(1)),
+    (0x101f, Some(1)),
+    (0x1020, Some(2)),
+    (0x102f, Some(2)),
+    (0x1030, None),
+    (0x103f, None),
+    (0x1040, Some(3)),
+    (0x10ef, Some(3)),
+    (0x10f0, Some(9)),
+    (0x10ff, Some(9)),
+    (0x1100, Some(9)),
+    (0x110f, Some(9)),
+    (0x1110, Some(4)),
+    (0x1117, Some(4)),
+    (0x1118, None),
+    (0x1130, None),
+    (0x1160, Some(5)),
+    (0x117f, Some(5)),
+    (0x1180, None),
+    (0x2000, None),
+    (0x2010, None),
+    (0x7fff_ffff_ffff, None),
+];
+
+#[test]
+fn finds_labels_in_their_section(rt: HostRuntime) {
+    let table = table_of(SCATTERED, 0, 10, LITTLE32);
+    let sections = sections_of(FOUR_SECTIONS);
+    for row in &SCATTERED_ADDRESSES {
+        assert!(rt; holds(rt, row, is(rt, table.at(row.0, &sections, ET_EXEC), row.1)));
+    }
+}
+
+// The null section, one at 0x1000 of 0x100 bytes, and one at 0 of 0x40 bytes.
+static THREE_SECTIONS: &[u8; 120] =
+    b"\0\0\0\0\0\0\0\0\0\0\0\0\0\0\0\0\0\0\0\0\0\0\0\0\0\0\0\0\0\0\0\0\0\0\0\0\0\0\0\0\
+    \0\0\0\0\x01\0\0\0\0\0\0\0\0\x10\0\0\0\0\0\0\0\x01\0\0\0\0\0\0\0\0\0\0\0\0\0\0\0\0\0\0\
+    \0\0\0\0\x01\0\0\0\0\0\0\0\0\0\0\0\0\0\0\0\x40\0\0\0\0\0\0\0\0\0\0\0\0\0\0\0\0\0\0\0";
+
+// A symbol of nothing; labels at 0x10 and 0x50 and a function of 8 bytes at 0x30 in the first; and labels at 0x20 and
+// 0x3c in the second.
+const OFFSETS: &[u8; 96] = b"\0\0\0\0\0\0\0\0\0\0\0\0\0\0\0\0\
+    \x01\0\0\0\x10\0\0\0\0\0\0\0\0\0\x01\0\
+    \x01\0\0\0\x50\0\0\0\0\0\0\0\0\0\x01\0\
+    \x01\0\0\0\x30\0\0\0\x08\0\0\0\x02\0\x01\0\
+    \x01\0\0\0\x20\0\0\0\0\0\0\0\0\0\x02\0\
+    \x01\0\0\0\x3c\0\0\0\0\0\0\0\0\0\x02\0";
+
+// Addresses, and the index of the symbol of each in a relocatable file, where the values are offsets in the sections,
+// and in a shared library, where they are addresses.
+static OFFSETS_AND_ADDRESSES: [(u64, Option<usize>, Option<usize>); 17] = [
+    (0xf, None, None),
+    (0x10, Some(1), None),
+    (0x1f, Some(1), None),
+    (0x20, Some(4), Some(4)),
+    (0x2f, Some(4), Some(4)),
+    (0x30, Some(3), Some(3)),
+    (0x37, Some(3), Some(3)),
+    (0x38, None, Some(4)),
+    (0x3c, Some(5), Some(5)),
+    (0x3f, Some(5), Some(5)),
+    (0x40, None, None),
+    (0x50, Some(2), None),
+    (0xff, Some(2), None),
+    (0x100, None, None),
+    (0x1000, None, Some(2)),
+    (0x10ff, None, Some(2)),
+    (0x1100, None, None),
+];
+
+#[test]
+fn finds_labels_by_offsets_in_relocatable_files(rt: HostRuntime) {
+    let table = table_of(OFFSETS, 0, 6, LITTLE32);
+    let sections = sections_of(THREE_SECTIONS);
+    for row in &OFFSETS_AND_ADDRESSES {
+        let found = (
+            table.at(row.0, &sections, ET_REL),
+            table.at(row.0, &sections, ET_DYN),
+        );
+        assert!(rt; holds(rt, row, is(rt, found, (row.1, row.2))));
     }
 }

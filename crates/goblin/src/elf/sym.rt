@@ -1,6 +1,6 @@
 //! Symbols and symbol tables: System V gABI, "Symbol Table".
 ghost use Rattle.std.specs.Prelude.{◌≡◌, ◌≤◌, ◌<◌, ◌-◌, ◌*◌, ◌^◌, ◌↔◌, [], ◌∷◌, length, slice_get, IsTrue, IfOk, IfErr, IsOk, alloc_error, position};
-ghost use Rattle.goblin.specs.Addresses.{found_at, has_place, is_below, is_nearer, reaches, symbol_at, taken, SymbolAtComesFirst};
+ghost use Rattle.goblin.specs.Addresses.{found_at, has_place, holds, is_below, is_held, is_nearer, is_nearest, is_taken, reaches, symbol_at, taken, SymbolAtComesFirst};
 ghost use Rattle.goblin.specs.Symtab.{symbols_at, symtab_by, symtab_in, symtab_of, DependsOnItsRange, PermissiveKeepsStrict};
 ghost use Rattle.goblin_base.specs.Strtab.{has_name};
 ghost use Rattle.goblin_records.specs.Constants.{bind_numbers, type_numbers, visibility_numbers};
@@ -11,6 +11,8 @@ use goblin_base::error::{Error, Fault, Result};
 use goblin_base::options::{ParseMode, ParseOptions};
 use goblin_base::strtab::{Strtab, WantedName};
 use goblin_base::table::{Table, TableIter};
+use goblin_headers::header::ET_REL;
+use goblin_headers::section_header::{SHN_LORESERVE, SectionHeader};
 pub use goblin_records::sym::{
     STB_GLOBAL, STB_GNU_UNIQUE, STB_HIOS, STB_HIPROC, STB_LOCAL, STB_LOOS, STB_LOPROC, STB_NUM,
     STB_WEAK, STT_COMMON, STT_FILE, STT_FUNC, STT_GNU_IFUNC, STT_HIOS, STT_HIPROC, STT_LOOS,
@@ -222,20 +224,31 @@ impl<'a> Symtab<'a> {
             .position(|symbol| wanted.is_at(strings, symbol.st_name))
     }
 
-    /// Returns the index of the symbol of an address, or `None` if there is none.
+    /// Returns the index of the symbol of an address, or `None` if there is none. `sections` are the
+    /// section headers of the file, as `SectionHeader::table` reads them, and `e_type` is its type.
     ///
     /// It is the symbol with the highest value among those whose bytes contain the address, the first
-    /// of several. If no symbol contains the address, it is a label: of the symbols with the highest
-    /// value that isn't above the address, the first of size 0. Only symbols of a section of the file
-    /// are considered, and of these only those without a type, objects, functions and indirect
-    /// functions. The call reads all symbols once.
-    pub fn at(&self, address: u64) -> Option<usize>
-        ensures { result ≡ symbol_at address self.now.symbols }
+    /// of several. If no symbol contains the address, it is a label of size 0. Of the symbols with a
+    /// value that isn't above the address, only those whose section (`st_shndx`) holds it are
+    /// considered. Of these with the highest value, the label is the first of size 0. A section holds
+    /// the addresses from `sh_addr` to below `sh_addr + sh_size`. In a relocatable file (`ET_REL`)
+    /// values are offsets in sections, so there it holds those below `sh_size`.
+    ///
+    /// Only symbols of a section of the file are considered, and of these only those without a type,
+    /// objects, functions and indirect functions. The call reads all symbols once, and for each at most
+    /// one section header.
+    pub fn at(
+        &self,
+        address: u64,
+        sections: &Table<'_, SectionHeader, Ctx>,
+        e_type: u16,
+    ) -> Option<usize>
+        ensures { result ≡ symbol_at address sections.now e_type self.now.symbols }
     {
         let mut found = None;
         for i in 0..self.len() {
             if let Some(symbol) = self.get(i) {
-                found = nearer(address, i, symbol, found);
+                found = nearer(address, sections, e_type, i, symbol, found);
             }
         }
         found_at(address, found)
@@ -281,7 +294,33 @@ fn reaches(address: u64, symbol: &Sym) -> bool
     }
 }
 
-// Reports whether of two symbols that are at an address or below it the first is nearer.
+// Reports whether a section holds an address: in a relocatable file, an offset in the section.
+fn holds(address: u64, e_type: u16, section: &SectionHeader) -> bool
+    ensures { result ≡ holds address e_type section.now }
+{
+    let start = if e_type == ET_REL { 0 } else { section.sh_addr };
+    start <= address && address - start < section.sh_size
+}
+
+// Reports whether the section of a symbol holds an address.
+fn is_held(
+    address: u64,
+    sections: &Table<'_, SectionHeader, Ctx>,
+    e_type: u16,
+    symbol: &Sym,
+) -> bool
+    ensures { result ≡ is_held address sections.now e_type symbol.now }
+{
+    if symbol.st_shndx >= SHN_LORESERVE as usize {
+        return false;
+    }
+    match sections.get(symbol.st_shndx) {
+        Some(section) => holds(address, e_type, &section),
+        None => false,
+    }
+}
+
+// Reports whether of two candidates for an address the first is nearer.
 fn is_nearer(address: u64, symbol: &Sym, other: &Sym) -> bool
     ensures { result ≡ is_nearer address symbol.now other.now }
 {
@@ -295,19 +334,48 @@ fn is_nearer(address: u64, symbol: &Sym, other: &Sym) -> bool
     !contains && symbol.st_size == 0 && other.st_size != 0
 }
 
-// Returns the nearer of the symbol at an index and the one found before it.
-fn nearer(address: u64, i: usize, symbol: Sym, found: Option<(usize, Sym)>) -> Option<(usize, Sym)>
-    ensures { result ≡ taken address i symbol found }
+// Reports whether a symbol is nearer than the one found before it, if there is one.
+fn is_nearest(address: u64, symbol: &Sym, found: &Option<(usize, Sym)>) -> bool
+    ensures { result ≡ is_nearest address symbol.now found.now }
 {
-    if !is_below(address, &symbol) {
-        return found;
+    match found {
+        Some((_, before)) => is_nearer(address, symbol, before),
+        None => true,
     }
-    if let Some((_, before)) = &found {
-        if !is_nearer(address, &symbol, before) {
-            return found;
-        }
+}
+
+// Reports whether a symbol is a candidate and nearer than the one found before it. Its section header is read last, if
+// nothing else decides.
+fn is_taken(
+    address: u64,
+    sections: &Table<'_, SectionHeader, Ctx>,
+    e_type: u16,
+    symbol: &Sym,
+    found: &Option<(usize, Sym)>,
+) -> bool
+    ensures { result ≡ is_taken address sections.now e_type symbol.now found.now }
+{
+    is_below(address, symbol)
+        && is_nearest(address, symbol, found)
+        && (reaches(address, symbol) || is_held(address, sections, e_type, symbol))
+}
+
+// Returns the nearer of the symbol at an index and the one found before it.
+fn nearer(
+    address: u64,
+    sections: &Table<'_, SectionHeader, Ctx>,
+    e_type: u16,
+    i: usize,
+    symbol: Sym,
+    found: Option<(usize, Sym)>,
+) -> Option<(usize, Sym)>
+    ensures { result ≡ taken address sections.now e_type i symbol found }
+{
+    if is_taken(address, sections, e_type, &symbol, &found) {
+        Some((i, symbol))
+    } else {
+        found
     }
-    Some((i, symbol))
 }
 
 // Returns the index of the symbol that was found, if it contains the address or has size 0.
@@ -380,10 +448,10 @@ pub fn laws()
 {}
 
 /// A law: of the symbols that contain an address, the one that [`Symtab::at`] finds is as high as any
-/// and the first of those as high. If none contains it, the one found has size 0, and of the symbols at
-/// the address or below it it is as high as any, and the first of size 0 of those as high. `None` is
-/// returned exactly if no symbol contains the address, and each one of size 0 at the address or below
-/// it has a higher one.
+/// and the first of those as high. If none contains it, the one found has size 0, and is at the address
+/// or below it in a section that holds the address. Of the symbols there it is as high as any, and the
+/// first of size 0 of those as high. `None` is returned exactly if no symbol contains the address, and
+/// each one of size 0 there has a higher one there.
 pub fn addresses()
     ensures { SymbolAtComesFirst }
 {}
