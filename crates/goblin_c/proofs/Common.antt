@@ -28,9 +28,10 @@ pub use Rattle.goblin_c.specs.Common.{buffer_too_short, facts_text, loaded_from,
 pub use Rattle.goblin_c.specs.Common.{refusal_of, refuse_as, relocs_of, section_headers_of, segment_count, sym_size}
 pub use Rattle.goblin_c.specs.Common.{◌>>=◌}
 unfoldable pub use Rattle.goblin_c.specs.Common.{room_of}
-pub use Rattle.goblin_c.specs.Expected.{count_of, ctx_of, each_converted, first_section, header_expected, is_mips64el}
+pub use Rattle.goblin_c.specs.Expected.{count_of, ctx_of, each_converted, first_item, found_item, header_expected}
+pub use Rattle.goblin_c.specs.Expected.{is_mips64el}
 pub use Rattle.goblin_c.specs.Expected.{is_named, item_at, items_from, reloc_count_expected, reloc_expected}
-pub use Rattle.goblin_c.specs.Expected.{relocs_converted, relocs_expected, section_at, sections_converted}
+pub use Rattle.goblin_c.specs.Expected.{relocs_converted, relocs_expected, sections_converted}
 pub use Rattle.goblin_c.specs.Expected.{sections_expected, segment_expected, segments_expected, string_expected}
 pub use Rattle.goblin_c.specs.Expected.{strings_expected, symbol_count_expected, symbol_expected, symbols_converted}
 pub use Rattle.goblin_c.specs.Expected.{symbols_expected, table_at, whole_header}

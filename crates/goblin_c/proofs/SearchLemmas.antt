@@ -7,8 +7,8 @@ use Rattle.goblin_c.proofs.Common.{◌≡◌, ◌≤◌, ◌<◌, ◌+◌, ◌-�
 use Rattle.goblin_c.proofs.Common.{◌∷◌, length, map, drop, get_or, slice_get, Option, Some, None, Result, Ok, Err}
 use Rattle.goblin_c.proofs.Common.{position, refl, sym, ap, subst, ◌∙◌, arith, nat_tests, get_or_from_slice_get}
 use Rattle.goblin_c.proofs.Common.{slice_get-get_or, slice_get-map, slice_get_within, Decides, option_map, ◌>>=◌}
-use Rattle.goblin_c.proofs.Common.{RefusalAt, GoblinSection, each_converted, first_section, item_at, section_at}
-use Rattle.goblin_c.proofs.Common.{sections_expected, section_converted, SectionHeader}
+use Rattle.goblin_c.proofs.Common.{RefusalAt, GoblinSection, each_converted, first_item, found_item, item_at}
+use Rattle.goblin_c.proofs.Common.{sections_expected, section_converted}
 use Rattle.std.proofs.lemmas.List.Quantifiers.{position-Some}
 use Rattle.std.proofs.lemmas.List.Sums.{fails_before_first}
 use Rattle.goblin_c.specs.Laws.{FindsFrom, FindsItemFrom, RefusesAll, SectionsByType}
@@ -52,10 +52,6 @@ there items first i x after found =
     let place : i ≡ first + (i - first) = omega (arith, after) in
     sym (get_drop items first (i - first)) ∙ ap (slice_get items) (sym place) ∙ found
 
--- from the first item on an index is what it is
-pub from_none : (found : Option ℕ) → option_map (λ place. 0 + place) found ≡ found
-from_none found = grind (arith, nat_tests)
-
 -- the items for C from an index on that pass a test
 module _ {X Y : Type 0} (convert : X → Y) (IsSo : Y → Type 0) (test : X → Bool)
     (decides : (x : X) → Decides (test x) (IsSo (convert x))) where
@@ -87,33 +83,34 @@ module _ {X Y : Type 0} (convert : X → Y) (IsSo : Y → Type 0) (test : X → 
       λ k y after stored.
       not_so items first k y after stored (λ x found. all_fail test (drop first items) (k - first) x is found)
 
--- the section that is found is the one that a call stores at its index
-pub with_item : (IsSo : GoblinSection → Type 0) (Refuses : RefusalAt → Type 0) (items : List SectionHeader) (first : ℕ)
-    (found : Option ℕ)
-    → FindsFrom first (λ index. Ok (slice_get (map section_converted items) index)) IsSo Refuses (Ok found)
-    → FindsItemFrom first (λ index. Ok (slice_get (map section_converted items) index)) IsSo Refuses
-    (Ok (section_at items found))
-with_item IsSo Refuses items first None is = is
-with_item IsSo Refuses items first (Some i) is =
-    let one = converted_one section_converted items i is.1.0 is.1.1 in
+-- the item that is found is the one that a call stores at its index
+pub with_item : {X Y : Type 0} (convert : X → Y) (IsSo : Y → Type 0) (Refuses : RefusalAt → Type 0) (items : List X)
+    (first : ℕ) (found : Option ℕ)
+    → FindsFrom first (λ index. Ok (slice_get (map convert items) index)) IsSo Refuses (Ok found)
+    → FindsItemFrom first (λ index. Ok (slice_get (map convert items) index)) IsSo Refuses
+    (Ok (found_item convert items found))
+with_item convert IsSo Refuses items first None is = is
+with_item convert IsSo Refuses items first (Some i) is =
+    let one = converted_one convert items i is.1.0 is.1.1 in
     rw one.1
-    (is, ap Ok (slice_get-map section_converted items i ∙ ap (option_map section_converted) one.1))
+    (is, ap Ok (slice_get-map convert items i ∙ ap (option_map convert) one.1))
 
--- the first of all sections that passes a test
-module _ (IsSo : GoblinSection → Type 0) (test : SectionHeader → Bool)
-    (decides : (s : SectionHeader) → Decides (test s) (IsSo (section_converted s))) where
-  pub first_found : (Refuses : RefusalAt → Type 0) (items : List SectionHeader) (first : ℕ)
+-- the first of all items that passes a test
+module _ {X Y : Type 0} (convert : X → Y) (IsSo : Y → Type 0) (test : X → Bool)
+    (decides : (x : X) → Decides (test x) (IsSo (convert x))) where
+  pub first_found : (Refuses : RefusalAt → Type 0) (items : List X) (first : ℕ)
       → FindsItemFrom first
-      (λ index. Ok (slice_get (map section_converted items) index)) IsSo Refuses (Ok (first_section test first items))
+      (λ index. Ok (slice_get (map convert items) index)) IsSo Refuses (Ok (first_item convert test first items))
   first_found Refuses items first =
-      with_item IsSo Refuses items first (option_map (λ place. first + place) (position test (drop first items)))
-      (finds section_converted IsSo test decides Refuses items first (position test (drop first items)) refl)
+      with_item convert IsSo Refuses items first
+      (option_map (λ place. first + place) (position test (drop first items)))
+      (finds convert IsSo test decides Refuses items first (position test (drop first items)) refl)
 
-  first_of_list : (all : Result (List SectionHeader) RefusalAt) (first : ℕ)
-      → let call = item_at (each_converted section_converted all) in
-      FindsItemFrom first call IsSo (RefusesAll call) (all >>= λ items. Ok (first_section test first items))
+  first_of_list : (all : Result (List X) RefusalAt) (first : ℕ)
+      → let call = item_at (each_converted convert all) in
+      FindsItemFrom first call IsSo (RefusesAll call) (all >>= λ items. Ok (first_item convert test first items))
   first_of_list (Ok items) first =
-      first_found (RefusesAll (item_at (each_converted section_converted (Ok items)))) items first
+      first_found (RefusesAll (item_at (each_converted convert (Ok items)))) items first
   first_of_list (Err e) first = λ index. refl
 
 -- a number equals another, or not, by its test
@@ -122,6 +119,6 @@ equal-Decides a b = (λ is. grind (arith, nat_tests), λ is. grind (arith, nat_t
 
 pub sections_by_type : SectionsByType
 sections_by_type bytes h sh_type first =
-    first_of_list (λ (section : GoblinSection). section.sh_type ≡ sh_type)
+    first_of_list section_converted (λ (section : GoblinSection). section.sh_type ≡ sh_type)
     (λ section. section.sh_type == sh_type)
     (λ section. equal-Decides section.sh_type sh_type) (sections_expected bytes h) first

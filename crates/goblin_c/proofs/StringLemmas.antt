@@ -5,18 +5,18 @@
 -- look-up passes a name exactly if a call stores a string with its bytes (`named-Decides`), so the first item that it
 -- finds is the first with that name (`by_name`).
 use Rattle.goblin_c.proofs.Common.{◌≡◌, ◌+◌, ◌-◌, ◌<◌, ◌≤◌, ◌==◌, ℕ, Bool, true, nat_le, nat_lt, List, length, take}
-use Rattle.goblin_c.proofs.Common.{drop, min, map, position, slice_get, Option, Some, Result, Ok, Err, inl, inr, refl}
+use Rattle.goblin_c.proofs.Common.{drop, min, Some, Result, Ok, Err, inl, inr, refl}
 use Rattle.goblin_c.proofs.Common.{sym, ap, subst, ◌∙◌, arith, and_parts, nat_tests, drop-take, length-take, take_min}
 use Rattle.goblin_c.proofs.Common.{take-take, Decides, before_first, position_or_len, piece, ◌>>=◌, RefusalAt}
-use Rattle.goblin_c.proofs.Common.{refused_at, GoblinRange, each_converted, first_section, is_named, item_at}
+use Rattle.goblin_c.proofs.Common.{refused_at, GoblinRange, each_converted, first_item, is_named, item_at}
 use Rattle.goblin_c.proofs.Common.{sections_expected, string_expected, strings_expected, symbols_expected}
-use Rattle.goblin_c.proofs.Common.{section_converted, symbol_converted, GoblinSection, SectionHeader}
+use Rattle.goblin_c.proofs.Common.{section_converted, symbol_converted}
 use Rattle.std.proofs.lemmas.Slice.Eq.{bytes_eq-Decides}
 use Rattle.std.proofs.Math.Seq.{drop-drop}
 use Rattle.goblin_base.specs.Strtab.{has_name, is_text_of, plain, range_in}
-use Rattle.goblin_c.specs.Laws.{FindsFirst, IsNameAt, RefusesAll, RefusesEither, SectionsByName, FindsItemFrom}
+use Rattle.goblin_c.specs.Laws.{IsNameAt, RefusesAll, RefusesEither, SectionsByName, FindsItemFrom}
 use Rattle.goblin_c.specs.Laws.{StringsAreThere, SymbolsByName, bytes_in}
-use Rattle.goblin_c.proofs.SearchLemmas.{finds, first_found, from_none}
+use Rattle.goblin_c.proofs.SearchLemmas.{first_found}
 use Rattle.goblin_c.proofs.StepLemmas.{one_converted}
 
 -- the strings of a range are its bytes, and lie in the file
@@ -135,53 +135,32 @@ no_strings : (bytes : List ℕ) (range : GoblinRange) (e : RefusalAt)
     → strings_expected bytes range ≡ Err e → RefusesAll (string_expected bytes range) e
 no_strings bytes range e refused offset = rw refused refl
 
--- what is found by a name, in the strings of a range
+-- the first item with a name, from an index on
 module _ {X Y : Type 0} (convert : X → Y) (bytes : List ℕ) (names : GoblinRange) (HasTheName : Y → Type 0)
     (test : List ℕ → X → Bool) where
-  by_name : (all : Result (List X) RefusalAt) (strings : Result (List ℕ) RefusalAt)
+  by_name : (first : ℕ) (all : Result (List X) RefusalAt) (strings : Result (List ℕ) RefusalAt)
       → strings_expected bytes names ≡ strings
       → ((read : List ℕ) → strings_expected bytes names ≡ Ok read → (x : X)
       → Decides (test read x) (HasTheName (convert x)))
-      → FindsFirst (item_at (each_converted convert all)) (string_expected bytes names) HasTheName
-      (all >>= λ items. strings >>= λ read. Ok (position (test read) items))
-  by_name (Ok items) (Ok read) found decides =
-      subst (λ (place : Option ℕ).
-      FindsFirst (λ index. Ok (slice_get (map convert items) index)) (string_expected bytes names) HasTheName
-      (Ok place))
-      (from_none (position (test read) items))
-      (finds convert HasTheName (test read) (decides read found)
-      (RefusesEither (item_at (each_converted convert (Ok items))) (string_expected bytes names)) items 0
-      (position (test read) items) refl)
-  by_name (Ok items) (Err e) found decides = inr (no_strings bytes names e found)
-  by_name (Err e) strings found decides = inl (λ index. refl)
-
--- the first section with a name, from an index on
-module _ (bytes : List ℕ) (names : GoblinRange) (HasTheName : GoblinSection → Type 0)
-    (test : List ℕ → SectionHeader → Bool) where
-  sections_named : (first : ℕ) (all : Result (List SectionHeader) RefusalAt) (strings : Result (List ℕ) RefusalAt)
-      → strings_expected bytes names ≡ strings
-      → ((read : List ℕ) → strings_expected bytes names ≡ Ok read → (s : SectionHeader)
-      → Decides (test read s) (HasTheName (section_converted s)))
-      → let call = item_at (each_converted section_converted all) in
+      → let call = item_at (each_converted convert all) in
       FindsItemFrom first call HasTheName (RefusesEither call (string_expected bytes names))
-      (all >>= λ items. strings >>= λ read. Ok (first_section (test read) first items))
-  sections_named first (Ok items) (Ok read) found decides =
-      first_found HasTheName (test read) (decides read found)
-      (RefusesEither (item_at (each_converted section_converted (Ok items))) (string_expected bytes names)) items
-      first
-  sections_named first (Ok items) (Err e) found decides = inr (no_strings bytes names e found)
-  sections_named first (Err e) strings found decides = inl (λ index. refl)
+      (all >>= λ items. strings >>= λ read. Ok (first_item convert (test read) first items))
+  by_name first (Ok items) (Ok read) found decides =
+      first_found convert HasTheName (test read) (decides read found)
+      (RefusesEither (item_at (each_converted convert (Ok items))) (string_expected bytes names)) items first
+  by_name first (Ok items) (Err e) found decides = inr (no_strings bytes names e found)
+  by_name first (Err e) strings found decides = inl (λ index. refl)
 
 pub sections_by_name : SectionsByName
 sections_by_name bytes h names name first =
-    sections_named bytes names (λ section. IsNameAt bytes names section.sh_name name)
+    by_name section_converted bytes names (λ section. IsNameAt bytes names section.sh_name name)
     (λ strings section. is_named strings name section.sh_name) first (sections_expected bytes h)
     (strings_expected bytes names) refl
     (λ strings found section. named-Decides bytes names name strings section.sh_name found)
 
 pub symbols_by_name : SymbolsByName
-symbols_by_name bytes h range names name =
+symbols_by_name bytes h range names name first =
     by_name symbol_converted bytes names (λ symbol. IsNameAt bytes names symbol.st_name name)
-    (λ strings symbol. is_named strings name symbol.st_name) (symbols_expected bytes h range)
+    (λ strings symbol. is_named strings name symbol.st_name) first (symbols_expected bytes h range)
     (strings_expected bytes names) refl
     (λ strings found symbol. named-Decides bytes names name strings symbol.st_name found)

@@ -93,20 +93,20 @@ segment_expected bytes h index = item_at (segments_converted bytes h) index
 abbrev pub segment_count_expected : List ℕ → GoblinHeader → Result (Option ℕ) RefusalAt
 segment_count_expected bytes h = count_of (segments_converted bytes h)
 
--- the index and the item for C of the first section that passes a test, from an index on
-abbrev pub section_at : List SectionHeader → Option ℕ → Option (ℕ × GoblinSection)
-section_at sections None = None
-section_at sections (Some index) = option_map (λ s. (index, section_converted s)) (slice_get sections index)
+-- the index and the item for C of the first item that passes a test, from an index on
+abbrev pub found_item : {X Y : Type 0} → (X → Y) → List X → Option ℕ → Option (ℕ × Y)
+found_item convert items None = None
+found_item convert items (Some index) = option_map (λ x. (index, convert x)) (slice_get items index)
 
-abbrev pub first_section : (SectionHeader → Bool) → ℕ → List SectionHeader → Option (ℕ × GoblinSection)
-first_section test first sections =
-    section_at sections (option_map (λ place. first + place) (position test (drop first sections)))
+abbrev pub first_item : {X Y : Type 0} → (X → Y) → (X → Bool) → ℕ → List X → Option (ℕ × Y)
+first_item convert test first items =
+    found_item convert items (option_map (λ place. first + place) (position test (drop first items)))
 
 -- the first section of a type, from an index on, and its index
 abbrev pub section_by_type_expected : List ℕ → GoblinHeader → ℕ → ℕ → Result (Option (ℕ × GoblinSection)) RefusalAt
 section_by_type_expected bytes h sh_type first = do
   sections ← sections_expected bytes h
-  Ok (first_section (λ section. section.sh_type == sh_type) first sections)
+  Ok (first_item section_converted (λ section. section.sh_type == sh_type) first sections)
 
 -- the symbols of a range, as many as lie in it whole
 abbrev pub symbols_expected : List ℕ → GoblinHeader → GoblinRange → Result (List Sym) RefusalAt
@@ -177,15 +177,15 @@ abbrev pub section_by_name_expected :
 section_by_name_expected bytes h names name first = do
   sections ← sections_expected bytes h
   strings ← strings_expected bytes names
-  Ok (first_section (λ section. is_named strings name section.sh_name) first sections)
+  Ok (first_item section_converted (λ section. is_named strings name section.sh_name) first sections)
 
--- the index of the first symbol with a name
+-- the first symbol with a name, from an index on, and its index
 abbrev pub symbol_by_name_expected : List ℕ
-    → GoblinHeader → GoblinRange → GoblinRange → List ℕ → Result (Option ℕ) RefusalAt
-symbol_by_name_expected bytes h range names name = do
+    → GoblinHeader → GoblinRange → GoblinRange → List ℕ → ℕ → Result (Option (ℕ × GoblinSymbol)) RefusalAt
+symbol_by_name_expected bytes h range names name first = do
   symbols ← symbols_expected bytes h range
   strings ← strings_expected bytes names
-  Ok (position (λ symbol. is_named strings name symbol.st_name) symbols)
+  Ok (first_item symbol_converted (λ symbol. is_named strings name symbol.st_name) first symbols)
 
 -- the index of the symbol of an address, among those of a range, by the sections of the file
 abbrev pub symbol_by_address_expected : List ℕ → GoblinHeader → GoblinRange → ℕ → Result (Option ℕ) RefusalAt

@@ -283,13 +283,7 @@ abbrev pub RefusesEither :
     {Y Z : Type 0} → (ℕ → Result (Option Y) RefusalAt) → (ℕ → Result (Option Z) RefusalAt) → RefusalAt → Type 0
 RefusesEither call strings refusal = RefusesAll call refusal ⊎ RefusesAll strings refusal
 
--- the first of all, by a name
-abbrev pub FindsFirst :
-    {Y : Type 0} → (ℕ → Result (Option Y) RefusalAt) → (ℕ → Result (Option GoblinRange) RefusalAt) → (Y → Type 0)
-    → Result (Option ℕ) RefusalAt → Type 0
-FindsFirst call strings HasTheName answer = FindsFrom 0 call HasTheName (RefusesEither call strings) answer
-
--- what is found by a name is the first section from the index on, and the first symbol, whose name by the calls is this
+-- what is found by a name is the first section or symbol from the index on whose name by the calls is this
 abbrev pub SectionsByName : Type 0
 SectionsByName =
     (bytes : List ℕ) (h : GoblinHeader) (names : GoblinRange) (name : List ℕ) (first : ℕ)
@@ -300,10 +294,11 @@ SectionsByName =
 
 abbrev pub SymbolsByName : Type 0
 SymbolsByName =
-    (bytes : List ℕ) (h : GoblinHeader) (range names : GoblinRange) (name : List ℕ)
+    (bytes : List ℕ) (h : GoblinHeader) (range names : GoblinRange) (name : List ℕ) (first : ℕ)
     → let HasTheName = λ (symbol : GoblinSymbol). IsNameAt bytes names symbol.st_name name in
-    let found = symbol_by_name_expected bytes h range names name in
-    FindsFirst (symbol_expected bytes h range) (string_expected bytes names) HasTheName found
+    let Refuses = RefusesEither (symbol_expected bytes h range) (string_expected bytes names) in
+    FindsItemFrom first (symbol_expected bytes h range) HasTheName Refuses
+    (symbol_by_name_expected bytes h range names name first)
 
 -- what is found by a type is the first section from the index on that has it
 abbrev pub SectionsByType : Type 0

@@ -134,7 +134,7 @@ pub record HaveSameText
   pub string : HasSameText (string_expected bytes range offset)
   pub note : HasSameText (note_expected bytes h range alignment offset)
   pub section_by_name : HasSameText (section_by_name_expected bytes h names name index)
-  pub symbol_by_name : HasSameText (symbol_by_name_expected bytes h range names name)
+  pub symbol_by_name : HasSameText (symbol_by_name_expected bytes h range names name index)
   pub segment_count : HasSameText (segment_count_expected bytes h)
   pub symbol_count : HasSameText (symbol_count_expected bytes h range)
   pub reloc_count : HasSameText (reloc_count_expected bytes h range is_rela)
@@ -186,7 +186,8 @@ refusals_have_same_text bytes h range names name is_rela index offset address al
           (grind (arith, known_note bytes offset (alignment, ctx_of h)));
       section_by_name = same_text (section_by_name_expected bytes h names name index)
           (grind (arith, sections, strings));
-      symbol_by_name = same_text (symbol_by_name_expected bytes h range names name) (grind (arith, symbols, strings));
+      symbol_by_name = same_text (symbol_by_name_expected bytes h range names name index)
+          (grind (arith, symbols, strings));
       segment_count = same_text (segment_count_expected bytes h) (grind (arith, segments));
       symbol_count = same_text (symbol_count_expected bytes h range) (grind (arith, symbols));
       reloc_count = same_text (reloc_count_expected bytes h range is_rela) (grind (arith, relocs));

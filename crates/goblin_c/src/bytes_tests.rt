@@ -151,10 +151,20 @@ fn strings_begin() -> bool {
 }
 
 fn searches_begin(symbols: &GoblinRange, names: &GoblinRange) -> u64 {
-    begins(called!(
-        goblin_symbol_by_name(FILE, &header(), symbols, names, b"ab"),
-        9
-    ))
+    let mut found = (9, marked_layout().symbol);
+    let mut why = marked_layout().refusal;
+    let status = goblin_symbol_by_name(
+        FILE,
+        &header(),
+        symbols,
+        names,
+        b"ab",
+        0,
+        &mut found.0,
+        &mut found.1,
+        &mut why,
+    );
+    begins((status, found, why))
 }
 
 // The same of a section's name, by where the section headers begin.

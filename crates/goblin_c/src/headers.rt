@@ -1,7 +1,7 @@
 //! The header, the section headers and the program headers, as the library reads them.
 ghost use Rattle.std.specs.Prelude.{◌≡◌, ◌+◌, ◌<◌, ◌==◌, ◌^◌, IfSome, drop, map, position};
 ghost use Rattle.goblin_c.specs.Refused.{Returns};
-ghost use Rattle.goblin_c.specs.Expected.{ctx_of, header_expected, section_at, section_by_type_expected, section_names_expected, sections_expected, segments_expected, table_at, table_expected, whole_header, section_count_expected, sections_from_expected, segment_count_expected};
+ghost use Rattle.goblin_c.specs.Expected.{ctx_of, found_item, header_expected, section_by_type_expected, section_names_expected, sections_expected, segments_expected, table_at, table_expected, whole_header, section_count_expected, sections_from_expected, segment_count_expected};
 ghost use Rattle.goblin_c.specs.Status.{Stores, Fills, StoresBoth};
 ghost use Rattle.goblin_c.specs.Types.{section_converted, segment_converted};
 
@@ -131,7 +131,7 @@ pub fn section_at(
     sections: &Table<'_, SectionHeader, Ctx>,
     found: Option<usize>,
 ) -> Option<(u64, GoblinSection)>
-    ensures { result ≡ section_at sections.now found }
+    ensures { result ≡ found_item section_converted sections.now found }
 {
     let index = found?;
     let section = sections.get(index)?;

@@ -76,10 +76,10 @@ pub fn strings()
     ensures within { StringsLieInFile }
 {}
 
-/// Laws: `goblin_section_by_name` and `goblin_symbol_by_name` store the index of the first item whose
+/// Laws: `goblin_section_by_name` and `goblin_symbol_by_name` store the index of the first item from an index on whose
 /// string, at the range that `goblin_string` stores, has the bytes of the name, and return the end if
-/// there is none. The section that is stored with the index is the one that `goblin_section` stores there. They refuse
-/// only what the calls for one item or for one string refuse at each index.
+/// there is none. The item that is stored with the index is the one that `goblin_section` or `goblin_symbol` stores
+/// there. They refuse only what the calls for one item or for one string refuse at each index.
 pub fn searches()
     ensures sections { SectionsByName }
     ensures symbols { SymbolsByName }

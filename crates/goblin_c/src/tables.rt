@@ -1,7 +1,7 @@
 //! Symbols, relocations and what is found by its name, as the library reads them.
 ghost use Rattle.std.specs.Prelude.{◌≡◌, length, map, position};
 ghost use Rattle.goblin_c.specs.Refused.{Returns};
-ghost use Rattle.goblin_c.specs.Expected.{relocs_expected, section_by_name_expected, symbol_by_address_expected, symbol_by_name_expected, is_named, symbols_expected, symbol_count_expected, symbols_from_expected, reloc_count_expected, relocs_from_expected};
+ghost use Rattle.goblin_c.specs.Expected.{found_item, relocs_expected, section_by_name_expected, symbol_by_address_expected, symbol_by_name_expected, is_named, symbols_expected, symbol_count_expected, symbols_from_expected, reloc_count_expected, relocs_from_expected};
 ghost use Rattle.goblin_c.specs.Types.{reloc_converted, symbol_converted};
 ghost use Rattle.goblin_c.specs.Status.{Stores, Fills, StoresBoth};
 
@@ -189,24 +189,34 @@ pub extern "C" fn goblin_section_by_name(
     store_both(found, index, section, why)
 }
 
-/// Returns the index of the first symbol with a name.
+// Returns a symbol that was found, and its index.
+fn symbol_at(symbols: &Symtab<'_>, found: Option<usize>) -> Option<(u64, GoblinSymbol)>
+    ensures { result ≡ found_item symbol_converted symbols.now.symbols found }
+{
+    let index = found?;
+    let symbol = symbols.get(index)?;
+    Some((index as u64, convert_symbol(&symbol)))
+}
+
+/// Returns the first symbol with a name, from an index on, and its index.
 pub fn symbol_by_name(
     bytes: &[u8],
     header: &GoblinHeader,
     range: &GoblinRange,
     names: &GoblinRange,
     name: &[u8],
-) -> Result<Option<u64>>
+    first: u64,
+) -> Result<Option<(u64, GoblinSymbol)>>
     ensures { Returns (λ found. found) result
-        (symbol_by_name_expected bytes.now header.now range.now names.now name.now) }
+        (symbol_by_name_expected bytes.now header.now range.now names.now name.now first) }
 {
     let symbols = symbols_of(bytes, header, range)?;
     let strings = string_table_bytes(bytes, names)?;
-    let found = symbols.find_in(strings, 0, name);
-    Ok(found.map(|index| index as u64))
+    let found = symbols.find_in_from(first as usize, strings, 0, name);
+    Ok(symbol_at(&symbols, found))
 }
 
-/// Stores the index of the first symbol with a name.
+/// Stores the first symbol with a name, from an index on, and its index.
 #[unsafe(no_mangle)]
 pub extern "C" fn goblin_symbol_by_name(
     bytes: &[u8],
@@ -214,14 +224,16 @@ pub extern "C" fn goblin_symbol_by_name(
     table: &GoblinRange,
     names: &GoblinRange,
     name: &[u8],
+    first: u64,
     index: &mut u64,
+    symbol: &mut GoblinSymbol,
     why: &mut GoblinRefusal,
 ) -> u32
-    ensures { Stores (symbol_by_name_expected bytes.now header.now table.now names.now name.now)
-        index.old why.old result index.new why.new }
+    ensures { StoresBoth (symbol_by_name_expected bytes.now header.now table.now names.now name.now first)
+        index.old symbol.old why.old result index.new symbol.new why.new }
 {
-    let found = symbol_by_name(bytes, header, table, names, name);
-    store(found, index, why)
+    let found = symbol_by_name(bytes, header, table, names, name, first);
+    store_both(found, index, symbol, why)
 }
 
 /// Returns the index of the symbol of an address.

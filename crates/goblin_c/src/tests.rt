@@ -133,13 +133,21 @@ fn reads_symbols(rt: HostRuntime) {
     assert!(rt; fills_symbols());
 }
 
-// Where a name is found: the answer and the index.
-fn finds_symbol(name: &[u8]) -> (u32, u64) {
-    let (status, index, _) = called!(
-        goblin_symbol_by_name(FILE, &header(), &SYMBOLS, &STRINGS, name),
-        9
+// Where a name is found from an index on: the answer, the index and the symbol's value.
+fn finds_symbol(name: &[u8], first: u64) -> (u32, u64, u64) {
+    let (mut index, mut symbol, mut why) = (9, marked_layout().symbol, marked_layout().refusal);
+    let status = goblin_symbol_by_name(
+        FILE,
+        &header(),
+        &SYMBOLS,
+        &STRINGS,
+        name,
+        first,
+        &mut index,
+        &mut symbol,
+        &mut why,
     );
-    (status, index)
+    (status, index, symbol.st_value)
 }
 
 // The same for a section, with its type.
@@ -158,12 +166,17 @@ fn finds_section(name: &[u8], first: u64) -> (u32, u64, u32) {
     (status, index, section.sh_type)
 }
 
+const UNREAD: u64 = 0x0202_0202_0202_0202;
+
 #[test]
 fn finds_names(rt: HostRuntime) {
-    assert!(rt; finds_symbol(b"f") == (0, 1));
-    assert!(rt; finds_symbol(b"g") == (1, 9));
-    assert!(rt; finds_symbol(b"f\0") == (1, 9));
-    assert!(rt; finds_symbol(b"") == (0, 0));
+    assert!(rt; finds_symbol(b"f", 0) == (0, 1, 0x1000) && finds_symbol(b"f", 1) == (0, 1, 0x1000));
+    assert!(rt;
+        finds_symbol(b"f", 2) == (1, 9, UNREAD) && finds_symbol(b"f", u64::MAX) == (1, 9, UNREAD)
+    );
+    assert!(rt; finds_symbol(b"g", 0) == (1, 9, UNREAD));
+    assert!(rt; finds_symbol(b"f\0", 0) == (1, 9, UNREAD));
+    assert!(rt; finds_symbol(b"", 0) == (0, 0, 0) && finds_symbol(b"", 1) == (1, 9, UNREAD));
     assert!(rt; finds_section(b"", 0) == (0, 0, 0) && finds_section(b"", 1) == (0, 1, 3));
     assert!(rt; finds_section(b"", 2) == (0, 2, 2) && finds_section(b"", 3) == (1, 9, 0x0808_0808));
     assert!(rt; finds_section(b"f", 0) == (1, 9, 0x0808_0808));

@@ -538,6 +538,25 @@ fn finds_the_first_of_a_name(rt: HostRuntime) {
     assert!(rt; is(rt, found(b""), [None; 2]));
 }
 
+// Returns the index of the first of them with the name "f" from an index on.
+fn found_from(first: usize) -> Option<usize> {
+    let names = b"\0f\0\xff\0f\0";
+    table_of(PLACES, 0, 4, LITTLE32).find_in_from(first, names, 0, b"f")
+}
+
+#[test]
+fn finds_the_next_of_a_name(rt: HostRuntime) {
+    assert!(rt; is(rt, [found_from(0), found_from(1)], [Some(1); 2]));
+    assert!(rt; is(rt, found_from(2), Some(2)));
+    assert!(rt;
+        is(
+            rt,
+            [found_from(3), found_from(4), found_from(usize::MAX)],
+            [None; 3]
+        )
+    );
+}
+
 // The null section, and one that holds the addresses from 8 to 0x57, in the 32-bit class and little endian.
 static ONE_SECTION: &[u8; 80] =
     b"\0\0\0\0\0\0\0\0\0\0\0\0\0\0\0\0\0\0\0\0\0\0\0\0\0\0\0\0\0\0\0\0\0\0\0\0\0\0\0\0\

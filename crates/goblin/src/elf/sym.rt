@@ -1,5 +1,6 @@
 //! Symbols and symbol tables: System V gABI, "Symbol Table".
-ghost use Rattle.std.specs.Prelude.{◌≡◌, ◌≤◌, ◌<◌, ◌-◌, ◌*◌, ◌^◌, ◌↔◌, [], ◌∷◌, length, slice_get, IsTrue, IfOk, IfErr, IsOk, alloc_error, position};
+ghost use Rattle.std.specs.Prelude.{◌≡◌, ◌≤◌, ◌<◌, ◌+◌, ◌-◌, ◌*◌, ◌^◌, ◌↔◌, [], ◌∷◌, drop, length, slice_get, IsTrue, IfOk, IfErr, IfSome, IsOk, alloc_error, position};
+ghost use Rattle.std.specs.Option.{option_map};
 ghost use Rattle.goblin.specs.Addresses.{found_at, has_place, holds, is_below, is_held, is_nearer, is_nearest, is_taken, reaches, symbol_at, taken, SymbolAtComesFirst};
 ghost use Rattle.goblin.specs.Symtab.{symbols_at, symtab_by, symtab_in, symtab_of, DependsOnItsRange, PermissiveKeepsStrict};
 ghost use Rattle.goblin_base.specs.Strtab.{has_name};
@@ -219,9 +220,35 @@ impl<'a> Symtab<'a> {
         ensures { result ≡ position (λ symbol.
             has_name strings.now delim symbol.st_name name.now) self.now.symbols }
     {
+        self.position_from(0, strings, delim, name)
+    }
+
+    // Returns the position of the first symbol with this name among those from an index on.
+    fn position_from(&self, first: usize, strings: &[u8], delim: u8, name: &[u8]) -> Option<usize>
+        ensures value { result ≡ position (λ symbol.
+            has_name strings.now delim symbol.st_name name.now) (drop first self.now.symbols) }
+        ensures bound { IfSome result (λ place. first + place < 2 ^ 64) }
+    {
         let wanted = WantedName::new(name, delim);
         self.iter()
+            .skip(first)
             .position(|symbol| wanted.is_at(strings, symbol.st_name))
+    }
+
+    /// Returns the index of the first symbol with this name from an index on, as [`Symtab::find_in`]
+    /// does from index 0 on.
+    pub fn find_in_from(
+        &self,
+        first: usize,
+        strings: &[u8],
+        delim: u8,
+        name: &[u8],
+    ) -> Option<usize>
+        ensures { result ≡ option_map (λ place. first + place) (position (λ symbol.
+            has_name strings.now delim symbol.st_name name.now) (drop first self.now.symbols)) }
+    {
+        let place = self.position_from(first, strings, delim, name)?;
+        Some(first + place)
     }
 
     /// Returns the index of the symbol of an address, or `None` if there is none. `sections` are the
