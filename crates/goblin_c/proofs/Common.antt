@@ -32,7 +32,8 @@ pub use Rattle.goblin_c.specs.Expected.{count_of, ctx_of, each_converted, first_
 pub use Rattle.goblin_c.specs.Expected.{is_mips64el}
 pub use Rattle.goblin_c.specs.Expected.{is_named, item_at, items_from, reloc_count_expected, reloc_expected}
 pub use Rattle.goblin_c.specs.Expected.{relocs_converted, relocs_expected, sections_converted}
-pub use Rattle.goblin_c.specs.Expected.{sections_expected, segment_expected, segments_expected, string_expected}
+pub use Rattle.goblin_c.specs.Expected.{sections_expected, segment_expected, segments_converted, segments_expected}
+pub use Rattle.goblin_c.specs.Expected.{string_expected}
 pub use Rattle.goblin_c.specs.Expected.{strings_expected, symbol_count_expected, symbol_expected, symbols_converted}
 pub use Rattle.goblin_c.specs.Expected.{symbols_expected, table_at, whole_header}
 pub use Rattle.goblin_c.specs.FilledBuffer.{laid}

@@ -123,7 +123,13 @@ is_filled : {X : Type 0} (items old : List X) → IsFilled items old (laid items
 is_filled items old = (laid-length items old, laid-before items old, laid-after items old)
 
 pub buffer_is_filled : BufferIsFilled
-buffer_is_filled = record { bytes = is_filled; sections = is_filled; symbols = is_filled; relocs = is_filled }
+buffer_is_filled = record {
+  bytes = is_filled;
+  sections = is_filled;
+  segments = is_filled;
+  symbols = is_filled;
+  relocs = is_filled;
+}
 
 -- a text and the zero byte after it
 pub text_is_closed : TextIsClosed

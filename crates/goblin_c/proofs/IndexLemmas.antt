@@ -11,7 +11,7 @@ use Rattle.goblin_c.proofs.Common.{GoblinSection, relocs_of, was_read, count_of,
 use Rattle.goblin_c.proofs.Common.{items_from, reloc_count_expected, reloc_expected, relocs_expected, relocs_converted}
 use Rattle.goblin_c.proofs.Common.{sections_expected, sections_converted, segments_expected, symbols_expected}
 use Rattle.goblin_c.proofs.Common.{header_converted, reloc_converted, section_converted, segment_converted}
-use Rattle.goblin_c.proofs.Common.{symbol_converted, symbols_converted, table_at}
+use Rattle.goblin_c.proofs.Common.{segments_converted, symbol_converted, symbols_converted, table_at}
 use Rattle.goblin.specs.Header.{class_named, order_named}
 use Rattle.goblin.specs.SectionHeaders.{link_of, linked, names_index}
 use Rattle.goblin_c.specs.Laws.{ContextIsTheHeaders, FilledByIndex, GivenFrom, HasHeader, NamesByIndex, NamesContext}
@@ -116,6 +116,7 @@ from all first = grind (arith, nat_tests, given)
 pub filled_by_index : FilledByIndex
 filled_by_index = record {
   sections = λ bytes h first. from (sections_converted bytes h) first;
+  segments = λ bytes h first. from (segments_converted bytes h) first;
   symbols = λ bytes h range first. from (symbols_converted bytes h range) first;
   relocs = λ bytes h range is_rela first. from (relocs_converted bytes h range is_rela) first;
 }

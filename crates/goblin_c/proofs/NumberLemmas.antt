@@ -1,12 +1,16 @@
 -- Numbers and headers that are put are read again.
 use Rattle.goblin_c.proofs.Common.{◌≡◌, ◌≤◌, ◌<◌, ◌+◌, ◌^◌, ℕ, true, List, ◌++◌, length, take, drop, Some, Ok, refl}
+use Rattle.goblin_c.proofs.Common.{Bool, false, inl, inr, Option, Result, RefusalAt, GoblinRange, Stores}
 use Rattle.goblin_c.proofs.Common.{sym, ap, subst, ◌∙◌, arith, mod-eq_of_lt, Endian, number_at-lt}
 use Rattle.goblin_c.proofs.Common.{number_at-with_number, number_at, spelled, fits-room_of, room_of_fits, is_width}
 use Rattle.goblin_c.proofs.Common.{number_expected, ctx_of, GoblinHeader, IsBytes-part, length-part}
 use Rattle.goblin_base.specs.NumberLaws.{length-spelled, spelled-number}
 use Rattle.goblin_base.specs.Place.{with_number}
-use Rattle.goblin_c.specs.Write.{with_bytes}
-use Rattle.goblin_c.specs.WriteLaws.{ChangesOnly, NumbersArePut}
+use Rattle.goblin_c.specs.Places.{number_in_expected}
+use Rattle.goblin_c.specs.Write.{Puts, put_if_there, with_bytes}
+use Rattle.goblin_c.specs.WriteLaws.{ChangesOnly, NumbersArePut, NumbersInRangesArePut}
+use Rattle.goblin_c.specs.declared.types.GoblinRefusal.{GoblinRefusal}
+use Rattle.goblin_c.proofs.OffsetLemmas.{numbers_lie_in_range}
 use Rattle.goblin_c.proofs.PutLemmas.{others_stay, put_found, rewritten}
 
 -- a number that is read has a width, and lies in the file
@@ -77,3 +81,37 @@ numbers_are_put = record {
             ∙ rewritten bytes offset width there.1)),
       );
 }
+
+-- what is put where two calls that read find an item
+put_as : {X Y : Type 0} (found : Result (Option X) RefusalAt) (other : Result (Option Y) RefusalAt) (x : X) (y : Y)
+    (put : Result (Option (List ℕ)) RefusalAt)
+    → found ≡ Ok (Some x) → other ≡ Ok (Some y) → put_if_there found put ≡ put_if_there other put
+put_as {X = X} {Y = Y} found other x y put is same =
+    ap (λ (r : Result (Option X) RefusalAt). put_if_there r put) is
+    ∙ sym (ap (λ (r : Result (Option Y) RefusalAt). put_if_there r put) same)
+
+pub numbers_in_ranges_are_put : NumbersInRangesArePut
+numbers_in_ranges_are_put bytes h range offset width value found fits is =
+    let there = numbers_lie_in_range bytes h range offset width found is in
+    put_as (number_in_expected bytes h range offset width) (number_expected bytes h (range.offset + offset) width) found
+    found _ is there.2
+
+-- a number that is found in a range lies in the file
+pub in_range_there : (bytes : List ℕ) (h : GoblinHeader) (range : GoblinRange) (offset width value : ℕ)
+    → number_in_expected bytes h range offset width ≡ Ok (Some value)
+    → range.offset + offset + width ≤ length bytes
+in_range_there bytes h range offset width value is =
+    let there = numbers_lie_in_range bytes h range offset width value is in
+    (read_there bytes h (range.offset + offset) width value there.2).1
+
+-- what a call puts at the offset in the file is what is to be put in the range
+pub puts_in_range : (Fits : Type 0) (expected other : Bool → Result (Option (List ℕ)) RefusalAt)
+    (old : List ℕ) (was : GoblinRefusal) (status : ℕ) (new : List ℕ) (why : GoblinRefusal)
+    → ((fits : Bool) → expected fits ≡ other fits) → Puts Fits other old was status new why
+    → Puts Fits expected old was status new why
+puts_in_range Fits expected other old was status new why same (inl (fits, stores)) =
+    let P : Result (Option (List ℕ)) RefusalAt → Type 0 = λ r. Stores r old was status new why in
+    inl (fits, subst P (sym (same true)) stores)
+puts_in_range Fits expected other old was status new why same (inr (unfit, stores)) =
+    let P : Result (Option (List ℕ)) RefusalAt → Type 0 = λ r. Stores r old was status new why in
+    inr (unfit, subst P (sym (same false)) stores)

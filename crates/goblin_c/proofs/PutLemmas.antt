@@ -15,6 +15,7 @@ use Rattle.goblin_c.proofs.Common.{IsBytes-part, length-part, number_expected, r
 use Rattle.goblin_c.proofs.Common.{symbol_expected}
 use Rattle.std.proofs.Common.{length-drop}
 use Rattle.goblin_c.specs.Expected.{section_expected}
+use Rattle.goblin_c.specs.Places.{number_in_expected}
 use Rattle.goblin_c.specs.Write.{put_at, put_if, put_if_there, with_bytes, reloc_ctx, reloc_layout, reloc_of}
 use Rattle.goblin_c.specs.Write.{section_layout, section_of, segment_layout, segment_of, symbol_layout, symbol_of}
 use Rattle.goblin_c.specs.Write.{unfit}
@@ -262,4 +263,6 @@ unfit_are_refused = record {
   reloc = λ bytes h table is_rela index r found is.
       unfit_put (reloc_expected bytes h table is_rela index) found _ is;
   number = λ bytes h offset width value found is. unfit_put (number_expected bytes h offset width) found _ is;
+  number_in = λ bytes h range offset width value found is.
+      unfit_put (number_in_expected bytes h range offset width) found _ is;
 }

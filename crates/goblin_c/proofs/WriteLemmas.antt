@@ -4,7 +4,8 @@ use Rattle.goblin_c.proofs.Common.{◌++◌, length, drop, map, Option, Some, Re
 use Rattle.goblin_c.proofs.Common.{ap, subst, ◌∙◌, arith, ◌>>=◌, refuse_as, number_expected, ctx_of}
 use Rattle.goblin_c.proofs.Common.{item_at, Returns, RefusalAt, refusal_at, refused_at, Stores, converted_list}
 use Rattle.goblin_c.proofs.Common.{refusal_converted, Container, Little, Big, Ctx, Error, refusal_of, Header, cases_lt}
-use Rattle.goblin_c.proofs.Common.{Refused, GoblinHeader, GoblinRefusal}
+use Rattle.goblin_c.proofs.Common.{Refused, GoblinHeader, GoblinRange, GoblinRefusal}
+use Rattle.goblin_c.specs.Places.{number_in_expected}
 use Rattle.goblin_c.specs.Write.{FitsClass, Puts, header_of, header_put_expected, named_ctx, put_if}
 use Rattle.goblin_base.specs.Fields.{Field, FieldsFit}
 use Rattle.goblin.specs.Header.{HeaderFits, as32, as64, header32, header64, header_layout, header_size}
@@ -33,6 +34,14 @@ pub number_there : (bytes : List ℕ) (h : GoblinHeader) (offset width value : �
 number_there bytes h offset width value answer is found =
     (read_there bytes h offset width value
     (sym (expected_is answer (number_expected bytes h offset width) is) ∙ ap (refuse_as refusal_at) found)).1
+
+-- a number that a call found in a range is the one that is expected there
+pub number_in_found : (bytes : List ℕ) (h : GoblinHeader) (range : GoblinRange) (offset width value : ℕ)
+    (answer : Result (Option ℕ) Refused)
+    → Returns (λ found. found) answer (number_in_expected bytes h range offset width) → answer ≡ Ok (Some value)
+    → number_in_expected bytes h range offset width ≡ Ok (Some value)
+number_in_found bytes h range offset width value answer is found =
+    sym (expected_is answer (number_in_expected bytes h range offset width) is) ∙ ap (refuse_as refusal_at) found
 
 -- of two facts that hold or not, both hold or not
 both : (A B : Type 0) → A ⊎ (¬ A) → B ⊎ (¬ B) → (A × B) ⊎ (¬ (A × B))

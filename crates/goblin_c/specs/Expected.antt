@@ -83,12 +83,15 @@ whole_header bytes h = let part = sections_part bytes h.e_shoff h.e_shnum (ctx_o
   e_phnum = segments_part bytes h.e_phnum h.e_phoff h.e_shoff (ctx_of h);
 }
 
--- they for C, one by its index, and how many there are
+-- they for C, one by its index, from an index on, and how many there are
 abbrev pub segments_converted : List ℕ → GoblinHeader → Result (List GoblinSegment) RefusalAt
 segments_converted bytes h = each_converted segment_converted (segments_expected bytes h)
 
 abbrev pub segment_expected : List ℕ → GoblinHeader → ℕ → Result (Option GoblinSegment) RefusalAt
 segment_expected bytes h index = item_at (segments_converted bytes h) index
+
+abbrev pub segments_from_expected : List ℕ → GoblinHeader → ℕ → Result (Option (List GoblinSegment)) RefusalAt
+segments_from_expected bytes h first = items_from (segments_converted bytes h) first
 
 abbrev pub segment_count_expected : List ℕ → GoblinHeader → Result (Option ℕ) RefusalAt
 segment_count_expected bytes h = count_of (segments_converted bytes h)

@@ -17,6 +17,7 @@ use Rattle.goblin_c.specs.Expected.{section_expected, segment_count_expected, se
 use Rattle.goblin_c.specs.Expected.{reloc_expected, string_expected, symbol_count_expected, reloc_count_expected}
 use Rattle.goblin_c.specs.Expected.{sections_from_expected, symbols_from_expected, relocs_from_expected}
 use Rattle.goblin_c.specs.Expected.{section_names_expected, section_by_name_expected, symbol_by_name_expected}
+use Rattle.goblin_c.specs.Expected.{segments_from_expected}
 use Rattle.goblin_c.specs.Expected.{strings_expected, table_expected, whole_header}
 use Rattle.goblin_c.specs.Bytes.{section_bytes_expected, segment_bytes_expected, string_bytes_expected}
 use Rattle.goblin_c.specs.FilledBuffer.{closed, laid}
@@ -191,6 +192,9 @@ pub record FilledByIndex : Type 0 where
   pub sections :
       (bytes : List ℕ) (h : GoblinHeader) (first : ℕ)
       → GivenFrom first (section_expected bytes h) (sections_from_expected bytes h first)
+  pub segments :
+      (bytes : List ℕ) (h : GoblinHeader) (first : ℕ)
+      → GivenFrom first (segment_expected bytes h) (segments_from_expected bytes h first)
   pub symbols :
       (bytes : List ℕ) (h : GoblinHeader) (range : GoblinRange) (first : ℕ)
       → GivenFrom first (symbol_expected bytes h range) (symbols_from_expected bytes h range first)
@@ -206,10 +210,11 @@ IsFilled items old new =
     × ((k : ℕ) → k < filled → slice_get new k ≡ slice_get items k)
     × ((k : ℕ) → filled ≤ k → slice_get new k ≡ slice_get old k)
 
--- so is the buffer that calls fill with bytes, sections, symbols and relocations
+-- so is the buffer that calls fill with bytes, sections, segments, symbols and relocations
 pub record BufferIsFilled : Type 0 where
   pub bytes : (text old : List ℕ) → IsFilled text old (laid text old)
   pub sections : (sections old : List GoblinSection) → IsFilled sections old (laid sections old)
+  pub segments : (segments old : List GoblinSegment) → IsFilled segments old (laid segments old)
   pub symbols : (symbols old : List GoblinSymbol) → IsFilled symbols old (laid symbols old)
   pub relocs : (relocs old : List GoblinReloc) → IsFilled relocs old (laid relocs old)
 

@@ -16,6 +16,7 @@ use Rattle.goblin_c.specs.Expected.{ctx_of, header_expected, reloc_count_expecte
 use Rattle.goblin_c.specs.Expected.{relocs_expected, section_by_name_expected, section_by_type_expected}
 use Rattle.goblin_c.specs.Expected.{section_count_expected, section_names_expected, section_expected}
 use Rattle.goblin_c.specs.Expected.{sections_from_expected, sections_expected, segment_count_expected, segment_expected}
+use Rattle.goblin_c.specs.Expected.{segments_from_expected}
 use Rattle.goblin_c.specs.Expected.{segments_expected, string_expected, strings_expected, symbol_by_address_expected}
 use Rattle.goblin_c.specs.Expected.{symbol_by_name_expected, symbol_count_expected, symbol_expected}
 use Rattle.goblin_c.specs.Expected.{symbols_from_expected, symbols_expected}
@@ -24,7 +25,8 @@ use Rattle.goblin_c.specs.Bytes.{number_expected, section_bytes_expected, segmen
 use Rattle.goblin_c.specs.Notes.{note_bytes_expected, note_expected, part_converted}
 use Rattle.goblin_c.specs.Places.{address_to_offset_expected, number_in_expected}
 use Rattle.goblin_c.specs.Types.{refusal_converted}
-use Rattle.goblin_c.specs.Write.{header_put_expected, number_put_expected, put_if, put_if_there, reloc_put_expected}
+use Rattle.goblin_c.specs.Write.{header_put_expected, number_in_put_expected, number_put_expected, put_if, put_if_there}
+use Rattle.goblin_c.specs.Write.{reloc_put_expected}
 use Rattle.goblin_c.specs.Write.{section_put_expected, segment_put_expected, symbol_put_expected}
 use Rattle.goblin_c.specs.Texts.{NamesKnown, TextIsSame, converted_text}
 
@@ -127,6 +129,7 @@ pub record HaveSameText
   pub section_names : HasSameText (section_names_expected bytes h)
   pub table : HasSameText (table_expected bytes h index)
   pub segment : HasSameText (segment_expected bytes h index)
+  pub segments : HasSameText (segments_from_expected bytes h index)
   pub symbol : HasSameText (symbol_expected bytes h range index)
   pub symbols : HasSameText (symbols_from_expected bytes h range index)
   pub reloc : HasSameText (reloc_expected bytes h range is_rela index)
@@ -152,6 +155,7 @@ pub record HaveSameText
   pub put_symbol : HasSameText (symbol_put_expected bytes h range index y fits)
   pub put_reloc : HasSameText (reloc_put_expected bytes h range is_rela index r fits)
   pub put_number : HasSameText (number_put_expected bytes h offset width value fits)
+  pub put_number_in : HasSameText (number_in_put_expected bytes h range offset width value fits)
 
 -- so does each refusal of each call
 abbrev pub RefusalsHaveSameText : Type 0
@@ -177,6 +181,7 @@ refusals_have_same_text bytes h range names name is_rela index offset address al
       section_names = same_text (section_names_expected bytes h) (grind (arith, sections));
       table = same_text (table_expected bytes h index) (grind (arith, sections));
       segment = same_text (segment_expected bytes h index) (grind (arith, segments));
+      segments = same_text (segments_from_expected bytes h index) (grind (arith, segments));
       symbol = same_text (symbol_expected bytes h range index) (grind (arith, symbols));
       symbols = same_text (symbols_from_expected bytes h range index) (grind (arith, symbols));
       reloc = same_text (reloc_expected bytes h range is_rela index) (grind (arith, relocs));
@@ -212,4 +217,6 @@ refusals_have_same_text bytes h range names name is_rela index offset address al
           (known_put (reloc_expected bytes h range is_rela index) fits _ _ (grind (arith, relocs)));
       put_number = same_text (number_put_expected bytes h offset width value fits)
           (known_put (number_expected bytes h offset width) fits _ _ (grind (arith, known_room)));
+      put_number_in = same_text (number_in_put_expected bytes h range offset width value fits)
+          (known_put (number_in_expected bytes h range offset width) fits _ _ (grind (arith, known_room)));
     }

@@ -14,6 +14,7 @@ use Rattle.goblin.specs.SectionHeader.{section_header_layout}
 use Rattle.goblin_c.specs.Bytes.{number_expected}
 use Rattle.goblin_c.specs.Expected.{ctx_of, is_mips64el, reloc_expected, section_expected, segment_expected}
 use Rattle.goblin_c.specs.Expected.{symbol_expected}
+use Rattle.goblin_c.specs.Places.{number_in_expected}
 use Rattle.goblin_c.specs.Refused.{RefusalAt, refused_at}
 use Rattle.goblin_c.specs.Status.{Stores}
 use Rattle.goblin_c.specs.Types.{reloc_converted}
@@ -175,13 +176,22 @@ SymbolFits h s = (symbol_layout h).Fits (symbol_of s)
 abbrev pub RelocFits : GoblinHeader → Bool → GoblinReloc → Type 0
 RelocFits h is_rela r = (reloc_layout h is_rela).Fits (reloc_of r) × (reloc_converted (reloc_of r) ≡ r)
 
--- a number is put where the call that reads one of this width finds it; it fits so many bytes
+-- a number is put where the call that reads one of this width finds it
 abbrev pub number_put_expected :
     List ℕ → GoblinHeader → ℕ → ℕ → ℕ → Bool → Result (Option (List ℕ)) RefusalAt
 number_put_expected bytes h offset width value fits =
     put_if_there (number_expected bytes h offset width)
     (put_if fits offset (with_number (ctx_of h).le bytes offset width value))
 
+-- so is one in a range
+abbrev pub number_in_put_expected :
+    List ℕ → GoblinHeader → GoblinRange → ℕ → ℕ → ℕ → Bool → Result (Option (List ℕ)) RefusalAt
+number_in_put_expected bytes h range offset width value fits =
+    let place = range.offset + offset in
+    put_if_there (number_in_expected bytes h range offset width)
+    (put_if fits place (with_number (ctx_of h).le bytes place width value))
+
+-- it fits so many bytes
 abbrev pub NumberFits : ℕ → ℕ → Type 0
 NumberFits width value = value < 256 ^ width
 

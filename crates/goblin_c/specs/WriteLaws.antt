@@ -7,9 +7,11 @@ use Rattle.goblin_c.specs.Expected.{reloc_count_expected, reloc_expected, sectio
 use Rattle.goblin_c.specs.Expected.{segment_count_expected, segment_expected, symbol_count_expected, symbol_expected}
 use Rattle.goblin_c.specs.Expected.{header_expected}
 use Rattle.goblin_c.specs.Bytes.{number_expected}
+use Rattle.goblin_c.specs.Places.{number_in_expected}
 use Rattle.goblin_c.specs.Refused.{RefusalAt}
 use Rattle.goblin_c.specs.Types.{refusal_converted}
-use Rattle.goblin_c.specs.Write.{FitsClass, NumberFits, header_put_expected, number_put_expected, RelocFits}
+use Rattle.goblin_c.specs.Write.{FitsClass, NumberFits, header_put_expected, number_in_put_expected}
+use Rattle.goblin_c.specs.Write.{number_put_expected, RelocFits}
 use Rattle.goblin_c.specs.Write.{SectionFits, SegmentFits, SymbolFits, reloc_layout, reloc_put_expected, section_layout}
 use Rattle.goblin_c.specs.Write.{section_put_expected, segment_layout, segment_put_expected, symbol_layout}
 use Rattle.goblin_c.specs.Write.{symbol_put_expected}
@@ -109,6 +111,14 @@ pub record NumbersArePut : Type 0 where
       → IsBytes bytes → number_expected bytes h offset width ≡ Ok (Some value)
       → NumberFits width value × (number_put_expected bytes h offset width value true ≡ Ok (Some bytes))
 
+-- a number that is found in a range is put as at its offset in the file
+abbrev pub NumbersInRangesArePut : Type 0
+NumbersInRangesArePut =
+    (bytes : List ℕ) (h : GoblinHeader) (range : GoblinRange) (offset width value found : ℕ) (fits : Bool)
+    → number_in_expected bytes h range offset width ≡ Ok (Some found)
+    → number_in_put_expected bytes h range offset width value fits
+    ≡ number_put_expected bytes h (range.offset + offset) width value fits
+
 -- a header that fits and was put is read again
 abbrev pub HeadersAreRead : Type 0
 HeadersAreRead =
@@ -143,3 +153,7 @@ pub record UnfitAreRefused : Type 0 where
       (bytes : List ℕ) (h : GoblinHeader) (offset width value found : ℕ)
       → number_expected bytes h offset width ≡ Ok (Some found)
       → IsUnfit offset (number_put_expected bytes h offset width value false)
+  pub number_in :
+      (bytes : List ℕ) (h : GoblinHeader) (range : GoblinRange) (offset width value found : ℕ)
+      → number_in_expected bytes h range offset width ≡ Ok (Some found)
+      → IsUnfit (range.offset + offset) (number_in_put_expected bytes h range offset width value false)

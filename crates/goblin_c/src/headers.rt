@@ -1,7 +1,7 @@
 //! The header, the section headers and the program headers, as the library reads them.
 ghost use Rattle.std.specs.Prelude.{◌≡◌, ◌+◌, ◌<◌, ◌==◌, ◌^◌, IfSome, drop, map, position};
 ghost use Rattle.goblin_c.specs.Refused.{Returns};
-ghost use Rattle.goblin_c.specs.Expected.{ctx_of, found_item, header_expected, section_by_type_expected, section_names_expected, sections_expected, segments_expected, table_at, table_expected, whole_header, section_count_expected, sections_from_expected, segment_count_expected};
+ghost use Rattle.goblin_c.specs.Expected.{ctx_of, found_item, header_expected, section_by_type_expected, section_names_expected, sections_expected, segments_expected, table_at, table_expected, whole_header, section_count_expected, sections_from_expected, segment_count_expected, segments_from_expected};
 ghost use Rattle.goblin_c.specs.Status.{Stores, Fills, StoresBoth};
 ghost use Rattle.goblin_c.specs.Types.{section_converted, segment_converted};
 
@@ -233,6 +233,22 @@ pub fn segments_of<'a>(
     let count = refused_at(sections, count)?;
     let table = ProgramHeader::table(bytes, header.e_phoff as usize, count, ctx);
     refused_at(header.e_phoff, table)
+}
+
+/// Stores the program headers from an index on, as many as the buffer holds.
+#[unsafe(no_mangle)]
+pub extern "C" fn goblin_segments(
+    bytes: &[u8],
+    header: &GoblinHeader,
+    first: u64,
+    segments: &mut [GoblinSegment],
+    filled: &mut u64,
+    why: &mut GoblinRefusal,
+) -> u32
+    ensures { Fills (segments_from_expected bytes.now header.now first)
+        segments.old filled.old why.old result segments.new filled.new why.new }
+{
+    store_from(segments_of(bytes, header), first, segments, filled, why)
 }
 
 /// Stores the number of program headers.

@@ -59,8 +59,8 @@ pub fn names()
     ensures names { NamesByIndex }
 {}
 
-/// Laws: `goblin_sections`, `goblin_symbols` and `goblin_relocs` store from each index on what the calls
-/// for one item store there, one after another, and at least one before the end. The buffer holds as many
+/// Laws: `goblin_sections`, `goblin_segments`, `goblin_symbols` and `goblin_relocs` store from each index on what the
+/// calls for one item store there, one after another, and at least one before the end. The buffer holds as many
 /// as fit, and is unchanged after them. So it is with each text. If the buffer is longer than the text, a zero byte
 /// stands after the text.
 pub fn buffers()

@@ -37,7 +37,8 @@ mod writer;
 pub use bytes::{goblin_number, goblin_section_bytes, goblin_segment_bytes, goblin_string_bytes};
 pub use headers::{
     goblin_header, goblin_linked_section, goblin_section_by_type, goblin_section_count,
-    goblin_section_names, goblin_sections, goblin_segment_count, goblin_whole_header,
+    goblin_section_names, goblin_sections, goblin_segment_count, goblin_segments,
+    goblin_whole_header,
 };
 pub use inside::{goblin_reloc, goblin_section, goblin_segment, goblin_symbol};
 pub use layout::goblin_layout;
@@ -55,8 +56,8 @@ pub use tables::{
 };
 pub use texts::goblin_refusal_text;
 pub use write::{
-    goblin_put_header, goblin_put_number, goblin_put_reloc, goblin_put_section, goblin_put_segment,
-    goblin_put_symbol,
+    goblin_put_header, goblin_put_number, goblin_put_number_in, goblin_put_reloc,
+    goblin_put_section, goblin_put_segment, goblin_put_symbol,
 };
 
 /// The version of these calls and of their structs.

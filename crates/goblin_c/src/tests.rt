@@ -107,10 +107,27 @@ fn segment_type(index: u64) -> (u32, u32) {
     (status, found.p_type)
 }
 
+// The types of those from an index on, of two that are read there: the answer, how many are stored, and the types.
+fn segment_types(first: u64) -> (u32, u64, [u32; 3]) {
+    let mut header = header();
+    (header.e_phoff, header.e_phnum) = (52, 2);
+    let mut found = [marked_layout().segment; 3];
+    let (status, filled, _) = called!(goblin_segments(FILE, &header, first, &mut found), 9);
+    (
+        status,
+        filled,
+        [found[0].p_type, found[1].p_type, found[2].p_type],
+    )
+}
+
 #[test]
 fn reads_segments(rt: HostRuntime) {
     assert!(rt; segment_type(0) == (0, 0x6600));
     assert!(rt; segment_type(1).0 == 1);
+    let mark = 0x0707_0707;
+    assert!(rt; segment_types(0) == (0, 2, [0x6600, 0x0001_0012, mark]));
+    assert!(rt; segment_types(1) == (0, 1, [0x0001_0012, mark, mark]));
+    assert!(rt; segment_types(2) == (1, 9, [mark; 3]));
 }
 
 // What the symbol at an index is: the answer, its value and its binding and type.

@@ -9,12 +9,13 @@ ghost use Rattle.goblin_c.specs.Expected.{ctx_of};
 ghost use Rattle.goblin_c.specs.Refused.{refusal_at};
 ghost use Rattle.goblin_c.specs.Status.{Stores};
 ghost use Rattle.goblin_c.specs.Types.{reloc_converted};
-ghost use Rattle.goblin_c.specs.Write.{FitsClass, NumberFits, Puts, RelocFits, SectionFits, SegmentFits, SymbolFits, header_put_expected, named_ctx, number_put_expected, put_at, put_if_there, reloc_ctx, reloc_of, reloc_put_expected, section_put_expected, segment_put_expected, symbol_put_expected, with_bytes};
+ghost use Rattle.goblin_c.specs.Write.{FitsClass, NumberFits, Puts, RelocFits, SectionFits, SegmentFits, SymbolFits, header_put_expected, named_ctx, number_in_put_expected, number_put_expected, put_at, put_if_there, reloc_ctx, reloc_of, reloc_put_expected, section_put_expected, segment_put_expected, symbol_put_expected, with_bytes};
 
 use crate::bytes::number;
 use crate::headers::{ctx_of, sections_of, segments_of};
 use crate::kinds::{END, OK};
 use crate::lists::item_at;
+use crate::places::number_in;
 use crate::refused::{Refused, Result, unfit};
 use crate::status::refuse;
 use crate::tables::{relocs_of, symbols_of};
@@ -219,6 +220,31 @@ pub extern "C" fn goblin_put_number(
             }
             put_width(bytes, offset as usize, width, value, ctx_of(header).le);
             OK
+        }
+        Ok(None) => END,
+        Err(e) => refuse(&e, why),
+    }
+}
+
+/// Puts a number of 1, 2, 4 or 8 bytes at an offset in a range, in the file's byte order.
+#[unsafe(no_mangle)]
+pub extern "C" fn goblin_put_number_in(
+    bytes: &mut [u8],
+    header: &GoblinHeader,
+    range: &GoblinRange,
+    offset: u64,
+    width: u64,
+    value: u64,
+    why: &mut GoblinRefusal,
+) -> u32
+    ensures { Puts (NumberFits width value)
+        (number_in_put_expected bytes.old header.now range.now offset width value)
+        bytes.old why.old result bytes.new why.new }
+{
+    match number_in(bytes, header, range, offset, width) {
+        Ok(Some(_)) => {
+            let place = range.offset + offset;
+            goblin_put_number(bytes, header, place, width, value, why)
         }
         Ok(None) => END,
         Err(e) => refuse(&e, why),

@@ -1,5 +1,5 @@
 //! Laws of the calls that put records, numbers and the header.
-ghost use Rattle.goblin_c.specs.WriteLaws.{CountsStay, HeadersAreRead, NumbersArePut, PutsAreRead, PutsChangeOne, ReadsArePut, UnfitAreRefused};
+ghost use Rattle.goblin_c.specs.WriteLaws.{CountsStay, HeadersAreRead, NumbersArePut, NumbersInRangesArePut, PutsAreRead, PutsChangeOne, ReadsArePut, UnfitAreRefused};
 
 /// Laws: what `goblin_put_section`, `goblin_put_segment`, `goblin_put_symbol` or `goblin_put_reloc` puts at an index is
 /// what the call that reads stores at this index then, if the list has as many items as before: in a file of the same
@@ -13,9 +13,11 @@ pub fn puts()
 {}
 
 /// Laws: a number that `goblin_put_number` puts is what `goblin_number` stores then, and no other byte changes. A
-/// number that `goblin_number` stores fits, and changes no byte where it is put.
+/// number that `goblin_number` stores fits, and changes no byte where it is put. Where `goblin_number_in` stores a
+/// number of a range, `goblin_put_number_in` puts one as `goblin_put_number` does at its offset in the file.
 pub fn numbers()
-    ensures { NumbersArePut }
+    ensures file { NumbersArePut }
+    ensures ranges { NumbersInRangesArePut }
 {}
 
 /// Law: a header that `goblin_put_header` puts is what `goblin_header` stores then.

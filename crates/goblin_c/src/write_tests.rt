@@ -2,7 +2,8 @@
 use crate::layout::marked_layout;
 use crate::tests::{FILE, SYMBOLS, called, changed, header, range};
 use crate::types::{
-    GoblinHeader, GoblinRefusal, GoblinReloc, GoblinSection, GoblinSegment, GoblinSymbol,
+    GoblinHeader, GoblinRange, GoblinRefusal, GoblinReloc, GoblinSection, GoblinSegment,
+    GoblinSymbol,
 };
 use crate::*;
 
@@ -220,6 +221,27 @@ fn puts_numbers(rt: HostRuntime) {
     assert!(rt; puts_number(1, 0, 4, 1 << 32) == (24, *b"...."));
     assert!(rt; puts_number(1, 1, 4, 0) == (3, *b"...."));
     assert!(rt; puts_number(1, 4, 1, 0) == (4, *b"...."));
+}
+
+// The same in a range: the status, where the refusal begins, and the bytes.
+fn puts_number_in(part: GoblinRange, offset: u64, width: u64, value: u64) -> (u32, u64, [u8; 4]) {
+    let (mut bytes, mut why) = (*b"....", unread());
+    let header = names(1, 1);
+    let status = goblin_put_number_in(&mut bytes, &header, &part, offset, width, value, &mut why);
+    (status, why.offset, bytes)
+}
+
+#[test]
+fn puts_numbers_in_ranges(rt: HostRuntime) {
+    assert!(rt; puts_number_in(range(1, 3), 0, 2, 0x4142) == (0, MARK, *b".BA."));
+    assert!(rt; puts_number_in(range(1, 3), 1, 2, 0x4142) == (0, MARK, *b"..BA"));
+    assert!(rt; puts_number_in(range(1, 3), 2, 2, 0x4142) == (3, 3, *b"...."));
+    assert!(rt; puts_number_in(range(1, 2), 1, 2, 0x4142) == (3, 2, *b"...."));
+    assert!(rt; puts_number_in(range(1, 3), 3, 1, 0) == (4, 4, *b"...."));
+    assert!(rt; puts_number_in(range(2, 3), 0, 1, 0) == (3, 2, *b"...."));
+    assert!(rt; puts_number_in(range(1, 3), 0, 3, 0) == (1, MARK, *b"...."));
+    assert!(rt; puts_number_in(range(1, 3), 1, 1, 0x100) == (24, 2, *b"...."));
+    assert!(rt; puts_number_in(range(u64::MAX, 1), u64::MAX, 1, 0) == (4, u64::MAX, *b"...."));
 }
 
 fn are(bytes: &[u8], own: &[u8]) -> bool {
