@@ -28,13 +28,34 @@ def run(command, path, given=''):
     return ran.stdout or ran.stderr
 
 
+def spots(path):
+    """Addresses in and around the sections that are in memory: of each the first and the last, one between them, and those before and after it.
+    Left out is what addr2line finds by another rule: it takes a function that ends before the address, or a label in one that contains it, but no
+    object, mapping symbol ($d) or hidden local label."""
+    text, listed = run('readelf -W -S', path), run('readelf -W -s', path)
+    tables = dict(re.findall(r"^Symbol table '(\S+)' .*\n((?:.+\n)*)", listed, re.MULTILINE))
+    table = tables.get('.symtab') or tables.get('.dynsym', '')
+    symbols = re.findall(r'^ *\d+: ([0-9a-f]+) +(\S+) (NOTYPE|OBJECT|FUNC|IFUNC) +(.*) (\d+) (\S*)', table, re.MULTILINE)
+    symbols = [(int(value, 16), int(size, 0), kind == 'OBJECT' or name.startswith('$') or re.match('LOCAL +HIDDEN', more), index)
+               for value, size, kind, more, index, name in symbols]
+    sections = re.findall(r'^ *\[ *(\d+)\].* ([0-9a-f]{8,16}) [0-9a-f]+ ([0-9a-f]+) [0-9a-f]+ +[WXMSITLOG]*A', text, re.MULTILINE)
+    sections = [(index, int(start, 16), int(start, 16) + int(size, 16)) for index, start, size in sections]
+    for address in {spot for _, start, end in sections for spot in (start - 1, start, (start + end) // 2, end - 1, end) if spot >= 0}:
+        held = {index for index, start, end in sections if start <= address < end}
+        near = [symbol for symbol in symbols if symbol[0] <= address and symbol[3] in held]
+        containing = [symbol for symbol in symbols if symbol[0] <= address < symbol[0] + symbol[1]]
+        if not containing and not any(size > 0 or is_other for value, size, is_other, _ in near if value == max(near)[0]):
+            yield f'{address:016x}'
+
+
 def places(path):
-    """Addresses in the functions that nm lists with more than 15 bytes: the start of each, and one after it. An object has none."""
+    """Addresses in the functions that nm lists with more than 15 bytes, the start of each and one after it, and those in and around sections.
+    An object has none."""
     if re.search('^ *Type: *REL ', run('readelf -h', path), re.MULTILINE):
         return []
     rows = [line.split() for name in ('nm', 'nm -D') for line in run(f'{COMMANDS[name]} -S', path).splitlines()]
     starts = {row[0] for row in rows if len(row) == 4 and row[2] in 'tTi' and int(row[1], 16) > 15}
-    return sorted(starts | {start[:-1] + 'f' for start in starts})[:300]
+    return sorted(starts | {start[:-1] + 'f' for start in starts})[:300] + sorted(set(spots(path)))[:300]
 
 
 def printed(path):

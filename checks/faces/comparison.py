@@ -132,7 +132,7 @@ class Comparison:
         return self.same(f'{path}: size', ours, theirs) if 'filename' in printed else 0
 
     def addresses(self, path, printed):
-        """Compares the names of functions, and of symbolize those that it finds in either way."""
+        """Compares the names of symbols in and around sections, and of symbolize those that it finds in either way."""
         theirs = re.findall(r'^0x([0-9a-f]+)\n(.*)\n', printed, re.MULTILINE)
         places = [place for place, _ in theirs]
         # (these and others one by one, to test the sorted symbols)
@@ -141,7 +141,7 @@ class Comparison:
         if not places:
             return 0
         self.same(f'{path}: symbolize and symbolize -1', lines_of(symbolize, path, *more), lines_of(symbolize, '-1', path, *more))
-        return self.same(f'{path}: functions by addr2line', lines_of(symbolize, path, *places)[::2], [name for _, name in theirs])
+        return self.same(f'{path}: symbols by addr2line', lines_of(symbolize, path, *places)[::2], [name for _, name in theirs])
 
     def relocations(self, path, printed):
         rows = [re.match(r'([0-9a-f]+) (\d+ \d+) (.*)', line) for line in lines_of(f'{self.rust}/relocations', path)]
@@ -174,7 +174,7 @@ class Comparison:
         """Compares all, and returns the lines of needed."""
         self.each('nm', lambda path, _: self.symbols(path, False) + self.symbols(path, True), 'symbols by nm.c')
         self.each('size', self.sizes, 'lines by size.c')
-        self.each('addr2line', self.addresses, 'functions at addresses by symbolize.c')
+        self.each('addr2line', self.addresses, 'symbols at addresses by symbolize.c')
         if os.path.exists(f'{self.rust}/relocations'):
             self.each('readelf', self.relocations, 'relocations by relocations.rs')
         # (without the types)
