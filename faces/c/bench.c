@@ -246,7 +246,8 @@ static uint64_t run(int what) {
     if (what == STRPTR)
         for (uint64_t i = 0; i < count; i++) sum += strlen(elf_strptr(elf, table.sh_link, offsets[i]));
     if (what == SEARCH)
-        sum = goblin_symbol_by_name(bytes, len, &header, &table.file, &strings.file, none, sizeof none - 1, &n, &why);
+        sum = goblin_symbol_by_name(bytes, len, &header, &table.file, &strings.file, none, sizeof none - 1, 0, &n,
+                                    symbols, &why);
     if (what == STRCMP) {
         const Elf64_Sym *s = (const Elf64_Sym *)data->d_buf;
         while (n < count && strcmp(text + s[n].st_name, (const char *)none) != 0) n++;

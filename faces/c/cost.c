@@ -101,7 +101,10 @@ REPEATED(first_address, GOBLIN_OK, goblin_address_to_offset(bytes, len, &header,
 REPEATED(symbols_counted, GOBLIN_OK, goblin_symbol_count(bytes, len, &header, &table, &number, &why))
 REPEATED(symbols_of_another_file, GOBLIN_OK, goblin_symbol(bytes, len, &other, &table, i, &symbol, &why))
 REPEATED(symbols_one_by_one, GOBLIN_OK, goblin_symbols(bytes, len, &header, &table, i, &symbol, 1, &number, &why))
-REPEATED(symbol_by_name, GOBLIN_OK, goblin_symbol_by_name(bytes, len, &header, &table, &table, "", 0, &number, &why))
+REPEATED(segments_one_by_one, GOBLIN_OK,
+         goblin_segments(bytes, len, &header, i % SEGMENTS, &segment, 1, &number, &why))
+REPEATED(symbol_by_name, GOBLIN_OK,
+         goblin_symbol_by_name(bytes, len, &header, &table, &table, "", 0, i, &number, &symbol, &why))
 REPEATED(relocs_counted, GOBLIN_OK, goblin_reloc_count(bytes, len, &header, &table, true, &number, &why))
 REPEATED(relocs_one_by_one, GOBLIN_OK, goblin_relocs(bytes, len, &header, &table, true, i, &reloc, 1, &number, &why))
 REPEATED(each_number_of_the_file, GOBLIN_OK, goblin_number(bytes, len, &header, i * 8, 8, &number, &why))
@@ -111,6 +114,8 @@ REPEATED(segments_written, GOBLIN_OK, goblin_put_segment(bytes, len, &header, i 
 REPEATED(symbols_written, GOBLIN_OK, goblin_put_symbol(bytes, len, &header, &table, i, &symbol, &why))
 REPEATED(relocs_written, GOBLIN_OK, goblin_put_reloc(bytes, len, &header, &table, true, i, &reloc, &why))
 REPEATED(numbers_written, GOBLIN_OK, goblin_put_number(bytes, len, &header, 128 + i * 8, 8, i, &why))
+REPEATED(numbers_in_a_range_written, GOBLIN_OK,
+         goblin_put_number_in(bytes, len, &header, &table, i * 8, 8, i, &why))
 REPEATED(range_cut, GOBLIN_OK, (goblin_range_in_file(bytes, len, &segment.file, &range), GOBLIN_OK))
 
 static uint64_t each_symbol(void) {
@@ -133,16 +138,24 @@ static uint64_t symbol_at_no_address(void) {
     return goblin_symbol_by_address(bytes, len, &header, &table, 1, &index, &why) == GOBLIN_END ? ITEMS : 0;
 }
 
-/* Makes each symbol a function of a section, at an address and with a size. */
+/* The section of the symbols, which begins at the address 0. Its header is after the symbols. */
+enum { SYMBOLS_SECTION = SHN_LORESERVE - 1 };
+
+/* Makes each symbol a function of that section, at an address and with a size. */
 static void fill_symbols(uint64_t (*address)(uint64_t), uint64_t (*size)(uint64_t)) {
+    uint64_t section_size = 2 * ITEMS;
+    memcpy(bytes + 64 + SYMBOLS_SECTION * sizeof(Elf64_Shdr) + offsetof(Elf64_Shdr, sh_size), &section_size,
+           sizeof section_size);
     for (uint64_t i = 0; i < ITEMS; i++) {
         Elf64_Sym symbol;
         memset(&symbol, 0, sizeof symbol);
-        symbol.st_info = STT_FUNC, symbol.st_shndx = 1, symbol.st_value = address(i), symbol.st_size = size(i);
+        symbol.st_info = STT_FUNC, symbol.st_shndx = SYMBOLS_SECTION, symbol.st_value = address(i);
+        symbol.st_size = size(i);
         memcpy(bytes + 128 + i * sizeof symbol, &symbol, sizeof symbol);
     }
 }
 
+static uint64_t none(uint64_t i) { return (void)i, 0; }
 static uint64_t one(uint64_t i) { return (void)i, 1; }
 static uint64_t rising(uint64_t i) { return i + 1; }
 /* Each address once, in no order. */
@@ -157,6 +170,7 @@ static uint64_t found_at(uint64_t address, uint64_t expected) {
 }
 static uint64_t symbol_at_last(void) { return found_at(scattered(ITEMS - 1), ITEMS - 1); }
 static uint64_t symbol_at_one(void) { return found_at(ITEMS, ITEMS - 1); }
+static uint64_t symbol_at_label(void) { return found_at(2 * ITEMS - 1, ITEMS - 1); }
 
 static uint64_t each_reloc(void) {
     goblin_range_t relocs = range_of(ITEMS, sizeof(Elf64_Rela));
@@ -332,6 +346,7 @@ static int repeated_calls_take_little(void) {
     section.sh_type = SHT_PROGBITS, section.file = table, segment.p_type = PT_LOAD, segment.file = table;
     right &= takes_little("the bytes of a section", section_bytes, ITEMS);
     right &= takes_little("the bytes of a segment", segment_bytes, ITEMS);
+    right &= takes_little("segments one by one", segments_one_by_one, ITEMS);
     right &= takes_little("the number of segments", segments_counted, ITEMS);
     right &= takes_little("the number of segments that the first section has", many_segments_counted, ITEMS);
     memcpy(bytes + 128, &load, sizeof load);
@@ -343,7 +358,7 @@ static int repeated_calls_take_little(void) {
     right &= takes_little("each symbol of a 32-bit file", symbols_of_another_file, ITEMS);
     other = header, other.ei_data = ELFDATA2MSB;
     right &= takes_little("each symbol of a big-endian file", symbols_of_another_file, ITEMS);
-    right &= takes_little("the first symbol with a name", symbol_by_name, ITEMS);
+    right &= takes_little("each symbol by its name", symbol_by_name, ITEMS);
     right &= takes_little("the number of relocations", relocs_counted, ITEMS);
     right &= takes_little("relocations one by one", relocs_one_by_one, ITEMS);
     right &= takes_little("each number of the file", each_number_of_the_file, ITEMS);
@@ -371,6 +386,8 @@ static int addresses_take_little(void) {
     right &= takes_little("the last of symbols in no order", symbol_at_last, ITEMS);
     fill_symbols(one, rising);
     right &= takes_little("the last of symbols at one address", symbol_at_one, ITEMS);
+    fill_symbols(rising, none);
+    right &= takes_little("the last of labels", symbol_at_label, ITEMS);
     return right;
 }
 
@@ -385,6 +402,7 @@ static int writing_takes_little(void) {
     right &= takes_little("each symbol written", symbols_written, ITEMS);
     right &= takes_little("each relocation written", relocs_written, ITEMS);
     right &= takes_little("each number written", numbers_written, ITEMS);
+    right &= takes_little("each number of a range written", numbers_in_a_range_written, ITEMS);
     return right;
 }
 

@@ -14,7 +14,8 @@
 
 enum {
     PAGE = 0x10000, ROOM = 16 * PAGE, BATCH = 5,
-    SECTION = offsetof(goblin_section_t, sh_info) + 4 /* without padding */
+    SECTION = offsetof(goblin_section_t, sh_info) + 4, /* without padding */
+    SYMBOL = offsetof(goblin_symbol_t, st_other) + 1
 };
 
 static uint8_t *bytes, saved[ROOM]; /* the copy, and its bytes before a call that writes */
@@ -128,16 +129,17 @@ static void names_of_numbers(void) {
 #define READS(call, item, ...) \
     (blank(&(item), sizeof(item)), check(#call, call(bytes, len, __VA_ARGS__, &(item), &why), &(item), sizeof(item)))
 
-/* Makes a call that finds a section, whose last arguments are its index, the section and `why`. Returns whether it
-   has a result. */
-#define FINDS(call, index, section, ...) \
-    (blank(&(index), sizeof(index)), blank(&(section), sizeof(section)), \
-     check_found(#call, call(bytes, len, __VA_ARGS__, &(index), &(section), &why), &(index), &(section)))
+/* Makes a call that finds an item of which so many bytes are no padding. Its last arguments are the index, the item and
+   `why`. Returns whether it has a result. */
+#define FINDS(call, index, item, used, ...) \
+    (blank(&(index), sizeof(index)), blank(&(item), sizeof(item)), \
+     check_found(#call, call(bytes, len, __VA_ARGS__, &(index), &(item), &why), &(index), &(item), sizeof(item), used))
 
 /* Checks what such a call returned and wrote. */
-static bool check_found(const char *what, uint32_t status, const uint64_t *index, const goblin_section_t *section) {
-    if (status != GOBLIN_OK && !is_blank(section, sizeof *section)) wrong(what, status);
-    if (status == GOBLIN_OK) add(section, SECTION);
+static bool check_found(const char *what, uint32_t status, const uint64_t *index, const void *item, size_t size,
+                        size_t used) {
+    if (status != GOBLIN_OK && !is_blank(item, size)) wrong(what, status);
+    if (status == GOBLIN_OK) add(item, used);
     return check(what, status, index, sizeof *index);
 }
 
@@ -217,6 +219,14 @@ static void several_strings(goblin_range_t names) {
         wrong("goblin_strings: where it stops", status);
 }
 
+/* Tests whether the section of a symbol holds an address, as goblin.h says it. */
+static bool plain_holds(const goblin_header_t *h, const goblin_symbol_t *s, uint64_t address) {
+    goblin_section_t section;
+    if (s->st_shndx >= 0xff00 || goblin_section(bytes, len, h, s->st_shndx, &section, &why) != GOBLIN_OK) return false;
+    if (h->e_type == 1) return address < section.file.size;
+    return section.sh_addr <= address && address - section.sh_addr < section.file.size;
+}
+
 /* Finds the symbol of an address as goblin.h says it. Returns whether there is one. */
 static bool plain_by_address(const goblin_header_t *h, const goblin_range_t *range, uint64_t address, uint64_t *index) {
     goblin_symbol_t s;
@@ -229,6 +239,7 @@ static bool plain_by_address(const goblin_header_t *h, const goblin_range_t *ran
             continue;
         if (address - s.st_value < s.st_size && (!is_found || s.st_value > at))
             is_found = true, *index = i, at = s.st_value;
+        if (!plain_holds(h, &s, address)) continue;
         if (!is_any || s.st_value > highest) is_any = true, highest = s.st_value, has_label = false;
         if (s.st_value == highest && s.st_size == 0 && !has_label) has_label = true, label = i;
     }
@@ -237,15 +248,21 @@ static bool plain_by_address(const goblin_header_t *h, const goblin_range_t *ran
 }
 
 static void by_address(const goblin_header_t *h, goblin_range_t range) {
-    uint64_t number, expected = 0;
+    uint64_t number, sections, expected = 0;
     goblin_symbol_t near;
+    goblin_section_t section;
     uint64_t address = any(2) ? any(0x100) : odd();
     if (any(2) && goblin_symbol(bytes, len, h, &range, any(30), &near, &why) == GOBLIN_OK) {
         uint64_t size = any(2) ? near.st_size : 0;
         address = near.st_value + size - any(2);
+    } else if (any(2) && goblin_section(bytes, len, h, any(12), &section, &why) == GOBLIN_OK) {
+        address = section.sh_addr + (any(2) ? section.file.size : 0) - any(2);
     }
+    begins(range.offset, h->e_shoff);
     bool is_found = READS(goblin_symbol_by_address, number, h, &range, address);
-    if (is_found != plain_by_address(h, &range, address, &expected) || (is_found && number != expected))
+    bool has_sections = goblin_section_count(bytes, len, h, &sections, &why) == GOBLIN_OK;
+    if (is_found != (has_sections && plain_by_address(h, &range, address, &expected))
+        || (is_found && number != expected))
         wrong("goblin_symbol_by_address", is_found);
 }
 
@@ -505,6 +522,21 @@ static void put_number(const goblin_header_t *h, uint64_t offset, uint64_t width
     restore("goblin_put_number", is_written, offset, width);
 }
 
+/* Writes a number in a range, which must be written exactly if it is read there and fits. */
+static void put_number_in(const goblin_header_t *h, goblin_range_t range, uint64_t offset, uint64_t width) {
+    uint64_t before, after, value = some();
+    begins(range.offset, offset_of(range.offset, 1, offset));
+    bool is_read = READS(goblin_number_in, before, h, &range, offset, width);
+    bool fits = width >= 8 || value >> 8 * width == 0;
+    bool is_written = WRITES(goblin_put_number_in, h, &range, offset, width, value);
+    if (is_written != (is_read && fits)) wrong("goblin_put_number_in", is_written);
+    if (is_read && !fits && why.kind != GOBLIN_INTEGER_FIT) wrong("goblin_put_number_in: what fits", why.kind);
+    if (is_written
+        && (goblin_number_in(bytes, len, h, &range, offset, width, &after, &why) != GOBLIN_OK || after != value))
+        wrong("goblin_put_number_in: what is read", GOBLIN_OK);
+    restore("goblin_put_number_in", is_written, range.offset + offset, width);
+}
+
 /* Writes headers, symbols and relocations. */
 static void put_records(const goblin_header_t *h, goblin_range_t range) {
     bool is_64 = h->ei_class == 2, is_rela = any(2);
@@ -526,6 +558,7 @@ static void put_records(const goblin_header_t *h, goblin_range_t range) {
          fits_reloc(&changed, is_rela, is_64), false, range.offset + at * size, size, h, &range, is_rela, at);
     uint64_t offset = any(2) ? any_offset(len) : odd();
     put_number(h, offset, any(10));
+    put_number_in(h, range, any(2) ? any(range.size % 0x1000 + 9) : odd(), any(10));
 }
 
 /* Cuts a range to the file, and reads a number in it. The number must be the one at its offset in the file. */
@@ -550,7 +583,7 @@ static void table(const goblin_header_t *h, goblin_range_t range, goblin_range_t
     if (any(4) == 0) range = odd_range();
     if (any(4) == 0) names = odd_range();
     for (uint64_t i = 0; i < 8; i++) {
-        goblin_symbol_t symbol, found;
+        goblin_symbol_t symbol, found, same;
         goblin_reloc_t reloc;
         goblin_range_t name;
         /* An index: one of the first, any, or near the last of items of 8, 12, 16 or 24 bytes. */
@@ -575,9 +608,15 @@ static void table(const goblin_header_t *h, goblin_range_t range, goblin_range_t
         if (!READS(goblin_string, name, &names, symbol.st_name)) continue;
         inside("string", name);
         begins(range.offset, names.offset);
-        if (!READS(goblin_symbol_by_name, index, h, &range, &names, bytes + name.offset, (size_t)name.size)
-            || index > at || !READS(goblin_symbol, found, h, &range, index))
+        const uint8_t *text = bytes + name.offset;
+        if (!FINDS(goblin_symbol_by_name, index, found, SYMBOL, h, &range, &names, text, (size_t)name.size, 0)
+            || index > at || (index == at && memcmp(&found, &symbol, SYMBOL))
+            || !FINDS(goblin_symbol_by_name, index, found, SYMBOL, h, &range, &names, text, (size_t)name.size, at)
+            || index != at || memcmp(&found, &symbol, SYMBOL))
             wrong("goblin_symbol_by_name", GOBLIN_END);
+        if (FINDS(goblin_symbol_by_name, index, found, SYMBOL, h, &range, &names, text, (size_t)name.size, at + 1)
+            && (index <= at || !READS(goblin_symbol, same, h, &range, index) || memcmp(&found, &same, SYMBOL)))
+            wrong("goblin_symbol_by_name: the next", GOBLIN_OK);
     }
     several_strings(names);
     bool is_rela = any(2);
@@ -589,6 +628,7 @@ static void table(const goblin_header_t *h, goblin_range_t range, goblin_range_t
             wrong("goblin_symbol_count", GOBLIN_OK);
     }
     by_address(h, range);
+    begins(range.offset, range.offset);
     if (READS(goblin_reloc_count, number, h, &range, is_rela) && number > 0) {
         goblin_reloc_t last;
         if (!READS(goblin_reloc, last, h, &range, is_rela, number - 1)
@@ -640,14 +680,15 @@ static void file(void) {
         begins(names.file.offset, names.file.offset + section.sh_name);
         if (is_there && READS(goblin_string, name, &names.file, section.sh_name)
             && (begins(h.e_shoff, names.file.offset),
-                !FINDS(goblin_section_by_name, index, found, &h, &names.file, bytes + name.offset, (size_t)name.size, 0)
+                !FINDS(goblin_section_by_name, index, found, SECTION, &h, &names.file, bytes + name.offset,
+                       (size_t)name.size, 0)
                 || index > at || (index == at && memcmp(&found, &section, SECTION))
-                || !FINDS(goblin_section_by_name, index, found, &h, &names.file, bytes + name.offset,
+                || !FINDS(goblin_section_by_name, index, found, SECTION, &h, &names.file, bytes + name.offset,
                           (size_t)name.size, at)
                 || index != at || memcmp(&found, &section, SECTION)))
             wrong("goblin_section_by_name", GOBLIN_END);
         begins(h.e_shoff, names.file.offset);
-        if (FINDS(goblin_section_by_name, index, found, &h, &names.file, "none", 4, at))
+        if (FINDS(goblin_section_by_name, index, found, SECTION, &h, &names.file, "none", 4, at))
             wrong("goblin_section_by_name: none", GOBLIN_OK);
         goblin_segment_t segment;
         begins(h.e_phoff, h.e_shoff);
@@ -659,7 +700,7 @@ static void file(void) {
         begins(section.file.offset, section.file.offset);
         if (is_there && READS(goblin_section_bytes, within, &section)) inside("section", within);
         begins(h.e_shoff, h.e_shoff);
-        if (is_there && (!FINDS(goblin_section_by_type, index, found, &h, section.sh_type, at) || index != at
+        if (is_there && (!FINDS(goblin_section_by_type, index, found, SECTION, &h, section.sh_type, at) || index != at
                          || memcmp(&found, &section, SECTION)))
             wrong("goblin_section_by_type", GOBLIN_END);
     }
@@ -668,6 +709,8 @@ static void file(void) {
     put_header(&h);
     begins(h.e_shoff, h.e_shoff);
     SEVERAL(goblin_section, goblin_sections, goblin_section_t, sh_info, &h);
+    begins(h.e_phoff, h.e_shoff);
+    SEVERAL(goblin_segment, goblin_segments, goblin_segment_t, p_flags, &h);
     names_of_numbers();
 }
 

@@ -63,13 +63,13 @@ static bool put_status(const char *what, uint32_t status) {
 #define PUT(kind, item) (put_##kind(&(item)), putchar('\n'))
 #define SHOW(call, kind, item, ...) (ASK(call, item, __VA_ARGS__) && (PUT(kind, item), true))
 
-/* Prints the index and the section that a search finds. */
-#define SEARCH(call, ...) \
+/* Prints the index and the section or the symbol that a search finds. */
+#define SEARCH(call, kind, ...) \
     do { \
-        uint64_t at; \
-        goblin_section_t found; \
-        if (put_status(#call, call(bytes, len, __VA_ARGS__, &at, &found, &why))) \
-            printf(" %" PRIx64, at), PUT(section, found); \
+        uint64_t place; \
+        goblin_##kind##_t found; \
+        if (put_status(#call, call(bytes, len, __VA_ARGS__, &place, &found, &why))) \
+            printf(" %" PRIx64, place), PUT(kind, found); \
     } while (0)
 
 /* Makes a call that writes, prints a sum of the file's bytes, and brings them back. */
@@ -114,6 +114,13 @@ static void numbers_in(goblin_range_t range) {
     SHOW(goblin_number_in, number, number, &h, &range, range.size - 1, 1);
 }
 
+/* Writes numbers in a range, one of which doesn't fit. */
+static void write_numbers_in(goblin_range_t range) {
+    WRITE(goblin_put_number_in, &h, &range, 0, 8, 0x7f);
+    WRITE(goblin_put_number_in, &h, &range, range.size / 2, 2, 0x7f000);
+    WRITE(goblin_put_number_in, &h, &range, range.size - 1, 1, 0x7f);
+}
+
 /* Prints the string at an offset, as UTF-8 and as bytes. */
 static void string(goblin_range_t strings, uint64_t offset) {
     goblin_range_t found;
@@ -137,7 +144,9 @@ static void one_symbol(goblin_range_t table, goblin_range_t names, uint64_t at) 
     putchar('\n');
     string(names, symbol.st_name);
     if (goblin_string(bytes, len, &names, symbol.st_name, &name, &why) == GOBLIN_OK)
-        SHOW(goblin_symbol_by_name, number, index, &h, &table, &names, bytes + name.offset, (size_t)name.size);
+        for (uint64_t first = 0; first < 2; first++)
+            SEARCH(goblin_symbol_by_name, symbol, &h, &table, &names, bytes + name.offset, (size_t)name.size,
+                   first * (at + 1));
     SHOW(goblin_symbol_by_address, number, index, &h, &table, symbol.st_value);
     SHOW(goblin_symbol_by_address, number, index, &h, &table, symbol.st_value + symbol.st_size);
     if (at >= FEW) return;
@@ -214,6 +223,7 @@ static void segments(void) {
         if (i >= FEW) continue;
         segment.p_flags ^= GOBLIN_PF_X, segment.p_memsz += any_high(i);
         WRITE(goblin_put_segment, &h, i, &segment);
+        write_numbers_in(segment.file);
     }
 }
 
@@ -234,9 +244,10 @@ static void sections(void) {
         string(strings, section.sh_name);
         if (goblin_string(bytes, len, &strings, section.sh_name, &name, &why) == GOBLIN_OK)
             for (uint64_t first = 0; first < 3; first++)
-                SEARCH(goblin_section_by_name, &h, &strings, bytes + name.offset, (size_t)name.size, first * i);
-        SEARCH(goblin_section_by_type, &h, section.sh_type, i / 2);
-        SEARCH(goblin_section_by_type, &h, section.sh_type, i + 1);
+                SEARCH(goblin_section_by_name, section, &h, &strings, bytes + name.offset, (size_t)name.size,
+                       first * i);
+        SEARCH(goblin_section_by_type, section, &h, section.sh_type, i / 2);
+        SEARCH(goblin_section_by_type, section, &h, section.sh_type, i + 1);
         SHOW(goblin_section_bytes, range, range, &section);
         status = goblin_section_bytes(bytes, len, &section, &range, &why);
         part(status, range, range_of(&section));

@@ -16,10 +16,11 @@
                        or address.
        2 or more       The file is refused. The number is one of the GOBLIN_ numbers below. The call has written the
                        same number to `*why`, with the numbers that belong to it and the offset of what is refused.
-     The result is the argument before `why`, of a search for sections the two before it, and the array of a call that
-     fills one. A call that begins with goblin_put_ has none: it writes into `bytes`. A call writes its result, or the
-     bytes, only at GOBLIN_OK (goblin_strings is the exception), `*why` only at a refusal, and nothing else. So a result
-     that is zero before the call is still zero at GOBLIN_END, and one goblin_refusal_t serves all calls of a program.
+     The result is the argument before `why`, of a search by name or type the two before it, and the array of a call
+     that fills one. A call that begins with goblin_put_ has none: it writes into `bytes`. A call writes its result, or
+     the bytes, only at GOBLIN_OK (goblin_strings is the exception), `*why` only at a refusal, and nothing else. So a
+     result that is zero before the call is still zero at GOBLIN_END, and one goblin_refusal_t serves all calls of a
+     program.
      Refusals come before GOBLIN_END, if a call does not say otherwise: a table that is refused is refused past
      its end, too.
 
@@ -57,8 +58,9 @@
    Examples
      Each call has an example. All are compiled with these variables:
        const uint8_t *bytes; uint8_t *own; size_t len; goblin_header_t header, whole; goblin_refusal_t why;
-       goblin_range_t range, string; goblin_section_t section, table, names, sections[64]; goblin_segment_t segment;
-       goblin_symbol_t symbol, symbols[64]; goblin_reloc_t reloc, relocs[64]; goblin_note_t note;
+       goblin_range_t range, string; goblin_section_t section, table, names, sections[64];
+       goblin_segment_t segment, segments[64]; goblin_symbol_t symbol, symbols[64];
+       goblin_reloc_t reloc, relocs[64]; goblin_note_t note;
        goblin_range_t ranges[64]; uint64_t offsets[64]; uint64_t count, index, filled, value; char text[160]; */
 #ifndef GOBLIN_H
 #define GOBLIN_H
@@ -411,6 +413,13 @@ uint32_t goblin_segment_bytes(const uint8_t *bytes, size_t len, const goblin_seg
 uint32_t goblin_segment(const uint8_t *bytes, size_t len, const goblin_header_t *header, uint64_t index,
     goblin_segment_t *segment, goblin_refusal_t *why) GOBLIN_STATUS((3, 5, 6));
 
+/* Reads the program headers from the index `first` on, as goblin_sections reads sections. Refused as
+   goblin_segment_count is.
+   Example: while (goblin_segments(bytes, len, &header, index, segments, 64, &filled, &why) == GOBLIN_OK)
+                index += filled; */
+uint32_t goblin_segments(const uint8_t *bytes, size_t len, const goblin_header_t *header, uint64_t first,
+    goblin_segment_t *segments, size_t capacity, uint64_t *filled, goblin_refusal_t *why) GOBLIN_STATUS((3, 7, 8));
+
 /* Finds the offset in the file of the byte that is loaded at an address: that of the first segment of type
    GOBLIN_PT_LOAD for which p_vaddr <= address < p_vaddr + file.size. These sums do not wrap around. GOBLIN_END if there
    is no such segment: nothing is loaded there, or only zeros that are not in the file.
@@ -444,24 +453,29 @@ uint32_t goblin_symbols(const uint8_t *bytes, size_t len, const goblin_header_t 
     uint64_t first, goblin_symbol_t *symbols, size_t capacity, uint64_t *filled, goblin_refusal_t *why)
     GOBLIN_STATUS((3, 4, 8, 9));
 
-/* Finds the index of the first symbol with a name. `names` is the range of the table's strings. A symbol has no name if
-   its name is not UTF-8 or lies past the strings. The empty name and names with zero bytes are as for
-   goblin_section_by_name; symbol 0 has the empty name in most files. GOBLIN_END if no symbol has the name.
+/* Finds the first symbol with a name, from the index `first` on. Writes its index and the symbol. `names` is the range
+   of the table's strings. A symbol has no name if its name is not UTF-8 or lies past the strings. The empty name and
+   names with zero bytes are as for goblin_section_by_name; symbol 0 has the empty name in most files. GOBLIN_END if no
+   symbol has the name.
    Refused as goblin_symbol is, and then as goblin_string is for the range `names`, but never by GOBLIN_BAD_INPUT.
-   Example: if (goblin_symbol_by_name(bytes, len, &header, &table.file, &names.file, "main", 4, &index, &why))
-            return 1; */
+   Example: if (goblin_symbol_by_name(bytes, len, &header, &table.file, &names.file, "main", 4, 0, &index, &symbol,
+                                      &why))
+                return 1; */
 uint32_t goblin_symbol_by_name(const uint8_t *bytes, size_t len, const goblin_header_t *header,
-    const goblin_range_t *table, const goblin_range_t *names, const void *name, size_t name_len, uint64_t *index,
-    goblin_refusal_t *why) GOBLIN_STATUS((3, 4, 5, 8, 9));
+    const goblin_range_t *table, const goblin_range_t *names, const void *name, size_t name_len, uint64_t first,
+    uint64_t *index, goblin_symbol_t *symbol, goblin_refusal_t *why) GOBLIN_STATUS((3, 4, 5, 9, 10, 11));
 
-/* Finds the index of the symbol that contains an address. Only symbols of a section (st_shndx from 1 to 0xfeff, or
-   0xffff) and of type GOBLIN_STT_NOTYPE, _OBJECT, _FUNC or _GNU_IFUNC count. Of those with st_value <= address <
-   st_value + st_size it is the one with the highest st_value, the first of several. These sums do not wrap around.
-   If no symbol contains the address, a label of size 0 may be there, as assembly has. It is the first of size 0 among
-   the symbols with the highest st_value that is not above the address. GOBLIN_END if these all have a size, or if there
-   are none. Each call reads all symbols. For many addresses read them once and sort them, as symbolize.c does. Refused
-   as goblin_symbol is. In a file of type GOBLIN_ET_REL an st_value is an offset in a section, so symbols of different
-   sections mix.
+/* Finds the index of the symbol of an address. Only symbols of a section (st_shndx from 1 to 0xfeff, or 0xffff) and of
+   type GOBLIN_STT_NOTYPE, _OBJECT, _FUNC or _GNU_IFUNC count. The symbol contains the address: of those with
+   st_value <= address < st_value + st_size it is the one with the highest st_value, the first of several.
+   If no symbol contains the address, a label of size 0 may be there, as assembly has. A label counts only in its own
+   section: of the symbols with st_value <= address whose section holds the address, it is the first of size 0 among
+   those with the highest st_value. The section is the one at the index st_shndx. It holds the addresses with sh_addr <=
+   address < sh_addr + file.size. In a file of type GOBLIN_ET_REL an st_value is an offset in a section, so there it
+   holds those with address < file.size, and symbols of different sections mix. An st_shndx of 0xffff or past the
+   sections is that of no section. None of these sums wraps around.
+   GOBLIN_END if there is no such symbol. Each call reads all symbols. For many addresses read them once and sort them,
+   as symbolize.c does. Refused as goblin_symbol is, and then as goblin_section_count is.
    Example: if (goblin_symbol_by_address(bytes, len, &header, &table.file, 0x401000, &index, &why)) return 1; */
 uint32_t goblin_symbol_by_address(const uint8_t *bytes, size_t len, const goblin_header_t *header,
     const goblin_range_t *table, uint64_t address, uint64_t *index, goblin_refusal_t *why) GOBLIN_STATUS((3, 4, 6, 7));
@@ -629,6 +643,12 @@ uint32_t goblin_put_reloc(uint8_t *bytes, size_t len, const goblin_header_t *hea
    Example: if (goblin_put_number(own, len, &header, section.file.offset, 4, value, &why)) return 1; */
 uint32_t goblin_put_number(uint8_t *bytes, size_t len, const goblin_header_t *header, uint64_t offset, uint64_t width,
     uint64_t value, goblin_refusal_t *why) GOBLIN_STATUS((3, 7));
+
+/* Writes a number of `width` bytes at an offset in a range of the file, as goblin_number_in reads it. It must fit in
+   these bytes.
+   Example: if (goblin_put_number_in(own, len, &header, &section.file, 8, 4, value, &why)) return 1; */
+uint32_t goblin_put_number_in(uint8_t *bytes, size_t len, const goblin_header_t *header, const goblin_range_t *range,
+    uint64_t offset, uint64_t width, uint64_t value, goblin_refusal_t *why) GOBLIN_STATUS((3, 4, 8));
 
 /* ---- texts ----
 

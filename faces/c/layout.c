@@ -429,18 +429,20 @@ static void call_with_nulls(goblin_refusal_t *why) {
         same("null: sections", goblin_sections(NULL, 0, &h, 0, NULL, 0, &number, why), end);
     }
     same("null: segment", goblin_segment(NULL, 0, &h, 0, &p, why), GOBLIN_END);
+    same("null: segments", goblin_segments(NULL, 0, &h, 0, NULL, 0, &number, why), GOBLIN_END);
     same("null: address", goblin_address_to_offset(NULL, 0, &h, 0, &number, why), GOBLIN_END);
     same("null: put header", goblin_put_header(NULL, 0, &h, why), GOBLIN_INVALID_CLASS);
     same("null: put segment", goblin_put_segment(NULL, 0, &h, 0, &p, why), GOBLIN_END);
     same("null: put symbol", goblin_put_symbol(NULL, 0, &h, &none, 0, &y, why), GOBLIN_SYMTAB_OFFSET);
     same("null: put reloc", goblin_put_reloc(NULL, 0, &h, &none, true, 0, &r, why), GOBLIN_END);
     same("null: put number", goblin_put_number(NULL, 0, &h, 0, 8, 0, why), GOBLIN_BAD_OFFSET);
+    same("null: put number in", goblin_put_number_in(NULL, 0, &h, &some, 0, 1, 0, why), GOBLIN_BAD_OFFSET);
     same("null: number in", goblin_number_in(NULL, 0, &h, &some, 0, 1, &number, why), GOBLIN_BAD_OFFSET);
     goblin_range_in_file(NULL, 0, &some, &text);
     same("null: range in file", text.size, 0);
     same("null: symbol", goblin_symbol(NULL, 0, &h, &none, 0, &y, why), GOBLIN_SYMTAB_OFFSET);
     same("null: symbols", goblin_symbols(NULL, 0, &h, &none, 0, NULL, 0, &number, why), GOBLIN_SYMTAB_OFFSET);
-    same("null: symbol by name", goblin_symbol_by_name(NULL, 0, &h, &none, &none, NULL, 0, &number, why),
+    same("null: symbol by name", goblin_symbol_by_name(NULL, 0, &h, &none, &none, NULL, 0, 0, &number, &y, why),
          GOBLIN_SYMTAB_OFFSET);
     same("null: symbol by address", goblin_symbol_by_address(NULL, 0, &h, &none, 0, &number, why),
          GOBLIN_SYMTAB_OFFSET);
@@ -477,12 +479,15 @@ static void call_with_nulls(goblin_refusal_t *why) {
     same("header", goblin_header(file, sizeof file, &h, why), GOBLIN_OK);
     same("no sections", goblin_sections(file, sizeof file, &h, 1, NULL, 0, &number, why), GOBLIN_OK);
     same("no sections, filled", number, 0);
+    same("no segments", goblin_segments(file, sizeof file, &h, 1, NULL, 0, &number, why), GOBLIN_OK);
+    same("no segments, filled", number, 0);
     same("no symbols", goblin_symbols(file, sizeof file, &h, &symbols, 1, NULL, 0, &number, why), GOBLIN_OK);
     same("no symbols, filled", number, 0);
     same("no relocs", goblin_relocs(file, sizeof file, &h, &relocs, true, 1, NULL, 0, &number, why), GOBLIN_OK);
     same("no relocs, filled", number, 0);
     /* The offset of the first symbol's name is 0xeeeeeeee, which is past these names. */
-    same("no name", goblin_symbol_by_name(file, sizeof file, &h, &symbols, &empty, NULL, 0, &number, why), GOBLIN_END);
+    same("no name", goblin_symbol_by_name(file, sizeof file, &h, &symbols, &empty, NULL, 0, 0, &number, &y, why),
+         GOBLIN_END);
 }
 
 /* Tests that 160 bytes hold the longest text of each kind of refusal and the zero byte after it, and that a text that

@@ -437,6 +437,13 @@ uint32_t goblin_segment(const uint8_t *bytes, size_t len, const goblin_header_t 
     return GOBLIN_OK;
 }
 
+uint32_t goblin_segments(const uint8_t *bytes, size_t len, const goblin_header_t *h, uint64_t first,
+                         goblin_segment_t *items, size_t capacity, uint64_t *filled, goblin_refusal_t *why) {
+    goblin_segment_t unread;
+    uint32_t status = goblin_segment(bytes, len, h, first, &unread, why);
+    SEVERAL(goblin_segment, h)
+}
+
 uint32_t goblin_put_segment(uint8_t *bytes, size_t len, const goblin_header_t *h, uint64_t index,
                             const goblin_segment_t *segment, goblin_refusal_t *why) {
     goblin_segment_t unread, p = *segment;
@@ -500,25 +507,36 @@ uint32_t goblin_symbols(const uint8_t *bytes, size_t len, const goblin_header_t 
 }
 
 uint32_t goblin_symbol_by_name(const uint8_t *bytes, size_t len, const goblin_header_t *h, const goblin_range_t *table,
-                               const goblin_range_t *names, const void *name, size_t name_len, uint64_t *index,
-                               goblin_refusal_t *why) {
+                               const goblin_range_t *names, const void *name, size_t name_len, uint64_t first,
+                               uint64_t *index, goblin_symbol_t *symbol, goblin_refusal_t *why) {
     uint64_t count;
     goblin_symbol_t s;
     uint32_t status = goblin_symbol_count(bytes, len, h, table, &count, why);
     if (!status) status = strings_inside(len, names, why);
-    for (uint64_t i = 0; !status && i < count; i++)
+    for (uint64_t i = first; !status && i < count; i++)
         if (goblin_symbol(bytes, len, h, table, i, &s, why) == GOBLIN_OK
-            && is_named(bytes, len, names, s.st_name, (const uint8_t *)name, name_len)) return *index = i, GOBLIN_OK;
+            && is_named(bytes, len, names, s.st_name, (const uint8_t *)name, name_len))
+            return *index = i, *symbol = s, GOBLIN_OK;
     return status ? status : (uint32_t)GOBLIN_END;
+}
+
+/* Tests whether the section of a symbol holds an address. */
+static bool is_held(const uint8_t *bytes, const goblin_header_t *h, uint64_t count, const goblin_symbol_t *s,
+                    uint64_t address) {
+    if (s->st_shndx >= 0xff00 || s->st_shndx >= count) return false;
+    goblin_section_t section = section_at(bytes, h, s->st_shndx);
+    uint64_t start = h->e_type == GOBLIN_ET_REL ? 0 : section.sh_addr;
+    return start <= address && address - start < section.file.size;
 }
 
 uint32_t goblin_symbol_by_address(const uint8_t *bytes, size_t len, const goblin_header_t *h,
                                   const goblin_range_t *table, uint64_t address, uint64_t *index,
                                   goblin_refusal_t *why) {
     goblin_symbol_t s;
-    uint64_t count, best = 0, best_start = 0, label = 0, label_start = 0;
+    uint64_t count, sections, best = 0, best_start = 0, label = 0, label_start = 0;
     bool has_best = false, has_label = false, has_start = false;
     uint32_t status = goblin_symbol_count(bytes, len, h, table, &count, why);
+    if (!status) status = goblin_section_count(bytes, len, h, &sections, why);
     for (uint64_t i = 0; !status && i < count; i++) {
         if (goblin_symbol(bytes, len, h, table, i, &s, why)) break;
         unsigned type = s.st_info & 15;
@@ -526,6 +544,7 @@ uint32_t goblin_symbol_by_address(const uint8_t *bytes, size_t len, const goblin
         if ((type > GOBLIN_STT_FUNC && type != GOBLIN_STT_GNU_IFUNC) || s.st_value > address) continue;
         if (address - s.st_value < s.st_size && (!has_best || s.st_value > best_start))
             has_best = true, best = i, best_start = s.st_value;
+        if (!is_held(bytes, h, sections, &s, address)) continue;
         if (!has_start || s.st_value > label_start) has_start = true, label_start = s.st_value, has_label = false;
         if (s.st_value == label_start && s.st_size == 0 && !has_label) has_label = true, label = i;
     }
@@ -657,6 +676,13 @@ uint32_t goblin_put_number(uint8_t *bytes, size_t len, const goblin_header_t *h,
     if (width < 8 && value >> (8 * width)) return refuse(why, GOBLIN_INTEGER_FIT, 0, 0, offset);
     put(bytes + offset, (unsigned)width, is_big(h), value);
     return GOBLIN_OK;
+}
+
+uint32_t goblin_put_number_in(uint8_t *bytes, size_t len, const goblin_header_t *h, const goblin_range_t *range,
+                              uint64_t offset, uint64_t width, uint64_t value, goblin_refusal_t *why) {
+    uint64_t unread;
+    uint32_t status = goblin_number_in(bytes, len, h, range, offset, width, &unread, why);
+    return status ? status : goblin_put_number(bytes, len, h, range->offset + offset, width, value, why);
 }
 
 void goblin_range_in_file(const uint8_t *bytes, size_t len, const goblin_range_t *range, goblin_range_t *part) {

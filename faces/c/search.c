@@ -23,13 +23,15 @@ static int search(uint8_t *bytes, size_t len, const char *what, const uint8_t *n
     goblin_range_t symbols = {64 + SECTIONS * sizeof(Elf64_Shdr), SYMBOLS * sizeof(Elf64_Sym)};
     goblin_range_t strings = {symbols.offset + symbols.size, STRINGS};
     goblin_section_t section;
+    goblin_symbol_t symbol;
     uint64_t index;
     clock_t start = clock();
     memset(&header, 0, sizeof header);
     header.ei_class = 2, header.ei_data = 1, header.e_shoff = 64, header.e_shnum = SECTIONS;
     int none = goblin_section_by_name(bytes, len, &header, &strings, name, name_len, 0, &index, &section,
                                       &why) == GOBLIN_END
-        && goblin_symbol_by_name(bytes, len, &header, &symbols, &strings, name, name_len, &index, &why) == GOBLIN_END;
+        && goblin_symbol_by_name(bytes, len, &header, &symbols, &strings, name, name_len, 0, &index, &symbol,
+                                 &why) == GOBLIN_END;
     double took = since(start);
     printf("%d sections and %d symbols over a string of 4 MB, searched for %s: %.0f microseconds\n", SECTIONS,
            SYMBOLS, what, took);
@@ -69,6 +71,7 @@ static int time_search(const uint8_t *bytes, size_t len) {
     static const char name[] = "_ZNSt8no_suchD0Ev";
     goblin_header_t header;
     goblin_section_t table, longest = {{0, 0}, 0, 0, 0, 0, 0, 0, 0, 0}, strings;
+    goblin_symbol_t unread;
     uint64_t index = 0, count;
     double ours = 1e9, theirs = 1e9;
     if (goblin_header(bytes, len, &header, &why) != GOBLIN_OK) return 1;
@@ -80,7 +83,7 @@ static int time_search(const uint8_t *bytes, size_t len) {
     for (int run = 0; run < 9; run++) {
         clock_t start = clock();
         if (goblin_symbol_by_name(bytes, len, &header, &longest.file, &strings.file, (const uint8_t *)name,
-                                  sizeof name - 1, &index, &why) != GOBLIN_END)
+                                  sizeof name - 1, 0, &index, &unread, &why) != GOBLIN_END)
             return 1;
         double took = since(start);
         ours = took < ours ? took : ours;

@@ -10,10 +10,11 @@
 
 enum { NONE = -1, BATCH = 64 };
 
-/* A symbol that may contain an address. */
+/* A symbol that may be that of an address. */
 typedef struct {
     uint64_t start, last, index; /* its first address, its last one if it has a size, and its index in the table */
-    bool has_size;
+    uint64_t first, end;         /* if is_held the first and the last address from `start` on that its section holds */
+    bool has_size, is_held;
 } place_t;
 
 /* From an address on, up to the next piece, the symbol for each address: its place, or NONE. */
@@ -47,6 +48,23 @@ static int compare_addresses(const void *one, const void *other) {
     return a < b ? -1 : a > b;
 }
 
+static int compare_held(const void *one, const void *other) {
+    const place_t *a = &places[*(const size_t *)one], *b = &places[*(const size_t *)other];
+    return compare_addresses(&a->first, &b->first);
+}
+
+/* Sets which addresses the section of a symbol holds. In a relocatable file these are offsets in the section. */
+static void hold(place_t *place, uint64_t shndx) {
+    goblin_section_t section;
+    if (shndx >= GOBLIN_SHN_LORESERVE || goblin_section(bytes, len, &header, shndx, &section, &why) != GOBLIN_OK
+        || section.file.size == 0)
+        return;
+    uint64_t start = header.e_type == GOBLIN_ET_REL ? 0 : section.sh_addr, more = section.file.size - 1;
+    place->first = start > place->start ? start : place->start;
+    place->end = start + (more < UINT64_MAX - start ? more : UINT64_MAX - start);
+    place->is_held = place->first <= place->end;
+}
+
 /* Adds a symbol to the places, if it is of a section and has one of the types that can contain an address. */
 static void add(const goblin_symbol_t *symbol, uint64_t index) {
     unsigned type = symbol->st_info & 15;
@@ -54,37 +72,83 @@ static void add(const goblin_symbol_t *symbol, uint64_t index) {
         || symbol->st_shndx == GOBLIN_SHN_XINDEX;
     if (!is_placed || (type > GOBLIN_STT_FUNC && type != GOBLIN_STT_GNU_IFUNC)) return;
     uint64_t more = symbol->st_size > 0 ? symbol->st_size - 1 : 0, most = UINT64_MAX - symbol->st_value;
-    place_t place = {symbol->st_value, symbol->st_value + (more < most ? more : most), index, symbol->st_size > 0};
+    place_t place = {symbol->st_value, symbol->st_value + (more < most ? more : most), index, 0, 0,
+                     symbol->st_size > 0, false};
+    hold(&place, symbol->st_shndx);
     places[places_len++] = place;
 }
 
-/* Makes the pieces of the sorted places. A piece begins at each start of a symbol and after each end. The symbols that
-   contain an address lie on a stack, the one with the highest start and of these the first one on top. */
-static bool make_pieces(void) {
-    uint64_t *starts = (uint64_t *)malloc((2 * places_len + 1) * sizeof *starts);
-    size_t *open = (size_t *)malloc((places_len + 1) * sizeof *open), starts_len = 0, depth = 0, next = 0;
-    pieces = (piece_t *)malloc((2 * places_len + 1) * sizeof *pieces);
-    if (!starts || !open || !pieces) return false;
+/* Returns whether a place is below another one on the heap of those whose section holds an address: its symbol is
+   lower, or as high and has a size while the other one has none, or comes later. */
+static bool is_below(size_t one, size_t other) {
+    const place_t *a = &places[one], *b = &places[other];
+    if (a->start != b->start) return a->start < b->start;
+    return a->has_size != b->has_size ? a->has_size : a->index > b->index;
+}
+
+/* Adds a place to such a heap. Its highest one is at index 0. */
+static void push(size_t *heap, size_t *heap_len, size_t place) {
+    size_t at = (*heap_len)++;
+    for (; at > 0 && is_below(heap[(at - 1) / 2], place); at = (at - 1) / 2) heap[at] = heap[(at - 1) / 2];
+    heap[at] = place;
+}
+
+/* Removes the highest place of such a heap. */
+static void pop(size_t *heap, size_t *heap_len) {
+    size_t last = heap[--*heap_len], at = 0, child;
+    for (; (child = 2 * at + 1) < *heap_len; heap[at] = heap[child], at = child) {
+        if (child + 1 < *heap_len && is_below(heap[child], heap[child + 1])) child++;
+        if (!is_below(last, heap[child])) break;
+    }
+    heap[at] = last;
+}
+
+/* Adds an address at which a piece begins after another one, if there is one. */
+static void add_after(uint64_t last, uint64_t *starts, size_t *starts_len) {
+    if (last < UINT64_MAX) starts[(*starts_len)++] = last + 1;
+}
+
+/* Finds where the pieces begin: at the start of a symbol or of its section, and after each end. */
+static size_t find_starts(uint64_t *starts, size_t *held, size_t *held_len) {
+    size_t starts_len = 0;
     for (size_t i = 0; i < places_len; i++) {
-        starts[starts_len++] = places[i].start;
-        if (places[i].has_size && places[i].last < UINT64_MAX) starts[starts_len++] = places[i].last + 1;
+        const place_t *place = &places[i];
+        if (place->has_size) starts[starts_len++] = place->start, add_after(place->last, starts, &starts_len);
+        if (!place->is_held) continue;
+        held[(*held_len)++] = i;
+        starts[starts_len++] = place->first, add_after(place->end, starts, &starts_len);
     }
     qsort(starts, starts_len, sizeof *starts, compare_addresses);
-    int64_t label = NONE;
+    qsort(held, *held_len, sizeof *held, compare_held);
+    return starts_len;
+}
+
+/* Makes the pieces of the sorted places. The symbols that contain an address lie on a stack, the one with the highest
+   start and of these the first one on top. Those whose section holds it lie on a heap. */
+static bool make_pieces(void) {
+    uint64_t *starts = (uint64_t *)malloc((4 * places_len + 1) * sizeof *starts);
+    size_t *open = (size_t *)malloc((places_len + 1) * sizeof *open), depth = 0, next = 0;
+    size_t *near = (size_t *)malloc((places_len + 1) * sizeof *near), near_len = 0;
+    size_t *held = (size_t *)malloc((places_len + 1) * sizeof *held), held_len = 0, held_next = 0;
+    pieces = (piece_t *)malloc((4 * places_len + 1) * sizeof *pieces);
+    if (!starts || !open || !near || !held || !pieces) return false;
+    size_t starts_len = find_starts(starts, held, &held_len);
     for (size_t i = 0; i < starts_len; i++) {
         if (i > 0 && starts[i] == starts[i - 1]) continue;
         size_t first = next;
-        while (next < places_len && places[next].start == starts[i]) next++;
-        if (next > first) label = NONE;
-        for (size_t k = next; k-- > first;) {
+        while (next < places_len && places[next].start <= starts[i]) next++;
+        for (size_t k = next; k-- > first;)
             if (places[k].has_size) open[depth++] = k;
-            else label = (int64_t)k;
-        }
         while (depth > 0 && places[open[depth - 1]].last < starts[i]) depth--;
-        piece_t piece = {starts[i], depth > 0 ? (int64_t)open[depth - 1] : label};
+        while (held_next < held_len && places[held[held_next]].first <= starts[i])
+            push(near, &near_len, held[held_next++]);
+        while (near_len > 0 && places[near[0]].end < starts[i]) pop(near, &near_len);
+        piece_t piece = {starts[i], NONE};
+        if (depth > 0) piece.place = (int64_t)open[depth - 1];
+        else if (near_len > 0 && !places[near[0]].has_size) piece.place = (int64_t)near[0];
         pieces[pieces_len++] = piece;
     }
-    free(starts), free(open);
+    free(starts), free(open), free(near), free(held);
     return true;
 }
 

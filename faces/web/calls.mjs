@@ -345,6 +345,10 @@ function check_writer() {
             elf.is_64() ? 64 : 52);
         writes((writer) => writer.put_number(16, 2, 0x1234) === undefined,
             (read) => read.number(16, 2), 0x1234n, 16, 2);
+        const part = elf.section_headers().find(({ sh_type, sh_size }) => sh_type > 0 && sh_type !== 8 && sh_size > 3n);
+        if (part)
+            writes((writer) => writer.put_number_in(part, 2, 2, 0x1234) === undefined,
+                (read) => read.number_in(part, 2, 2), 0x1234n, part.sh_offset + 2n, 2);
         if (symbols) {
             const table = elf.section_headers()
                 .find(({ sh_type }) => sh_type === (elf.syms() ? goblin.SHT_SYMTAB : goblin.SHT_DYNSYM));
@@ -377,6 +381,11 @@ function check_writer() {
     assert.throws(() => writer.put_header({ ...elf.header, ei_class: 3 }), at(Kind.INVALID_CLASS, 0n));
     assert.throws(() => writer.put_header({ ...elf.header, ei_data: 0 }), at(Kind.DATA, 0n));
     assert.throws(() => writer.put_number(3, 1, 256), at(Kind.INTEGER_FIT, 3n));
+    const text = Elf.parse(own).section('.text');
+    assert.throws(() => writer.put_number_in(text, 3, 1, 256), at(Kind.INTEGER_FIT, text.sh_offset + 3n));
+    assert.throws(() => writer.put_number_in(text, text.sh_size, 1, 0),
+        at(Kind.BAD_OFFSET, text.sh_offset + text.sh_size));
+    assert.throws(() => writer.put_number_in(text, 0, 3, 0), RangeError);
     assert.throws(() => writer.put_number(own.length, 1, 0), is_refusal(Kind.BAD_OFFSET));
     for (const width of [0, 3, 16, '4', 4n, undefined]) assert.throws(() => writer.put_number(0, width, 0), RangeError);
     for (const wrong of [undefined, own.buffer, [...own], new DataView(own.buffer)])
@@ -635,6 +644,12 @@ function check_names() {
     assert.deepEqual(elf.section_by_type(1, 2), { index: 2, section: elf.section_header(2) });
     assert.deepEqual([elf.section_by_type(3)?.index, elf.section_by_type(3, 6)], [5, undefined]);
     assert.throws(() => elf.section_by_name('a', -1), RangeError);
+    const symbols = Elf.parse(own).syms(), index = symbols.by_name('main'), nameless = [];
+    assert.deepEqual(symbols.symbol_by_name('main'), { index, symbol: symbols.get(index) });
+    for (let at = symbols.symbol_by_name(''); at; at = symbols.symbol_by_name('', at.index + 1))
+        nameless.push([at.index, at.symbol]);
+    assert.deepEqual(nameless, [...symbols.entries()].filter(([, symbol]) => symbols.name(symbol) === ''));
+    assert.throws(() => symbols.symbol_by_name('main', -1), RangeError);
     const cut = Elf.parse(content.subarray(0, content.length - 1));
     assert.throws(() => cut.section_by_name('a'), is_refusal(Kind.TOO_BIG));
 }
@@ -676,8 +691,8 @@ function check_offsets_of_errors() {
 // A map finds what `by_address` finds.
 function check_address_map() {
     let found = 0;
-    const symbols_of = (made) => Elf.parse(
-        elf_file({ sections: [{ name: '.symtab', type: 2, bytes: Buffer.concat(made.map(symbol)) }] })).syms();
+    const symbols_of = (made, type = 1, ...others) => Elf.parse(elf_file({ type,
+        sections: [{ name: '.symtab', type: 2, bytes: Buffer.concat(made.map(symbol)) }, ...others] })).syms();
     const agrees = (symbols, addresses) => {
         const map = symbols.address_map();
         for (const address of addresses) {
@@ -710,8 +725,10 @@ function check_address_map() {
     const any = (below) => { state = (Math.imul(state, 1103515245) + 12345) >>> 0; return (state >>> 8) % below; };
     for (let round = 0; round < 300; round++) {
         const some = Array.from({ length: any(14) }, () => ({ value: any(24), size: any(9) ? any(12) : END,
-            shndx: [1, 1, 1, 2, 0xffff, 0, 0xfff1][any(7)], info: [2, 2, 0, 1, 10, 3][any(6)] }));
-        agrees(symbols_of([...some, {}]), [...Array(40).keys()].concat(END));
+            shndx: [1, 2, 2, 3, 3, 9, 0xffff, 0, 0xfff1][any(9)], info: [2, 2, 0, 1, 10, 3][any(6)] }));
+        const others = ['.a', '.b'].map((name) =>
+            ({ name, type: 1, addr: any(9) ? any(20) : END - BigInt(any(9)), bytes: Buffer.alloc(any(24)) }));
+        agrees(symbols_of([...some, {}], any(4), ...others), [...Array(40).keys()].concat(END - 1n, END));
     }
     assert.ok(found > 5000, `${found} addresses`);
     return `${found} addresses in maps`;

@@ -37,9 +37,9 @@
  * ```
  */
 import {
-    ET_DYN, PT_DYNAMIC, PT_GNU_EH_FRAME, PT_GNU_RELRO, PT_GNU_STACK, PT_LOAD, PT_NOTE, PT_PHDR, PT_TLS, SHF_ALLOC,
-    SHF_TLS, SHN_LORESERVE, SHN_UNDEF, SHN_XINDEX, SHT_DYNSYM, SHT_NOBITS, SHT_NOTE, SHT_REL, SHT_RELA, SHT_SYMTAB,
-    STT_FUNC, STT_GNU_IFUNC, STT_NOTYPE, STT_OBJECT,
+    ET_DYN, ET_REL, PT_DYNAMIC, PT_GNU_EH_FRAME, PT_GNU_RELRO, PT_GNU_STACK, PT_LOAD, PT_NOTE, PT_PHDR, PT_TLS,
+    SHF_ALLOC, SHF_TLS, SHN_LORESERVE, SHN_UNDEF, SHN_XINDEX, SHT_DYNSYM, SHT_NOBITS, SHT_NOTE, SHT_REL, SHT_RELA,
+    SHT_SYMTAB, STT_FUNC, STT_GNU_IFUNC, STT_NOTYPE, STT_OBJECT,
     VERSION,
 } from './constants.js';
 
@@ -325,10 +325,10 @@ function ready(made) {
 // begin with `goblin_`.
 const EXPORTS = ['memory', '__heap_base', ...`
     version layout header whole_header section_count section sections linked_section section_names section_by_name
-    section_by_type section_bytes segment_count segment segment_bytes address_to_offset
+    section_by_type section_bytes segment_count segment segments segment_bytes address_to_offset
     symbol_count symbol symbols symbol_by_name symbol_by_address
     reloc_count reloc relocs note note_bytes string strings string_bytes number number_in range_in_file
-    put_header put_section put_segment put_symbol put_reloc put_number
+    put_header put_section put_segment put_symbol put_reloc put_number put_number_in
     class_to_str et_to_str machine_to_str pt_to_str sht_to_str shf_to_str bind_to_str type_to_str visibility_to_str
     note_type_to_str refusal_text
 `.trim().split(/\s+/).map((name) => `goblin_${name}`)];
@@ -460,12 +460,12 @@ class Memory {
             ? read(this.view, this.base + ITEM, records[kind]) : undefined;
     }
 
-    // Calls the library to find a section, and returns its index and its header, or `undefined` for GOBLIN_END.
-    find(name, ...args) {
+    // Calls the library to find an item of a kind, and returns its index and the item, or `undefined` for GOBLIN_END.
+    find(name, kind, ...args) {
         if (!this.test(name, this.header, ...args, this.address(INDEX), this.address(ITEM))) return undefined;
-        const [{ value }, section] = [read(this.view, this.base + INDEX, records.number),
-            read(this.view, this.base + ITEM, records.section)];
-        return { index: Number(value), section };
+        const [{ value }, item] = [read(this.view, this.base + INDEX, records.number),
+            read(this.view, this.base + ITEM, records[kind])];
+        return { index: Number(value), [kind]: item };
     }
 
     // Calls the library to fill an array with the items from an index on, at most `most`, and returns them.
@@ -631,7 +631,7 @@ export class Elf {
      * section header, which has their number, is not. Those of `whole()` are inside it.
      * @returns {List<ProgramHeader>}
      */
-    program_headers() { return new List(this.#memory, 'segment', [], { has_many: false }); }
+    program_headers() { return new List(this.#memory, 'segment', []); }
 
     /**
      * Returns the section header at an index, or `undefined` past the end. Throws if the section headers are not
@@ -670,7 +670,7 @@ export class Elf {
     section_by_name(name, first = 0) {
         const bytes = this.#memory.pass_bytes(encoder.encode(name)),
             names = this.#memory.pass(NAMES, 'range', this.shdr_strtab().range);
-        return this.#memory.find('goblin_section_by_name', names, ...bytes, unsigned(first, 64));
+        return this.#memory.find('goblin_section_by_name', 'section', names, ...bytes, unsigned(first, 64));
     }
 
     /**
@@ -681,7 +681,7 @@ export class Elf {
      * @returns {{ index: number, section: SectionHeader } | undefined}
      */
     section_by_type(sh_type, first = 0) {
-        return this.#memory.find('goblin_section_by_type', unsigned(sh_type, 32), unsigned(first, 64));
+        return this.#memory.find('goblin_section_by_type', 'section', unsigned(sh_type, 32), unsigned(first, 64));
     }
 
     /**
@@ -1135,6 +1135,23 @@ export class Writer {
         const at = unsigned(offset, 64);
         this.#put('goblin_put_number', at, width, this.#memory.header, at, as_width(width), unsigned(value, 64));
     }
+
+    /**
+     * Writes a number of `width` bytes at an offset of a section or of a segment's bytes in the file. The offset counts
+     * from their start. Throws if they are not inside the bytes, or the number is not inside them. Throws a
+     * `RangeError` if the width is not 1, 2, 4 or 8.
+     * @param {SectionHeader | ProgramHeader} part
+     * @param {number | bigint} offset
+     * @param {1 | 2 | 4 | 8} width
+     * @param {number | bigint} value
+     * @returns {void}
+     */
+    put_number_in(part, offset, width, value) {
+        const at = unsigned(offset, 64), range = range_of(part),
+            argument = this.#memory.pass(ARGUMENT, 'range', range);
+        this.#put('goblin_put_number_in', range.offset + at, width,
+            this.#memory.header, argument, at, as_width(width), unsigned(value, 64));
+    }
 }
 
 /**
@@ -1186,15 +1203,14 @@ function may_hold({ p_type }, section) {
  * @index {T | undefined}
  */
 export class List {
-    #memory; #kind; #args; #range; #convert; #has_many; #length;
+    #memory; #kind; #args; #range; #convert; #length;
 
-    constructor(memory, kind, args, { range = undefined, convert = (item) => item, has_many = true } = {}) {
+    constructor(memory, kind, args, { range = undefined, convert = (item) => item } = {}) {
         this.#memory = memory;
         this.#kind = kind;
         this.#args = args;
         this.#range = range;
         this.#convert = convert;
-        this.#has_many = has_many;
         this.#length = Number(memory.call(`goblin_${kind}_count`, 'number', ...this.#arguments()).value);
     }
 
@@ -1237,11 +1253,10 @@ export class List {
      */
     *from(first = 0, most = Infinity) {
         for (let next = unsigned(first, 64), left = most; left > 0;) {
-            const items = this.#has_many
-                ? this.#memory.call_many(`goblin_${this.#kind}s`, this.#kind, left, next, ...this.#arguments())
-                : [this.get(next)].filter((item) => item);
+            const items =
+                this.#memory.call_many(`goblin_${this.#kind}s`, this.#kind, left, next, ...this.#arguments());
             if (items.length === 0) return;
-            for (const item of items) yield this.#has_many ? this.#convert(item) : item;
+            for (const item of items) yield this.#convert(item);
             next += BigInt(items.length);
             left -= items.length;
         }
@@ -1377,14 +1392,17 @@ export class Symtab extends List {
     name_bytes(symbol) { return this.strtab.get_bytes(symbol.st_name); }
 
     /**
-     * Returns the index of the symbol that contains an address, if there is one: of those with
-     * `st_value <= address < st_value + st_size` the one with the highest `st_value`, the first of several. These sums
-     * do not wrap around. If there is none, it is the first of size 0, as labels of assembly have, among the symbols
-     * with the highest `st_value` that is not above the address.
+     * Returns the index of the symbol of an address, if there is one. It contains the address: of those with
+     * `st_value <= address < st_value + st_size` it is the one with the highest `st_value`, the first of several. If
+     * there is none, a label of size 0 may be there, as assembly has. It counts only in its own section: of the symbols
+     * with `st_value <= address` whose section holds the address, it is the first of size 0 among those with the
+     * highest `st_value`. A section holds the addresses with `sh_addr <= address < sh_addr + sh_size`. None of these
+     * sums wraps around.
      *
-     * Only symbols of a section count, whose `st_shndx` is from 1 to 0xfeff, or 0xffff (SHN_XINDEX). And only those of
-     * type STT_NOTYPE, STT_OBJECT, STT_FUNC or STT_GNU_IFUNC count. In a file of type ET_REL an `st_value` is an offset
-     * in a section, so symbols of different sections mix.
+     * Only symbols of a section count, whose `st_shndx` is from 1 to 0xfeff, or 0xffff (SHN_XINDEX), which is the index
+     * of no section here. And only those of type STT_NOTYPE, STT_OBJECT, STT_FUNC or STT_GNU_IFUNC count. In a file of
+     * type ET_REL an `st_value` is an offset in a section, so there a section holds the addresses below `sh_size`, and
+     * symbols of different sections mix.
      *
      * Each call reads all symbols: for many addresses use `address_map`.
      * @param {number | bigint} address
@@ -1405,7 +1423,7 @@ export class Symtab extends List {
      * ```
      * @returns {AddressMap}
      */
-    address_map() { return new AddressMap(this); }
+    address_map() { return new AddressMap(this, (index) => this.#held_by(index)); }
 
     /**
      * Returns the index of the first symbol with a name, if there is one. Throws if the string table is not
@@ -1413,12 +1431,35 @@ export class Symtab extends List {
      * @param {string} name
      * @returns {number | undefined}
      */
-    by_name(name) {
+    by_name(name) { return this.symbol_by_name(name)?.index; }
+
+    /**
+     * Returns the index and the first symbol with a name, from an index on, if there is one. Throws as `by_name` does.
+     *
+     * ```js
+     * for (let at = symbols.symbol_by_name('main'); at; at = symbols.symbol_by_name('main', at.index + 1))
+     *     console.log(at.symbol.st_value);
+     * ```
+     * @param {string} name
+     * @param {number | bigint} [first]
+     * @returns {{ index: number, symbol: Sym } | undefined}
+     */
+    symbol_by_name(name, first = 0) {
         const memory = this.#memory;
         const bytes = memory.pass_bytes(encoder.encode(name));
         const table = memory.pass(ARGUMENT, 'range', this.#range);
         const names = memory.pass(NAMES, 'range', this.strtab.range);
-        return as_index(memory.call('goblin_symbol_by_name', 'number', memory.header, table, names, ...bytes));
+        return memory.find('goblin_symbol_by_name', 'symbol', table, names, ...bytes, unsigned(first, 64));
+    }
+
+    // Returns the first and the last address that the section at an index holds, if it holds one.
+    #held_by(index) {
+        const memory = this.#memory, { e_type } = read(memory.view, Number(memory.header), records.header);
+        const section = index < SHN_LORESERVE
+            ? memory.call('goblin_section', 'section', memory.header, unsigned(index, 64)) : undefined;
+        if (!section?.sh_size) return undefined;
+        const first = e_type === ET_REL ? 0n : section.sh_addr;
+        return { first, last: last_of(first, section.sh_size) };
     }
 }
 
@@ -1429,6 +1470,31 @@ const may_contain = ({ st_info, st_shndx }) =>
 
 const LAST = (1n << 64n) - 1n;
 
+// Returns the last address of so many from one on, but at most the last of all.
+const last_of = (first, size) => (size > LAST - first ? LAST : first + size - 1n);
+
+// Compares symbols by what decides between two of them: the higher value, then the size 0, and then the lower index.
+const by_rank = (a, b) => (a.start < b.start ? -1 : a.start > b.start ? 1
+    : Number(a.size === 0n) - Number(b.size === 0n) || b.index - a.index);
+
+// Adds a symbol to a heap, whose highest one by its rank is at index 0.
+function push(heap, symbol) {
+    let at = heap.length;
+    for (let above; at > 0 && by_rank(heap[above = (at - 1) >> 1], symbol) < 0; at = above) heap[at] = heap[above];
+    heap[at] = symbol;
+}
+
+// Removes the highest symbol of a heap.
+function pop(heap) {
+    const last = heap.pop();
+    let at = 0;
+    for (let child; (child = 2 * at + 1) < heap.length; heap[at] = heap[child], at = child) {
+        if (child + 1 < heap.length && by_rank(heap[child], heap[child + 1]) < 0) child++;
+        if (by_rank(last, heap[child]) >= 0) break;
+    }
+    if (heap.length) heap[at] = last;
+}
+
 /**
  * A sorted map of the addresses of a symbol table, for many searches. It finds what `by_address` finds in a time that
  * grows with the logarithm of the number of symbols. It is sorted by JavaScript's own sort, and is not part of the
@@ -1437,39 +1503,43 @@ const LAST = (1n << 64n) - 1n;
 export class AddressMap {
     #symtab; #starts; #indices = [];
 
-    constructor(symtab) {
+    constructor(symtab, held_by) {
         this.#symtab = symtab;
-        // the symbols that count, by their first address and then by their index, each with its last address if it
-        // has a size
-        const places = [];
+        // the symbols with a size that count, with their last address, and those whose section holds addresses from
+        // theirs on, with the first and the last of these
+        const sized = [], held = [];
         let number = 0;
-        for (const symbol of symtab) {
-            const { st_value: start, st_size } = symbol, end = start + st_size - 1n, index = number++;
-            if (may_contain(symbol))
-                places.push({ start, index, last: st_size ? (end < LAST ? end : LAST) : undefined });
+        for (const { st_value: start, st_size: size, st_info, st_shndx } of symtab) {
+            const index = number++;
+            if (!may_contain({ st_info, st_shndx })) continue;
+            if (size) sized.push({ start, index, first: start, last: last_of(start, size) });
+            const section = held_by(st_shndx), first = section && (section.first > start ? section.first : start);
+            if (section && first <= section.last) held.push({ start, size, index, first, last: section.last });
         }
-        places.sort((a, b) => (a.start < b.start ? -1 : a.start > b.start ? 1 : a.index - b.index));
-        const ends = places.filter(({ last }) => last !== undefined && last < LAST).map(({ last }) => last + 1n);
-        const starts = BigUint64Array.from(places.map(({ start }) => start).concat(ends)).sort();
+        const by_first = (a, b) => (a.first < b.first ? -1 : a.first > b.first ? 1 : a.index - b.index);
+        sized.sort(by_first);
+        held.sort(by_first);
+        const places = sized.concat(held), ends = places.filter(({ last }) => last < LAST).map(({ last }) => last + 1n);
+        const starts = BigUint64Array.from(places.map(({ first }) => first).concat(ends)).sort();
         this.#starts = starts.filter((start, i) => i === 0 || start !== starts[i - 1]);
-        this.#fill(places);
+        this.#fill(sized, held);
     }
 
     // Finds the symbol from each start on. The symbols that contain an address are on a stack, below others that have
-    // ended. The topmost one has the highest value, and is the first of those with the same one.
-    #fill(places) {
-        const open = [];
-        let label, next = 0;
+    // ended. The topmost one has the highest value, and is the first of those with the same one. Those whose section
+    // holds the address are in a heap, by their rank.
+    #fill(sized, held) {
+        const open = [], near = [];
+        let next = 0, next_held = 0;
         for (const start of this.#starts) {
             const first = next;
-            while (next < places.length && places[next].start <= start) next++;
-            if (next > first) label = undefined;
-            for (let i = next - 1; i >= first; i--) {
-                if (places[i].last === undefined) label = places[i].index;
-                else open.push(places[i]);
-            }
+            while (next < sized.length && sized[next].start <= start) next++;
+            for (let i = next - 1; i >= first; i--) open.push(sized[i]);
             while (open.length && open.at(-1).last < start) open.pop();
-            this.#indices.push(open.length ? open.at(-1).index : label);
+            while (next_held < held.length && held[next_held].first <= start) push(near, held[next_held++]);
+            while (near.length && near[0].last < start) pop(near);
+            const label = near[0]?.size === 0n ? near[0] : undefined;
+            this.#indices.push((open.at(-1) ?? label)?.index);
         }
     }
 

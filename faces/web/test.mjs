@@ -144,7 +144,9 @@ class Dump {
         const symbol = this.ask('goblin_symbol', read, (item) => fields(item) + names(item));
         if (!symbol) return;
         const name = this.string(symtab.strtab, symbol.st_name);
-        if (name !== undefined) this.ask('goblin_symbol_by_name', () => symtab.by_name(name));
+        const found = ({ index: at, symbol: it }) => ` ${hex(at)}${fields(it)}`;
+        const firsts = name === undefined ? [] : [0, index + 1];
+        this.ask_each('goblin_symbol_by_name', firsts, (first) => symtab.symbol_by_name(name, first), found);
         const ends = [symbol.st_value, BigInt.asUintN(64, symbol.st_value + symbol.st_size)];
         this.ask_each('goblin_symbol_by_address', ends, (address) => symtab.by_address(address));
         if (index >= FEW) return;
@@ -213,7 +215,13 @@ class Dump {
             this.notes(elf, segment);
             const changed = { ...segment, p_flags: segment.p_flags ^ goblin.PF_X,
                 p_memsz: segment.p_memsz + any_high(index) };
-            if (index < FEW) this.write('goblin_put_segment', (writer) => writer.put_program_header(index, changed));
+            if (index >= FEW) continue;
+            this.write('goblin_put_segment', (writer) => writer.put_program_header(index, changed));
+            const last = BigInt.asUintN(64, p_filesz - 1n);
+            for (const [offset, width, value] of [[0n, 8, 0x7f], [half, 2, 0x7f000], [last, 1, 0x7f]]) {
+                this.write('goblin_put_number_in',
+                    (writer) => writer.put_number_in(segment, offset, width, value));
+            }
         }
         this.ask('goblin_segment', () => list.get(list.length));
     }

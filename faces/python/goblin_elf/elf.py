@@ -8,7 +8,7 @@ from typing import Any, Iterable, Iterator, Optional, Union
 
 from ._library import FUNCTIONS, HEADER, RANGE, RECORDS, File, call, found, unsigned
 from .constants import ELFCLASS64, ELFDATA2MSB, NT_GNU_BUILD_ID, PT_NOTE, SHT_DYNSYM, SHT_NOTE, SHT_SYMTAB
-from .items import Header, Name, Note, Section, Sections, Segment, Segments, Symbol, Symbols, named, read_notes
+from .items import Header, Name, Note, Section, Sections, Segment, Segments, Symbol, Symbols, T, Table, named, read_notes
 from .names import class_to_str, et_to_str, machine_to_str
 
 
@@ -87,15 +87,16 @@ class Elf:
     def section(self, name: Name, first: int = 0) -> Optional[Section]:
         """Returns the first section with a name, from an index on, or `None`. Refused if the section headers or their names are."""
         table = Sections(self)
-        return self._section(table, 'section_by_name', table.strings._range, *named(name), unsigned(first))
+        return self._search(table, 'section_by_name', table.strings._range, *named(name), unsigned(first))
 
     def section_by_type(self, sh_type: int, first: int = 0) -> Optional[Section]:
         """Returns the first section of a type, from an index on, or `None`. Refused if the section headers are."""
-        return self._section(Sections(self), 'section_by_type', unsigned(sh_type, 32), unsigned(first))
+        return self._search(Sections(self), 'section_by_type', unsigned(sh_type, 32), unsigned(first))
 
-    def _section(self, table: Sections, name: str, *arguments: Any) -> Optional[Section]:
+    def _search(self, table: Table[T], name: str, *arguments: Any) -> Optional[T]:
+        """Makes a call that finds an item of a table and its index, or `None` at GOBLIN_END."""
         index = ctypes.c_uint64()
-        fields = found(name, RECORDS['section'], self._file, self._image, *arguments, ctypes.byref(index))
+        fields = found(name, table.record, self._file, self._image, *arguments, ctypes.byref(index))
         return table._made(fields, index.value) if fields else None
 
     @property
@@ -123,7 +124,7 @@ class Elf:
         return next((note.desc for note in notes if note.n_type == NT_GNU_BUILD_ID and note.name == 'GNU'), None)
 
     def symbol_at(self, address: int) -> Optional[Symbol]:
-        """Returns the symbol that contains an address, of the symbols or, if there are none, of the dynamic symbols, or `None`."""
+        """Returns the symbol of an address, of the symbols or, if there are none, of the dynamic symbols, or `None`: see `Symbols.at`."""
         return (self.symbols or self.dynamic_symbols).at(address)
 
     def offset_of(self, address: int) -> Optional[int]:
@@ -142,7 +143,11 @@ class Elf:
 
     def put_number(self, offset: int, width: int, value: int) -> None:
         """Writes a number into `width` bytes (1, 2, 4 or 8) at an offset. Refused if it does not fit, or is not inside the file."""
-        if not self._write('put_number', self._image, unsigned(offset), unsigned(width), unsigned(value)):
+        self._put_number('put_number', offset, width, value)
+
+    def _put_number(self, name: str, *arguments: Any) -> None:
+        *places, offset, width, value = arguments
+        if not self._write(name, self._image, *places, unsigned(offset), unsigned(width), unsigned(value)):
             raise ValueError('the width of a number is 1, 2, 4 or 8')
 
     def _number(self, name: str, *arguments: Any) -> int:

@@ -69,6 +69,10 @@ class Held(Entry):
         """Returns the number in `width` bytes (1, 2, 4 or 8) at an offset in it, in the file's order. Refused if it is not inside."""
         return int(self.table.elf._number('number_in', RANGE.pack(self[:2]), unsigned(offset), unsigned(width)))
 
+    def put_number(self: Any, offset: int, width: int, value: int) -> None:
+        """Writes a number into `width` bytes (1, 2, 4 or 8) at an offset in it. Refused if it does not fit, or is not inside."""
+        self.table.elf._put_number('put_number_in', RANGE.pack(self[:2]), offset, width, value)
+
 
 class Header(HeaderFields):
     """A file's header. goblin.h has more on each field. To write a changed one: `elf.put_header(elf.header._replace(e_entry=0))`."""
@@ -303,7 +307,7 @@ class Sections(NamedTable[Section]):
 
 class Segments(Table[Segment]):
     """The program headers. Refused if they are not all inside the file: see `Elf.whole`."""
-    record, item, one = RECORDS['segment'], Segment, 'segment'
+    record, item, one, many = RECORDS['segment'], Segment, 'segment', 'segments'
 
 
 class Symbols(NamedTable[Symbol]):
@@ -314,16 +318,14 @@ class Symbols(NamedTable[Symbol]):
         super().__init__(elf, RANGE.pack((offset, size)))
         self.strings = strings or Strings(elf, 0, 0)
 
-    def find(self, name: Name) -> Optional[Symbol]:
-        """Returns the first symbol with a name, or `None`. Refused as the strings are."""
-        return self._at('symbol_by_name', self.strings._range, *named(name))
+    def find(self, name: Name, first: int = 0) -> Optional[Symbol]:
+        """Returns the first symbol with a name, from an index on, or `None`. Refused as the strings are."""
+        return self.elf._search(self, 'symbol_by_name', *self._arguments, self.strings._range, *named(name), unsigned(first))
 
     def at(self, address: int) -> Optional[Symbol]:
-        """Returns the symbol that contains an address, or `None`: see `goblin_symbol_by_address`. Each call reads all symbols."""
-        return self._at('symbol_by_address', unsigned(address))
-
-    def _at(self, name: str, *arguments: Any) -> Optional[Symbol]:
-        index = self.elf._find_number(name, *self._arguments, *arguments)
+        """Returns the symbol that contains an address, or else a label at it or before it in its section, or `None`: see
+        `goblin_symbol_by_address`. Each call reads all symbols. Refused if the section headers are."""
+        index = self.elf._find_number('symbol_by_address', *self._arguments, unsigned(address))
         return None if index is None else self[index]
 
 

@@ -98,6 +98,7 @@ class Read(unittest.TestCase):
             main = elf.symbols.find('main')
             self.assertEqual((main.index, main.type, main.binding), (1, STT_FUNC, goblin_elf.STB_GLOBAL))
             self.assertEqual((elf.symbols[3].visibility, elf.symbols.find('été').index), (goblin_elf.STV_HIDDEN, 5))
+            self.assertEqual((elf.symbols.find('main', 1), elf.symbols.find('main', 2)), (main, None))
             self.assertIsNone(elf.symbols.find('absent'))
             self.assertEqual(elf.section('.strtab').strings.get(main.st_name), 'main')
             self.assertEqual(elf.section('.strtab').strings.get_bytes(main.st_name + 1), b'ain')
@@ -106,10 +107,13 @@ class Read(unittest.TestCase):
     def test_symbol_of_an_address(self):
         # the address, and the symbol that contains it: after inner it is outer, which goes on, and after main the label
         for address, name in [(0x1003, None), (0x1004, 'main'), (0x100b, 'main'), (0x100c, None), (0x1010, 'label'), (0x101f, 'label'),
-                              (0x1020, 'outer'), (0x1028, 'inner'), (0x102c, 'outer'), (0x1040, None), (0x400f, 'été')]:
+                              (0x1020, 'outer'), (0x1028, 'inner'), (0x102c, 'outer'), (0x1040, None), (0x400f, 'été'), (0x4010, None)]:
             for _, elf in self.each():
-                found = elf.symbol_at(address)
+                found = Elf(elf.bytes, elf.header._replace(e_type=goblin_elf.ET_DYN)).symbol_at(address)
                 self.assertEqual(found and found.name, name, hex(address))
+                # (the file itself is relocatable, so the label would be at an offset of 0x1010, which is past its section)
+                of_object = elf.symbol_at(address)
+                self.assertEqual(of_object and of_object.name, None if name == 'label' else name, hex(address))
 
     def test_relocations(self):
         for _, elf in self.each():
@@ -411,6 +415,15 @@ class Written(unittest.TestCase):
             self.assertEqual(refusal(elf.put_header, elf.header._replace(ei_class=3)).kind, Kind.INVALID_CLASS)
             self.assertEqual(refusal(elf.put_header, elf.header._replace(ei_data=0)).kind, Kind.DATA)
             self.assertRaises(ValueError, elf.put_number, 24, 3, 1)
+            text = elf.section('.text')
+            before = text.number(2, 2)
+            text.put_number(2, 2, before ^ 0x1234)
+            self.assertEqual(text.number(2, 2), before ^ 0x1234)
+            self.check(file, changed, text.sh_offset + 2, 2)
+            text.put_number(2, 2, before)
+            self.assertEqual(refusal(text.put_number, text.sh_size, 1, 0).kind, Kind.BAD_OFFSET)
+            self.assertEqual(refusal(text.put_number, 2, 2, 1 << 16).offset, text.sh_offset + 2)
+            self.assertRaises(ValueError, text.put_number, 2, 3, 1)
             self.assertEqual(changed, file.bytes)
 
     def test_read_only_bytes_stay(self):

@@ -1,6 +1,8 @@
 //! A sorted map of the addresses of symbols.
 use crate::section_header::{SHN_LORESERVE, SHN_UNDEF, SHN_XINDEX};
 use crate::sym::{Sym, Symtab, STT_FUNC, STT_GNU_IFUNC, STT_NOTYPE, STT_OBJECT};
+use std::cmp::Reverse;
+use std::collections::BinaryHeap;
 
 /// A sorted map of the addresses of a symbol table, for many searches. It finds what [`Symtab::at`] finds in a time
 /// that grows with the logarithm of the number of symbols. It is sorted by Rust's own sort, and is not part of the
@@ -31,29 +33,41 @@ pub struct AddressMap<'a> {
 
 impl<'a> AddressMap<'a> {
     pub(crate) fn of(symbols: Symtab<'a>) -> Self {
-        // the symbols that count, by their first address and then by their index, each with its last address if it
-        // has a size
         let counted = symbols.iter().enumerate().filter(|(_, symbol)| may_contain(symbol));
-        let last = |s: &Sym| s.st_size.checked_sub(1).map(|more| s.st_value.saturating_add(more));
-        let mut places: Vec<_> = counted.map(|(index, symbol)| (symbol.st_value, index, last(&symbol))).collect();
-        places.sort_unstable();
-        let ends = places.iter().filter_map(|place| place.2?.checked_add(1));
-        let mut starts: Vec<_> = places.iter().map(|place| place.0).chain(ends).collect();
+        // the symbols with a size that count, by their first address and then by their index, with their last address,
+        // and those whose section holds addresses from theirs on, by the first of these
+        let (mut sized, mut held) = (Vec::new(), Vec::new());
+        for (index, symbol) in counted {
+            if let Some(more) = symbol.st_size.checked_sub(1) {
+                sized.push((symbol.st_value, index, symbol.st_value.saturating_add(more)));
+            }
+            held.extend(Held::of(&symbols, index, &symbol));
+        }
+        sized.sort_unstable();
+        held.sort_unstable_by_key(|place| place.first);
+        let ends = sized.iter().map(|place| place.2).chain(held.iter().map(|place| place.last));
+        let firsts = sized.iter().map(|place| place.0).chain(held.iter().map(|place| place.first));
+        let mut starts: Vec<_> = firsts.chain(ends.filter_map(|end| end.checked_add(1))).collect();
         starts.sort_unstable();
         starts.dedup();
         // The symbols that contain an address are on a stack, below others that have ended. The topmost one has the
-        // highest value, and is the first of those with the same one.
-        let (mut open, mut label, mut left) = (Vec::new(), None, &places[..]);
+        // highest value, and is the first of those with the same one. Those whose section holds the address are in a
+        // heap, by their rank.
+        let (mut open, mut near, mut sized, mut held) = (Vec::new(), BinaryHeap::new(), &sized[..], &held[..]);
         let pieces = starts.into_iter().map(|start| {
-            let (here, others) = left.split_at(left.partition_point(|place| place.0 <= start));
-            left = others;
-            open.extend(here.iter().rev().filter_map(|place| Some((place.2?, place.1))));
-            if !here.is_empty() {
-                label = here.iter().find(|place| place.2.is_none()).map(|place| place.1);
-            }
+            let (here, others) = sized.split_at(sized.partition_point(|place| place.0 <= start));
+            sized = others;
+            open.extend(here.iter().rev().map(|place| (place.2, place.1)));
             while open.last().map_or(false, |(last, _)| *last < start) {
                 open.pop();
             }
+            let (here, others) = held.split_at(held.partition_point(|place| place.first <= start));
+            held = others;
+            near.extend(here.iter().map(|place| (place.rank(), place.last)));
+            while near.peek().map_or(false, |(_, last)| *last < start) {
+                near.pop();
+            }
+            let label = near.peek().filter(|((_, is_label, _), _)| *is_label).map(|((_, _, index), _)| index.0);
             (start, open.last().map(|(_, index)| *index).or(label))
         });
         AddressMap { symbols, pieces: pieces.collect() }
@@ -68,6 +82,30 @@ impl<'a> AddressMap<'a> {
     /// Returns the symbol that contains an address, whose index [`AddressMap::at`] returns.
     pub fn symbol(&self, address: u64) -> Option<Sym> {
         self.symbols.get(self.at(address)?)
+    }
+}
+
+// A symbol whose section holds addresses from its own on: the first and the last of these.
+struct Held {
+    first: u64,
+    last: u64,
+    value: u64,
+    index: usize,
+    is_label: bool,
+}
+
+impl Held {
+    fn of(symbols: &Symtab<'_>, index: usize, symbol: &Sym) -> Option<Self> {
+        let section = symbols.section(symbol.st_shndx).filter(|_| symbol.st_shndx < SHN_LORESERVE)?;
+        let start = if symbols.is_relocatable() { 0 } else { section.sh_addr };
+        let (first, last) = (start.max(symbol.st_value), start.saturating_add(section.sh_size.checked_sub(1)?));
+        let (value, is_label) = (symbol.st_value, symbol.st_size == 0);
+        Some(Held { first, last, value, index, is_label }).filter(|place| place.first <= place.last)
+    }
+
+    // Returns what decides between two symbols: the higher value, then the size 0, and then the lower index.
+    fn rank(&self) -> (u64, bool, Reverse<usize>) {
+        (self.value, self.is_label, Reverse(self.index))
     }
 }
 

@@ -2,6 +2,7 @@
 pub use crate::constants::header::*;
 use crate::error::{Error, Result, RELOCATIONS, SYMBOLS};
 use crate::names::Name;
+use crate::part::Part;
 use crate::program_header::ProgramHeader;
 pub use crate::raw::Header;
 use crate::reloc::{holds_relocs, Reloc};
@@ -106,6 +107,24 @@ impl Header {
     /// If the bytes at the offset are not inside the file, or if the number does not fit.
     pub fn put_number(&self, bytes: &mut [u8], offset: u64, width: usize, value: u64) -> Result<bool> {
         sys::goblin_put_number(bytes, self, offset, width as u64, value)
+    }
+
+    /// Writes a number of `width` bytes at an offset of a section or of a segment's bytes in the file, as
+    /// [`Elf::number_in`](crate::Elf::number_in) reads it. Returns `false`, and writes nothing, if the width is not 1,
+    /// 2, 4 or 8.
+    ///
+    /// # Errors
+    /// If the section's or the segment's bytes are not inside the file, if the number is not inside them, or if it does
+    /// not fit.
+    pub fn put_number_in(
+        &self,
+        bytes: &mut [u8],
+        part: &impl Part,
+        offset: u64,
+        width: usize,
+        value: u64,
+    ) -> Result<bool> {
+        sys::goblin_put_number_in(bytes, self, &part.range(), offset, width as u64, value)
     }
 }
 

@@ -65,19 +65,6 @@ pub trait List: Copy {
     fn fill(&self, first: u64, items: &mut [Self::Raw]) -> Result<Option<u64>>;
 }
 
-/// Reads the items from an index on one by one, as [`List::fill`] does.
-pub(crate) fn fill_each<L: List>(list: &L, first: u64, items: &mut [L::Raw]) -> Result<Option<u64>> {
-    let mut filled = 0;
-    for (item, index) in items.iter_mut().zip(first..) {
-        match list.read(index)? {
-            Some(read) => *item = read,
-            None => break,
-        }
-        filled += 1;
-    }
-    Ok(Some(filled))
-}
-
 /// Returns what the library read of a list that was made. This is no error: by its contracts the library refuses a list
 /// at every index or at none, and the bytes have not changed.
 #[inline]

@@ -2,7 +2,7 @@
 pub use crate::constants::program_header::*;
 use crate::elf::Elf;
 use crate::error::Result;
-use crate::items::{fill_each, table, Items, List};
+use crate::items::{table, Items, List};
 use crate::names::Name;
 pub use crate::raw::ProgramHeader;
 use crate::section_header::{SectionHeader, SHF_TLS, SHT_NOBITS};
@@ -129,7 +129,7 @@ impl List for ProgramHeaders<'_> {
     }
 
     fn fill(&self, first: u64, items: &mut [ProgramHeader]) -> Result<Option<u64>> {
-        fill_each(self, first, items)
+        sys::goblin_segments(&self.elf.file, &self.elf.header, first, items)
     }
 }
 

@@ -4,9 +4,11 @@ pub use crate::constants::sym::*;
 use crate::elf::Elf;
 use crate::error::Result;
 use crate::file::File;
+use crate::header::ET_REL;
 use crate::items::{made, table, Items, List};
 use crate::names::Name;
 pub use crate::raw::Sym;
+use crate::section_header::SectionHeader;
 use crate::strtab::Strtab;
 use crate::{raw, sys};
 
@@ -122,19 +124,32 @@ impl<'a> Symtab<'a> {
         self.strtab.get_bytes(symbol.st_name)
     }
 
-    /// Returns the index of the symbol that contains an address: of those with
-    /// `st_value <= address < st_value + st_size` the one with the highest `st_value`, the first of several. These sums
-    /// do not wrap around. If there is none, it is the first of size 0, as labels of assembly have, among the symbols
-    /// with the highest `st_value` that is not above the address.
+    /// Returns the index of the symbol of an address. It contains the address: of those with
+    /// `st_value <= address < st_value + st_size` it is the one with the highest `st_value`, the first of several. If
+    /// there is none, a label of size 0 may be there, as assembly has. It counts only in its own section: of the
+    /// symbols with `st_value <= address` whose section holds the address, it is the first of size 0 among those with
+    /// the highest `st_value`. A section holds the addresses with `sh_addr <= address < sh_addr + sh_size`. None of
+    /// these sums wraps around.
     ///
-    /// Only symbols of a section count, whose `st_shndx` is from 1 to 0xfeff, or 0xffff (`SHN_XINDEX`). And only those
-    /// of type `STT_NOTYPE`, `STT_OBJECT`, `STT_FUNC` or `STT_GNU_IFUNC` count. In a file of type `ET_REL` an
-    /// `st_value` is an offset in a section, so symbols of different sections mix.
+    /// Only symbols of a section count, whose `st_shndx` is from 1 to 0xfeff, or 0xffff (`SHN_XINDEX`), which is the
+    /// index of no section here. And only those of type `STT_NOTYPE`, `STT_OBJECT`, `STT_FUNC` or `STT_GNU_IFUNC`
+    /// count. In a file of type `ET_REL` an `st_value` is an offset in a section, so there a section holds the
+    /// addresses below `sh_size`, and symbols of different sections mix.
     ///
     /// Each call reads all symbols: for many addresses use [`Symtab::address_map`].
     pub fn at(&self, address: u64) -> Option<usize> {
         let index = sys::goblin_symbol_by_address(&self.file, &self.header, &self.range, address);
         made(index).map(|index| index as usize)
+    }
+
+    // Returns the section of a symbol by its index.
+    pub(crate) fn section(&self, index: usize) -> Option<SectionHeader> {
+        made(sys::goblin_section(&self.file, &self.header, index as u64))
+    }
+
+    // Reports whether the values of the symbols are offsets in their sections.
+    pub(crate) fn is_relocatable(&self) -> bool {
+        self.header.e_type == ET_REL
     }
 
     /// Returns a sorted map of the addresses, for many searches. It is not proved.
@@ -147,9 +162,32 @@ impl<'a> Symtab<'a> {
     /// # Errors
     /// If the string table is not inside the file.
     pub fn find(&self, name: &str) -> Result<Option<usize>> {
-        let names = &self.strtab.range;
-        let index = sys::goblin_symbol_by_name(&self.file, &self.header, &self.range, names, name.as_bytes())?;
-        Ok(index.map(|index| index as usize))
+        Ok(self.symbol_by_name(name, 0)?.map(|(index, _)| index))
+    }
+
+    /// Returns the first symbol with a name, from an index on, and its index.
+    ///
+    /// ```
+    /// # fn main() -> Result<(), Box<dyn std::error::Error>> {
+    /// # let bytes = std::fs::read(std::env::current_exe()?)?;
+    /// # let elf = goblin_rs::Elf::parse(&bytes)?;
+    /// # if let Some(symbols) = elf.syms()? {
+    /// let mut first = 0;
+    /// while let Some((index, symbol)) = symbols.symbol_by_name("main", first)? {
+    ///     println!("{index}: {:x}", symbol.st_value);
+    ///     first = index + 1;
+    /// }
+    /// # }
+    /// # Ok(())
+    /// # }
+    /// ```
+    ///
+    /// # Errors
+    /// If the string table is not inside the file.
+    pub fn symbol_by_name(&self, name: &str, first: usize) -> Result<Option<(usize, Sym)>> {
+        let (table, names) = (&self.range, &self.strtab.range);
+        let found = sys::goblin_symbol_by_name(&self.file, &self.header, table, names, name.as_bytes(), first as u64)?;
+        Ok(found.map(|(index, symbol)| (index as usize, symbol)))
     }
 }
 

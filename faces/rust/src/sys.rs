@@ -49,6 +49,7 @@ calls! {
     fn goblin_linked_section(header: &Header, index: u64) -> SectionHeader;
     fn goblin_section_names(header: &Header) -> SectionHeader;
     fn goblin_segment(header: &Header, index: u64) -> ProgramHeader;
+    fn goblin_segments(header: &Header, first: u64) into [ProgramHeader] -> u64;
     fn goblin_section_bytes(section: &SectionHeader) -> Range;
     fn goblin_segment_count(header: &Header) -> u64;
     fn goblin_segment_bytes(segment: &ProgramHeader) -> Range;
@@ -60,7 +61,6 @@ calls! {
     fn goblin_number_in(header: &Header, range: &Range, offset: u64, width: u64) -> u64;
     fn goblin_symbol(header: &Header, table: &Range, index: u64) -> Sym;
     fn goblin_symbols(header: &Header, table: &Range, first: u64) into [Sym] -> u64;
-    fn goblin_symbol_by_name(header: &Header, table: &Range, names: &Range) by name -> u64;
     fn goblin_symbol_by_address(header: &Header, table: &Range, address: u64) -> u64;
     fn goblin_reloc(header: &Header, relocs: &Range, is_rela: bool, index: u64) -> Reloc;
     fn goblin_relocs(header: &Header, relocs: &Range, is_rela: bool, first: u64) into [Reloc] -> u64;
@@ -69,31 +69,34 @@ calls! {
     fn goblin_string(strings: &Range, offset: u64) -> Range;
 }
 
-// A call finds the first section of some kind from an index on. It returns the index and the header.
+// A call finds the first item of some kind from an index on: after `by` a slice to read. It returns the index and
+// the item.
 macro_rules! searches {
-    ($(fn $name:ident($given:ident: $type:ty $(, by $by:ident)?);)*) => {$(
+    ($(fn $name:ident($($given:ident: $type:ty),*) $(by $by:ident)? -> $item:ty;)*) => {$(
         #[inline]
-        pub fn $name(bytes: &[u8], header: &Header, $given: $type $(, $by: &[u8])?, first: u64)
-            -> Result<Option<(u64, SectionHeader)>> {
+        pub fn $name(bytes: &[u8], header: &Header $(, $given: $type)* $(, $by: &[u8])?, first: u64)
+            -> Result<Option<(u64, $item)>> {
             extern "C" {
-                fn $name(bytes: *const u8, len: usize, header: &Header, $given: $type $(, $by: *const u8, _: usize)?,
-                    first: u64, index: *mut u64, section: *mut SectionHeader, why: *mut Refusal) -> u32;
+                fn $name(bytes: *const u8, len: usize, header: &Header $(, $given: $type)*
+                    $(, $by: *const u8, _: usize)?, first: u64, index: *mut u64, item: *mut $item,
+                    why: *mut Refusal) -> u32;
             }
-            let (mut index, mut section, mut why) = <(u64, SectionHeader, Refusal)>::default();
+            let (mut index, mut item, mut why) = <(u64, $item, Refusal)>::default();
             // SAFETY: each pointer of a slice is passed with the slice's length. The results are this function's own,
             // and all references and slices outlive the call. It writes only numbers.
             let status = unsafe {
-                $name(bytes.as_ptr(), bytes.len(), header, $given $(, $by.as_ptr(), $by.len())?, first,
-                    &mut index, &mut section, &mut why)
+                $name(bytes.as_ptr(), bytes.len(), header $(, $given)* $(, $by.as_ptr(), $by.len())?, first,
+                    &mut index, &mut item, &mut why)
             };
-            result(status, (index, section), why)
+            result(status, (index, item), why)
         }
     )*};
 }
 
 searches! {
-    fn goblin_section_by_name(names: &Range, by name);
-    fn goblin_section_by_type(sh_type: u32);
+    fn goblin_section_by_name(names: &Range) by name -> SectionHeader;
+    fn goblin_section_by_type(sh_type: u32) -> SectionHeader;
+    fn goblin_symbol_by_name(table: &Range, names: &Range) by name -> Sym;
 }
 
 // A call writes a record into a file's bytes. It returns whether there is one.
@@ -119,6 +122,7 @@ writes! {
     fn goblin_put_symbol(table: &Range, index: u64, symbol: &Sym);
     fn goblin_put_reloc(table: &Range, is_rela: bool, index: u64, reloc: &Reloc);
     fn goblin_put_number(offset: u64, width: u64, value: u64);
+    fn goblin_put_number_in(range: &Range, offset: u64, width: u64, value: u64);
 }
 
 /// Returns a header that counts only the headers that are whole inside the file.

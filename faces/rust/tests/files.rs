@@ -291,7 +291,9 @@ fn counts_and_bytes() {
         let elf = Elf::parse(&file).unwrap();
         let symbols = elf.syms().unwrap().unwrap();
         assert_eq!((symbols.len(), symbols.is_empty()), (7, false));
-        assert_eq!((symbols.at(0), symbols.at(0x101f)), (Some(5), Some(6)));
+        // the labels 5 and 6 have the values 0 and 1, and their section, ".note", holds 48 addresses from 0x6001 on
+        assert_eq!((symbols.at(0), symbols.at(0x101f), symbols.at(0x6000)), (None, None, None));
+        assert_eq!((symbols.at(0x6001), symbols.at(0x6030), symbols.at(0x6031)), (Some(6), Some(6), None));
         assert_eq!((symbols.at(0x1020), symbols.at(0x104f)), (Some(1), Some(1)));
         assert_eq!((symbols.at(0x1050), symbols.at(u64::MAX >> 32)), (None, None));
         let counts: Vec<_> = elf.shdr_relocs().unwrap().iter().map(|(_, relocs)| relocs.len()).collect();
@@ -399,6 +401,9 @@ fn symbols_relocations_and_numbers_are_written() {
         let written = header.put_number(&mut file, 18, 2, 0xf3);
         assert_eq!(Elf::parse(&file).unwrap().header.e_machine, 0xf3);
         has_written(&mut file, &before, (18, 2), written);
+        let written = header.put_number_in(&mut file, &rel, 2, 2, 0x1234);
+        assert_eq!(Elf::parse(&file).unwrap().number_in(&rel, 2, 2), Ok(Some(0x1234)));
+        has_written(&mut file, &before, (rel.sh_offset + 2, 2), written);
         // none of these is written
         let past = (header.put_symbol(&mut file, &table, 5, &symbol), header.put_reloc(&mut file, &rel, 1, &without));
         assert_eq!((past, header.put_number(&mut file, 0, 3, 0)), ((Ok(false), Ok(false)), Ok(false)));
@@ -407,6 +412,10 @@ fn symbols_relocations_and_numbers_are_written() {
         let high = Sym { st_shndx: 0x10000, ..symbol };
         assert_eq!(why(header.put_symbol(&mut file, &table, 0, &high)), (Kind::IntegerFit, table.sh_offset));
         assert_eq!(why(header.put_number(&mut file, 18, 2, 0x10000)), (Kind::IntegerFit, 18));
+        assert_eq!(why(header.put_number_in(&mut file, &rel, 2, 1, 0x100)), (Kind::IntegerFit, rel.sh_offset + 2));
+        let end = rel.sh_offset + rel.sh_size;
+        assert_eq!(why(header.put_number_in(&mut file, &rel, rel.sh_size, 1, 0)), (Kind::BadOffset(rel.sh_size), end));
+        assert_eq!(header.put_number_in(&mut file, &rel, 2, 3, 0), Ok(false));
         let of_type = (header.put_symbol(&mut file, &rel, 0, &symbol), header.put_reloc(&mut file, &table, 0, &reloc));
         let refused = (
             Kind::SectionType { sh_type: SHT_REL, expected: "symbols" },
@@ -601,6 +610,21 @@ fn parts_of_sections_and_segments() {
 }
 
 #[test]
+fn symbols_of_one_name() {
+    for form in FORMS {
+        // the symbols from 5 on have the empty name, as symbol 0 has
+        let file = made(form, 2);
+        let symbols = Elf::parse(&file).unwrap().syms().unwrap().unwrap();
+        let found: Vec<_> = (0..9).map(|first| symbols.symbol_by_name("", first).unwrap()).collect();
+        let at = |index| symbols.get(index).map(|symbol| (index, symbol));
+        let wanted = [&[at(0)], &[at(5); 5][..], &[at(6)], &[None; 2]].concat();
+        assert_eq!(found, wanted);
+        assert_eq!((symbols.symbol_by_name("first", 0), symbols.symbol_by_name("first", 2)), (Ok(at(1)), Ok(None)));
+        assert_eq!((symbols.symbol_by_name("", usize::MAX), symbols.find("second")), (Ok(None), Ok(Some(2))));
+    }
+}
+
+#[test]
 fn sections_of_one_name() {
     for form in FORMS {
         // the sections at 4 and 5 have the name ".rela"
@@ -619,15 +643,18 @@ fn sections_of_one_name() {
 #[test]
 fn symbols_by_a_map_of_their_addresses() {
     for (form, more) in FORMS.into_iter().flat_map(|form| [(form, 0), (form, 3), (form, 100)]) {
-        let file = made(form, more);
+        let mut file = made(form, more);
+        let header = Elf::parse(&file).unwrap().header;
+        let notes = SectionHeader { sh_size: 0x1000, ..Default::default() };
+        assert_eq!(header.put_section_header(&mut file, 1, &notes), Ok(true));
         let symbols = Elf::parse(&file).unwrap().syms().unwrap().unwrap();
         let map = symbols.address_map();
         // symbol 1 has the value 0x1020 and the size 0x30, and each symbol from 5 on the number before which it was
-        // added and no size; others are of no section
+        // added and no size, in section 1, which ends at 0x1000; others are of no section
         for address in (0..0x1100).chain([u64::MAX]) {
             let wanted = match address {
                 0x1020..=0x104f => Some(1),
-                0x1050.. => None,
+                0x1000.. => None,
                 _ if more == 0 => None,
                 _ => Some(5 + (address as usize).min(more - 1)),
             };
@@ -639,14 +666,21 @@ fn symbols_by_a_map_of_their_addresses() {
 }
 
 /// Returns the symbol of an address, by trying all symbols.
-fn expected_at(symbols: &[Sym], address: u64) -> Option<usize> {
+fn expected_at(elf: &Elf<'_>, symbols: &[Sym], address: u64) -> Option<usize> {
     let counts =
         |s: &Sym| ((1..0xff00).contains(&s.st_shndx) || s.st_shndx == 0xffff) && [0, 1, 2, 10].contains(&s.st_type());
+    let start = |section: &SectionHeader| if elf.header.e_type == 1 { 0 } else { section.sh_addr };
+    let holds = |section: SectionHeader| {
+        u128::from(address) < u128::from(start(&section)) + u128::from(section.sh_size) && start(&section) <= address
+    };
+    let is_held =
+        |s: &Sym| s.st_shndx < 0xff00 && elf.section_header(s.st_shndx).unwrap().map_or(false, holds);
     let below = || symbols.iter().enumerate().filter(|(_, s)| counts(s) && s.st_value <= address);
     let containing = || below().filter(|(_, s)| address - s.st_value < s.st_size);
+    let near = || below().filter(|(_, s)| is_held(s));
     let highest = |value: Option<u64>| move |(_, s): &(usize, &Sym)| Some(s.st_value) == value;
     let first = containing().find(highest(containing().map(|(_, s)| s.st_value).max()));
-    let label = || below().filter(highest(below().map(|(_, s)| s.st_value).max())).find(|(_, s)| s.st_size == 0);
+    let label = || near().filter(highest(near().map(|(_, s)| s.st_value).max())).find(|(_, s)| s.st_size == 0);
     first.or_else(label).map(|(index, _)| index)
 }
 
@@ -663,25 +697,33 @@ fn maps_of_nested_symbols() {
         let start = file.len() as u64;
         for _ in 0..any(14) {
             let (value, size) = (any(24), if any(9) == 0 { u64::MAX } else { any(12) });
-            let (value, section) =
-                (if any(9) == 0 { u64::MAX - value } else { value }, [1, 1, 1, 2, 0xffff, 0, 0xfff1][any(7) as usize]);
+            let value = if any(9) == 0 { u64::MAX - value } else { value };
+            let section = [1, 1, 2, 3, 0xffff, 0, 0xfff1, 9][any(8) as usize];
             let info = [2, 2, 0, 1, 10, 3, 0x12][any(7) as usize];
             file.extend(form.symbol(0, value, size, info, 0, section));
         }
         file.push(0);
-        let elf = Elf::parse(&file).unwrap();
+        let header = Elf::parse(&file).unwrap().header;
         let section = SectionHeader {
             sh_type: SHT_SYMTAB,
             sh_offset: start,
             sh_size: file.len() as u64 - start,
             ..Default::default()
         };
+        for index in 1..4 {
+            let most = if form.is_64 { u64::MAX } else { u32::MAX.into() };
+            let sh_addr = if any(4) == 0 { most - any(30) } else { any(20) };
+            let holder = SectionHeader { sh_addr, sh_size: if any(9) == 0 { most } else { any(24) }, ..section };
+            assert_eq!(header.put_section_header(&mut file, index, &holder), Ok(true));
+        }
+        header::Header { e_type: any(4) as u16, ..header }.put(&mut file).unwrap();
+        let elf = Elf::parse(&file).unwrap();
         let symbols = elf.symtab(&section).unwrap();
         let (map, all) = (symbols.address_map(), symbols.iter().collect::<Vec<_>>());
         for address in
             (0..40).chain((0..40).map(|less| u64::MAX - less)).chain((0..40).map(|less| u64::from(u32::MAX) - less))
         {
-            let wanted = expected_at(&all, address);
+            let wanted = expected_at(&elf, &all, address);
             assert_eq!((map.at(address), symbols.at(address)), (wanted, wanted), "{address:#x} {all:?}");
         }
     }
