@@ -301,7 +301,7 @@ fn has_header(container: Container, order: u8) -> bool {
             let is_read = matches!(elf32::header::Header::parse(&bytes), Ok(read) if read == raw);
             let is_same = raw.try_into_ctx(&mut again, LE).is_ok()
                 && again == bytes
-                && bytes[..16] == header.e_ident;
+                && bytes[..16] == header.e_ident[..];
             header.fits(container)
                 && is_written
                 && bytes[16..52] == ONES[16..52]
@@ -317,7 +317,7 @@ fn has_header(container: Container, order: u8) -> bool {
             let is_read = matches!(elf64::header::Header::parse(&bytes), Ok(read) if read == raw);
             let is_same = raw.try_into_ctx(&mut again, LE).is_ok()
                 && again == bytes
-                && bytes[..16] == header.e_ident;
+                && bytes[..16] == header.e_ident[..];
             header.fits(container)
                 && is_written
                 && bytes[16..] == ONES[16..]
