@@ -3,12 +3,15 @@ pub mod FilledBufferLemmas
 pub mod ListedLemmas
 pub mod NumberLemmas
 pub mod OffsetLemmas
+pub mod ClosedLemmas
+pub mod CompareLemmas
 pub mod CountLemmas
 pub mod EachLemmas
 pub mod HeaderPutLemmas
 pub mod IndexLemmas
 pub mod InsideLemmas
 pub mod NoteLemmas
+pub mod PieceLemmas
 pub mod PlaceLemmas
 pub mod SearchLemmas
 pub mod PutLemmas

@@ -13,7 +13,7 @@ range_lies : (bytes : List ℕ) (range found : GoblinRange)
 range_lies bytes range found is = grind (arith, fits-room_of (length bytes) range.offset range.size)
 
 -- a piece is no longer than the strings from its offset on
-piece_short : (strings : List ℕ) (offset : ℕ) → length (piece strings 0 offset) ≤ length strings - offset
+pub piece_short : (strings : List ℕ) (offset : ℕ) → length (piece strings 0 offset) ≤ length strings - offset
 unfolding piece
 piece_short strings offset =
     let rest = drop offset strings in

@@ -1,6 +1,6 @@
 -- The expected ranges of bytes of a section, a segment and a string, and the number of some bytes.
-use Rattle.std.specs.Prelude.{ℕ, ◌+◌, ◌==◌, ◌||◌, not, nat_le, if◌then◌else◌, Bool, List, length, Option, Some, None}
-use Rattle.std.specs.Prelude.{Result, Ok}
+use Rattle.std.specs.Prelude.{◌≡◌, ◌≢◌, ℕ, ◌+◌, ◌==◌, ◌||◌, not, nat_le, nat_lt, if◌then◌else◌, Bool, List, All, length}
+use Rattle.std.specs.Prelude.{take, drop, slice_get, Option, Some, None, Result, Ok}
 use Rattle.goblin_base.specs.Number.{number_at}
 use Rattle.goblin_base.specs.Pieces.{piece}
 use Rattle.goblin_c.specs.Common.{misplaced, room_of, ◌>>=◌, refuse_as, is_nobits, GoblinHeader, GoblinRange}
@@ -37,6 +37,20 @@ string_bytes_expected bytes range offset = do
   strings ← strings_expected bytes range
   if nat_le (length strings) offset then Ok None
       else Ok (Some (record { offset = range.offset + offset; size = length (piece strings 0 offset) }))
+
+-- the same, if a zero byte of the range closes the string: it ends before the range does
+abbrev pub string_closed_expected : List ℕ → GoblinRange → ℕ → Result (Option GoblinRange) RefusalAt
+string_closed_expected bytes range offset = do
+  strings ← strings_expected bytes range
+  if nat_lt (offset + length (piece strings 0 offset)) (length strings)
+      then Ok (Some (record { offset = range.offset + offset; size = length (piece strings 0 offset) })) else Ok None
+
+-- the bytes from the start of a range on are a C string of the range's size: the byte after the range is 0, and none in
+-- it is
+abbrev pub IsCString : List ℕ → GoblinRange → Type 0
+IsCString bytes range =
+    (slice_get bytes (range.offset + range.size) ≡ Some 0)
+    × All (λ b. b ≢ 0) (take range.size (drop range.offset bytes))
 
 -- the widths that numbers of the format have, in bytes
 abbrev pub is_width : ℕ → Bool

@@ -19,6 +19,7 @@ unfoldable pub use Rattle.goblin_base.specs.Room.{room_of}
 pub use Rattle.goblin_base.specs.Steps.{refuse_as, with_size, ◌>>=◌}
 pub use Rattle.goblin_base.specs.Strtab.{plain}
 unfoldable pub use Rattle.goblin_base.specs.Strtab.{has_name, range_in}
+unfoldable pub use Rattle.goblin_base.specs.Wanted.{is_piece, starts_piece}
 pub use Rattle.goblin_base.specs.Texts.{Facts, facts_text, kind_number, kind_with, refusal_facts, refusal_text}
 pub use Rattle.goblin_base.specs.declared.container.Ctx.{Ctx}
 pub use Rattle.goblin_base.specs.declared.error.Error.{Error}

@@ -2,6 +2,7 @@
 use Rattle.std.specs.Prelude.{ℕ, ◌+◌, ◌/◌, ◌==◌, nat_le, if◌then◌else◌, List, length, drop, map, position, slice_get}
 use Rattle.std.specs.Prelude.{Bool, Option, Some, None, Result, Ok}
 use Rattle.goblin_c.specs.Common.{option_map, Ctx, malformed, refusal_of, ◌>>=◌, refuse_as, range_in, plain, has_name}
+use Rattle.goblin_c.specs.Common.{is_piece, starts_piece}
 use Rattle.goblin_c.specs.Common.{SectionHeader, read_header, linked, section_headers_of, Sym, sym_size, ProgramHeader}
 use Rattle.goblin_c.specs.Common.{program_headers_from, Reloc, is_mips64el_in, relocs_of, symtab_of, segment_count}
 use Rattle.goblin_c.specs.Common.{GoblinHeader, GoblinRange, GoblinSection, GoblinSegment, GoblinReloc, GoblinSymbol}
@@ -169,6 +170,18 @@ string_expected bytes range offset = do
       else do
         text ← refused_at (range.offset + offset) (plain strings 0 offset)
         Ok (Some (record { offset = range.offset + offset; size = length text }))
+
+-- whether the string at an offset of the strings of a range is a name, text or not: past the strings there is none
+abbrev pub string_is_expected : List ℕ → GoblinRange → ℕ → List ℕ → Result Bool RefusalAt
+string_is_expected bytes range offset name = do
+  strings ← strings_expected bytes range
+  Ok (is_piece strings 0 offset name)
+
+-- whether it starts with some bytes
+abbrev pub string_starts_expected : List ℕ → GoblinRange → ℕ → List ℕ → Result Bool RefusalAt
+string_starts_expected bytes range offset start = do
+  strings ← strings_expected bytes range
+  Ok (starts_piece strings 0 offset start)
 
 -- whether the plain reading at an offset of some strings is a name
 abbrev pub is_named : List ℕ → List ℕ → ℕ → Bool

@@ -1,6 +1,8 @@
 -- Laws of the calls: the items that they store one by one are those that the library reads at once.
-use Rattle.std.specs.Prelude.{◌≡◌, ◌≢◌, ◌⊎◌, ◌+◌, ◌-◌, ◌/◌, ◌<◌, ◌≤◌, ℕ, zero, suc, min, Bool, List, [], ◌∷◌}
-use Rattle.std.specs.Prelude.{if◌then◌else◌, length, take, drop, slice_get, Option, Some, None, Result, Ok, Err, IsOk}
+use Rattle.std.specs.Prelude.{◌≡◌, ◌≢◌, ◌⊎◌, ◌+◌, ◌-◌, ◌/◌, ◌<◌, ◌≤◌, ℕ, zero, suc, min, Bool, true, false, List, []}
+use Rattle.std.specs.Prelude.{◌∷◌, if◌then◌else◌, length, take, drop, slice_get, Option, Some, None, Result, Ok, Err}
+use Rattle.std.specs.Prelude.{IsOk}
+use Rattle.std.specs.Str.{bytes_eq, is_utf8}
 use Rattle.goblin_c.specs.Common.{option_map, Ctx, InvalidClass, InvalidEndianness, Refusal, refusal_of, ◌>>=◌}
 use Rattle.goblin_c.specs.Common.{refuse_as, plain, Header, class_of, order_of, program_headers_from, read_header}
 use Rattle.goblin_c.specs.Common.{is_of_mips64el, relocs_of, is_table, section_headers_of, Sym, sym_size, symtab_of}
@@ -18,7 +20,8 @@ use Rattle.goblin_c.specs.Expected.{reloc_expected, string_expected, symbol_coun
 use Rattle.goblin_c.specs.Expected.{sections_from_expected, symbols_from_expected, relocs_from_expected}
 use Rattle.goblin_c.specs.Expected.{section_names_expected, section_by_name_expected, symbol_by_name_expected}
 use Rattle.goblin_c.specs.Expected.{segments_from_expected}
-use Rattle.goblin_c.specs.Expected.{strings_expected, table_expected, whole_header}
+use Rattle.goblin_c.specs.Expected.{is_named, string_is_expected, string_starts_expected, strings_expected}
+use Rattle.goblin_c.specs.Expected.{table_expected, whole_header}
 use Rattle.goblin_c.specs.Bytes.{section_bytes_expected, segment_bytes_expected, string_bytes_expected}
 use Rattle.goblin_c.specs.FilledBuffer.{closed, laid}
 use Rattle.goblin_c.specs.Notes.{note_bytes_expected, note_expected, part_number}
@@ -339,6 +342,31 @@ abbrev pub StringsAreBytes : Type 0
 StringsAreBytes =
     (bytes : List ℕ) (range : GoblinRange) (offset : ℕ) (found : GoblinRange)
     → string_expected bytes range offset ≡ Ok (Some found) → string_bytes_expected bytes range offset ≡ Ok (Some found)
+
+-- whether a range that a call stored has these bytes, and whether it starts with them
+abbrev pub range_is : List ℕ → List ℕ → Option GoblinRange → Bool
+range_is bytes name (Some found) = bytes_eq (bytes_in bytes found) name
+range_is bytes name None = false
+
+abbrev pub range_starts : List ℕ → List ℕ → Option GoblinRange → Bool
+range_starts bytes start (Some found) = bytes_eq (take (length start) (bytes_in bytes found)) start
+range_starts bytes start None = false
+
+-- a string that is compared is compared as the bytes at its range are, and with a name that is UTF-8 as the searches by
+-- a name do
+pub record StringsAreCompared : Type 0 where
+  pub whole :
+      (bytes : List ℕ) (range : GoblinRange) (offset : ℕ) (name : List ℕ)
+      → string_is_expected bytes range offset name
+      ≡ (string_bytes_expected bytes range offset >>= λ found. Ok (range_is bytes name found))
+  pub start :
+      (bytes : List ℕ) (range : GoblinRange) (offset : ℕ) (start : List ℕ)
+      → string_starts_expected bytes range offset start
+      ≡ (string_bytes_expected bytes range offset >>= λ found. Ok (range_starts bytes start found))
+  pub named :
+      (bytes : List ℕ) (range : GoblinRange) (offset : ℕ) (name : List ℕ) → is_utf8 name ≡ true
+      → string_is_expected bytes range offset name
+      ≡ (strings_expected bytes range >>= λ strings. Ok (is_named strings name offset))
 
 -- a text that is shorter than the buffer stands at its start, and a zero byte after it
 abbrev pub TextIsClosed : Type 0

@@ -136,6 +136,101 @@ fn finds_strings_that_are_not_utf8(rt: HostRuntime) {
     );
 }
 
+// The first number and the offset of a refusal that is unchanged.
+const FIRST_MARK: u64 = 0x0303_0303_0303_0303;
+
+const OFFSET_MARK: u64 = 0x0707_0707_0707_0707;
+
+// The status of a call that compares a string with a name, with the refusal's first number.
+macro_rules! compared {
+    ($call:ident, $strings:expr, $offset:expr, $name:expr) => {{
+        let mut why = marked_layout().refusal;
+        let status = $call(FILE, $strings, $offset, $name, &mut why);
+        (status, why.first)
+    }};
+}
+
+// Whether the calls report that the string at an offset is a name or starts with it, or that it is or does not.
+fn is_named(offset: u64, name: &[u8]) -> bool {
+    compared!(goblin_string_is, &STRINGS, offset, name) == (0, FIRST_MARK)
+}
+
+fn is_not_named(offset: u64, name: &[u8]) -> bool {
+    compared!(goblin_string_is, &STRINGS, offset, name) == (1, FIRST_MARK)
+}
+
+fn starts(offset: u64, start: &[u8]) -> bool {
+    compared!(goblin_string_starts, &STRINGS, offset, start) == (0, FIRST_MARK)
+}
+
+fn does_not_start(offset: u64, start: &[u8]) -> bool {
+    compared!(goblin_string_starts, &STRINGS, offset, start) == (1, FIRST_MARK)
+}
+
+#[test]
+fn compares_strings_in_place(rt: HostRuntime) {
+    assert!(rt; is_named(1, b"ab") && is_named(2, b"b") && is_named(0, b"") && is_named(3, b""));
+    assert!(rt; is_named(4, b"\xff\xfe") && is_named(7, b"c"));
+    assert!(rt; is_not_named(1, b"a") && is_not_named(1, b"ac") && is_not_named(1, b"abc"));
+    assert!(rt; is_not_named(1, b"") && is_not_named(1, b"ab\0") && is_not_named(7, b"c\0"));
+    assert!(rt; is_not_named(8, b"") && is_not_named(u64::MAX, b"") && is_not_named(117, b"ab"));
+}
+
+#[test]
+fn compares_starts_of_strings_in_place(rt: HostRuntime) {
+    assert!(rt; starts(1, b"") && starts(1, b"a") && starts(1, b"ab") && starts(3, b""));
+    assert!(rt; starts(4, b"\xff") && starts(7, b"c"));
+    assert!(rt; does_not_start(1, b"b") && does_not_start(1, b"abc"));
+    assert!(rt; does_not_start(3, b"\0") && does_not_start(1, b"ab\0"));
+    assert!(rt; does_not_start(8, b"") && does_not_start(7, b"c\0"));
+    assert!(rt; does_not_start(u64::MAX, b"a"));
+}
+
+#[test]
+fn compares_no_strings_past_the_file(rt: HostRuntime) {
+    let (past, wrapped) = (&range(300, 9), &range(u64::MAX, 9));
+    assert!(rt; compared!(goblin_string_is, past, 0, b"") == (21, 9));
+    assert!(rt; compared!(goblin_string_is, &range(309, 0), 0, b"") == (20, 309));
+    assert!(rt; compared!(goblin_string_starts, past, 9, b"") == (21, 9));
+    assert!(rt; compared!(goblin_string_starts, wrapped, 0, b"") == (20, u64::MAX));
+}
+
+// The answer for a string that a zero byte closes.
+fn closed_in(strings: &GoblinRange, offset: u64) -> (u32, u64, u64) {
+    shown(called!(goblin_string_closed(FILE, strings, offset), range(9, 9)))
+}
+
+// (after the string "c", which ends with its range, the file has a zero byte)
+#[test]
+fn finds_strings_that_are_closed(rt: HostRuntime) {
+    assert!(rt; closed_in(&STRINGS, 0) == (0, 116, 0) && closed_in(&STRINGS, 1) == (0, 117, 2));
+    assert!(rt; closed_in(&STRINGS, 4) == (0, 120, 2) && closed_in(&STRINGS, 6) == (0, 122, 0));
+    assert!(rt; closed_in(&STRINGS, 7) == (1, 9, 9) && closed_in(&STRINGS, 8) == (1, 9, 9));
+    assert!(rt; closed_in(&range(116, 9), 7) == (0, 123, 1));
+    assert!(rt; closed_in(&range(300, 9), 0) == (21, 9, 300));
+}
+
+// What is stored for the strings at offsets: the answer, their number, the ranges, and where what is refused begins.
+fn strings_in(strings: &GoblinRange, offsets: &[u64]) -> (u32, u64, [u64; 4], u64) {
+    let (mut found, mut filled, mut why) = ([range(9, 9); 2], 9, marked_layout().refusal);
+    let status = goblin_strings(FILE, strings, offsets, &mut found, &mut filled, &mut why);
+    let [first, second] = found;
+    (
+        status,
+        filled,
+        [first.offset, first.size, second.offset, second.size],
+        why.offset,
+    )
+}
+
+#[test]
+fn finds_many_strings_that_are_not_utf8(rt: HostRuntime) {
+    assert!(rt; strings_in(&STRINGS, &[4, 7]) == (0, 2, [120, 2, 123, 1], OFFSET_MARK));
+    assert!(rt; strings_in(&STRINGS, &[4, 8]) == (1, 1, [120, 2, 9, 9], OFFSET_MARK));
+    assert!(rt; strings_in(&range(300, 9), &[0]) == (21, 0, [9, 9, 9, 9], 300));
+    assert!(rt; strings_in(&range(300, 9), &[]) == (0, 0, [9, 9, 9, 9], OFFSET_MARK));
+}
+
 // Where what is refused begins, by the refusal of a call that is refused.
 fn begins<T: Drop>((status, _, why): (u32, T, GoblinRefusal)) -> u64 {
     if status > 1 { why.offset } else { u64::MAX }

@@ -1,6 +1,6 @@
 //! Laws of the calls: the items that they store one by one are those that the library reads at once.
 ghost use Rattle.goblin_c.specs.TextLaws.{PartsHaveSameText, RefusalsHaveSameText};
-ghost use Rattle.goblin_c.specs.Laws.{WholeHeaderKeeps, WholeNotesAreNotes, TextIsClosed, NotesAreItems, NotesInARow, NotesLieInFile, ContextIsTheHeaders, SectionsByIndex, SegmentsByIndex, SymbolsByIndex, RelocsByIndex, FilledByIndex, BufferIsFilled, NamesByIndex, StringsAreThere, StringsLieInFile, SectionsByName, SymbolsByName, SectionsByType, BytesLieInFile, StringsAreBytes, EmptyHaveNoBytes, PartsAreNumbered, TablesByIndex, KindsAreAboveOne};
+ghost use Rattle.goblin_c.specs.Laws.{WholeHeaderKeeps, WholeNotesAreNotes, TextIsClosed, NotesAreItems, NotesInARow, NotesLieInFile, ContextIsTheHeaders, SectionsByIndex, SegmentsByIndex, SymbolsByIndex, RelocsByIndex, FilledByIndex, BufferIsFilled, NamesByIndex, StringsAreThere, StringsLieInFile, SectionsByName, SymbolsByName, SectionsByType, BytesLieInFile, StringsAreBytes, StringsAreCompared, EmptyHaveNoBytes, PartsAreNumbered, TablesByIndex, KindsAreAboveOne};
 
 /// Laws: calls of `goblin_note` at a range's start and then at each `next` store exactly the notes of the
 /// library's iterator over the range, in its order, up to the end or the first refusal. The ranges that
@@ -15,7 +15,7 @@ pub fn notes()
     ensures numbers { PartsAreNumbered }
 {}
 
-/// Laws: for each refusal that a call stores, `goblin_refusal_text` writes the text that the library's
+/// Laws: for each refusal that a call stores, `goblin_refusal_to_str` writes the text that the library's
 /// own error prints. So it does for those of `goblin_note_bytes`, whose item is the part.
 pub fn texts()
     ensures calls { RefusalsHaveSameText }
@@ -74,6 +74,13 @@ pub fn buffers()
 pub fn strings()
     ensures there { StringsAreThere }
     ensures within { StringsLieInFile }
+{}
+
+/// Laws: `goblin_string_is` and `goblin_string_starts` return 0 exactly if `goblin_string_bytes` stores a range whose
+/// bytes are the name, or start with it. They return the same refusals. With a name that is UTF-8 `goblin_string_is`
+/// compares as `goblin_section_by_name` and `goblin_symbol_by_name` do.
+pub fn comparisons()
+    ensures { StringsAreCompared }
 {}
 
 /// Laws: `goblin_section_by_name` and `goblin_symbol_by_name` store the index of the first item from an index on whose

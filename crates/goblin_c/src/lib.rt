@@ -49,24 +49,26 @@ pub use names::{
 };
 pub use notes::{goblin_note, goblin_note_bytes};
 pub use places::{goblin_address_to_offset, goblin_number_in, goblin_range_in_file};
-pub use strings::{goblin_string, goblin_strings};
+pub use strings::{
+    goblin_string, goblin_string_closed, goblin_string_is, goblin_string_starts, goblin_strings,
+};
 pub use tables::{
     goblin_reloc_count, goblin_relocs, goblin_section_by_name, goblin_symbol_by_address,
     goblin_symbol_by_name, goblin_symbol_count, goblin_symbols,
 };
-pub use texts::goblin_refusal_text;
+pub use texts::goblin_refusal_to_str;
 pub use write::{
     goblin_put_header, goblin_put_number, goblin_put_number_in, goblin_put_reloc,
     goblin_put_section, goblin_put_segment, goblin_put_symbol,
 };
 
 /// The version of these calls and of their structs.
-pub const VERSION: u32 = 6;
+pub const VERSION: u32 = 7;
 
 /// Returns the version of the library.
 #[unsafe(no_mangle)]
 pub extern "C" fn goblin_version() -> u32
-    ensures { result ≡ 6 }
+    ensures { result ≡ 7 }
 {
     VERSION
 }

@@ -1,16 +1,22 @@
-//! Strings, and where they lie in the file.
-ghost use Rattle.std.specs.Prelude.{◌≡◌, ◌+◌, ◌≤◌, IfOk, length, map, take};
+//! Strings: where they lie in the file, and what they are.
+ghost use Rattle.std.specs.Prelude.{◌≡◌, ◌+◌, ◌≤◌, ◌<◌, Ok, IfOk, IsErr, IsErrAnd, MatchOption, length, map, take};
+ghost use Rattle.goblin_base.specs.Pieces.{piece};
+ghost use Rattle.goblin_c.specs.Bytes.{IsCString, string_bytes_expected, string_closed_expected};
 ghost use Rattle.goblin_c.specs.Refused.{Returns};
-ghost use Rattle.goblin_c.specs.Expected.{string_expected, strings_expected};
-ghost use Rattle.goblin_c.specs.Status.{FillsEach, Stores};
+ghost use Rattle.goblin_c.specs.Expected.{string_expected, string_is_expected, string_starts_expected, strings_expected};
+ghost use Rattle.goblin_c.specs.Status.{FillsEach, Reports, Stores};
+ghost use Rattle.goblin_c.specs.Types.{refusal_converted};
 
-use crate::kinds::OK;
+use crate::kinds::{END, OK};
 use crate::refused::{Result, refused_at};
-use crate::status::store;
+use crate::status::{refuse, status_of, store};
 use crate::types::{GoblinRange, GoblinRefusal};
 use goblin::options::ParseMode;
 use goblin::strtab;
-use goblin::strtab::bytes_in_range;
+use goblin::strtab::{bytes_in_range, is_piece, piece_len, starts_piece};
+
+// The most bytes of a short string and of the zero byte after it.
+const SHORT: usize = 32;
 
 /// Returns the bytes of a string table.
 #[tactic(auto, unfolding(goblin_base::specs::Strtab::range_in))]
@@ -60,8 +66,128 @@ pub extern "C" fn goblin_string(
     store(string_at(bytes, strings, offset), string, why)
 }
 
-/// Stores the ranges that `goblin_string` stores at some offsets, in their order, up to the first offset at which it
-/// stores none.
+// Returns the bytes of a string table that lies in the file, without the steps that prepare a refusal.
+#[inline(always)]
+#[tactic(auto, using(crate::proofs::CompareLemmas::inside))]
+fn table_inside<'a>(bytes: &'a [u8], range: &GoblinRange) -> Option<&'a [u8]>
+    ensures { MatchOption result
+        (IsErr (strings_expected bytes.now range.now))
+        (λ strings. strings_expected bytes.now range.now ≡ Ok strings.now) }
+{
+    let (end, overflow) = range.offset.overflowing_add(range.size);
+    if overflow || end > bytes.len() as u64 {
+        return None;
+    }
+    Some(&bytes[range.offset as usize..end as usize])
+}
+
+// Stores the refusal of a string table that doesn't lie in the file. Returns the number of its kind.
+#[cold]
+#[inline(never)]
+fn refuse_table(bytes: &[u8], range: &GoblinRange, why: &mut GoblinRefusal) -> u32
+    requires { IsErr (strings_expected bytes.now range.now) }
+    ensures { IsErrAnd (strings_expected bytes.now range.now) (λ refusal.
+        (result ≡ (refusal_converted refusal).kind) × (why.new ≡ refusal_converted refusal)) }
+{
+    match string_table_bytes(bytes, range) {
+        Ok(_) => unreachable!(),
+        Err(e) => refuse(&e, why),
+    }
+}
+
+/// Reports whether the string at an offset of a string table is a name.
+#[unsafe(no_mangle)]
+pub extern "C" fn goblin_string_is(
+    bytes: &[u8],
+    strings: &GoblinRange,
+    offset: u64,
+    name: &[u8],
+    why: &mut GoblinRefusal,
+) -> u32
+    ensures { Reports (string_is_expected bytes.now strings.now offset name.now)
+        why.old result why.new }
+{
+    match table_inside(bytes, strings) {
+        Some(table) => status_of(is_piece(table, 0, offset as usize, name)),
+        None => refuse_table(bytes, strings, why),
+    }
+}
+
+/// Reports whether the string at an offset of a string table starts with some bytes.
+#[unsafe(no_mangle)]
+pub extern "C" fn goblin_string_starts(
+    bytes: &[u8],
+    strings: &GoblinRange,
+    offset: u64,
+    start: &[u8],
+    why: &mut GoblinRefusal,
+) -> u32
+    ensures { Reports (string_starts_expected bytes.now strings.now offset start.now)
+        why.old result why.new }
+{
+    match table_inside(bytes, strings) {
+        Some(table) => status_of(starts_piece(table, 0, offset as usize, start)),
+        None => refuse_table(bytes, strings, why),
+    }
+}
+
+// Returns the range in the file of the string at an offset of a string table, which need not be UTF-8, if a zero byte
+// of the table closes it.
+fn closed_string_at(bytes: &[u8], range: &GoblinRange, offset: u64) -> Result<Option<GoblinRange>>
+    ensures { Returns (λ found. found) result (string_closed_expected bytes.now range.now offset) }
+{
+    let strings = string_table_bytes(bytes, range)?;
+    let start = offset as usize;
+    if start >= strings.len() {
+        return Ok(None);
+    }
+    let size = piece_len(strings, start, 0);
+    if size == strings.len() - start {
+        return Ok(None);
+    }
+    Ok(Some(GoblinRange {
+        offset: range.offset + offset,
+        size: size as u64,
+    }))
+}
+
+/// Stores the range in the file of the string at an offset of a string table, which need not be UTF-8, if a zero byte
+/// of the table closes it.
+#[unsafe(no_mangle)]
+pub extern "C" fn goblin_string_closed(
+    bytes: &[u8],
+    strings: &GoblinRange,
+    offset: u64,
+    string: &mut GoblinRange,
+    why: &mut GoblinRefusal,
+) -> u32
+    ensures stored { Stores (string_closed_expected bytes.now strings.now offset)
+        string.old why.old result string.new why.new }
+    ensures closed { (result ≡ OK) → IsCString bytes.now string.new }
+{
+    store(closed_string_at(bytes, strings, offset), string, why)
+}
+
+// Returns the length of the string at an offset of a table. Most strings are short, so the first bytes are searched
+// before the others.
+#[inline(always)]
+#[tactic(auto, using(crate::proofs::PieceLemmas::pieces))]
+fn string_len(table: &[u8], start: usize) -> usize
+    requires { start < length table.now }
+    ensures { result ≡ length (piece table.now 0 start) }
+{
+    if table.len() - start < SHORT {
+        return piece_len(table, start, 0);
+    }
+    let len = piece_len(&table[start..start + SHORT], 0, 0);
+    if len < SHORT {
+        return len;
+    }
+    SHORT + piece_len(table, start + SHORT, 0)
+}
+
+/// Stores the ranges that `goblin_string_bytes` stores at some offsets, in their order, up to the first offset at which
+/// it stores none. The string table is tested once.
 #[unsafe(no_mangle)]
 pub extern "C" fn goblin_strings(
     bytes: &[u8],
@@ -72,17 +198,30 @@ pub extern "C" fn goblin_strings(
     why: &mut GoblinRefusal,
 ) -> u32
     ensures { FillsEach
-        (map (string_expected bytes.now strings.now) (take (length ranges.old) offsets.now))
+        (map (string_bytes_expected bytes.now strings.now) (take (length ranges.old) offsets.now))
         ranges.old why.old result ranges.new filled.new why.new }
 {
     *filled = 0;
-    for i in 0..offsets.len().min(ranges.len()) {
-        // (a second caller of `string_at` would keep the compiler from putting it into `goblin_string`)
-        let status = goblin_string(bytes, strings, offsets[i], &mut ranges[i], why);
-        if status != OK {
-            return status;
-        }
-        *filled += 1;
+    let count = offsets.len().min(ranges.len());
+    if count == 0 {
+        return OK;
     }
+    let table = match string_table_bytes(bytes, strings) {
+        Ok(table) => table,
+        Err(e) => return refuse(&e, why),
+    };
+    let place = strings.offset;
+    for i in 0..count {
+        let start = offsets[i] as usize;
+        if start >= table.len() {
+            *filled = i as u64;
+            return END;
+        }
+        ranges[i] = GoblinRange {
+            offset: place + start as u64,
+            size: string_len(table, start) as u64,
+        };
+    }
+    *filled = count as u64;
     OK
 }

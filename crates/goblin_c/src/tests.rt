@@ -368,7 +368,8 @@ fn long_strings(offsets: &[u64], places: usize) -> (u32, u64, [u64; 3]) {
 fn places_many_strings(rt: HostRuntime) {
     assert!(rt; long_strings(&[0, 18, 55], 3) == (0, 3, [17, 18, 16]));
     assert!(rt; long_strings(&[0, 71, 18], 3) == (1, 1, [17, 9, 9]));
-    assert!(rt; long_strings(&[0, 37, 18], 3) == (5, 1, [17, 9, 9]));
+    assert!(rt; long_strings(&[0, 37, 18], 3) == (0, 3, [17, 17, 18]));
+    assert!(rt; long_strings(&[71, 0], 3) == (1, 0, [9, 9, 9]));
     assert!(rt; long_strings(&[0, 18, 55], 2) == (0, 2, [17, 18, 9]));
     assert!(rt; long_strings(&[], 3) == (0, 0, [9, 9, 9]));
 }
@@ -552,7 +553,7 @@ fn writes_names(rt: HostRuntime) {
     assert!(rt; machine(62) == (*b"X86_64", 6));
     assert!(rt; machine(258) == (*b"LOONGA", 9));
     assert!(rt; note_type_name(b"CORE", 3) == 11 && note_type_name(b"GNU", 3) == 15);
-    assert!(rt; goblin_version() == 6);
+    assert!(rt; goblin_version() == 7);
 }
 
 // Whether this is the text of a refusal of a kind with these numbers.
@@ -567,7 +568,7 @@ fn says(kind: u32, item: u32, numbers: [u64; 4], text: &[u8]) -> bool {
         fourth: numbers[3],
         offset: 17,
     };
-    let len = goblin_refusal_text(&why, &mut room) as usize;
+    let len = goblin_refusal_to_str(&why, &mut room) as usize;
     len == text.len() && len <= 160 && &room[..len] == text
 }
 
@@ -657,14 +658,14 @@ fn closes_texts(rt: HostRuntime) {
     assert!(rt; closed_text(3) == (*b"UNKNOWN_", 13));
     let mut room = [9; 3];
     let why = marked_layout().refusal;
-    assert!(rt; goblin_refusal_text(&why, &mut room) == 0 && room == [0, 9, 9]);
+    assert!(rt; goblin_refusal_to_str(&why, &mut room) == 0 && room == [0, 9, 9]);
 }
 
 // The text written into a buffer of four bytes, and the length that is returned.
 fn cut_text() -> ([u8; 4], u64) {
     let mut room = [9; 4];
     let (_, _, why) = called!(goblin_header(&FILE[..51]), header());
-    let len = goblin_refusal_text(&why, &mut room);
+    let len = goblin_refusal_to_str(&why, &mut room);
     (room, len)
 }
 

@@ -108,7 +108,7 @@ fn report_from(why: &GoblinRefusal, kind: Kind) -> Report
 
 /// Writes the text of a refusal.
 #[unsafe(no_mangle)]
-pub extern "C" fn goblin_refusal_text(why: &GoblinRefusal, text: &mut [u8]) -> u64
+pub extern "C" fn goblin_refusal_to_str(why: &GoblinRefusal, text: &mut [u8]) -> u64
     ensures { WritesText (converted_text why.now) text.old result text.new }
 {
     match Kind::with_number(why.kind) {

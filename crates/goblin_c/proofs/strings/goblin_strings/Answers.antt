@@ -1,44 +1,55 @@
--- If `goblin_string` returns 0, it stored the result at the loop's index (`stored_item`, `result_at`), so there is one
--- item more (`each-step`, `rest-step`). Else it stored none (`stored_none`), and the call stops there (`fills_before`).
-use Rattle.goblin_c.proofs.Common.{◌≡◌, length, map, take, slice_get, Some, Ok, refl, ap, subst, ◌∙◌, arith}
-use Rattle.goblin_c.proofs.Common.{string_expected, get_or, StopsAt, set-get_or}
-use Rattle.std.proofs.Common.{slice_set}
-use Rattle.goblin_c.proofs.EachLemmas.{each-step, fills_all, fills_before, rest-step, result_at, stored_item}
-use Rattle.goblin_c.proofs.EachLemmas.{stored_none}
+-- At an offset in the table the string there is expected (`bytes_there`), so there is one item more (`each-step`,
+-- `rest-step`). At one past the table none is (`bytes_past`), and the call stops there (`fills_before`). So it does at
+-- the first offset if the table is refused (`bytes_refused`).
+use Rattle.goblin_c.proofs.Common.{◌≡◌, ◌+◌, length, map, take, get_or, slice_get, Some, None, Ok, Err, refl, ap, ◌∙◌}
+use Rattle.goblin_c.proofs.Common.{arith, GoblinRange, refusal_at}
+use Rattle.goblin_c.proofs.PieceLemmas.{bytes_past, bytes_refused, bytes_there}
+use Rattle.goblin_c.proofs.EachLemmas.{each-step, fills_all, fills_before, rest-step, result_at}
+use Rattle.goblin_c.specs.Bytes.{string_bytes_expected}
 use Rattle.goblin_c.proofs.strings.goblin_strings.Goals as goal
 
 pub loop-i-preserved : goal.loop-i-preserved
 loop-i-preserved c =
-    let f = string_expected c.args.bytes.now c.args.strings.now in
+    let l = c.loop-i in
+    let bytes = c.args.bytes.now in
+    let strings = c.args.strings.now in
+    let offset = get_or c.args.offsets.now l.i 0 in
+    let f = string_bytes_expected bytes strings in
     let results = map f (take (length c.args.ranges.now) c.args.offsets.now) in
-    let item = stored_item _ _ _ _ _ _ c.goblin_string-status.ensures c.if-status-ne-OK.false in
-    let found : slice_get results c.loop-i.i ≡ Some (Ok (Some c.goblin_string-status.new.string)) =
-    result_at f (length c.args.ranges.now) c.args.offsets.now c.loop-i.i _ 0 refl (omega arith) ∙ ap Some item.0 in
+    let string : GoblinRange = record { offset = strings.offset + offset; size = c.string_len.result } in
+    let is : f offset ≡ Ok (Some string) =
+    bytes_there bytes strings offset c.in-Ok.table.now c.string_len.result c.in-Ok.ensures.given c.if-start-table.false
+    c.string_len.ensures in
+    let found : slice_get results l.i ≡ Some (Ok (Some string)) =
+    result_at f (length c.args.ranges.now) c.args.offsets.now l.i offset 0 refl (omega arith) ∙ ap Some is in
     record {
-      counted = omega arith;
-      are = each-step (λ x. Ok (Some x)) results c.loop-i.ranges c.loop-i.filled c.loop-i.i
-          c.goblin_string-status.new.string c.loop-i.invariant.counted c.loop-i.invariant.are found (omega arith);
-      rest = rest-step c.args.ranges.now c.loop-i.ranges c.loop-i.filled c.loop-i.i c.goblin_string-status.new.string
-          c.loop-i.invariant.counted c.loop-i.invariant.rest;
-      same = item.1 ∙ c.loop-i.invariant.same;
+      are = each-step (λ x. Ok (Some x)) results l.ranges l.i l.i string refl l.invariant.are found (omega arith);
+      rest = rest-step c.args.ranges.now l.ranges l.i l.i string refl l.invariant.rest;
     }
 
-pub returns-then-status-ne-OK : goal.returns-then-status-ne-OK
-returns-then-status-ne-OK c =
-    let f = string_expected c.args.bytes.now c.args.strings.now in
-    let none = stored_none _ _ _ _ _ _ c.goblin_string-status.ensures c.if-status-ne-OK.true in
-    let same : slice_set c.loop-i.ranges c.loop-i.i c.goblin_string-status.new.string ≡ c.loop-i.ranges =
-    ap (slice_set c.loop-i.ranges c.loop-i.i) none.0 ∙ set-get_or c.loop-i.ranges c.loop-i.i _ in
-    let next = f (get_or c.args.offsets.now c.loop-i.i 0) in
-    fills_before f (length c.args.ranges.now) c.args.offsets.now c.args.ranges.now c.args.why.now
-    c.goblin_string-status.result (slice_set c.loop-i.ranges c.loop-i.i c.goblin_string-status.new.string)
-    c.loop-i.filled c.goblin_string-status.new.why c.loop-i.i 0 next c.loop-i.invariant.counted (omega arith) refl
-    (rw same c.loop-i.invariant.are) (rw same c.loop-i.invariant.rest)
-    (subst (λ was. StopsAt (Some next) was c.goblin_string-status.result c.goblin_string-status.new.why)
-    c.loop-i.invariant.same none.1)
+pub returns-then-start-table : goal.returns-then-start-table
+returns-then-start-table c =
+    let l = c.loop-i in
+    let offset = get_or c.args.offsets.now l.i 0 in
+    let past = bytes_past c.args.bytes.now c.args.strings.now offset c.in-Ok.table.now c.in-Ok.ensures.given
+    c.if-start-table.true in
+    fills_before (string_bytes_expected c.args.bytes.now c.args.strings.now) (length c.args.ranges.now)
+    c.args.offsets.now c.args.ranges.now c.args.why.now 1 l.ranges l.i c.args.why.now l.i 0 (Ok None) refl
+    (omega arith) past l.invariant.are l.invariant.rest (refl, refl)
+
+pub returns-in-Err : goal.returns-in-Err
+returns-in-Err c =
+    let refusal = refusal_at c.in-Err.e in
+    let refused = bytes_refused c.args.bytes.now c.args.strings.now (get_or c.args.offsets.now 0 0) refusal
+    c.in-Err.ensures.given in
+    fills_before (string_bytes_expected c.args.bytes.now c.args.strings.now) (length c.args.ranges.now)
+    c.args.offsets.now c.args.ranges.now c.args.why.now c.refuse.result c.args.ranges.now 0 c.refuse.new.why 0 0
+    (Err refusal) refl (omega arith) refused refl refl (c.refuse.ensures.value, c.refuse.ensures.written)
 
 pub returns : goal.returns
 returns c =
-    fills_all (string_expected c.args.bytes.now c.args.strings.now) (length c.args.ranges.now) c.args.offsets.now
-    c.args.ranges.now c.args.why.now 0 c.loop-i.ranges c.loop-i.filled c.loop-i.why (omega arith)
-    c.loop-i.invariant.are c.loop-i.invariant.rest (refl, c.loop-i.invariant.same)
+    let l = c.loop-i in
+    let all : c.min-count.result ≡ l.i = omega arith in
+    rw all (fills_all (string_bytes_expected c.args.bytes.now c.args.strings.now) (length c.args.ranges.now)
+    c.args.offsets.now c.args.ranges.now c.args.why.now 0 l.ranges l.i c.args.why.now (omega arith) l.invariant.are
+    l.invariant.rest (refl, refl))
