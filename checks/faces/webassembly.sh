@@ -47,17 +47,10 @@ fi
 size=$(wc -c < "$web/index.html")
 [ "$size" -le 450000 ] || fail "the page is too large: it has $size bytes, and may have at most 450,000"
 
-# Opens the page in a browser, by the first of some commands that the machine has: open_page NAME COMMAND ..
-open_page() {
-    name=$1
-    shift
-    for browser; do
-        has "$browser" || continue
-        node faces/web/browser.mjs "$name" "$browser" "$web/index.html" "$dump" "$files" checks/files
-        return
-    done
-    left_out "$name is not installed, so the page is not opened in it"
-}
-
-open_page chromium chromium chromium-browser google-chrome
-open_page firefox firefox firefox-esr
+# Each browser opens it by the first of some commands that the machine has.
+for commands in 'chromium chromium-browser google-chrome' 'firefox firefox-esr'; do
+    name=${commands%% *} browser=
+    for command in $commands; do if [ -z "$browser" ] && has "$command"; then browser=$command; fi; done
+    if [ "$browser" ]; then node faces/web/browser.mjs "$name" "$browser" "$web/index.html" "$dump" "$files" checks/files
+    else left_out "$name is not installed, so the page is not opened in it"; fi
+done

@@ -18,6 +18,7 @@ enum { RUNS = 9, MOST = 4096, CALLS = 100000 };
 static const uint8_t none[] = "_ZNSt8no_suchD0Ev"; /* a name that no symbol has */
 static uint8_t *bytes;
 static uint64_t len, count, *offsets; /* the number of symbols, and the offset of each symbol's name in the strings */
+static uint64_t *sizes;               /* the sizes of these names */
 static uint64_t relocs;               /* the number of relocations */
 static uint64_t *addresses;           /* the symbols' addresses */
 static goblin_header_t header;
@@ -35,6 +36,7 @@ enum { ONE, ARRAY_64, ARRAY_4096, GELF, NAME, NAMES_64, BYTES, STRLEN, STRPTR, S
 enum { RELOC = ELF_HEADERS + 1, GELF_RELA, NOTE, NOTE_BYTES, GELF_NOTE, HEADER, GELF_EHDR, SECTION, GELF_SHDR };
 enum { NUMBER = GELF_SHDR + 1, MEMCPY, OFFSET, GELF_PHDR, NAMED, ELF_RAWDATA };
 enum { CUT = ELF_RAWDATA + 1, CUT_PLAIN, WHOLE, WHOLE_PLAIN, PUT_SYMBOL, GELF_UPDATE_SYM, PUT_RELOC, GELF_UPDATE_RELA };
+enum { IS = GELF_UPDATE_RELA + 1, IS_PLAIN, IS_ITSELF, IS_ITSELF_PLAIN, STARTS, STARTS_PLAIN };
 static const struct { const char *what, *than; int ours, theirs; } rows[] = {
     {"a symbol by one call", "gelf_getsym", ONE, GELF},
     {"a symbol, 64 at once", "gelf_getsym", ARRAY_64, GELF},
@@ -43,6 +45,10 @@ static const struct { const char *what, *than; int ours, theirs; } rows[] = {
     {"a name", "elf_strptr and strlen", NAME, STRPTR},
     {"a name, 64 at once", "strlen", NAMES_64, STRLEN},
     {"a name that may not be UTF-8", "strlen", BYTES, STRLEN},
+    {"a name, 64 at once", "goblin_string_bytes", NAMES_64, BYTES},
+    {"a name compared with another", "memcmp and a zero test", IS, IS_PLAIN},
+    {"a name compared with itself", "memcmp and a zero test", IS_ITSELF, IS_ITSELF_PLAIN},
+    {"a name's start compared", "memcmp", STARTS, STARTS_PLAIN},
     {"a symbol passed in a search", "strcmp", SEARCH, STRCMP},
     {"header and sections of a file", "elf_memory and gelf_getshdr", HEADERS, ELF_HEADERS},
     {"a relocation by one call", "gelf_getrela", RELOC, GELF_RELA},
@@ -215,6 +221,41 @@ static uint64_t run_put(int what) {
     return sum;
 }
 
+/* Compares the string at an offset with a name or with a start, by plain C, as a client does that knows its strings. */
+static bool plain_is(uint64_t offset, const void *name, uint64_t size) {
+    const uint8_t *text = bytes + strings.file.offset;
+    return offset < strings.file.size && strings.file.size - offset > size && memcmp(text + offset, name, size) == 0
+        && text[offset + size] == 0;
+}
+
+static bool plain_starts(uint64_t offset, const void *start, uint64_t size) {
+    const uint8_t *text = bytes + strings.file.offset;
+    return offset < strings.file.size && strings.file.size - offset >= size && memcmp(text + offset, start, size) == 0;
+}
+
+/* Compares the name of each symbol with that of the symbol in the middle or with its own, or with a start. Returns the
+   number of those that are equal. */
+static uint64_t run_compare(int what) {
+    const char *text = (const char *)bytes + strings.file.offset, *middle = text + offsets[count / 2];
+    uint64_t sum = 0, size = strlen(middle);
+    if (what == IS)
+        for (uint64_t i = 0; i < count; i++)
+            sum += !goblin_string_is(bytes, len, &strings.file, offsets[i], middle, size, &why);
+    if (what == IS_PLAIN)
+        for (uint64_t i = 0; i < count; i++) sum += plain_is(offsets[i], middle, size);
+    if (what == IS_ITSELF)
+        for (uint64_t i = 0; i < count; i++)
+            sum += !goblin_string_is(bytes, len, &strings.file, offsets[i], text + offsets[i], sizes[i], &why);
+    if (what == IS_ITSELF_PLAIN)
+        for (uint64_t i = 0; i < count; i++) sum += plain_is(offsets[i], text + offsets[i], sizes[i]);
+    if (what == STARTS)
+        for (uint64_t i = 0; i < count; i++)
+            sum += !goblin_string_starts(bytes, len, &strings.file, offsets[i], none, 6, &why);
+    if (what == STARTS_PLAIN)
+        for (uint64_t i = 0; i < count; i++) sum += plain_starts(offsets[i], none, 6);
+    return sum;
+}
+
 /* Does an action, and returns the sum of what it reads. Two actions that are compared have the same sum. */
 static uint64_t run(int what) {
     const char *text = (char *)bytes + strings.file.offset;
@@ -258,6 +299,7 @@ static uint64_t run(int what) {
         while (n > 0) sum += sections[--n].file.size;
     for (Elf_Scn *s = NULL; file && (s = elf_nextscn(file, s));) sum += gelf_getshdr(s, &section)->sh_size;
     elf_end(file);
+    if (what >= IS) return run_compare(what);
     if (what >= PUT_SYMBOL) return run_put(what);
     if (what >= CUT) return run_cut(what);
     if (what >= NUMBER) return run_find(what);
@@ -320,10 +362,12 @@ static int bench(const char *path) {
     relocs = relas.file.size / 24;
     if (goblin_linked_section(bytes, len, &header, table.sh_link, &strings, &why)) return 1;
     if (goblin_symbol_count(bytes, len, &header, &table.file, &count, &why)) return 1;
-    if (!(offsets = malloc((count + 1) * sizeof *offsets)) || !(addresses = malloc((count + 1) * sizeof *addresses)))
+    if (!(offsets = malloc((count + 1) * sizeof *offsets)) || !(addresses = malloc((count + 1) * sizeof *addresses))
+        || !(sizes = malloc((count + 1) * sizeof *sizes)))
         return 1;
     for (uint64_t i = 0; i < count && !goblin_symbol(bytes, len, &header, &table.file, i, symbols, &why); i++)
-        offsets[i] = symbols->st_name, addresses[i] = symbols->st_value;
+        offsets[i] = symbols->st_name, addresses[i] = symbols->st_value,
+        sizes[i] = strlen((const char *)bytes + strings.file.offset + offsets[i]);
     prepare();
     printf("%s, %llu symbols, nanoseconds each:\n", path, (unsigned long long)count);
     for (int row = 0; row < ROWS; row++) {

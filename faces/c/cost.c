@@ -236,6 +236,13 @@ static uint64_t bytes_of_each_string(void) {
     return i;
 }
 
+static uint64_t each_closed_string(void) {
+    goblin_range_t strings = range_of(ITEMS + 1, 1), string;
+    uint64_t i = 0;
+    while (i < ITEMS && goblin_string_closed(bytes, len, &strings, i, &string, &why) == GOBLIN_OK) i++;
+    return i;
+}
+
 /* A range of few strings, each of four million bytes and more. Its first byte is the last zero byte before them. */
 static goblin_range_t long_strings(void) {
     goblin_range_t strings = {LONG_AT, 4 * LONG_SIZE};
@@ -272,6 +279,28 @@ static uint64_t bytes_of_each_long_string(void) {
     goblin_range_t strings = long_strings(), string;
     uint64_t i = 0;
     while (i < 4 && goblin_string_bytes(bytes, len, &strings, long_string(i), &string, &why) == GOBLIN_OK) i++;
+    return i;
+}
+
+static uint64_t each_long_string_closed(void) {
+    goblin_range_t strings = long_strings(), string;
+    uint64_t i = 0;
+    while (i < 3 && goblin_string_closed(bytes, len, &strings, long_string(i), &string, &why) == GOBLIN_OK) i++;
+    return goblin_string_closed(bytes, len, &strings, long_string(3), &string, &why) == GOBLIN_END ? i + 1 : 0;
+}
+
+/* Compares each long string with a short name, and with a short start, as often as there are items. */
+static uint64_t long_strings_compared(void) {
+    goblin_range_t strings = long_strings();
+    uint64_t i = 0;
+    while (i < ITEMS && goblin_string_is(bytes, len, &strings, long_string(i), "aaa", 3, &why) == GOBLIN_END) i++;
+    return i;
+}
+
+static uint64_t long_strings_started(void) {
+    goblin_range_t strings = long_strings();
+    uint64_t i = 0;
+    while (i < ITEMS && goblin_string_starts(bytes, len, &strings, long_string(i), "aaa", 3, &why) == GOBLIN_OK) i++;
     return i;
 }
 
@@ -320,6 +349,7 @@ static int lists_take_little(void) {
     right &= takes_little("each string", each_string, ITEMS);
     right &= takes_little("all strings", all_strings, ITEMS);
     right &= takes_little("the bytes of each string", bytes_of_each_string, ITEMS);
+    right &= takes_little("each closed string", each_closed_string, ITEMS);
     return right;
 }
 
@@ -371,6 +401,9 @@ static int repeated_calls_take_little(void) {
 static int strings_take_little(void) {
     int right = 1;
     right &= takes_little("each long string", each_long_string, 4);
+    right &= takes_little("each long string that is closed", each_long_string_closed, 4);
+    right &= takes_little("long strings compared with a short name", long_strings_compared, ITEMS);
+    right &= takes_little("long strings compared with a short start", long_strings_started, ITEMS);
     fill_strings(0xc3, 0xa9, 'a');
     right &= takes_little("each such string", each_long_string, 4);
     fill_strings(0xc3, 0xa9, 0xc3);

@@ -84,7 +84,7 @@ static void text_of_refusal(uint32_t status) {
     uint8_t text[64];
     size_t capacity = (size_t)any(60);
     memset(text, 0x5a, sizeof text);
-    uint64_t size = goblin_refusal_text(&why, text, capacity);
+    uint64_t size = goblin_refusal_to_str(&why, text, capacity);
     if (size < strlen("bad offset 0")) wrong("a text's size", status);
     if (size < capacity ? text[size] != 0 || !is_blank(text + size + 1, capacity - (size_t)size - 1)
         : memchr(text, 0, capacity) != NULL)
@@ -128,6 +128,10 @@ static void names_of_numbers(void) {
 /* Makes a call, whose last arguments are the result and `why`. Returns whether it has a result. */
 #define READS(call, item, ...) \
     (blank(&(item), sizeof(item)), check(#call, call(bytes, len, __VA_ARGS__, &(item), &why), &(item), sizeof(item)))
+
+/* Makes a call that compares, whose last argument is `why`. Returns whether it is so. */
+#define IS_SO(call, ...) \
+    (memset(&why, 0x5a, sizeof why), check(#call, call(bytes, len, __VA_ARGS__, &why), &why, 0))
 
 /* Makes a call that finds an item of which so many bytes are no padding. Its last arguments are the index, the item and
    `why`. Returns whether it has a result. */
@@ -191,7 +195,27 @@ static void notes(const goblin_header_t *h, goblin_range_t range) {
             wrong(#all, status); \
     } while (0)
 
-/* Finds several strings at once. They must be those of goblin_string, which must stop as the call did. */
+/* Compares the string at an offset, and finds it if it is closed. The calls must do as goblin.h says, by the range that
+   goblin_string_bytes found, if it found one. */
+static void compare(goblin_range_t names, uint64_t offset, bool is_string, goblin_range_t string) {
+    goblin_range_t closed;
+    uint64_t from = is_string && any(4) ? string.offset : any(len + 1);
+    uint64_t size = is_string && any(2) ? string.size : any(20);
+    if (size > len - from) size = len - from;
+    const uint8_t *name = bytes + from;
+    bool starts = is_string && size <= string.size && memcmp(bytes + string.offset, name, (size_t)size) == 0;
+    bool is_closed = is_string && string.offset + string.size < names.offset + names.size;
+    if (IS_SO(goblin_string_is, &names, offset, name, (size_t)size) != (starts && size == string.size))
+        wrong("goblin_string_is", starts);
+    if (IS_SO(goblin_string_starts, &names, offset, name, (size_t)size) != starts)
+        wrong("goblin_string_starts", starts);
+    if (READS(goblin_string_closed, closed, &names, offset) != is_closed) wrong("goblin_string_closed", is_closed);
+    if (is_closed
+        && (memcmp(&closed, &string, sizeof closed) || strlen((const char *)bytes + closed.offset) != closed.size))
+        wrong("goblin_string_closed: its range", GOBLIN_OK);
+}
+
+/* Finds several strings at once. They must be those of goblin_string_bytes, which must stop as the call did. */
 static void several_strings(goblin_range_t names) {
     uint64_t offsets[BATCH], filled = UINT64_MAX, end = names.size < len ? names.size : len;
     goblin_range_t ranges[BATCH], single;
@@ -208,13 +232,13 @@ static void several_strings(goblin_range_t names) {
         wrong("goblin_strings: after the ranges", status);
     for (uint64_t i = 0; i < filled; i++) {
         begins(names.offset, names.offset + offsets[i]);
-        if (!READS(goblin_string, single, &names, offsets[i]) || memcmp(&single, ranges + i, sizeof single))
+        if (!READS(goblin_string_bytes, single, &names, offsets[i]) || memcmp(&single, ranges + i, sizeof single))
             wrong("goblin_strings: a range", status);
     }
     if (filled == most && status != GOBLIN_OK) wrong("goblin_strings: the end", status);
     if (filled == most) return;
     blank(&single, sizeof single);
-    if (status == GOBLIN_OK || goblin_string(bytes, len, &names, offsets[filled], &single, &why) != status
+    if (status == GOBLIN_OK || goblin_string_bytes(bytes, len, &names, offsets[filled], &single, &why) != status
         || memcmp(&why, &refusal, sizeof why))
         wrong("goblin_strings: where it stops", status);
 }
@@ -597,6 +621,7 @@ static void table(const goblin_header_t *h, goblin_range_t range, goblin_range_t
         goblin_range_t same_bytes;
         bool is_string = READS(goblin_string_bytes, same_bytes, &names, near);
         if (is_string) inside("bytes of a string", same_bytes);
+        compare(names, near, is_string, same_bytes);
         if (READS(goblin_string, name, &names, near)) {
             inside("string", name);
             if (!is_string || name.offset != same_bytes.offset || name.size != same_bytes.size)

@@ -53,7 +53,7 @@ static bool put_status(const char *what, uint32_t status) {
     if (status == GOBLIN_END) puts(" none");
     if (status > GOBLIN_END) {
         put_refusal(&why);
-        TEXT(goblin_refusal_text, &why);
+        TEXT(goblin_refusal_to_str, &why);
         putchar('\n');
     }
     return status == GOBLIN_OK;
@@ -121,12 +121,25 @@ static void write_numbers_in(goblin_range_t range) {
     WRITE(goblin_put_number_in, &h, &range, range.size - 1, 1, 0x7f);
 }
 
-/* Prints the string at an offset, as UTF-8 and as bytes. */
+/* Prints whether the string at an offset is some of its own bytes, from the first on, and whether it starts with
+   them. */
+static void compare(goblin_range_t strings, uint64_t offset, goblin_range_t found, uint64_t size) {
+    const uint8_t *name = bytes + found.offset;
+    if (put_status("goblin_string_is", goblin_string_is(bytes, len, &strings, offset, name, (size_t)size, &why)))
+        putchar('\n');
+    if (put_status("goblin_string_starts",
+                   goblin_string_starts(bytes, len, &strings, offset, name, (size_t)size, &why)))
+        putchar('\n');
+}
+
+/* Prints the string at an offset, as UTF-8, as bytes, and if it is closed. */
 static void string(goblin_range_t strings, uint64_t offset) {
-    goblin_range_t found;
+    goblin_range_t found = {0, 0};
     if (ASK(goblin_string, found, &strings, offset)) put_bytes(found), putchar('\n');
-    if (!ASK(goblin_string_bytes, found, &strings, offset)) return;
-    put_bytes(found), putchar('\n');
+    if (ASK(goblin_string_closed, found, &strings, offset)) put_bytes(found), putchar('\n');
+    if (ASK(goblin_string_bytes, found, &strings, offset)) put_bytes(found), putchar('\n');
+    compare(strings, offset, found, found.size);
+    compare(strings, offset, found, found.size / 2);
 }
 
 /* Returns a number that does not fit in 32 bits for the item at index 1, else 0. */

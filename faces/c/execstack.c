@@ -14,7 +14,7 @@ static goblin_refusal_t why;
 
 static int refused(const char *path) {
     char text[160];
-    goblin_refusal_text(&why, text, sizeof text);
+    goblin_refusal_to_str(&why, text, sizeof text);
     fprintf(stderr, "execstack: %s: %s\n", path, text);
     return 1;
 }

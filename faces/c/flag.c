@@ -12,7 +12,7 @@ static size_t len;
 
 static int refused(const goblin_refusal_t *why) {
     char text[160];
-    goblin_refusal_text(why, text, sizeof text);
+    goblin_refusal_to_str(why, text, sizeof text);
     fprintf(stderr, "flag: %s\n", text);
     return 1;
 }

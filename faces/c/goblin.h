@@ -17,10 +17,10 @@
        2 or more       The file is refused. The number is one of the GOBLIN_ numbers below. The call has written the
                        same number to `*why`, with the numbers that belong to it and the offset of what is refused.
      The result is the argument before `why`, of a search by name or type the two before it, and the array of a call
-     that fills one. A call that begins with goblin_put_ has none: it writes into `bytes`. A call writes its result, or
-     the bytes, only at GOBLIN_OK (goblin_strings is the exception), `*why` only at a refusal, and nothing else. So a
-     result that is zero before the call is still zero at GOBLIN_END, and one goblin_refusal_t serves all calls of a
-     program.
+     that fills one. A call that begins with goblin_put_ has none: it writes into `bytes`. Nor have goblin_string_is and
+     goblin_string_starts, which return GOBLIN_OK for yes and GOBLIN_END for no. A call writes its result, or the bytes,
+     only at GOBLIN_OK (goblin_strings is the exception), `*why` only at a refusal, and nothing else. So a result that
+     is zero before the call is still zero at GOBLIN_END, and one goblin_refusal_t serves all calls of a program.
      Refusals come before GOBLIN_END, if a call does not say otherwise: a table that is refused is refused past
      its end, too.
 
@@ -75,9 +75,9 @@ extern "C" {
 
 /* The number of the interface. It goes up if a call or a struct changes. goblin_version() returns the library's, which
    must be the same. */
-#define GOBLIN_VERSION 6
+#define GOBLIN_VERSION 7
 /* The version of the package that this file is part of. */
-#define GOBLIN_VERSION_STRING "0.7.0"
+#define GOBLIN_VERSION_STRING "0.8.0"
 
 /* What calls return. The comment of each refusal lists the numbers that goblin_refusal_t has for it, from
    `first` on. */
@@ -142,7 +142,7 @@ enum {
     GOBLIN_INVALID_UTF8 = 1,
     GOBLIN_SECTION_HEADERS = 2,
     GOBLIN_PROGRAM_HEADERS = 3,
-    /* The part of a note that goblin_note_bytes does not find. goblin_refusal_text has no words for these. */
+    /* The part of a note that goblin_note_bytes does not find. goblin_refusal_to_str has no words for these. */
     GOBLIN_NOTE_HEADER = 4,
     GOBLIN_NOTE_NAME = 5,
     GOBLIN_NOTE_DESC = 6
@@ -163,7 +163,8 @@ typedef struct {
 } goblin_refusal_t;
 
 /* Some bytes of the file. A range that a call returns lies inside the file, if its struct does not say otherwise. Its
-   size may be above INT_MAX, so print it with `fwrite`: `%.*s` takes an int. */
+   size may be above INT_MAX, so print it with `fwrite`: `%.*s` takes an int. goblin_string_closed finds strings for
+   `%s`. */
 typedef struct {
     uint64_t offset; /* where the bytes start */
     uint64_t size;   /* how many bytes there are */
@@ -544,27 +545,46 @@ uint32_t goblin_note_bytes(const uint8_t *bytes, size_t len, const goblin_header
 uint32_t goblin_string(const uint8_t *bytes, size_t len, const goblin_range_t *strings, uint64_t offset,
     goblin_range_t *string, goblin_refusal_t *why) GOBLIN_STATUS((3, 5, 6));
 
+/* As goblin_string, for a string that need not be UTF-8: never returns GOBLIN_BAD_INPUT. If goblin_string finds a
+   string, this call finds the same range.
+   Example: if (goblin_string_bytes(bytes, len, &names.file, symbol.st_name, &string, &why)) return 1; */
+uint32_t goblin_string_bytes(const uint8_t *bytes, size_t len, const goblin_range_t *strings, uint64_t offset,
+    goblin_range_t *string, goblin_refusal_t *why) GOBLIN_STATUS((3, 5, 6));
+
+/* As goblin_string_bytes, for a string that a zero byte closes inside the table. If it finds one, `bytes +
+   string.offset` is a C string: the byte after the range is zero, and none in the range is, so `%s` prints the string.
+   GOBLIN_END also if the string ends at the end of the table.
+   Example: if (goblin_string_closed(bytes, len, &names.file, symbol.st_name, &string, &why) == GOBLIN_OK)
+                puts((const char *)bytes + string.offset); */
+uint32_t goblin_string_closed(const uint8_t *bytes, size_t len, const goblin_range_t *strings, uint64_t offset,
+    goblin_range_t *string, goblin_refusal_t *why) GOBLIN_STATUS((3, 5, 6));
+
 /* Finds the ranges of the strings at many offsets of a string table, in the order of `offsets`: at each as
-   goblin_string does, up to the first offset at which that does not return GOBLIN_OK. `*filled` is the number of items
-   of `ranges` that are written; those after them are unchanged. GOBLIN_OK if all offsets have a string, or as many as
-   there are items of `ranges`. Else the call returns what goblin_string returns at offsets[*filled], and writes the
-   same refusal. This call writes `ranges` and `*filled` then, too.
+   goblin_string_bytes does, up to the first offset that is not below the size of the table. The strings need not be
+   UTF-8. `*filled` is the number of items of `ranges` that are written; those after them are unchanged. GOBLIN_OK if
+   all offsets have a string, or as many as there are items of `ranges`. Else the call returns what goblin_string_bytes
+   returns at offsets[*filled], and writes the same refusal. This call writes `ranges` and `*filled` then, too.
+   The table is checked once for a call.
    Example: if (goblin_strings(bytes, len, &names.file, offsets, 64, ranges, 64, &filled, &why)) return 1; */
 uint32_t goblin_strings(const uint8_t *bytes, size_t len, const goblin_range_t *strings, const uint64_t *offsets,
     size_t offsets_len, goblin_range_t *ranges, size_t capacity, uint64_t *filled, goblin_refusal_t *why)
     GOBLIN_STATUS((3, 8, 9));
 
-/* As goblin_string, for a string that need not be UTF-8: never returns GOBLIN_BAD_INPUT. If goblin_string finds a
-   string, this call finds the same range.
-   A zero byte closes the string if its end lies before the table's: string.offset + string.size < names.file.offset +
-   names.file.size. It is a text, here ".text", if it has its length and its bytes. It begins with the text if it has at
-   least its length and the bytes:
-     uint32_t status = goblin_string_bytes(bytes, len, &names.file, section.sh_name, &string, &why);
-     bool is = status == GOBLIN_OK && string.size == 5 && memcmp(bytes + string.offset, ".text", 5) == 0;
-     bool starts = status == GOBLIN_OK && string.size >= 5 && memcmp(bytes + string.offset, ".text", 5) == 0;
-   Example: if (goblin_string_bytes(bytes, len, &names.file, symbol.st_name, &string, &why)) return 1; */
-uint32_t goblin_string_bytes(const uint8_t *bytes, size_t len, const goblin_range_t *strings, uint64_t offset,
-    goblin_range_t *string, goblin_refusal_t *why) GOBLIN_STATUS((3, 5, 6));
+/* Compares the string at an offset of a string table with a name of `name_len` bytes, where it is: GOBLIN_OK if the
+   string that goblin_string_bytes finds has these bytes and no others. GOBLIN_END if not, or if the offset is not below
+   the size of the table. Neither need be UTF-8. No string has a zero byte in it, so leave out the zero byte at the end
+   of `name`. Refused as goblin_string_bytes is.
+   It reads no more of the string than `name_len` bytes and one after them.
+   Example: if (goblin_string_is(bytes, len, &names.file, section.sh_name, ".text", 5, &why) == GOBLIN_OK) index++; */
+uint32_t goblin_string_is(const uint8_t *bytes, size_t len, const goblin_range_t *strings, uint64_t offset,
+    const void *name, size_t name_len, goblin_refusal_t *why) GOBLIN_STATUS((3, 7));
+
+/* As goblin_string_is: GOBLIN_OK if the string starts with the `start_len` bytes of `start`. Each string starts with
+   no bytes.
+   Example: if (goblin_string_starts(bytes, len, &names.file, section.sh_name, ".debug", 6, &why) == GOBLIN_OK)
+                index++; */
+uint32_t goblin_string_starts(const uint8_t *bytes, size_t len, const goblin_range_t *strings, uint64_t offset,
+    const void *start, size_t start_len, goblin_refusal_t *why) GOBLIN_STATUS((3, 7));
 
 /* ---- numbers ---- */
 
@@ -693,8 +713,8 @@ uint64_t goblin_note_type_to_str(const void *name, size_t name_len, uint32_t n_t
    52 are left. For goblin_note_bytes print the part (`item`), too, since the text has no word for it. The text depends
    on `*why` alone, which a caller may fill itself: a `fourth` that means yes or no is yes unless it is 0; an `item`
    that is none of GOBLIN_INVALID_UTF8 and the like has the empty name; a `kind` that is no refusal has the empty text.
-   Example: goblin_refusal_text(&why, text, sizeof text); */
-uint64_t goblin_refusal_text(const goblin_refusal_t *why, void *text, size_t capacity) GOBLIN_GIVEN((1));
+   Example: goblin_refusal_to_str(&why, text, sizeof text); */
+uint64_t goblin_refusal_to_str(const goblin_refusal_t *why, void *text, size_t capacity) GOBLIN_GIVEN((1));
 
 #ifdef __clang__
 #pragma clang diagnostic pop

@@ -462,6 +462,9 @@ static void call_with_nulls(goblin_refusal_t *why) {
     same("null: string", goblin_string(NULL, 0, &some, 0, &text, why), GOBLIN_STRTAB_RANGE);
     same("null: strings", goblin_strings(NULL, 0, &some, NULL, 0, NULL, 0, &number, why), GOBLIN_OK);
     same("null: strings, filled", number, 0);
+    same("null: string is", goblin_string_is(NULL, 0, &none, 0, NULL, 0, why), GOBLIN_END);
+    same("null: string starts", goblin_string_starts(NULL, 0, &some, 0, NULL, 0, why), GOBLIN_STRTAB_RANGE);
+    same("null: string closed", goblin_string_closed(NULL, 0, &none, 0, &text, why), GOBLIN_END);
     same("null: class", goblin_class_to_str(1, NULL, 0), strlen("ELF32"));
     same("null: file type", goblin_et_to_str(3, NULL, 0), strlen("DYN"));
     same("null: machine", goblin_machine_to_str(62, NULL, 0), strlen("X86_64"));
@@ -472,7 +475,7 @@ static void call_with_nulls(goblin_refusal_t *why) {
     same("null: type", goblin_type_to_str(2, NULL, 0), strlen("FUNC"));
     same("null: visibility", goblin_visibility_to_str(0, NULL, 0), strlen("DEFAULT"));
     same("null: note type", goblin_note_type_to_str(NULL, 0, 3, NULL, 0), strlen("NT_GNU_BUILD_ID"));
-    same("null: text", goblin_refusal_text(why, NULL, 0),
+    same("null: text", goblin_refusal_to_str(why, NULL, 0),
          strlen("Malformed entity: Strtable size (1) + offset (0) is out of bounds for 0 #bytes. Overflowed: false"));
     header(&h), symbol(&y), note(&n);
     goblin_range_t symbols = {0x700, wide == 8 ? 48U : 32U}, relocs = {0x800, wide * 6}, empty = {n.name.offset + 7, 1};
@@ -498,11 +501,11 @@ static void close_texts(void) {
     for (why.kind = 0; why.kind <= GOBLIN_INTEGER_FIT + 1; why.kind++)
         for (why.item = 0; why.item <= GOBLIN_PROGRAM_HEADERS; why.item++) {
             memset(text, 0xee, sizeof text);
-            uint64_t size = goblin_refusal_text(&why, text, 160);
+            uint64_t size = goblin_refusal_to_str(&why, text, 160);
             same("a text fits", size < 160, true);
             same("a closed text", strlen(text), size);
             memset(text, 0xee, sizeof text);
-            goblin_refusal_text(&why, text, (size_t)size);
+            goblin_refusal_to_str(&why, text, (size_t)size);
             same("a full buffer", (uint8_t)text[size], 0xee);
         }
     memset(text, 0xee, sizeof text);
@@ -514,26 +517,20 @@ static void close_texts(void) {
 static const uint8_t strings[] = "\0ab\0abc\0x";
 static const goblin_range_t string_table = {0, 9};
 
-/* Tests whether the string at an offset is a text, or begins with it, by the lines in goblin.h. */
-static bool compares(uint64_t at, const char *text, size_t size, bool is_whole) {
+/* Returns the length of the C string at an offset, or -1 if no zero byte closes the string. */
+static int closed_size(uint64_t at) {
     goblin_refusal_t why;
     goblin_range_t string;
-    uint32_t status = goblin_string_bytes(strings, sizeof strings, &string_table, at, &string, &why);
-    return status == GOBLIN_OK && (is_whole ? string.size == size : string.size >= size)
-        && memcmp(strings + string.offset, text, size) == 0;
-}
-
-/* Tests whether a zero byte closes the string at an offset. */
-static bool is_closed(uint64_t at) {
-    goblin_refusal_t why;
-    goblin_range_t string;
-    return goblin_string_bytes(strings, sizeof strings, &string_table, at, &string, &why) == GOBLIN_OK
-        && string.offset + string.size < string_table.offset + string_table.size;
+    uint32_t status = goblin_string_closed(strings, sizeof strings, &string_table, at, &string, &why);
+    return status == GOBLIN_OK && string.offset == at ? (int)strlen((const char *)strings + at) : -1;
 }
 
 static void compare_strings(void) {
-#define IS(at, text, size) compares(at, text, size, true)
-#define STARTS(at, text, size) compares(at, text, size, false)
+    static const goblin_range_t past = {8, 9}, outside = {12, 0};
+    goblin_refusal_t why = {0, 0, 0, 0, 0, 0, 0};
+    goblin_range_t unread;
+#define IS(at, text, size) !goblin_string_is(strings, sizeof strings, &string_table, at, text, size, &why)
+#define STARTS(at, text, size) !goblin_string_starts(strings, sizeof strings, &string_table, at, text, size, &why)
     same("is", IS(1, "ab", 2), true), same("is", IS(1, "abc", 3), false), same("is", IS(4, "ab", 2), false);
     same("is", IS(5, "bc", 2), true), same("is", IS(0, "", 0), true), same("is", IS(1, "", 0), false);
     same("is", IS(8, "x", 1), true), same("is", IS(8, "x", 2), false), same("is", IS(1, "ab", 3), false);
@@ -542,7 +539,14 @@ static void compare_strings(void) {
     same("starts", STARTS(4, "ac", 2), false), same("starts", STARTS(1, "abc", 3), false);
     same("starts", STARTS(1, "ab", 3), false), same("starts", STARTS(8, "x", 2), false);
     same("starts", STARTS(8, "", 0), true), same("starts", STARTS(9, "", 0), false);
-    same("closed", is_closed(1), true), same("closed", is_closed(4), true), same("closed", is_closed(8), false);
+    same("is", IS(0, NULL, 0), true), same("starts", STARTS(1, NULL, 0), true);
+    same("why", why.kind, 0);
+    same("is", goblin_string_is(strings, 10, &past, 9, "x", 1, &why), GOBLIN_STRTAB_RANGE);
+    same("is", goblin_string_is(strings, 10, &string_table, 9, "", 0, &why), GOBLIN_END);
+    same("starts", goblin_string_starts(strings, 10, &outside, 0, "", 0, &why), GOBLIN_STRTAB_OFFSET);
+    same("closed", closed_size(1), 2), same("closed", closed_size(4), 3), same("closed", closed_size(7), 0);
+    same("closed", closed_size(8), -1), same("closed", closed_size(9), -1);
+    same("closed", goblin_string_closed(strings, 10, &past, 0, &unread, &why), GOBLIN_STRTAB_RANGE);
 #undef IS
 #undef STARTS
 }
@@ -558,7 +562,7 @@ static void find_strings(void) {
         uint64_t filled, sizes[3];
     } rows[] = {
         {{1, 4, 10}, 3, 3, GOBLIN_OK, 3, {2, 3, 1}}, {{5, 11, 4}, 3, 3, GOBLIN_END, 1, {2}},
-        {{0, 4, 8}, 3, 3, GOBLIN_BAD_INPUT, 2, {0, 3}}, {{1, 4, 11}, 3, 2, GOBLIN_OK, 2, {2, 3}},
+        {{0, 4, 8}, 3, 3, GOBLIN_OK, 3, {0, 3, 1}}, {{1, 4, 11}, 3, 2, GOBLIN_OK, 2, {2, 3}},
         {{1, 4, 11}, 2, 3, GOBLIN_OK, 2, {2, 3}}, {{8}, 0, 3, GOBLIN_OK, 0, {0}}};
     goblin_range_t ranges[3];
     uint64_t filled;
@@ -569,8 +573,7 @@ static void find_strings(void) {
         same("goblin_strings", goblin_strings(named, 12, &table, rows[i].offsets, rows[i].asked, ranges,
                                               rows[i].capacity, &filled, &why), rows[i].status);
         same("goblin_strings, filled", filled, rows[i].filled);
-        same("goblin_strings, why", why.kind, rows[i].status > GOBLIN_END ? rows[i].status : 0);
-        same("goblin_strings, where", why.offset, rows[i].status > GOBLIN_END ? 8 : 0);
+        same("goblin_strings, why", why.kind, 0);
         for (size_t k = 0; k < 3; k++) {
             same("goblin_strings, a start", ranges[k].offset, k < rows[i].filled ? rows[i].offsets[k] : unread.offset);
             same("goblin_strings, a size", ranges[k].size, k < rows[i].filled ? rows[i].sizes[k] : unread.size);
@@ -578,6 +581,7 @@ static void find_strings(void) {
     }
     same("goblin_strings", goblin_strings(named, 12, &past, rows[0].offsets, 3, ranges, 3, &filled, &why),
          GOBLIN_STRTAB_RANGE);
+    same("goblin_strings, where", why.offset, 0);
     same("goblin_strings, filled", filled, 0);
     same("goblin_strings", goblin_strings(named, 12, &past, rows[0].offsets, 3, ranges, 0, &filled, &why), GOBLIN_OK);
 }

@@ -18,14 +18,12 @@ static size_t len;
 static goblin_header_t header;
 static goblin_refusal_t why;
 
-/* Prints a string, which need not be UTF-8, after its name. */
+/* Prints a string, which need not be UTF-8, after its name, if a zero byte closes it, as a loader needs. */
 static uint32_t print(const char *name, const goblin_range_t *strings, uint64_t offset) {
-    goblin_range_t string = {0, 0};
-    uint32_t status = goblin_string_bytes(bytes, len, strings, offset, &string, &why);
+    goblin_range_t string;
+    uint32_t status = goblin_string_closed(bytes, len, strings, offset, &string, &why);
     if (status > GOBLIN_END) return status;
-    printf("%s ", name);
-    fwrite(bytes + string.offset, 1, (size_t)string.size, stdout);
-    putchar('\n');
+    if (status == GOBLIN_OK) printf("%s %s\n", name, (const char *)bytes + string.offset);
     return GOBLIN_OK;
 }
 
@@ -95,7 +93,7 @@ static int list(void) {
     if (status <= GOBLIN_END) status = list_dynamic();
     if (status <= GOBLIN_END) return 0;
     char text[160];
-    goblin_refusal_text(&why, text, sizeof text);
+    goblin_refusal_to_str(&why, text, sizeof text);
     fprintf(stderr, "needed: %s\n", text);
     return 1;
 }

@@ -18,7 +18,7 @@ static goblin_refusal_t why;
 
 static int refused(const char *what) {
     char text[160];
-    goblin_refusal_text(&why, text, sizeof text);
+    goblin_refusal_to_str(&why, text, sizeof text);
     fprintf(stderr, "nm: %s: %s\n", what, text);
     return 1;
 }
@@ -31,8 +31,10 @@ static goblin_range_t string(const goblin_section_t *strings, uint64_t offset) {
     return found;
 }
 
-static bool starts(goblin_range_t name, const char *with) {
-    return name.size >= strlen(with) && memcmp(bytes + name.offset, with, strlen(with)) == 0;
+/* Returns whether the name of a section starts with a text. */
+static bool starts(const goblin_section_t *section, const char *with) {
+    return goblin_string_starts(bytes, len, &names_of_sections.file, section->sh_name, with, strlen(with), &why)
+        == GOBLIN_OK;
 }
 
 static int section_letter(const goblin_section_t *section) {
@@ -41,9 +43,8 @@ static int section_letter(const goblin_section_t *section) {
     if (section->sh_flags & GOBLIN_SHF_EXECINSTR) return 't';
     if (section->sh_type == GOBLIN_SHT_NOBITS) return 'b';
     if (section->sh_flags & GOBLIN_SHF_ALLOC) return section->sh_flags & GOBLIN_SHF_WRITE ? 'd' : 'r';
-    goblin_range_t name = string(&names_of_sections, section->sh_name);
     for (size_t i = 0; i < sizeof debugging / sizeof *debugging; i++)
-        if (starts(name, debugging[i])) return 'N';
+        if (starts(section, debugging[i])) return 'N';
     return section->sh_flags & GOBLIN_SHF_WRITE ? '?' : 'n';
 }
 

@@ -354,10 +354,37 @@ uint32_t goblin_strings(const uint8_t *bytes, size_t len, const goblin_range_t *
                         goblin_refusal_t *why) {
     uint32_t status = GOBLIN_OK;
     for (*filled = 0; *filled < offsets_len && *filled < capacity; ++*filled) {
-        status = goblin_string(bytes, len, strings, offsets[*filled], &ranges[*filled], why);
+        status = goblin_string_bytes(bytes, len, strings, offsets[*filled], &ranges[*filled], why);
         if (status) break;
     }
     return status;
+}
+
+uint32_t goblin_string_closed(const uint8_t *bytes, size_t len, const goblin_range_t *strings, uint64_t offset,
+                              goblin_range_t *string, goblin_refusal_t *why) {
+    goblin_range_t found;
+    uint32_t status = goblin_string_bytes(bytes, len, strings, offset, &found, why);
+    if (!status && found.size == strings->size - offset) status = GOBLIN_END;
+    if (!status) *string = found;
+    return status;
+}
+
+uint32_t goblin_string_starts(const uint8_t *bytes, size_t len, const goblin_range_t *strings, uint64_t offset,
+                              const void *start, size_t start_len, goblin_refusal_t *why) {
+    goblin_range_t found;
+    uint32_t status = goblin_string_bytes(bytes, len, strings, offset, &found, why);
+    if (!status && found.size < start_len) status = GOBLIN_END;
+    for (size_t i = 0; !status && i < start_len; i++)
+        if (bytes[found.offset + i] != ((const uint8_t *)start)[i]) status = GOBLIN_END;
+    return status;
+}
+
+uint32_t goblin_string_is(const uint8_t *bytes, size_t len, const goblin_range_t *strings, uint64_t offset,
+                          const void *name, size_t name_len, goblin_refusal_t *why) {
+    goblin_range_t found;
+    uint32_t status = goblin_string_starts(bytes, len, strings, offset, name, name_len, why);
+    if (!status) status = goblin_string_bytes(bytes, len, strings, offset, &found, why);
+    return !status && found.size != name_len ? (uint32_t)GOBLIN_END : status;
 }
 
 /* Tests whether a name is the string at an offset, and UTF-8. */
@@ -725,7 +752,7 @@ static void write(out_t *out, const char *format, const goblin_refusal_t *why) {
     }
 }
 
-uint64_t goblin_refusal_text(const goblin_refusal_t *why, void *text, size_t capacity) {
+uint64_t goblin_refusal_to_str(const goblin_refusal_t *why, void *text, size_t capacity) {
     static const char *const formats[] = {
         NULL, NULL, "Invalid magic number: 0x%x", "type is too big (%d) for %d", "bad offset %d", "bad input %s (%d)",
         "Buffer is too short for %d %s", "Out of memory", NULL, NULL, "Invalid class in Header: %d",

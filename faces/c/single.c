@@ -1,18 +1,29 @@
 /* Makes calls for one item, for checks/faces/c.sh, which counts their instructions: single FILE
    It reads the header of a 64-bit file, each section header, each symbol and each relocation of its longest tables, its
-   first note, and the first name of a section. It prints each call and how often it returned an item. */
+   first note, and the first name of a section. It finds the names of the symbols one by one and 64 at once, and
+   compares each with a name and with a start. It prints each call and how many items it found or compared. */
 #include "goblin.h"
 #include <inttypes.h>
 #include <stdio.h>
 #include <stdlib.h>
 #include <string.h>
 
-enum { ROUNDS = 100, ROOM = 1 << 24 };
+enum { ROUNDS = 100, ROOM = 1 << 24, MOST = 1 << 16 };
 
 static uint8_t *bytes;
 static size_t len;
 static goblin_header_t header;
 static goblin_refusal_t why;
+/* The name that others are compared with, which the compiler doesn't know. */
+static const char *volatile wanted = "main";
+static volatile size_t wanted_size = 4;
+
+/* Compares the string at an offset with a name, as a client does by itself. (As a call does, it stands apart.) */
+static __attribute__((noinline)) bool plain_is(goblin_range_t strings, uint64_t offset, const void *name, size_t size) {
+    const uint8_t *text = bytes + strings.offset;
+    return strings.offset <= len && strings.size <= len - strings.offset && offset < strings.size
+        && strings.size - offset > size && memcmp(text + offset, name, size) == 0 && text[offset + size] == 0;
+}
 
 /* Finds the longest section of a type, or one without bytes. */
 static goblin_section_t longest(uint32_t type) {
@@ -25,6 +36,33 @@ static goblin_section_t longest(uint32_t type) {
         first += filled;
     }
     return most;
+}
+
+/* Finds the names of the symbols, and compares them, by the calls and as plain C does. Returns whether each call found
+   what it should. */
+static bool count_strings(const goblin_section_t *table) {
+    static uint64_t offsets[MOST];
+    goblin_range_t name, ranges[64];
+    goblin_section_t strings;
+    goblin_symbol_t symbols[64];
+    uint64_t count = 0, singles = 0, found = 0, filled = 0, same = 0;
+    if (goblin_linked_section(bytes, len, &header, table->sh_link, &strings, &why) != GOBLIN_OK) return false;
+    while (count <= MOST - 64
+           && !goblin_symbols(bytes, len, &header, &table->file, count, symbols, 64, &filled, &why))
+        for (uint64_t i = 0; i < filled; i++) offsets[count++] = symbols[i].st_name;
+    for (uint64_t i = 0; i < count; i++) {
+        singles += goblin_string_bytes(bytes, len, &strings.file, offsets[i], &name, &why) == GOBLIN_OK;
+        same += goblin_string_is(bytes, len, &strings.file, offsets[i], wanted, wanted_size, &why) == GOBLIN_OK;
+        same += goblin_string_starts(bytes, len, &strings.file, offsets[i], wanted, wanted_size, &why) == GOBLIN_OK;
+        same += plain_is(strings.file, offsets[i], wanted, wanted_size);
+    }
+    while (found < count
+           && !goblin_strings(bytes, len, &strings.file, offsets + found, count - found, ranges, 64, &filled, &why))
+        found += filled;
+    if (count == 0 || singles != count || found != count || same != 3) return false;
+    printf("plain_is %" PRIu64 "\ngoblin_string_bytes %" PRIu64 "\ngoblin_strings %" PRIu64
+           "\ngoblin_string_is %" PRIu64 "\ngoblin_string_starts %" PRIu64 "\n", count, count, count, count, count);
+    return true;
 }
 
 static int count_calls(void) {
@@ -48,10 +86,11 @@ static int count_calls(void) {
         symbols += goblin_symbol(bytes, len, &header, &table.file, i, &symbol, &why) == GOBLIN_OK;
     for (uint64_t i = 0; i < relas.file.size / 24; i++)
         relocs += goblin_reloc(bytes, len, &header, &relas.file, true, i, &reloc, &why) == GOBLIN_OK;
+    bool has_strings = count_strings(&table);
     printf("goblin_header %" PRIu64 "\ngoblin_section %" PRIu64 "\ngoblin_symbol %" PRIu64 "\ngoblin_reloc %" PRIu64
            "\ngoblin_note %" PRIu64 "\ngoblin_string %" PRIu64 "\n",
            headers, sections, symbols, relocs, notes, strings);
-    return headers && sections && symbols && relocs && notes && strings ? EXIT_SUCCESS : EXIT_FAILURE;
+    return has_strings && headers && sections && symbols && relocs && notes && strings ? EXIT_SUCCESS : EXIT_FAILURE;
 }
 
 int main(int argc, char **argv) {

@@ -23,7 +23,7 @@ static bool load(const char *path) {
 
 static int refused(const char *path, const goblin_refusal_t *why) {
     char text[160];
-    goblin_refusal_text(why, text, sizeof text);
+    goblin_refusal_to_str(why, text, sizeof text);
     fprintf(stderr, "size: %s: %s\n", path, text);
     return 1;
 }

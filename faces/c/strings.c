@@ -45,7 +45,7 @@ static int list(const char *name) {
     if (status == GOBLIN_OK) status = list_strings(&strings);
     if (status <= GOBLIN_END) return 0;
     char text[160];
-    goblin_refusal_text(&why, text, sizeof text);
+    goblin_refusal_to_str(&why, text, sizeof text);
     fprintf(stderr, "strings: %s, at offset %" PRIu64 "\n", text, why.offset);
     return 1;
 }

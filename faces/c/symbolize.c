@@ -32,7 +32,7 @@ static goblin_refusal_t why;
 
 static int refused(const char *what) {
     char text[160];
-    goblin_refusal_text(&why, text, sizeof text);
+    goblin_refusal_to_str(&why, text, sizeof text);
     fprintf(stderr, "symbolize: %s: %s\n", what, text);
     return 1;
 }
@@ -217,10 +217,9 @@ int main(int argc, char **argv) {
             status = one_by_one ? goblin_symbol_by_address(bytes, len, &header, &table.file, address, &index, &why)
                 : find(address, &index);
         if (status == GOBLIN_OK) status = goblin_symbol(bytes, len, &header, &table.file, index, &symbol, &why);
-        if (status == GOBLIN_OK) status = goblin_string_bytes(bytes, len, &names.file, symbol.st_name, &name, &why);
+        if (status == GOBLIN_OK) status = goblin_string_closed(bytes, len, &names.file, symbol.st_name, &name, &why);
         if (status > GOBLIN_END) return refused("symbols");
-        if (status == GOBLIN_OK) fwrite(bytes + name.offset, 1, (size_t)name.size, stdout);
-        puts(status == GOBLIN_OK ? "\n??:0" : "??\n??:0");
+        printf("%s\n??:0\n", status == GOBLIN_OK ? (const char *)bytes + name.offset : "??");
     }
     return 0;
 }

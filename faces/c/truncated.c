@@ -13,7 +13,7 @@ static goblin_refusal_t why;
 /* Prints the text of the last refusal after its subject. */
 static int refused(FILE *to, const char *subject) {
     char text[160];
-    goblin_refusal_text(&why, text, sizeof text);
+    goblin_refusal_to_str(&why, text, sizeof text);
     fprintf(to, "%s: %s\n", subject, text);
     return 1;
 }

@@ -11,7 +11,7 @@ static goblin_section_t none; /* (for symbols without names) */
 
 static int refused(void) {
     char text[160];
-    goblin_refusal_text(&why, text, sizeof text);
+    goblin_refusal_to_str(&why, text, sizeof text);
     fprintf(stderr, "values: %s\n", text);
     return 1;
 }
