@@ -78,13 +78,14 @@ fn dynamic<'a>(elf: &Elf<'a>) -> Result<Option<(Entries, Strtab<'a>)>> {
     Ok(strings.map(|strings| (all, strings)))
 }
 
-/// Returns the strings of the dynamic section, which need not be UTF-8, each with its name.
+/// Returns the strings of the dynamic section, which need not be UTF-8, each with its name. A zero byte closes each, as
+/// a loader needs.
 fn strings<'a>(elf: &Elf<'a>) -> Result<Vec<(&'static str, &'a [u8])>> {
     let mut listed = Vec::new();
     if let Some((all, strings)) = dynamic(elf)? {
         for (tag, value) in all {
             if let Some(name) = name_of(tag) {
-                listed.push((name, strings.get_bytes(value as usize)?.unwrap_or(b"")));
+                listed.extend(strings.get_c_str(value as usize)?.map(|string| (name, string.to_bytes())));
             }
         }
     }

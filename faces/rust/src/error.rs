@@ -264,8 +264,8 @@ impl fmt::Display for Error {
         if let Kind::SectionType { sh_type, expected } = self.kind() {
             return write!(f, "A section of type {:#x} ({}) holds no {}", sh_type, sht_to_str(sh_type), expected);
         }
-        let mut text = vec![0; sys::goblin_refusal_text(&self.0, &mut [])];
-        sys::goblin_refusal_text(&self.0, &mut text);
+        let mut text = vec![0; sys::goblin_refusal_to_str(&self.0, &mut [])];
+        sys::goblin_refusal_to_str(&self.0, &mut text);
         f.write_str(&String::from_utf8_lossy(&text))
     }
 }

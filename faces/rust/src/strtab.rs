@@ -2,6 +2,7 @@
 use crate::error::Result;
 use crate::file::File;
 use crate::{raw, sys};
+use std::ffi::CStr;
 
 /// A string table: a range of the file.
 ///
@@ -39,7 +40,6 @@ impl<'a> Strtab<'a> {
     /// let names = elf.shdr_strtab()?;
     /// let text = elf.section(".text")?.ok_or("no .text")?;
     /// assert_eq!(names.get_bytes(text.sh_name)?, Some(&b".text"[..]));
-    /// assert!(names.get_bytes(text.sh_name)?.map_or(false, |name| name.starts_with(b".te")));
     /// # Ok(())
     /// # }
     /// ```
@@ -50,5 +50,88 @@ impl<'a> Strtab<'a> {
     pub fn get_bytes(&self, offset: usize) -> Result<Option<&'a [u8]>> {
         let range = sys::goblin_string_bytes(&self.file, &self.range, offset as u64)?;
         Ok(range.map(|range| self.file.slice(range)))
+    }
+
+    /// Returns the string at an offset, which need not be UTF-8, if a zero byte of the table closes it. Returns `None`
+    /// past the end of the table and if the string ends with the table.
+    ///
+    /// ```
+    /// # fn main() -> Result<(), Box<dyn std::error::Error>> {
+    /// # let bytes = std::fs::read(std::env::current_exe()?)?;
+    /// let elf = goblin_rs::Elf::parse(&bytes)?;
+    /// let text = elf.section(".text")?.ok_or("no .text")?;
+    /// let name = elf.shdr_strtab()?.get_c_str(text.sh_name)?;
+    /// assert_eq!(name.map(|name| name.to_bytes_with_nul()), Some(&b".text\0"[..]));
+    /// # Ok(())
+    /// # }
+    /// ```
+    ///
+    /// # Errors
+    /// If the table is not inside the file.
+    #[inline]
+    pub fn get_c_str(&self, offset: usize) -> Result<Option<&'a CStr>> {
+        sys::c_string(self.file.0, &self.range, offset as u64)
+    }
+
+    /// Returns the bytes of the strings at many offsets, each as [`Strtab::get_bytes`] does. The table is checked once
+    /// for 64 strings.
+    ///
+    /// ```
+    /// # fn main() -> Result<(), Box<dyn std::error::Error>> {
+    /// # let bytes = std::fs::read(std::env::current_exe()?)?;
+    /// let elf = goblin_rs::Elf::parse(&bytes)?;
+    /// let sections = elf.section_headers()?;
+    /// let names = elf.shdr_strtab()?.get_all_bytes(sections.iter().map(|section| section.sh_name))?;
+    /// assert_eq!(names.len(), sections.len());
+    /// assert!(names.contains(&Some(&b".text"[..])));
+    /// # Ok(())
+    /// # }
+    /// ```
+    ///
+    /// # Errors
+    /// If there are offsets, and the table is not inside the file.
+    pub fn get_all_bytes(&self, offsets: impl IntoIterator<Item = usize>) -> Result<Vec<Option<&'a [u8]>>> {
+        let offsets: Vec<u64> = offsets.into_iter().map(|offset| offset as u64).collect();
+        let mut found = Vec::with_capacity(offsets.len());
+        let mut ranges = [raw::Range::default(); 64];
+        while found.len() < offsets.len() {
+            let batch = &offsets[found.len()..offsets.len().min(found.len() + ranges.len())];
+            let filled = sys::goblin_strings(&self.file, &self.range, batch, &mut ranges)?;
+            found.extend(ranges[..filled].iter().map(|range| Some(self.file.slice(*range))));
+            if filled < batch.len() {
+                found.push(None);
+            }
+        }
+        Ok(found)
+    }
+
+    /// Reports whether the string at an offset has these bytes, which need not be UTF-8. Past the end of the table
+    /// there is none. It reads no more of the string than `name` has, and one byte.
+    ///
+    /// ```
+    /// # fn main() -> Result<(), Box<dyn std::error::Error>> {
+    /// # let bytes = std::fs::read(std::env::current_exe()?)?;
+    /// let elf = goblin_rs::Elf::parse(&bytes)?;
+    /// let (names, text) = (elf.shdr_strtab()?, elf.section(".text")?.ok_or("no .text")?);
+    /// assert!(names.is(text.sh_name, b".text")? && !names.is(text.sh_name, b".te")?);
+    /// assert!(names.starts_with(text.sh_name, b".te")?);
+    /// # Ok(())
+    /// # }
+    /// ```
+    ///
+    /// # Errors
+    /// If the table is not inside the file.
+    #[inline]
+    pub fn is(&self, offset: usize, name: &[u8]) -> Result<bool> {
+        sys::goblin_string_is(&self.file, &self.range, offset as u64, name)
+    }
+
+    /// Reports whether the string at an offset starts with these bytes, as [`Strtab::is`] does.
+    ///
+    /// # Errors
+    /// If the table is not inside the file.
+    #[inline]
+    pub fn starts_with(&self, offset: usize, start: &[u8]) -> Result<bool> {
+        sys::goblin_string_starts(&self.file, &self.range, offset as u64, start)
     }
 }

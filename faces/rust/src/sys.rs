@@ -5,6 +5,7 @@
 use crate::error::{Error, Result};
 use crate::file::File;
 use crate::raw::{Header, Note, ProgramHeader, Range, Refusal, Reloc, SectionHeader, Sym};
+use std::ffi::CStr;
 use std::str;
 
 // A call takes the file's bytes and further arguments: after `by` a slice to read, after `into` an array to fill.
@@ -57,6 +58,7 @@ calls! {
     fn goblin_symbol_count(header: &Header, table: &Range) -> u64;
     fn goblin_reloc_count(header: &Header, relocs: &Range, is_rela: bool) -> u64;
     fn goblin_string_bytes(strings: &Range, offset: u64) -> Range;
+    fn goblin_string_closed(strings: &Range, offset: u64) -> Range;
     fn goblin_number(header: &Header, offset: u64, width: u64) -> u64;
     fn goblin_number_in(header: &Header, range: &Range, offset: u64, width: u64) -> u64;
     fn goblin_symbol(header: &Header, table: &Range, index: u64) -> Sym;
@@ -67,6 +69,48 @@ calls! {
     fn goblin_note(header: &Header, notes: &Range, alignment: u64, offset: u64) -> Note;
     fn goblin_note_bytes(header: &Header, notes: &Range, alignment: u64, offset: u64) -> Note;
     fn goblin_string(strings: &Range, offset: u64) -> Range;
+}
+
+// A call compares a string with some bytes. It returns whether they match.
+macro_rules! comparisons {
+    ($(fn $name:ident(by $by:ident);)*) => {$(
+        #[inline]
+        pub fn $name(bytes: &[u8], strings: &Range, offset: u64, $by: &[u8]) -> Result<bool> {
+            extern "C" {
+                fn $name(bytes: *const u8, len: usize, strings: &Range, offset: u64, $by: *const u8, _: usize,
+                    why: *mut Refusal) -> u32;
+            }
+            let mut why = Refusal::default();
+            // SAFETY: each pointer of a slice is passed with the slice's length. `why` is this function's own, and all
+            // references and slices outlive the call. It writes only numbers.
+            let status = unsafe {
+                $name(bytes.as_ptr(), bytes.len(), strings, offset, $by.as_ptr(), $by.len(), &mut why)
+            };
+            result(status, (), why).map(|same| same.is_some())
+        }
+    )*};
+}
+
+comparisons! {
+    fn goblin_string_is(by name);
+    fn goblin_string_starts(by start);
+}
+
+/// Finds the ranges of the strings at some offsets, as many as fit, up to the first offset past the end of the table.
+/// Returns their number.
+pub fn goblin_strings(bytes: &[u8], strings: &Range, offsets: &[u64], ranges: &mut [Range]) -> Result<usize> {
+    extern "C" {
+        fn goblin_strings(bytes: *const u8, len: usize, strings: &Range, offsets: *const u64, _: usize,
+            ranges: *mut Range, _: usize, filled: *mut u64, why: *mut Refusal) -> u32;
+    }
+    let (mut filled, mut why) = <(u64, Refusal)>::default();
+    // SAFETY: each pointer of a slice is passed with the slice's length. `filled` and `why` are this function's own,
+    // and all references and slices outlive the call. It writes only numbers.
+    let status = unsafe {
+        goblin_strings(bytes.as_ptr(), bytes.len(), strings, offsets.as_ptr(), offsets.len(), ranges.as_mut_ptr(),
+            ranges.len(), &mut filled, &mut why)
+    };
+    result(status, (), why).map(|_| filled as usize)
 }
 
 // A call finds the first item of some kind from an index on: after `by` a slice to read. It returns the index and
@@ -152,6 +196,16 @@ pub fn string<'a>(bytes: &'a [u8], strings: &Range, offset: u64) -> Result<Optio
     Ok(string.map(|string| unsafe { str::from_utf8_unchecked(string) }))
 }
 
+/// Returns the C string whose range `goblin_string_closed` returns. It is not searched once more for zero bytes.
+#[inline]
+pub fn c_string<'a>(bytes: &'a [u8], strings: &Range, offset: u64) -> Result<Option<&'a CStr>> {
+    let string = goblin_string_closed(bytes, strings, offset)?;
+    let string = string.map(|Range { offset, size }| File(bytes).slice(Range { offset, size: size + 1 }));
+    debug_assert!(string.map_or(true, |string| CStr::from_bytes_with_nul(string).is_ok()));
+    // SAFETY: after a string that the library returns here there is a zero byte, and none in it, which is proved.
+    Ok(string.map(|string| unsafe { CStr::from_bytes_with_nul_unchecked(string) }))
+}
+
 // A call writes a text into a buffer, or as much of it as fits, and returns the length of the whole text.
 macro_rules! texts {
     ($(fn $name:ident($given:ident: $type:ty $(, by $by:ident)?);)*) => {$(
@@ -176,7 +230,7 @@ texts! {
     fn goblin_type_to_str(type_: u8);
     fn goblin_visibility_to_str(visibility: u8);
     fn goblin_note_type_to_str(n_type: u32, by name);
-    fn goblin_refusal_text(why: &Refusal);
+    fn goblin_refusal_to_str(why: &Refusal);
 }
 
 #[cfg(test)]

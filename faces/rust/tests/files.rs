@@ -8,6 +8,7 @@ use goblin_rs::reloc::Reloc;
 use goblin_rs::section_header::{
     SectionHeader, SHF_ALLOC, SHF_TLS, SHT_NOBITS, SHT_NOTE, SHT_PROGBITS, SHT_REL, SHT_RELA, SHT_STRTAB, SHT_SYMTAB,
 };
+use goblin_rs::strtab::Strtab;
 use goblin_rs::sym::Sym;
 use goblin_rs::{header, program_header, section_header, sym, Elf, Result};
 
@@ -311,9 +312,46 @@ fn counts_and_bytes() {
         assert_eq!(elf.segment_data(&load), Ok(Some(&file[..elf.header.e_shoff as usize])));
         assert_eq!(symbols.strtab().get_bytes(20), Ok(Some(&b"\xff"[..])));
         assert_eq!(symbols.strtab().get_bytes(STRINGS.len()), Ok(None));
+        compares_strings(&symbols.strtab());
         assert_eq!(elf.number(18, 2), Ok(Some(0x3e)));
         assert_eq!(elf.number(18, 3), Ok(None));
         assert_eq!(elf.number(file.len() as u64, 1).map_err(|e| e.kind()), Err(Kind::BadOffset(file.len() as u64)));
+    }
+}
+
+/// Compares strings of a table of `STRINGS`, and finds them as C strings, and many of them.
+fn compares_strings(names: &Strtab) {
+    assert_eq!((names.is(1, b"first"), names.is(2, b"irst"), names.is(20, b"\xff")), (Ok(true), Ok(true), Ok(true)));
+    assert_eq!((names.is(1, b"firs"), names.is(1, b"first\0")), (Ok(false), Ok(false)));
+    assert_eq!((names.is(STRINGS.len(), b""), names.is(usize::MAX, b"")), (Ok(false), Ok(false)));
+    assert_eq!((names.starts_with(7, b"sec"), names.starts_with(7, b"")), (Ok(true), Ok(true)));
+    assert_eq!((names.starts_with(7, b"seconds"), names.starts_with(6, b"\0")), (Ok(false), Ok(false)));
+    let closed = |offset| names.get_c_str(offset).map(|name| name.map(|name| name.to_bytes()));
+    assert_eq!((closed(7), closed(20)), (Ok(Some(&b"second"[..])), Ok(Some(&b"\xff"[..]))));
+    assert_eq!(closed(STRINGS.len()), Ok(None));
+    let offsets = (0..200).map(|index| index % (STRINGS.len() + 1));
+    let wanted: Vec<_> = offsets.clone().map(|offset| names.get_bytes(offset).unwrap()).collect();
+    assert_eq!(names.get_all_bytes(offsets), Ok(wanted));
+    assert_eq!(names.get_all_bytes([]), Ok(vec![]));
+}
+
+#[test]
+fn refuses_to_compare_strings_past_the_end() {
+    for form in FORMS {
+        let file = made(form, 0);
+        let elf = Elf::parse(&file).unwrap();
+        let strings = elf.section_header(3).unwrap().unwrap();
+        // (only "first")
+        let open = elf.strtab(&SectionHeader { sh_offset: strings.sh_offset + 1, sh_size: 5, ..strings });
+        assert_eq!((open.get_c_str(0), open.is(0, b"first")), (Ok(None), Ok(true)));
+        let past = elf.strtab(&SectionHeader { sh_offset: file.len() as u64 - 1, sh_size: 2, ..strings });
+        let len = file.len() as u64;
+        let wanted = Kind::StrtabRange { size: 2, offset: len - 1, len, overflow: false };
+        assert_eq!(past.is(0, b"").map_err(|e| e.kind()), Err(wanted));
+        assert_eq!(past.starts_with(0, b"").map_err(|e| e.kind()), Err(wanted));
+        assert_eq!(past.get_c_str(0).map_err(|e| e.kind()), Err(wanted));
+        assert_eq!(past.get_all_bytes([0, 1]).map_err(|e| e.kind()), Err(wanted));
+        assert_eq!(past.get_all_bytes([]), Ok(vec![]));
     }
 }
 
