@@ -127,7 +127,7 @@ def call(name: str, file: File, *arguments: Any) -> bool:
     status = FUNCTIONS[name](file.address, file.length, *arguments, why)
     if status > END:
         kind, item, *numbers, offset = REFUSAL.struct.unpack(why)
-        raise Refused(text('refusal_text', why), kind, item, tuple(numbers), offset)
+        raise Refused(text('refusal_to_str', why), kind, item, tuple(numbers), offset)
     return bool(status == OK)
 
 

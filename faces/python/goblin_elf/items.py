@@ -408,6 +408,21 @@ class Strings:
         place = found('string_bytes', RANGE, self._file, self._range, unsigned(offset))
         return bytes(self._file.part(*place)) if place else None
 
+    def get_closed(self, offset: int) -> Optional[bytes]:
+        """Returns the bytes of the string at an offset, as `get_bytes` does, if a zero byte of the table closes it: `None` if it ends with the
+        table."""
+        place = found('string_closed', RANGE, self._file, self._range, unsigned(offset))
+        return bytes(self._file.part(*place)) if place else None
+
+    def is_at(self, offset: int, name: Name) -> bool:
+        """Whether the string at an offset is a name, which is compared as bytes (a str as its UTF-8). Past the end there is none. Refused if
+        the table is not inside the file."""
+        return call('string_is', self._file, self._range, unsigned(offset), *named(name))
+
+    def starts_at(self, offset: int, start: Name) -> bool:
+        """Whether the string at an offset starts with a text, as `is_at`."""
+        return call('string_starts', self._file, self._range, unsigned(offset), *named(start))
+
     def get_all(self, offsets: Iterable[int], errors: str = 'strict') -> List[Optional[str]]:
         """Returns the strings at many offsets in one pass, each as `get` does."""
         return self._get_all(array('Q', map(unsigned, offsets)), errors)
@@ -415,12 +430,13 @@ class Strings:
     def _get_all(self, offsets: 'array[int]', errors: str) -> List[Optional[str]]:
         texts: List[Optional[str]] = []
         while len(texts) < len(offsets):
-            texts += self._first(offsets, len(texts))
+            texts += self._first(offsets, len(texts), errors)
             texts += [self.get(offset, errors) for offset in offsets[len(texts):len(texts) + 1]]
         return texts
 
-    def _first(self, offsets: 'array[int]', start: int) -> List[str]:
+    def _first(self, offsets: 'array[int]', start: int, errors: str = 'strict') -> List[str]:
         """Returns some of the strings at offsets, from an index on, up to the first one that is refused or past the end, or sooner."""
+        texts: List[str] = []
         count, filled = min(len(offsets) - start, CHUNK), ctypes.c_uint64()
         ranges = array('Q', (0, 0)) * count
         FUNCTIONS['strings'](self._file.address, self._file.length, self._range, offsets.buffer_info()[0] + 8 * start, count,
@@ -429,7 +445,10 @@ class Strings:
         while sum(ranges[1:2 * count:2]) > TEXTS:
             count //= 2
         source = self._file.source
-        return [str(source[start:start + size], 'utf-8') for start, size in zip(ranges[:2 * count:2], ranges[1::2])]
+        # (the library finds strings that are not UTF-8, too: `get` refuses the first one)
+        with contextlib.suppress(UnicodeDecodeError):
+            texts.extend(str(source[at:at + size], 'utf-8', errors) for at, size in zip(ranges[:2 * count:2], ranges[1::2]))
+        return texts
 
 
 def named(name: Name) -> Tuple[bytes, int]:

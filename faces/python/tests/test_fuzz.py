@@ -35,6 +35,8 @@ class Reader:
                      lambda: elf.offset_of(number()), lambda: elf.number(number(), 8), lambda: Symbols(elf, *range_of),
                      lambda: Relocations(elf, *range_of, bool(number() & 1)), lambda: Notes(elf, *range_of, number()),
                      lambda: Strings(elf, *range_of).get(number()), lambda: Strings(elf, *range_of).get_bytes(number()),
+                     lambda: Strings(elf, *range_of).get_closed(number()), lambda: Strings(elf, *range_of).is_at(number(), b'a'),
+                     lambda: Strings(elf, *range_of).starts_at(number(), b'a'), lambda: Strings(elf, *range_of).get_all([number()] * 3),
                      lambda: repr(elf.header)):
             found = self.step(step)
             if hasattr(found, '__len__') and not isinstance(found, (str, bytes, dict, memoryview)):

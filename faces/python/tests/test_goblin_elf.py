@@ -231,7 +231,22 @@ class Refusals(unittest.TestCase):
         self.assertEqual((error.kind, error.item, error.offset), (Kind.BAD_INPUT, Item.INVALID_UTF8, len(MADE.bytes)))
         self.assertEqual((odd.get_bytes(0), odd.get(0, 'replace'), odd.get(0, 'surrogateescape')), (b'caf\xe9', 'caf\ufffd', 'caf\udce9'))
         self.assertEqual((odd.get(1, 'ignore'), odd.get(5), odd.get_all([4, 5, 9])), ('af', None, ['', None, None]))
-        self.assertEqual(refusal(odd.get_all, [4, 0]).kind, Kind.BAD_INPUT)
+        error = refusal(odd.get_all, [4, 0])
+        self.assertEqual((error.kind, error.offset), (Kind.BAD_INPUT, len(MADE.bytes)))
+        self.assertEqual(odd.get_all([4, 0, 5, 2], 'surrogateescape'), ['', 'caf\udce9', None, 'f\udce9'])
+        self.assertEqual(refusal(Strings(elf, 64, 1 << 40).get_all, [0], 'replace').kind, Kind.STRTAB_RANGE)
+
+    def test_of_strings_in_place(self):
+        names = Strings(Elf(MADE.bytes + b'caf\xe9\0end'), len(MADE.bytes), 8)
+        self.assertTrue(names.is_at(0, b'caf\xe9') and names.is_at(0, 'caf\udce9') and names.is_at(4, '') and names.is_at(5, 'end'))
+        self.assertFalse(names.is_at(0, 'caf') or names.is_at(0, b'caf\xe9\0') or names.is_at(0, 'caf\xe9') or names.is_at(8, ''))
+        self.assertTrue(names.starts_at(0, 'caf') and names.starts_at(0, b'caf\xe9') and names.starts_at(7, '') and names.starts_at(5, 'e'))
+        self.assertFalse(names.starts_at(0, 'af') or names.starts_at(5, 'ends') or names.starts_at(8, '') or names.starts_at(4, '\0'))
+        self.assertEqual([names.get_closed(offset) for offset in (0, 4, 5, 8)], [b'caf\xe9', b'', None, None])
+        past = Strings(Elf(MADE.bytes), 64, 1 << 40)
+        for read in (past.get_closed, lambda offset: past.is_at(offset, 'a'), lambda offset: past.starts_at(offset, '')):
+            self.assertEqual(refusal(read, 0).kind, Kind.STRTAB_RANGE)
+            self.assertRaises(ValueError, read, -1)
 
     def test_of_notes(self):
         offset, size = MADE.offsets['.note.gnu.build-id']
