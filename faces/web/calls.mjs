@@ -654,6 +654,32 @@ function check_names() {
     assert.throws(() => cut.section_by_name('a'), is_refusal(Kind.TOO_BIG));
 }
 
+// Strings that are compared, that a zero byte closes, and that are found many at once.
+function check_strings() {
+    const text = Buffer.from('\0main\0\xff\xfe\0end', 'latin1');
+    const elf = Elf.parse(Buffer.concat([own, text])), sh_offset = BigInt(own.length);
+    const table = (sh_size) => elf.strtab({ sh_type: 3, sh_offset, sh_size }), names = table(12n);
+    assert.ok(names.is(1, 'main') && names.is(2n, 'ain') && names.is(9, 'end'));
+    assert.ok(names.is(6, Uint8Array.of(0xff, 0xfe)) && !names.is(6, Uint8Array.of(0xff)));
+    for (const [offset, name] of [[1, 'mai'], [1, 'main\0'], [0, 'm'], [12, ''], [2n ** 64n - 1n, '']])
+        assert.equal(names.is(offset, name), false);
+    assert.ok(names.starts_with(1, 'ma') && names.starts_with(0, '') && names.starts_with(6, Uint8Array.of(0xff)));
+    for (const [offset, start] of [[1, 'ain'], [9, 'ends'], [5, '\0'], [12, '']])
+        assert.equal(names.starts_with(offset, start), false);
+    const closed = [0, 1, 9, 12].map((offset) => names.get_closed_bytes(offset)?.length);
+    assert.deepEqual(closed, [0, 4, undefined, undefined]);
+    const offsets = Array.from({ length: 200 }, (_, i) => i % 14);
+    assert.deepEqual(names.get_all_bytes(offsets), offsets.map((offset) => names.get_bytes(offset)));
+    assert.deepEqual(names.get_all_bytes(new Set([6n])), [Uint8Array.of(0xff, 0xfe)]);
+    const past = table(13n);
+    for (const read of ['is', 'starts_with', 'get_closed_bytes'])
+        assert.throws(() => past[read](0, 'a'), is_refusal(Kind.STRTAB_RANGE));
+    assert.throws(() => past.get_all_bytes([0]), is_refusal(Kind.STRTAB_RANGE));
+    assert.deepEqual(past.get_all_bytes([]), []);
+    for (const wrong of [-1, 2n ** 64n]) assert.throws(() => names.get_all_bytes([wrong]), RangeError);
+    for (const wrong of [undefined, 5, ['m']]) assert.throws(() => names.is(1, wrong), TypeError);
+}
+
 // Where errors begin in the file, and where their numbers count from, as the comments of `offset` and `Kind` say.
 function check_offsets_of_errors() {
     const why = (read) => (({ kind, numbers, offset }) => [kind, ...numbers.slice(0, 2), offset])(error_of(read));
@@ -889,6 +915,6 @@ const tested = [
     check_linked_sections(), check_types_of_sections(), check_notes(), check_json(), await check_constants(),
     check_address_map(), check_declarations(), check_arguments(), check_header(), check_readable_data(),
     check_numbers_in(), check_addresses(), check_names(), check_offsets_of_errors(), check_number_of_segments(),
-    check_notes_as_bytes(), check_segments(), check_package(),
+    check_notes_as_bytes(), check_segments(), check_strings(), check_package(),
 ];
 console.log(`goblin.js does what its comments say: ${tested.filter((said) => said).join(', ')}`);

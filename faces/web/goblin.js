@@ -327,10 +327,11 @@ const EXPORTS = ['memory', '__heap_base', ...`
     version layout header whole_header section_count section sections linked_section section_names section_by_name
     section_by_type section_bytes segment_count segment segments segment_bytes address_to_offset
     symbol_count symbol symbols symbol_by_name symbol_by_address
-    reloc_count reloc relocs note note_bytes string strings string_bytes number number_in range_in_file
+    reloc_count reloc relocs note note_bytes string string_bytes string_closed strings string_is string_starts
+    number number_in range_in_file
     put_header put_section put_segment put_symbol put_reloc put_number put_number_in
     class_to_str et_to_str machine_to_str pt_to_str sht_to_str shf_to_str bind_to_str type_to_str visibility_to_str
-    note_type_to_str refusal_text
+    note_type_to_str refusal_to_str
 `.trim().split(/\s+/).map((name) => `goblin_${name}`)];
 
 // Throws if a module is not one for this file.
@@ -477,6 +478,18 @@ class Memory {
             (_, i) => read(this.view, this.base + BUFFER + i * size, records[kind]));
     }
 
+    // Calls the library to find the strings at some offsets, at most BATCH, and returns their ranges, up to the first
+    // offset past the end of the table.
+    strings(table, offsets) {
+        const { size } = records.range, count = BigInt(offsets.length), ranges = BUFFER + BATCH * 8;
+        offsets.forEach((offset, i) => this.view.setBigUint64(this.base + BUFFER + i * 8, offset, true));
+        this.test('goblin_strings', this.pass(NAMES, 'range', table), this.address(BUFFER), count, this.address(ranges),
+            count, this.address(ITEM));
+        const { value } = read(this.view, this.base + ITEM, records.number);
+        return Array.from({ length: Number(value) },
+            (_, i) => read(this.view, this.base + ranges + i * size, records.range));
+    }
+
     // Returns the text that a call writes.
     text(name, ...args) {
         const size = Number(this.calls[name](...args, this.address(BUFFER), BigInt(BUFFER_SIZE)));
@@ -528,7 +541,7 @@ export class GoblinError extends Error {
     // Returns the refusal that a call has just written, with the library's text.
     static of(memory) {
         const why = read(memory.view, memory.base + WHY, records.refusal);
-        return new GoblinError(memory.text('goblin_refusal_text', memory.address(WHY)), why);
+        return new GoblinError(memory.text('goblin_refusal_to_str', memory.address(WHY)), why);
     }
 
     // Returns the refusal of a section with another type than expected. Its first number is the type.
@@ -1608,7 +1621,59 @@ export class Strtab {
     }
 
     /**
-     * Returns the first bytes of that string, at most `most`, and reads no more of them. Throws if `get_bytes` does.
+     * Returns the bytes of the string at an offset if a zero byte of the table closes it, or `undefined` if it ends
+     * with the table or past the table's end. Throws if `get_bytes` does.
+     * @param {number | bigint} offset
+     * @returns {Uint8Array | undefined}
+     */
+    get_closed_bytes(offset) {
+        const range = this.#read('goblin_string_closed', this.range, offset);
+        return range && this.#memory.bytes(range);
+    }
+
+    /**
+     * Returns the bytes of the strings at many offsets, each as `get_bytes` does. The table is checked once for 64
+     * strings. Throws if there are offsets, and the table is not inside the file.
+     * @param {Iterable<number | bigint>} offsets
+     * @returns {(Uint8Array | undefined)[]}
+     */
+    get_all_bytes(offsets) {
+        const all = Array.from(offsets, (offset) => unsigned(offset, 64)), found = [];
+        while (found.length < all.length) {
+            const batch = all.slice(found.length, found.length + BATCH);
+            const ranges = this.#memory.strings(this.range, batch);
+            for (const range of ranges) found.push(this.#memory.bytes(range));
+            if (ranges.length < batch.length) found.push(undefined);
+        }
+        return found;
+    }
+
+    #compare(name, offset, text) {
+        const memory = this.#memory, bytes = typeof text === 'string' ? encoder.encode(text) : bytes_of(text);
+        const passed = memory.pass_bytes(bytes);
+        return memory.test(name, memory.pass(NAMES, 'range', this.range), unsigned(offset, 64), ...passed);
+    }
+
+    /**
+     * Reports whether the string at an offset is a name: a text, of which the UTF-8 is compared, or bytes. There is no
+     * string past the end of the table. Throws if the table is not inside the file.
+     * @param {number | bigint} offset
+     * @param {string | Uint8Array} name
+     * @returns {boolean}
+     */
+    is(offset, name) { return this.#compare('goblin_string_is', offset, name); }
+
+    /**
+     * Reports whether the string at an offset starts with a text, as `is` does.
+     * @param {number | bigint} offset
+     * @param {string | Uint8Array} start
+     * @returns {boolean}
+     */
+    starts_with(offset, start) { return this.#compare('goblin_string_starts', offset, start); }
+
+    /**
+     * Returns the first bytes of the string at an offset, at most `most`, and reads no more of them. Throws if
+     * `get_bytes` does.
      * @param {number | bigint} offset
      * @param {number} most
      * @returns {Uint8Array | undefined}

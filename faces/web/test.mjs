@@ -126,7 +126,12 @@ class Dump {
 
     string(strtab, offset) {
         const text = this.ask('goblin_string', () => strtab.get(offset), (string) => bytes(Buffer.from(string)));
-        this.ask('goblin_string_bytes', () => strtab.get_bytes(offset), bytes);
+        this.ask('goblin_string_closed', () => strtab.get_closed_bytes(offset), bytes);
+        const own = this.ask('goblin_string_bytes', () => strtab.get_bytes(offset), bytes) ?? new Uint8Array();
+        for (const name of [own, own.subarray(0, own.length / 2)]) {
+            this.ask('goblin_string_is', () => strtab.is(offset, name) || undefined, () => '');
+            this.ask('goblin_string_starts', () => strtab.starts_with(offset, name) || undefined, () => '');
+        }
         return text;
     }
 

@@ -32,6 +32,9 @@ export async function main(bytes: ArrayBuffer, view: Uint16Array): Promise<strin
         lines.push(`${section.sh_info} ${relocs.at(-1)?.r_addend ?? 0n}`);
     for (const { name, desc } of elf.iter_note_headers()) lines.push(`${name} ${desc.length}`);
     for (const section of sections) lines.push(`${elf.strtab(elf.linked_section(section)).get(1)}`);
+    const strtab = elf.shdr_strtab(), texts: (Uint8Array | undefined)[] = strtab.get_all_bytes([0, 1n]),
+        is_same: boolean = strtab.is(1, '.text') || strtab.starts_with(1, new Uint8Array(bytes));
+    lines.push(`${is_same} ${strtab.get_closed_bytes(1) ?? texts[0]}`);
     try {
         elf.number(0n, 4);
     } catch (error) {

@@ -57,11 +57,12 @@ function dynamic(elf) {
         : [all, elf.strtab({ sh_type: SHT_STRTAB, sh_offset, sh_size: value(DT_STRSZ) })];
 }
 
-// Returns the strings of the dynamic section, which need not be UTF-8, each after its name.
+// Returns the strings of the dynamic section, which need not be UTF-8, each after its name. A zero byte closes each, as
+// a loader needs.
 function strings(elf) {
     const [all, texts] = dynamic(elf);
-    return all.filter(([tag]) => NAMES.has(tag))
-        .map(([tag, value]) => [NAMES.get(tag), texts.get_bytes(value) ?? new Uint8Array()]);
+    return all.filter(([tag]) => NAMES.has(tag)).map(([tag, value]) => [NAMES.get(tag), texts.get_closed_bytes(value)])
+        .filter(([, string]) => string);
 }
 
 function list(path) {
