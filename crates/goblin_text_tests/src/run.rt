@@ -576,7 +576,13 @@ impl Write for Slow {
 }
 
 // Whether a run over what is read ends so at such a writer, after so many write calls and flushes.
-fn writes<R: Read>(alloc: Global, reader: R, writer: Slow, outcome: Outcome, calls: u32) -> bool {
+fn writes<R: Read + Drop>(
+    alloc: Global,
+    reader: R,
+    writer: Slow,
+    outcome: Outcome,
+    calls: u32,
+) -> bool {
     let mut reader = Counted::new(reader);
     let mut writer = Counted::new(writer);
     run(alloc, &mut reader, &mut writer, &STRICT) == outcome && writer.into_inner().calls == calls
