@@ -1,0 +1,3 @@
+pub mod Dyn
+pub mod DynLaws
+pub mod Dynamic

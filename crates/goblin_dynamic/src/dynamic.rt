@@ -1,0 +1,301 @@
+//! The dynamic section: where it lies, its entries, and where its strings lie. System V gABI, "Dynamic Section".
+ghost use Rattle.std.specs.Prelude.{◌≡◌, ◌<◌, ◌^◌, ◌/◌, ◌↔◌, IsTrue, [], length, slice_get};
+ghost use Rattle.std.specs.Iterator.{YieldsFirst, item_count};
+ghost use Rattle.goblin_base.specs.Common.{ComparesAndClones};
+ghost use Rattle.goblin_dynamic.specs.Dyn.{entry_size};
+ghost use Rattle.goblin_dynamic.specs.Dynamic.{entries_at, entries_in, entries_up_to_null, first_value};
+ghost use Rattle.goblin_dynamic.specs.Dynamic.{dynamic_range, dynamic_segment, strings_range};
+ghost use Rattle.goblin_dynamic.specs.Dynamic.{dynamic_section, dynamic_section_range, section_range};
+ghost use Rattle.goblin_dynamic.specs.Dynamic.{strings_section_range, values_with, whole_entries};
+
+use crate::entry::{Dyn, SIZEOF_DYN32, SIZEOF_DYN64};
+use crate::tags::{DT_NULL, DT_STRSZ, DT_STRTAB};
+use goblin::elf::program_header::{PT_DYNAMIC, ProgramHeader};
+use goblin::elf::section_header::{SHT_DYNAMIC, SectionHeader};
+use goblin_base::container::{Container, Ctx};
+use goblin_base::error::Result;
+use goblin_base::room::room;
+use goblin_base::table::{Table, TableIter};
+use std::marker::Model;
+
+/// A range of a file, as its headers state it. The file may be too short for it.
+#[derive(Clone, Copy, Debug, PartialEq)]
+pub struct FileRange {
+    /// The offset in bytes.
+    pub offset: usize,
+    /// The size in bytes.
+    pub size: usize,
+}
+
+/// The entries of a dynamic section before its first `DT_NULL`.
+///
+/// Each is read from the file's bytes when it is asked for. It allocates nothing, and its entries outlive it.
+#[derive(Debug, Drop)]
+pub struct Dynamic<'a> {
+    table: Table<'a, Dyn, Ctx>,
+}
+
+// A dynamic section is seen as the list of its entries.
+impl<'a> Model for Dynamic<'a> {
+    ghost use Rattle.std.specs.Prelude.{List};
+    ghost use Rattle.goblin_dynamic.specs.declared.entry.Dyn.{Dyn};
+
+    ghost Value = { List Dyn };
+
+    ghost view = { λ d. d.table };
+}
+
+impl<'a> Dynamic<'a> {
+    /// Reads the entries of a range: those before the first `DT_NULL`, or all that lie whole in the range if it has no
+    /// `DT_NULL`. The call goes through them to find the end.
+    ///
+    /// # Errors
+    ///
+    /// Those of [`room`] if the range doesn't lie in the bytes: `BadOffset` if its offset is past their end, or at
+    /// their end and its size isn't 0, else `TooBig`.
+    pub fn in_range(bytes: &'a [u8], range: FileRange, ctx: Ctx) -> Result<Dynamic<'a>>
+        ensures { result ≡ entries_in bytes.now range ctx }
+    {
+        room(bytes.len(), range.offset, range.size)?;
+        let part = &bytes[range.offset..range.offset + range.size];
+        Ok(Dynamic {
+            table: up_to_null(part, ctx),
+        })
+    }
+
+    // Reads the entries of a range, if there is one.
+    fn at(bytes: &'a [u8], range: Option<FileRange>, ctx: Ctx) -> Result<Option<Dynamic<'a>>>
+        ensures { result ≡ entries_at bytes.now range ctx }
+    {
+        match range {
+            Some(range) => Ok(Some(Dynamic::in_range(bytes, range, ctx)?)),
+            None => Ok(None),
+        }
+    }
+
+    /// Reads the entries of the dynamic section as the loader finds them, by the first segment of type `PT_DYNAMIC`.
+    /// There is no dynamic section if no segment has that type.
+    ///
+    /// # Errors
+    ///
+    /// Those of [`Dynamic::in_range`].
+    pub fn by_segments(
+        bytes: &'a [u8],
+        segments: &Table<'_, ProgramHeader, Ctx>,
+        ctx: Ctx,
+    ) -> Result<Option<Dynamic<'a>>>
+        ensures { result ≡ entries_at bytes.now (dynamic_range segments.now) ctx }
+    {
+        Dynamic::at(bytes, Dynamic::range_by_segments(segments), ctx)
+    }
+
+    /// Reads the entries of the first section of type `SHT_DYNAMIC`, for files without segments. There is no dynamic
+    /// section if no section has that type, as in a file of debug information, where its type is `SHT_NOBITS`.
+    ///
+    /// # Errors
+    ///
+    /// Those of [`Dynamic::in_range`].
+    pub fn by_sections(
+        bytes: &'a [u8],
+        sections: &Table<'_, SectionHeader, Ctx>,
+        ctx: Ctx,
+    ) -> Result<Option<Dynamic<'a>>>
+        ensures { result ≡ entries_at bytes.now (dynamic_section_range sections.now) ctx }
+    {
+        Dynamic::at(bytes, Dynamic::range_by_sections(sections), ctx)
+    }
+
+    /// Returns the range of the first segment of type `PT_DYNAMIC`, or `None` if there is none.
+    pub fn range_by_segments(segments: &Table<'_, ProgramHeader, Ctx>) -> Option<FileRange>
+        ensures { result ≡ dynamic_range segments.now }
+    {
+        let segment = dynamic_segment(segments)?;
+        Some(FileRange {
+            offset: segment.p_offset as usize,
+            size: segment.p_filesz as usize,
+        })
+    }
+
+    /// Returns the range of the first section of type `SHT_DYNAMIC`, or `None` if there is none.
+    pub fn range_by_sections(sections: &Table<'_, SectionHeader, Ctx>) -> Option<FileRange>
+        ensures { result ≡ dynamic_section_range sections.now }
+    {
+        Some(range_of(&dynamic_section(sections)?))
+    }
+
+    /// Returns the range of the strings by the segments: `DT_STRTAB` is its address, and `DT_STRSZ` its size. The
+    /// offset is that of [`ProgramHeader::loaded_from`]. Returns `None` if one of the entries is missing, or if no
+    /// segment loads a byte of the file at the address.
+    pub fn strings(&self, segments: &Table<'_, ProgramHeader, Ctx>) -> Option<FileRange>
+        ensures { result ≡ strings_range self.now segments.now }
+    {
+        let address = self.value(DT_STRTAB)?;
+        let size = self.value(DT_STRSZ)?;
+        let offset = ProgramHeader::loaded_from(segments, address)?;
+        Some(FileRange {
+            offset,
+            size: size as usize,
+        })
+    }
+
+    /// Returns the range of the strings by the sections: that of the section which the `sh_link` of the first section
+    /// of type `SHT_DYNAMIC` names. Returns `None` if there is no such section, as [`SectionHeader::linked_in`] does.
+    pub fn strings_by_sections(sections: &Table<'_, SectionHeader, Ctx>) -> Option<FileRange>
+        ensures { result ≡ strings_section_range sections.now }
+    {
+        let index = dynamic_section(sections)?.sh_link as usize;
+        Some(range_of(&SectionHeader::linked_in(sections, index)?))
+    }
+
+    /// Returns the entry at an index, or `None` from `len()` on.
+    pub fn get(&self, index: usize) -> Option<Dyn>
+        ensures { result ≡ slice_get self.now index }
+    {
+        self.table.get(index)
+    }
+
+    /// Returns the number of entries.
+    pub fn len(&self) -> usize
+        ensures value { result ≡ length self.now }
+        ensures bound { result < usize.MAX }
+    {
+        self.table.len()
+    }
+
+    /// Reports whether there are no entries.
+    pub fn is_empty(&self) -> bool
+        ensures { IsTrue result ↔ (self.now ≡ []) }
+    {
+        self.table.is_empty()
+    }
+
+    /// Returns an iterator over the entries.
+    pub fn iter(&self) -> DynIterator<'a>
+        ensures value { result ≡ self.now }
+        ensures bound { length self.now < 2 ^ 64 }
+    {
+        self.table.iter()
+    }
+
+    /// Returns the value of the first entry with a tag, or `None` if there is none.
+    pub fn value(&self, tag: u64) -> Option<u64>
+        ensures { result ≡ first_value tag self.now }
+    {
+        self.values(tag).next()
+    }
+
+    /// Returns an iterator over the values of the entries with a tag.
+    pub fn values(&self, tag: u64) -> Values<'a>
+        ensures value { result ≡ values_with tag self.now }
+        ensures bound { length (values_with tag self.now) < 2 ^ 64 }
+    {
+        Values {
+            left: self.table.iter(),
+            tag,
+        }
+    }
+}
+
+// Returns the table of the entries before the first `DT_NULL` of some bytes.
+fn up_to_null<'a>(part: &'a [u8], ctx: Ctx) -> Table<'a, Dyn, Ctx>
+    ensures { result ≡ entries_up_to_null (whole_entries part.now ctx) }
+{
+    let count = count_before_null(&whole_entries(part, ctx));
+    Table::of(part, count, ctx)
+}
+
+// Returns the table of the entries that lie whole in some bytes.
+fn whole_entries<'a>(part: &'a [u8], ctx: Ctx) -> Table<'a, Dyn, Ctx>
+    ensures { result ≡ whole_entries part.now ctx }
+{
+    Table::of(part, count_in(part.len(), ctx.container), ctx)
+}
+
+// Returns how many entries a size holds. A division by a constant takes a fraction of the time.
+fn count_in(size: usize, class: Container) -> usize
+    ensures { result ≡ size / entry_size class }
+{
+    match class {
+        Container::Little => size / SIZEOF_DYN32,
+        Container::Big => size / SIZEOF_DYN64,
+    }
+}
+
+// Returns the number of entries before the first `DT_NULL`.
+fn count_before_null(entries: &Table<'_, Dyn, Ctx>) -> usize
+    ensures { result ≡ length (entries_up_to_null entries.now) }
+{
+    entries
+        .iter()
+        .take_while(|entry| entry.d_tag != DT_NULL)
+        .count()
+}
+
+// Returns the first segment of type `PT_DYNAMIC`.
+fn dynamic_segment(segments: &Table<'_, ProgramHeader, Ctx>) -> Option<ProgramHeader>
+    ensures { result ≡ dynamic_segment segments.now }
+{
+    segments.iter().find(|segment| segment.p_type == PT_DYNAMIC)
+}
+
+// Returns the first section of type `SHT_DYNAMIC`.
+fn dynamic_section(sections: &Table<'_, SectionHeader, Ctx>) -> Option<SectionHeader>
+    ensures { result ≡ dynamic_section sections.now }
+{
+    sections
+        .iter()
+        .find(|section| section.sh_type == SHT_DYNAMIC)
+}
+
+// Returns the range of a section.
+fn range_of(section: &SectionHeader) -> FileRange
+    ensures { result ≡ section_range section.now }
+{
+    FileRange {
+        offset: section.sh_offset as usize,
+        size: section.sh_size as usize,
+    }
+}
+
+/// An iterator over the entries of a dynamic section, from the first to the last.
+pub type DynIterator<'a> = TableIter<'a, Dyn, Ctx>;
+
+/// An iterator over the values of a tag: from the first to the last, and `None` from then on.
+#[derive(Debug, Drop)]
+pub struct Values<'a> {
+    left: DynIterator<'a>,
+    tag: u64,
+}
+
+// In contracts an iterator is the list of the values that are left.
+impl<'a> Model for Values<'a> {
+    ghost use Rattle.std.specs.Prelude.{ℕ, List};
+
+    ghost Value = { List ℕ };
+
+    ghost use Rattle.goblin_dynamic.specs.Dynamic.{values_with};
+
+    ghost view = { λ v. values_with v.tag v.left };
+}
+
+impl<'a> Iterator for Values<'a> {
+    type Item = u64;
+
+    ghost next_gives = { YieldsFirst (λ left. left) };
+
+    ghost remaining = { item_count (λ left. left) };
+
+    fn next(&mut self) -> Option<u64> {
+        while let Some(entry) = self.left.next() {
+            if entry.d_tag == self.tag {
+                return Some(entry.d_val);
+            }
+        }
+        None
+    }
+}
+
+/// Laws: `==` is true exactly if two ranges are the same. `clone` returns the range, and never fails.
+pub fn laws()
+    ensures { ComparesAndClones ⟦<FileRange as PartialEq>⟧ ⟦<FileRange as Clone>⟧ }
+{}
