@@ -115,7 +115,7 @@ def listed(constants, write, heading_format, has_gaps=True):
     text = ''
     for constant in constants:
         if constant.heading:
-            text += '\n' + heading_format.format(constant.heading) + '\n\n'
+            text += '\n' + heading_format.format(constant.heading) + '\n' * (1 + has_gaps)
         elif constant.is_apart and has_gaps:
             text += '\n'
         text += write(constant)
@@ -463,7 +463,7 @@ def c_part():
         # (the class byte of a class is a constant already)
         own = ''.join(c_constant(bits, known)(constant) for bits, more in of_class.items() for constant in more
                       if f'{constant.name}{bits}' not in known)
-        text += f'\n/* What each class has of its own. */\n{own}' if own else ''
+        text += own
     return text
 
 

@@ -12,8 +12,7 @@
    Results
      Each call that can fail returns a uint32_t:
        GOBLIN_OK (0)   The call has written its result.
-       GOBLIN_END (1)  There is no such item: the index or the offset is past the end, or no item has that name, type
-                       or address.
+       GOBLIN_END (1)  There is no such item: an index or offset is past the end, or none has that name, type, address.
        2 or more       The file is refused. The number is one of the GOBLIN_ numbers below. The call has written the
                        same number to `*why`, with the numbers that belong to it and the offset of what is refused.
      The result is the argument before `why`, of a search by name or type the two before it, and the array of a call
@@ -21,8 +20,7 @@
      goblin_string_starts, which return GOBLIN_OK for yes and GOBLIN_END for no. A call writes its result, or the bytes,
      only at GOBLIN_OK (goblin_strings is the exception), `*why` only at a refusal, and nothing else. So a result that
      is zero before the call is still zero at GOBLIN_END, and one goblin_refusal_t serves all calls of a program.
-     Refusals come before GOBLIN_END, if a call does not say otherwise: a table that is refused is refused past
-     its end, too.
+     Refusals come before GOBLIN_END, if a call does not say otherwise: also past the end of a table that is refused.
 
    Pointers
      `bytes` points to the `len` bytes of the whole file. `bytes`, an array, a name or a text may be null if its length
@@ -34,8 +32,8 @@
    Files that change
      Nothing else may write the bytes during a call: calls may run at once in several threads, but for goblin_put_ calls
      into the same bytes. They may change between two calls, since each call checks all that it reads. But what an
-     earlier call returned may then be out of date. If a mapped file is made shorter, the operating system ends a
-     program that reads past its new end (SIGBUS). Read a file into a buffer if others may shorten it.
+     earlier call returned may then be out of date. If a mapped file is made shorter, a read past its new end ends the
+     program (SIGBUS). Read a file into a buffer if others may shorten it.
 
    Files that are cut
      If one section header is not inside the file, each call that reads section headers is refused, searches too;
@@ -152,8 +150,7 @@ enum {
 typedef struct {
     uint32_t kind; /* what the call returned */
     uint32_t item; /* GOBLIN_INVALID_UTF8 or the like, else 0 */
-    uint64_t first; /* the numbers that belong to the kind, in the order of its comment; those that it does not have
-                       are 0 */
+    uint64_t first; /* the numbers that belong to the kind, in the order of its comment, and zeros */
     uint64_t second;
     uint64_t third;
     uint64_t fourth;
@@ -172,8 +169,7 @@ typedef struct {
 
 /* The file's header. */
 typedef struct {
-    uint64_t e_entry;     /* the address at which the program starts; 0 if it has none, though most libraries load
-                             a byte at 0 */
+    uint64_t e_entry;     /* the address at which the program starts, or 0 */
     uint64_t e_phoff;     /* the offset of the program headers, or 0 */
     uint64_t e_shoff;     /* the offset of the section headers, or 0 if there are none */
     uint32_t e_version;   /* the version of the format */
@@ -181,11 +177,9 @@ typedef struct {
     uint16_t e_type;      /* what kind of file it is, a GOBLIN_ET_ number */
     uint16_t e_machine;   /* the machine, a GOBLIN_EM_ number */
     uint16_t e_ehsize;    /* the size of this header that the file states */
-    uint16_t e_phentsize; /* the size of a program header that the file states; the size that is read depends on
-                             the class alone */
+    uint16_t e_phentsize; /* the size of a program header that the file states; only the class decides what is read */
     uint16_t e_phnum;     /* the number of program headers; if it is 0xffff (PN_XNUM), see goblin_segment_count */
-    uint16_t e_shentsize; /* the size of a section header that the file states; the size that is read depends on
-                             the class alone */
+    uint16_t e_shentsize; /* the size of a section header that the file states; only the class decides what is read */
     uint16_t e_shnum;     /* the number of section headers; if it is 0, the first section's sh_size has the number */
     uint16_t e_shstrndx;  /* the index of the section that holds the section names: see goblin_section_names */
     uint8_t ei_class;     /* GOBLIN_ELFCLASS64 (2) for 64 bits; any other number counts as GOBLIN_ELFCLASS32 (1) */
@@ -354,8 +348,7 @@ uint32_t goblin_sections(const uint8_t *bytes, size_t len, const goblin_header_t
 
 /* Reads the section that a section header links to by its sh_link, such as the string table of a symbol table.
    GOBLIN_END if the index is 0, which means no section, if it is not below the number of sections, or if the section is
-   of type GOBLIN_SHT_NOBITS, which has no bytes in the file. `*section` is unchanged then. Refused as
-   goblin_section_count is.
+   of type GOBLIN_SHT_NOBITS, which has no bytes in the file. Refused as goblin_section_count is.
    Example: if (goblin_linked_section(bytes, len, &header, table.sh_link, &names, &why) > GOBLIN_END) return 1; */
 uint32_t goblin_linked_section(const uint8_t *bytes, size_t len, const goblin_header_t *header, uint64_t index,
     goblin_section_t *section, goblin_refusal_t *why) GOBLIN_STATUS((3, 5, 6));
@@ -563,8 +556,7 @@ uint32_t goblin_string_closed(const uint8_t *bytes, size_t len, const goblin_ran
    goblin_string_bytes does, up to the first offset that is not below the size of the table. The strings need not be
    UTF-8. `*filled` is the number of items of `ranges` that are written; those after them are unchanged. GOBLIN_OK if
    all offsets have a string, or as many as there are items of `ranges`. Else the call returns what goblin_string_bytes
-   returns at offsets[*filled], and writes the same refusal. This call writes `ranges` and `*filled` then, too.
-   The table is checked once for a call.
+   returns at offsets[*filled], and writes the same refusal, and `ranges` and `*filled`, too.
    Example: if (goblin_strings(bytes, len, &names.file, offsets, 64, ranges, 64, &filled, &why)) return 1; */
 uint32_t goblin_strings(const uint8_t *bytes, size_t len, const goblin_range_t *strings, const uint64_t *offsets,
     size_t offsets_len, goblin_range_t *ranges, size_t capacity, uint64_t *filled, goblin_refusal_t *why)
@@ -573,14 +565,12 @@ uint32_t goblin_strings(const uint8_t *bytes, size_t len, const goblin_range_t *
 /* Compares the string at an offset of a string table with a name of `name_len` bytes, where it is: GOBLIN_OK if the
    string that goblin_string_bytes finds has these bytes and no others. GOBLIN_END if not, or if the offset is not below
    the size of the table. Neither need be UTF-8. No string has a zero byte in it, so leave out the zero byte at the end
-   of `name`. Refused as goblin_string_bytes is.
-   It reads no more of the string than `name_len` bytes and one after them.
+   of `name`. Refused as goblin_string_bytes is. Of the string it reads at most `name_len` bytes and one more.
    Example: if (goblin_string_is(bytes, len, &names.file, section.sh_name, ".text", 5, &why) == GOBLIN_OK) index++; */
 uint32_t goblin_string_is(const uint8_t *bytes, size_t len, const goblin_range_t *strings, uint64_t offset,
     const void *name, size_t name_len, goblin_refusal_t *why) GOBLIN_STATUS((3, 7));
 
-/* As goblin_string_is: GOBLIN_OK if the string starts with the `start_len` bytes of `start`. Each string starts with
-   no bytes.
+/* As goblin_string_is: GOBLIN_OK if the string starts with the `start_len` bytes of `start`, as it does with none.
    Example: if (goblin_string_starts(bytes, len, &names.file, section.sh_name, ".debug", 6, &why) == GOBLIN_OK)
                 index++; */
 uint32_t goblin_string_starts(const uint8_t *bytes, size_t len, const goblin_range_t *strings, uint64_t offset,
@@ -956,15 +946,12 @@ uint64_t goblin_refusal_to_str(const goblin_refusal_t *why, void *text, size_t c
 #define GOBLIN_EM_NUM 248u /* One more than the greatest number that was assigned when the list was made. */
 #define GOBLIN_EM_CSKY 252u /* C-SKY. */
 #define GOBLIN_EM_LOONGARCH 258u /* LoongArch. */
-
-/* What each class has of its own. */
 #define GOBLIN_SIZEOF_EHDR32 52u /* The size of a header in bytes. */
 #define GOBLIN_SIZEOF_EHDR64 64u /* The size of a header in bytes. */
 
 /* -- program headers -- */
 
 /* Segment types. */
-
 #define GOBLIN_PT_NULL 0u /* No segment. */
 #define GOBLIN_PT_LOAD 1u /* A loadable segment. */
 #define GOBLIN_PT_DYNAMIC 2u /* Information for dynamic linking. */
@@ -989,7 +976,6 @@ uint64_t goblin_refusal_to_str(const goblin_refusal_t *why, void *text, size_t c
 #define GOBLIN_PT_HIPROC 0x7fffffffu /* The last processor-specific type. */
 
 /* Segment permissions. */
-
 #define GOBLIN_PF_X 1u /* The segment may be executed. */
 #define GOBLIN_PF_W (1u << 1) /* The segment may be written. */
 #define GOBLIN_PF_R (1u << 2) /* The segment may be read. */
@@ -998,15 +984,12 @@ uint64_t goblin_refusal_to_str(const goblin_refusal_t *why, void *text, size_t c
 /* The e_phnum of a file whose number of segments is the sh_info of section 0: System V gABI, "ELF Header",
    GOBLIN_PN_XNUM. */
 #define GOBLIN_PN_XNUM 0xffffu
-
-/* What each class has of its own. */
 #define GOBLIN_SIZEOF_PHDR32 32u /* The size of a program header in bytes. */
 #define GOBLIN_SIZEOF_PHDR64 56u /* The size of a program header in bytes. */
 
 /* -- section headers -- */
 
 /* Special section indices. */
-
 #define GOBLIN_SHN_UNDEF UINT64_C(0) /* No section. */
 #define GOBLIN_SHN_LORESERVE UINT64_C(0xff00) /* The first special index. */
 #define GOBLIN_SHN_LOPROC UINT64_C(0xff00) /* The first processor-specific index. */
@@ -1022,7 +1005,6 @@ uint64_t goblin_refusal_to_str(const goblin_refusal_t *why, void *text, size_t c
 #define GOBLIN_SHN_HIRESERVE UINT64_C(0xffff) /* The last special index. */
 
 /* Section types. */
-
 #define GOBLIN_SHT_NULL 0u /* No section. */
 #define GOBLIN_SHT_PROGBITS 1u /* Data that the program defines. */
 #define GOBLIN_SHT_SYMTAB 2u /* A symbol table. */
@@ -1063,7 +1045,6 @@ uint64_t goblin_refusal_to_str(const goblin_refusal_t *why, void *text, size_t c
 #define GOBLIN_SHT_HIUSER 0x8fffffffu /* The last type for applications. */
 
 /* Section attributes. */
-
 #define GOBLIN_SHF_WRITE UINT64_C(0x1) /* The section may be written. */
 #define GOBLIN_SHF_ALLOC UINT64_C(0x2) /* The section is in memory while the program runs. */
 #define GOBLIN_SHF_EXECINSTR UINT64_C(0x4) /* The section may be executed. */
@@ -1086,15 +1067,12 @@ uint64_t goblin_refusal_to_str(const goblin_refusal_t *why, void *text, size_t c
     GOBLIN_SHF_INFO_LINK, GOBLIN_SHF_LINK_ORDER, GOBLIN_SHF_OS_NONCONFORMING, GOBLIN_SHF_GROUP, GOBLIN_SHF_TLS, \
     GOBLIN_SHF_COMPRESSED, GOBLIN_SHF_ORDERED \
 }
-
-/* What each class has of its own. */
 #define GOBLIN_SIZEOF_SHDR32 40u /* The size of a section header in bytes. */
 #define GOBLIN_SIZEOF_SHDR64 64u /* The size of a section header in bytes. */
 
 /* -- symbols -- */
 
 /* Bindings. */
-
 #define GOBLIN_STB_LOCAL 0u /* A local symbol, not visible outside its object file. */
 #define GOBLIN_STB_GLOBAL 1u /* A global symbol, visible to all object files. */
 #define GOBLIN_STB_WEAK 2u /* A weak symbol: global, with lower precedence than other definitions. */
@@ -1106,7 +1084,6 @@ uint64_t goblin_refusal_to_str(const goblin_refusal_t *why, void *text, size_t c
 #define GOBLIN_STB_HIPROC 15u /* The last processor-specific binding. */
 
 /* Types. */
-
 #define GOBLIN_STT_NOTYPE 0u /* An unspecified type. */
 #define GOBLIN_STT_OBJECT 1u /* Data. */
 #define GOBLIN_STT_FUNC 2u /* Code. */
@@ -1122,7 +1099,6 @@ uint64_t goblin_refusal_to_str(const goblin_refusal_t *why, void *text, size_t c
 #define GOBLIN_STT_HIPROC 15u /* The last processor-specific type. */
 
 /* Visibilities. */
-
 #define GOBLIN_STV_DEFAULT 0u /* Visible as the binding specifies. */
 #define GOBLIN_STV_INTERNAL 1u /* Hidden, with a processor-specific meaning. */
 #define GOBLIN_STV_HIDDEN 2u /* Hidden: not visible to other components. */
@@ -1130,14 +1106,10 @@ uint64_t goblin_refusal_to_str(const goblin_refusal_t *why, void *text, size_t c
 #define GOBLIN_STV_EXPORTED 4u /* Stays global whatever else is requested. */
 #define GOBLIN_STV_SINGLETON 5u /* Stays global, and is unique in a process. */
 #define GOBLIN_STV_ELIMINATE 6u /* Hidden, and not written to any symbol table. */
-
-/* What each class has of its own. */
 #define GOBLIN_SIZEOF_SYM32 (4u + 4u + 4u + 1u + 1u + 2u) /* The size of a symbol in bytes. */
 #define GOBLIN_SIZEOF_SYM64 (4u + 1u + 1u + 2u + 8u + 8u) /* The size of a symbol in bytes. */
 
 /* -- relocations -- */
-
-/* What each class has of its own. */
 #define GOBLIN_SIZEOF_RELA32 (4u + 4u + 4u) /* The size of a relocation with an addend, in bytes. */
 #define GOBLIN_SIZEOF_REL32 (4u + 4u) /* The size of a relocation without an addend, in bytes. */
 #define GOBLIN_SIZEOF_RELA64 (8u + 8u + 8u) /* The size of a relocation with an addend, in bytes. */
