@@ -124,6 +124,11 @@ class Segment(Held, SegmentFields):
     """A program header, with its index in its table. Offsets and sizes are in bytes."""
     __slots__ = ()
 
+    @property
+    def strings(self) -> 'Strings':
+        """Its bytes as a string table, such as the interpreter's path of a segment of type PT_INTERP. Never refused: a string of it may be."""
+        return Strings(self.table.elf, self.p_offset, self.p_filesz)
+
 
 class Symbol(Entry, SymbolFields):
     """A symbol, with its index in its table."""

@@ -689,8 +689,11 @@ class Program(unittest.TestCase):
         self.assertEqual([eval(rows[index][1], names) for index in (1, 4, 6, 9)], [True, False, True, made.BUILD_ID.hex()])
 
     def test_a_program(self):
-        found = program.described(os.path.join(FOLDER, '..', '..', '..', 'checks', 'files', 'made', 'x86_64_program'))
+        path = os.path.join(FOLDER, '..', '..', '..', 'checks', 'files', 'made', 'x86_64_program')
+        found = program.described(path)
         self.assertEqual((found['kind'], found['needed'], found['interpreter']), ('program', ['libc.so.6'], '/lib64/ld-linux-x86-64.so.2'))
+        paths = [segment.strings.get(0) for segment in Elf.open(path).segments if segment.p_type == constants.PT_INTERP]
+        self.assertEqual(paths, ['/lib64/ld-linux-x86-64.so.2'])
 
 
 if __name__ == '__main__':
