@@ -289,6 +289,11 @@ fn header(class: u8, order: u8, word: u64) -> Header {
     }
 }
 
+// Whether bytes begin with the identification of a header.
+fn has_ident(bytes: &[u8; 64], header: &Header) -> bool {
+    bytes[..16] == header.e_ident[..]
+}
+
 // Whether it fits its class, is written as its identification and ones, and is read back from them; as a raw one too.
 fn has_header(container: Container, order: u8) -> bool {
     let (mut bytes, mut again) = ([0; 64], [0; 64]);
@@ -301,7 +306,7 @@ fn has_header(container: Container, order: u8) -> bool {
             let is_read = matches!(elf32::header::Header::parse(&bytes), Ok(read) if read == raw);
             let is_same = raw.try_into_ctx(&mut again, LE).is_ok()
                 && again == bytes
-                && bytes[..16] == header.e_ident[..];
+                && has_ident(&bytes, &header);
             header.fits(container)
                 && is_written
                 && bytes[16..52] == ONES[16..52]
@@ -317,7 +322,7 @@ fn has_header(container: Container, order: u8) -> bool {
             let is_read = matches!(elf64::header::Header::parse(&bytes), Ok(read) if read == raw);
             let is_same = raw.try_into_ctx(&mut again, LE).is_ok()
                 && again == bytes
-                && bytes[..16] == header.e_ident[..];
+                && has_ident(&bytes, &header);
             header.fits(container)
                 && is_written
                 && bytes[16..] == ONES[16..]
