@@ -684,9 +684,10 @@ static void file(void) {
     if (any(4) == 0) { /* a number of segments that the first section has */
         if (any(2)) h.e_phoff = any_offset(len), h.e_shoff = any_offset(len);
         h.e_phnum = 0xffff;
-        /* (it is refused where the first section is not inside the file) */
         uint64_t place = h.e_shoff + (h.ei_class == 2 ? 44 : 28), number = any(4) ? any(6) : odd();
-        if (goblin_put_number(bytes, len, &h, place, 4, number, &why) > GOBLIN_OK) h.e_phnum = 0xffff;
+        bool fits = number <= 0xffffffff && place <= len && len - place >= 4;
+        begins(place, place);
+        if (WRITES(goblin_put_number, &h, place, 4, number) != fits) wrong("goblin_put_number: the first section", 0);
     }
     uint64_t count = 0;
     goblin_section_t section, names, found;
