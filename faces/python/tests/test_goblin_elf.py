@@ -244,9 +244,9 @@ class Refusals(unittest.TestCase):
         self.assertFalse(names.starts_at(0, 'af') or names.starts_at(5, 'ends') or names.starts_at(8, '') or names.starts_at(4, '\0'))
         self.assertEqual([names.get_closed(offset) for offset in (0, 4, 5, 8)], [b'caf\xe9', b'', None, None])
         past = Strings(Elf(MADE.bytes), 64, 1 << 40)
-        for read in (past.get_closed, lambda offset: past.is_at(offset, 'a'), lambda offset: past.starts_at(offset, '')):
-            self.assertEqual(refusal(read, 0).kind, Kind.STRTAB_RANGE)
-            self.assertRaises(ValueError, read, -1)
+        for read in (Strings.get_closed, lambda table, offset: table.is_at(offset, 'a'), lambda table, offset: table.starts_at(offset, '')):
+            self.assertEqual(refusal(read, past, 0).kind, Kind.STRTAB_RANGE)
+            self.assertRaises(ValueError, read, names, -1)
 
     def test_of_notes(self):
         offset, size = MADE.offsets['.note.gnu.build-id']
