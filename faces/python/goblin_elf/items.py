@@ -7,7 +7,7 @@ from array import array
 from typing import TYPE_CHECKING, Any, Dict, Iterable, Iterator, List, NamedTuple, Optional, Sequence, Tuple, Type, TypeVar, Union, overload
 
 from ._library import FUNCTIONS, RANGE, RECORDS, REFUSAL, Record, call, found, unsigned
-from .constants import SHT_DYNSYM, SHT_REL, SHT_RELA, SHT_SYMTAB
+from .constants import SHT_DYNSYM, SHT_NOBITS, SHT_REL, SHT_RELA, SHT_SYMTAB
 from .interface import HeaderFields, Kind, RelocFields, SectionFields, SegmentFields, SymbolFields
 from .names import sht_to_str
 from .refused import Refused
@@ -46,6 +46,11 @@ class Held(Entry):
     __slots__ = ()
 
     @property
+    def _place(self: Any) -> Tuple[int, int]:
+        """Its range of the file, inside the file or not."""
+        return self[0], self[1]
+
+    @property
     def bytes(self: Any) -> memoryview:
         """Its bytes in the file, without a copy: none for a type without bytes. Refused if they are not inside the file."""
         file, table = self.table.elf._file, self.table
@@ -57,21 +62,26 @@ class Held(Entry):
         with contextlib.suppress(Refused):
             return memoryview(self.bytes)
         file, place = self.table.elf._file, RANGE.buffer()
-        FUNCTIONS['range_in_file'](file.address, file.length, RANGE.pack(self[:2]), place)
+        FUNCTIONS['range_in_file'](file.address, file.length, RANGE.pack(self._place), place)
         return memoryview(file.part(*RANGE.struct.unpack(place)))
 
     @property
     def notes(self: Any) -> 'Notes':
         """Its notes. Refused at the first damaged note."""
-        return Notes(self.table.elf, self[0], self[1], self[5])
+        return Notes(self.table.elf, *self._place, self[5])
+
+    @property
+    def strings(self: Any) -> 'Strings':
+        """Its bytes as a string table, such as the interpreter's path of a segment of type PT_INTERP. Never refused: a string of it may be."""
+        return Strings(self.table.elf, *self._place)
 
     def number(self: Any, offset: int, width: int) -> int:
         """Returns the number in `width` bytes (1, 2, 4 or 8) at an offset in it, in the file's order. Refused if it is not inside."""
-        return int(self.table.elf._number('number_in', RANGE.pack(self[:2]), unsigned(offset), unsigned(width)))
+        return int(self.table.elf._number('number_in', RANGE.pack(self._place), unsigned(offset), unsigned(width)))
 
     def put_number(self: Any, offset: int, width: int, value: int) -> None:
         """Writes a number into `width` bytes (1, 2, 4 or 8) at an offset in it. Refused if it does not fit, or is not inside."""
-        self.table.elf._put_number('put_number_in', RANGE.pack(self[:2]), offset, width, value)
+        self.table.elf._put_number('put_number_in', RANGE.pack(self._place), offset, width, value)
 
 
 class Header(HeaderFields):
@@ -85,6 +95,11 @@ class Section(Held, SectionFields):
     __slots__ = ()
 
     @property
+    def _place(self) -> Tuple[int, int]:
+        """Its range of the file, inside the file or not: an empty one for SHT_NOBITS, whatever its size."""
+        return (0, 0) if self.sh_type == SHT_NOBITS else (self.sh_offset, self.sh_size)
+
+    @property
     def name(self) -> Optional[str]:
         """Its name, or `None` if that is past the end of the section names. Refused if it is not UTF-8, or as the names are."""
         known = self.table._known.get(self.sh_name)
@@ -95,11 +110,6 @@ class Section(Held, SectionFields):
         """The section that `sh_link` names, or `None` if there is none that has bytes. Refused if the section headers are."""
         fields = found('linked_section', RECORDS['section'], self.table.elf._file, self.table.elf._image, self.sh_link)
         return self.table._made(fields, self.sh_link) if fields else None
-
-    @property
-    def strings(self) -> 'Strings':
-        """Its bytes as a string table. Never refused: a string of it may be."""
-        return Strings(self.table.elf, self.sh_offset, self.sh_size)
 
     @property
     def symbols(self) -> 'Symbols':
@@ -123,11 +133,6 @@ class Section(Held, SectionFields):
 class Segment(Held, SegmentFields):
     """A program header, with its index in its table. Offsets and sizes are in bytes."""
     __slots__ = ()
-
-    @property
-    def strings(self) -> 'Strings':
-        """Its bytes as a string table, such as the interpreter's path of a segment of type PT_INTERP. Never refused: a string of it may be."""
-        return Strings(self.table.elf, self.p_offset, self.p_filesz)
 
 
 class Symbol(Entry, SymbolFields):

@@ -75,6 +75,7 @@ class Read(unittest.TestCase):
             self.assertEqual(symbols.sh_entsize, file.size(made.SYM))
             zeros = elf.sections[-2]
             self.assertEqual((zeros.name, len(zeros.bytes), zeros.sh_size, zeros.linked), ('.bss', 0, 0x100, None))
+            self.assertEqual((len(zeros.notes), zeros.strings.get(0), refusal(zeros.number, 0, 1).kind), (0, None, Kind.BAD_OFFSET))
             self.assertIsNone(elf.section('.debug'))
             self.assertIsNone(elf.section('.text', 2))
             self.assertEqual(elf.section_by_type(SHT_SYMTAB).name, '.symtab')
@@ -439,6 +440,7 @@ class Written(unittest.TestCase):
             self.assertEqual(refusal(text.put_number, text.sh_size, 1, 0).kind, Kind.BAD_OFFSET)
             self.assertEqual(refusal(text.put_number, 2, 2, 1 << 16).offset, text.sh_offset + 2)
             self.assertRaises(ValueError, text.put_number, 2, 3, 1)
+            self.assertEqual(refusal(elf.section('.bss').put_number, 0, 1, 0).kind, Kind.BAD_OFFSET)
             self.assertEqual(changed, file.bytes)
 
     def test_read_only_bytes_stay(self):
