@@ -644,11 +644,15 @@ function check_names() {
     assert.deepEqual(elf.section_by_type(1, 2), { index: 2, section: elf.section_header(2) });
     assert.deepEqual([elf.section_by_type(3)?.index, elf.section_by_type(3, 6)], [5, undefined]);
     assert.throws(() => elf.section_by_name('a', -1), RangeError);
-    const symbols = Elf.parse(own).syms(), index = symbols.by_name('main'), nameless = [];
-    assert.deepEqual(symbols.symbol_by_name('main'), { index, symbol: symbols.get(index) });
-    for (let at = symbols.symbol_by_name(''); at; at = symbols.symbol_by_name('', at.index + 1))
-        nameless.push([at.index, at.symbol]);
-    assert.deepEqual(nameless, [...symbols.entries()].filter(([, symbol]) => symbols.name(symbol) === ''));
+    const symbols = Elf.parse(own).syms();
+    for (const name of ['main', '']) {
+        const named = [...symbols.entries()].filter(([, symbol]) => symbols.name(symbol) === name), all = [];
+        for (let at = symbols.symbol_by_name(name); at; at = symbols.symbol_by_name(name, at.index + 1))
+            all.push([at.index, at.symbol]);
+        assert.deepEqual(all, named);
+        assert.equal(symbols.by_name(name), named[0][0]);
+    }
+    assert.equal(symbols.by_name('no such name'), undefined);
     assert.throws(() => symbols.symbol_by_name('main', -1), RangeError);
     const cut = Elf.parse(content.subarray(0, content.length - 1));
     assert.throws(() => cut.section_by_name('a'), is_refusal(Kind.TOO_BIG));
@@ -677,7 +681,8 @@ function check_strings() {
     assert.throws(() => past.get_all_bytes([0]), is_refusal(Kind.STRTAB_RANGE));
     assert.deepEqual(past.get_all_bytes([]), []);
     for (const wrong of [-1, 2n ** 64n]) assert.throws(() => names.get_all_bytes([wrong]), RangeError);
-    for (const wrong of [undefined, 5, ['m']]) assert.throws(() => names.is(1, wrong), TypeError);
+    for (const wrong of [undefined, 5, ['m']])
+        assert.throws(() => names.is(1, wrong), { name: 'TypeError', message: /^bytes must be / });
 }
 
 // Where errors begin in the file, and where their numbers count from, as the comments of `offset` and `Kind` say.

@@ -399,7 +399,7 @@ function bytes_of(value) {
     if (ArrayBuffer.isView(value)) return new Uint8Array(value.buffer, value.byteOffset, value.byteLength);
     if (is_buffer(value)) return new Uint8Array(value);
     throw new TypeError(
-        `a file's bytes must be an ArrayBuffer or a view of one, such as a Uint8Array, not ${describe(value)}`);
+        `bytes must be an ArrayBuffer or a view of one, such as a Uint8Array, not ${describe(value)}`);
 }
 
 // An instance of the library, whose memory holds a file's bytes.
@@ -1632,8 +1632,9 @@ export class Strtab {
     }
 
     /**
-     * Returns the bytes of the strings at many offsets, each as `get_bytes` does. The table is checked once for 64
-     * strings. Throws if there are offsets, and the table is not inside the file.
+     * Returns the bytes of the strings at many offsets, each as `get_bytes` does. The table is checked once for up to
+     * 64 strings, and again after an offset past its end. Throws if there are offsets, and the table is not inside the
+     * file.
      * @param {Iterable<number | bigint>} offsets
      * @returns {(Uint8Array | undefined)[]}
      */
