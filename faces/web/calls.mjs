@@ -755,9 +755,9 @@ function check_address_map() {
     let state = 1;
     const any = (below) => { state = (Math.imul(state, 1103515245) + 12345) >>> 0; return (state >>> 8) % below; };
     for (let round = 0; round < 300; round++) {
-        const some = Array.from({ length: any(14) }, () => ({ value: any(24), size: any(9) ? any(12) : END,
-            shndx: [1, 2, 2, 3, 3, 9, 0xffff, 0, 0xfff1][any(9)], info: [2, 2, 0, 1, 10, 3][any(6)] }));
-        const others = ['.a', '.b'].map((name) =>
+        const some = Array.from({ length: any(28) }, () => ({ value: any(24), size: any(9) ? any(12) * any(2) : END,
+            shndx: [1, 2, 2, 3, 3, 4, 4, 9, 0xffff, 0, 0xfff1][any(11)], info: [2, 2, 0, 1, 10, 3][any(6)] }));
+        const others = ['.a', '.b', '.c'].map((name) =>
             ({ name, type: 1, addr: any(9) ? any(20) : END - BigInt(any(9)), bytes: Buffer.alloc(any(24)) }));
         agrees(symbols_of([...some, {}], any(4), ...others), [...Array(40).keys()].concat(END - 1n, END));
     }
