@@ -554,7 +554,7 @@ static void compare_strings(void) {
 /* Tests what goblin_strings returns and writes, over the strings "", "ab", "abc", one that is not UTF-8, and "x". */
 static void find_strings(void) {
     static const uint8_t named[] = "\0ab\0abc\0\xff\0x";
-    static const goblin_range_t table = {0, 11}, past = {0, 13}, unread = {77, 77};
+    static const goblin_range_t table = {0, 11}, past = {1, 12}, unread = {77, 77};
     static const struct {
         uint64_t offsets[3];
         size_t asked, capacity;
@@ -581,7 +581,7 @@ static void find_strings(void) {
     }
     same("goblin_strings", goblin_strings(named, 12, &past, rows[0].offsets, 3, ranges, 3, &filled, &why),
          GOBLIN_STRTAB_RANGE);
-    same("goblin_strings, where", why.offset, 0);
+    same("goblin_strings, where", why.offset, 1);
     same("goblin_strings, filled", filled, 0);
     same("goblin_strings", goblin_strings(named, 12, &past, rows[0].offsets, 3, ranges, 0, &filled, &why), GOBLIN_OK);
 }
