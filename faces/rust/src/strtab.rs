@@ -74,7 +74,7 @@ impl<'a> Strtab<'a> {
     }
 
     /// Returns the bytes of the strings at many offsets, each as [`Strtab::get_bytes`] does. The table is checked once
-    /// for 64 strings.
+    /// for up to 64 strings, and again after an offset past its end.
     ///
     /// ```
     /// # fn main() -> Result<(), Box<dyn std::error::Error>> {
