@@ -100,7 +100,10 @@ static void begins(uint64_t first, uint64_t second) {
 
 /* Checks what a call returned and wrote. */
 static bool check(const char *what, uint32_t status, const void *item, size_t size) {
-    if (status > GOBLIN_END && why.offset != places[0] && why.offset != places[1]) wrong("where it is refused", status);
+    bool is_there = why.offset == places[0] || why.offset == places[1];
+    /* (which field doesn't fit is compared with the plain reading) */
+    if (status == GOBLIN_INTEGER_FIT) is_there = why.offset - places[0] < 64;
+    if (status > GOBLIN_END && !is_there) wrong("where it is refused", status);
     statuses[status > GOBLIN_END ? 2 : status]++;
     if (status != GOBLIN_OK && !is_blank(item, size)) wrong(what, status);
     if (status <= GOBLIN_END ? !is_blank(&why, sizeof why) : why.kind != status) wrong("goblin_refusal_t", status);

@@ -130,8 +130,8 @@ enum {
     /* The addresses of a section do not fit in 64 bits: the offset of its name in the section names; its size; its
        address; 1. */
     GOBLIN_SECTION_ADDR = 23,
-    /* A number that is to be written does not fit its bytes, or a relocation has an addend where its table has none, or
-       the reverse. */
+    /* A number that is to be written does not fit its field, or a relocation has an addend where its table has none, or
+       the reverse: the first such number of the record, a negative one as (uint64_t)r_addend. */
     GOBLIN_INTEGER_FIT = 24
 };
 
@@ -155,8 +155,9 @@ typedef struct {
     uint64_t third;
     uint64_t fourth;
     uint64_t offset; /* where in the file the thing begins that is refused: 0 for the header; the range's offset for
-                        symbols, relocations or strings; the offset of the string, note or bytes; for a list of headers
-                        its start, e_shoff or e_phoff, though the numbers may be about one header in it */
+                        symbols, relocations or strings; the offset of the string, note or bytes; the field of a number
+                        that does not fit (r_info for r_sym and r_type); for a list of headers its start, e_shoff or
+                        e_phoff, though the numbers may be about one header in it */
 } goblin_refusal_t;
 
 /* Some bytes of the file. A range that a call returns lies inside the file, if its struct does not say otherwise. Its
@@ -610,9 +611,8 @@ void goblin_range_in_file(const uint8_t *bytes, size_t len, const goblin_range_t
    section 0 has the number of the list's items and the call changes it. A record that was read and is written back
    leaves the bytes as they are.
    Each returns what the reading call returns at that index, GOBLIN_END or a refusal, and then GOBLIN_INTEGER_FIT if a
-   number does not fit its bytes: st_shndx has 2, sh_name and st_name have 4, and in a 32-bit file so have addresses,
-   offsets, sizes, alignments and sh_flags. `why->offset` is then the offset of the record. Nothing is written unless
-   the call returns GOBLIN_OK. */
+   number does not fit its field: st_shndx has 2 bytes, sh_name and st_name have 4, and in a 32-bit file so have
+   addresses, offsets, sizes, alignments and sh_flags. Nothing is written unless the call returns GOBLIN_OK. */
 
 /* Writes the header at the start of the file, in the class and byte order that it names. Writes the magic number, too,
    and leaves the padding, the bytes 9 to 15.

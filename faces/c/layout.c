@@ -220,13 +220,13 @@ static void refuse_to_write(const goblin_layout_t *wanted, const goblin_range_t 
     items.section.sh_name = (uint64_t)1 << 32, items.symbol.st_shndx = 0x10000,
         items.segment.p_align = items.section.sh_name;
     same("a long name", goblin_put_section(file, sizeof file, h, 1, &items.section, why), GOBLIN_INTEGER_FIT);
-    same("a long name", why->offset, wide == 8 ? 0x496 : 0x47e);
+    same("a long name", why->first, items.section.sh_name), same("a long name", why->offset, wide == 8 ? 0x496 : 0x47e);
     same("a high index", goblin_put_symbol(file, sizeof file, h, symbols, 1, &items.symbol, why), GOBLIN_INTEGER_FIT);
-    same("a high index", why->offset, wide == 8 ? 0x718 : 0x710);
+    same("a high index", why->first, 0x10000), same("a high index", why->offset, wide == 8 ? 0x718 + 6 : 0x710 + 14);
     same("no addends", goblin_put_reloc(file, sizeof file, h, relocs, false, 0, &items.reloc, why), GOBLIN_INTEGER_FIT);
-    same("no addends", why->offset, 0x800);
+    same("no addends", why->first, (uint64_t)items.reloc.r_addend), same("no addends", why->offset, 0x800 + 2 * wide);
     same("a high number", goblin_put_number(file, sizeof file, h, 0x10, 2, 0x10000, why), GOBLIN_INTEGER_FIT);
-    same("a high number", why->offset, 0x10);
+    same("a high number", why->first, 0x10000), same("a high number", why->offset, 0x10);
     items.header.ei_class = 3, items.header.ei_data = 3;
     same("class 3", goblin_put_header(file, sizeof file, &items.header, why), GOBLIN_INVALID_CLASS),
         same("class 3", why->first, 3);

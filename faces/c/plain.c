@@ -32,17 +32,22 @@ static uint32_t inside(uint64_t end, uint64_t offset, uint64_t size, uint64_t fr
     return size > end - offset ? refuse(why, GOBLIN_TOO_BIG, size, end - offset, from) : (uint32_t)GOBLIN_OK;
 }
 
-/* A record is read or written field by field: `at` is the next field, and a writer has `out` there. A number that
-   doesn't fit is noted. */
+/* A record is read or written field by field: `at` is the next field, and a writer has `out` there. `done` bytes lie
+   before it. The first number that doesn't fit is noted, and where its field is. */
 typedef struct {
     const uint8_t *at;
     uint8_t *out;
     bool is_big, is_64, fits;
+    uint64_t done, misfit, misfit_at;
 } cursor_t;
 
-static cursor_t reader(const uint8_t *at, const goblin_header_t *h) {
-    cursor_t cursor = {at, NULL, is_big(h), is_64(h), true};
+static cursor_t cursor(const uint8_t *at, const goblin_header_t *h) {
+    cursor_t cursor = {at, NULL, is_big(h), is_64(h), true, 0, 0, 0};
     return cursor;
+}
+
+static void note(cursor_t *c, bool fits, uint64_t value) {
+    if (c->fits && !fits) c->fits = false, c->misfit = value, c->misfit_at = c->done;
 }
 
 /* Returns a field's value: the one in the bytes, or, if a record is written, the given one. Without `out` it is
@@ -52,9 +57,10 @@ static uint64_t field(cursor_t *c, unsigned width, uint64_t value) {
         value = get(c->at, width, c->is_big);
         c->at += width;
     } else {
-        if (width < 8 && value >> (8 * width)) c->fits = false;
+        note(c, width >= 8 || value >> (8 * width) == 0, value);
         if (c->out) put(c->out, width, c->is_big, value), c->out += width;
     }
+    c->done += width;
     return value;
 }
 static uint64_t wide(cursor_t *c, uint64_t value) { return field(c, c->is_64 ? 8 : 4, value); }
@@ -103,17 +109,19 @@ static uint64_t reversed(uint64_t type) {
    little-endian MIPS64 file the symbol comes first, and then the bytes of the type in the other order. */
 static void each_of_reloc(cursor_t *c, const goblin_header_t *h, bool is_rela, goblin_reloc_t *r) {
     bool is_pair = h->e_machine == GOBLIN_EM_MIPS && c->is_64 && !c->is_big;
-    if (!c->at && (r->has_addend != is_rela || (!is_rela && r->r_addend) || (c->is_64 ? r->r_sym >> 32 : r->r_sym >> 24)
-                   || (!c->is_64 && r->r_type >> 8)))
-        c->fits = false;
     uint64_t info = !c->is_64 ? r->r_sym << 8 | r->r_type : is_pair ? reversed(r->r_type) << 32 | r->r_sym
         : r->r_sym << 32 | r->r_type;
-    r->r_offset = wide(c, r->r_offset), info = c->is_64 ? field(c, 8, info) : field(c, 4, info & 0xffffffff);
+    r->r_offset = wide(c, r->r_offset);
+    if (!c->at) note(c, !(c->is_64 ? r->r_sym >> 32 : r->r_sym >> 24), r->r_sym);
+    if (!c->at) note(c, c->is_64 || !(r->r_type >> 8), r->r_type);
+    info = c->is_64 ? field(c, 8, info) : field(c, 4, info & 0xffffffff);
     r->r_sym = !c->is_64 ? info >> 8 : is_pair ? info & 0xffffffff : info >> 32;
     r->r_type = (uint32_t)(!c->is_64 ? info & 0xff : is_pair ? reversed(info >> 32) : info & 0xffffffff);
     if (c->at) r->has_addend = is_rela, r->r_addend = 0;
+    bool is_small = r->r_addend >= INT32_MIN && r->r_addend <= INT32_MAX;
+    if (!c->at) note(c, r->has_addend == is_rela && (is_rela ? c->is_64 || is_small : r->r_addend == 0),
+                     (uint64_t)r->r_addend);
     if (!is_rela) return;
-    if (!c->at && !c->is_64 && (r->r_addend < INT32_MIN || r->r_addend > INT32_MAX)) c->fits = false;
     uint64_t addend = c->is_64 ? wide(c, (uint64_t)r->r_addend) : wide(c, (uint64_t)r->r_addend & 0xffffffff);
     r->r_addend = c->is_64 ? (int64_t)addend : (int32_t)addend;
 }
@@ -121,9 +129,9 @@ static void each_of_reloc(cursor_t *c, const goblin_header_t *h, bool is_rela, g
 /* Writes a record at an offset by one of these functions, if it fits. `item` is a copy of the caller's. */
 #define WRITE(each, bytes, h, offset, item, why, ...) \
     do { \
-        cursor_t c = {NULL, NULL, is_big(h), is_64(h), true}; \
+        cursor_t c = cursor(NULL, h); \
         each(&c, __VA_ARGS__ &(item)); \
-        if (!c.fits) return refuse(why, GOBLIN_INTEGER_FIT, 0, 0, offset); \
+        if (!c.fits) return refuse(why, GOBLIN_INTEGER_FIT, c.misfit, 0, (offset) + c.misfit_at); \
         c.out = (bytes) + (offset); \
         each(&c, __VA_ARGS__ &(item)); \
         return GOBLIN_OK; \
@@ -155,7 +163,7 @@ uint32_t goblin_header(const uint8_t *bytes, size_t len, goblin_header_t *header
     if (status) return status;
     h.ei_class = bytes[4], h.ei_data = bytes[5], h.ei_version = bytes[6], h.ei_osabi = bytes[7],
         h.ei_abiversion = bytes[8];
-    cursor_t c = reader(bytes + 16, &h);
+    cursor_t c = cursor(bytes + 16, &h);
     each_of_header(&c, &h);
     *header = h;
     return GOBLIN_OK;
@@ -167,9 +175,9 @@ uint32_t goblin_put_header(uint8_t *bytes, size_t len, const goblin_header_t *he
     if (h.ei_data != 1 && h.ei_data != 2) return refuse(why, GOBLIN_DATA, h.ei_data, 0, 0);
     uint32_t status = inside(len, 0, is_64(&h) ? HEADER_64 : HEADER_32, 0, why);
     if (status) return status;
-    cursor_t c = {NULL, NULL, is_big(&h), is_64(&h), true};
+    cursor_t c = cursor(NULL, &h);
     each_of_header(&c, &h);
-    if (!c.fits) return refuse(why, GOBLIN_INTEGER_FIT, 0, 0, 0);
+    if (!c.fits) return refuse(why, GOBLIN_INTEGER_FIT, c.misfit, 0, 16 + c.misfit_at);
     c.out = bytes + 16;
     each_of_header(&c, &h);
     put(bytes, 4, true, 0x7f454c46);
@@ -189,7 +197,7 @@ static uint64_t segment_size(const goblin_header_t *h) {
 
 static goblin_section_t section_at(const uint8_t *bytes, const goblin_header_t *h, uint64_t index) {
     goblin_section_t s;
-    cursor_t c = reader(bytes + h->e_shoff + index * section_size(h), h);
+    cursor_t c = cursor(bytes + h->e_shoff + index * section_size(h), h);
     each_of_section(&c, &s);
     return s;
 }
@@ -459,7 +467,7 @@ uint32_t goblin_segment(const uint8_t *bytes, size_t len, const goblin_header_t 
     uint64_t count;
     uint32_t status = goblin_segment_count(bytes, len, h, &count, why);
     if (status || index >= count) return status ? status : (uint32_t)GOBLIN_END;
-    cursor_t c = reader(bytes + h->e_phoff + index * segment_size(h), h);
+    cursor_t c = cursor(bytes + h->e_phoff + index * segment_size(h), h);
     each_of_segment(&c, segment);
     return GOBLIN_OK;
 }
@@ -512,7 +520,7 @@ uint32_t goblin_symbol(const uint8_t *bytes, size_t len, const goblin_header_t *
     uint64_t count;
     uint32_t status = goblin_symbol_count(bytes, len, h, table, &count, why);
     if (status || index >= count) return status ? status : (uint32_t)GOBLIN_END;
-    cursor_t c = reader(bytes + table->offset + index * symbol_size(h), h);
+    cursor_t c = cursor(bytes + table->offset + index * symbol_size(h), h);
     each_of_symbol(&c, symbol);
     return GOBLIN_OK;
 }
@@ -600,7 +608,7 @@ uint32_t goblin_reloc(const uint8_t *bytes, size_t len, const goblin_header_t *h
     goblin_reloc_t r = {0, 0, 0, 0, 0};
     uint32_t status = goblin_reloc_count(bytes, len, h, table, is_rela, &count, why);
     if (status || index >= count) return status ? status : (uint32_t)GOBLIN_END;
-    cursor_t c = reader(bytes + table->offset + index * reloc_size(h, is_rela), h);
+    cursor_t c = cursor(bytes + table->offset + index * reloc_size(h, is_rela), h);
     each_of_reloc(&c, h, is_rela, &r);
     *reloc = r;
     return GOBLIN_OK;
@@ -700,7 +708,7 @@ uint32_t goblin_put_number(uint8_t *bytes, size_t len, const goblin_header_t *h,
     uint64_t unread;
     uint32_t status = goblin_number(bytes, len, h, offset, width, &unread, why);
     if (status) return status;
-    if (width < 8 && value >> (8 * width)) return refuse(why, GOBLIN_INTEGER_FIT, 0, 0, offset);
+    if (width < 8 && value >> (8 * width)) return refuse(why, GOBLIN_INTEGER_FIT, value, 0, offset);
     put(bytes + offset, (unsigned)width, is_big(h), value);
     return GOBLIN_OK;
 }

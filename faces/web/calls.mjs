@@ -367,6 +367,9 @@ function check_writer() {
                 rela.sh_offset + BigInt(of_rela), of_rela);
             assert.throws(() => writer.put_reloc(rela, 1, { ...reloc, r_addend: undefined }),
                 is_refusal(Kind.INTEGER_FIT));
+            assert.throws(() => writer.put_reloc(rela, 1, { ...reloc, r_sym: 1n << 40n }),
+                (error) => is_refusal(Kind.INTEGER_FIT)(error) && error.numbers[0] === 1n << 40n
+                    && error.offset === rela.sh_offset + BigInt(of_rela) + (elf.is_64() ? 8n : 4n));
             assert.throws(() => writer.put_reloc({ ...rela, sh_type: 1 }, 1, reloc), is_refusal(Kind.SECTION_TYPE));
         }
     }

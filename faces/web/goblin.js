@@ -70,8 +70,8 @@ export * from './constants.js';
  *   end does not fit in 64 bits, else 0]`
  * - `INVALID_CLASS`, `DATA`: the class or the byte of the byte order is neither 1 nor 2, of a header that is written.
  *   `[the byte]`
- * - `INTEGER_FIT`: a number that is written does not fit its bytes, or a relocation has an addend where its section has
- *   none, or the reverse. `[]`
+ * - `INTEGER_FIT`: a number that is written does not fit its field, or a relocation has an addend where its section has
+ *   none, or the reverse. `[the number, of a negative one its two's complement]`. `offset` is that of the field.
  * - `SECTION_TYPE`: a section was read as symbols or relocations, and has another type. `[its type]`. This kind is this
  *   file's own.
  *

@@ -1,5 +1,5 @@
 -- A header that is put is read again.
-use Rattle.goblin_c.proofs.Common.{found, found_within, ◌≡◌, ◌≤◌, ℕ, true, List, ◌++◌, length, take, drop, Some}
+use Rattle.goblin_c.proofs.Common.{found, found_within, ◌≡◌, ◌≤◌, ℕ, List, ◌++◌, length, take, drop, Some, None}
 use Rattle.goblin_c.proofs.Common.{Result, Ok, refl, ap, subst, arith, nat_tests, length-drop, length-take-le}
 use Rattle.goblin_c.proofs.Common.{Container, Ctx, Endian, Error, fits-room_of, refusal_of, room_of, ◌>>=◌}
 use Rattle.goblin_c.proofs.Common.{refuse_as, Header, reads_back, ctx_of, header_expected, refused_at, header_converted}
@@ -8,7 +8,8 @@ use Rattle.goblin_base.specs.declared.error.Error.TheVariants.{Scroll}
 use Rattle.goblin_base.specs.declared.error.Fault.TheVariants.{Data, InvalidClass}
 use Rattle.goblin.specs.Header.{HeaderFits, class_named, class_of, header_layout, header_size, order_named, order_of}
 use Rattle.goblin.specs.Header.{Identifies}
-use Rattle.goblin_c.specs.Write.{FitsClass, header_of, ident_of, named_ctx, put_if}
+use Rattle.goblin_c.specs.Write.{FitsClass, header_of, ident_of, named_ctx, put_unless}
+use Rattle.goblin_c.specs.Types.{refusal_converted}
 use Rattle.goblin_c.specs.WriteLaws.{HeadersAreRead}
 use Rattle.goblin_c.proofs.ListedLemmas.{bind_ok, refused_at_ok}
 
@@ -86,8 +87,10 @@ headers_are_read bytes new h fits put =
     let after = λ (ctx : Ctx).
     (header_layout ctx.container ctx.le).image (header_of bytes h) ++ drop (header_size ctx.container) bytes in
     let answer = refuse_as refusal_of (named_ctx bytes h) in
-    let parts = bind_ok (refused_at 0 answer) (λ ctx. put_if true 0 (after ctx)) (Some new) put in
-    let found = found_within refusal_of (named_ctx bytes h) parts.0 (refused_at_ok 0 answer parts.0 parts.1) in
+    let parts = bind_ok (refuse_as refusal_converted (refused_at 0 answer)) (λ ctx. put_unless None 0 (after ctx))
+    (Some new) put in
+    let first = found_within refusal_converted (refused_at 0 answer) parts.0 parts.1 in
+    let found = found_within refusal_of (named_ctx bytes h) parts.0 (refused_at_ok 0 answer parts.0 first) in
     let is : after parts.0 ≡ new = (let last = parts.2 in cc) in
     subst (λ (xs : List ℕ). header_expected xs ≡ Ok (Some h)) is
     (is_read bytes h parts.0 fits (named bytes h parts.0 found))

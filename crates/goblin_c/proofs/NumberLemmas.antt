@@ -1,13 +1,14 @@
 -- Numbers and headers that are put are read again.
 use Rattle.goblin_c.proofs.Common.{◌≡◌, ◌≤◌, ◌<◌, ◌+◌, ◌^◌, ℕ, true, List, ◌++◌, length, take, drop, Some, Ok, refl}
-use Rattle.goblin_c.proofs.Common.{Bool, false, inl, inr, Option, Result, RefusalAt, GoblinRange, Stores}
+use Rattle.goblin_c.proofs.Common.{inl, inr, Option, None, Result, RefusalAt, GoblinRange}
 use Rattle.goblin_c.proofs.Common.{sym, ap, subst, ◌∙◌, arith, mod-eq_of_lt, Endian, number_at-lt}
 use Rattle.goblin_c.proofs.Common.{number_at-with_number, number_at, spelled, fits-room_of, room_of_fits, is_width}
 use Rattle.goblin_c.proofs.Common.{number_expected, ctx_of, GoblinHeader, IsBytes-part, length-part}
 use Rattle.goblin_base.specs.NumberLaws.{length-spelled, spelled-number}
 use Rattle.goblin_base.specs.Place.{with_number}
 use Rattle.goblin_c.specs.Places.{number_in_expected}
-use Rattle.goblin_c.specs.Write.{Puts, put_if_there, with_bytes}
+use Rattle.goblin_c.specs.Write.{Changes, Put, Puts, put_if_there, with_bytes}
+use Rattle.goblin_c.specs.declared.misfit.Misfit.{Misfit}
 use Rattle.goblin_c.specs.WriteLaws.{ChangesOnly, NumbersArePut, NumbersInRangesArePut}
 use Rattle.goblin_c.specs.declared.types.GoblinRefusal.{GoblinRefusal}
 use Rattle.goblin_c.proofs.OffsetLemmas.{numbers_lie_in_range}
@@ -49,7 +50,7 @@ numbers_are_put = record {
   read = λ bytes new h offset width value fits put.
       let order = (ctx_of h).le in
       let put_bytes = with_number order bytes offset width value in
-      let found = put_found (number_expected bytes h offset width) true offset put_bytes new put in
+      let found = put_found (number_expected bytes h offset width) None offset put_bytes new put in
       let there = read_there bytes h offset width found.0 found.1 in
       let stays = number_stays order bytes offset width value there.1 in
       let room : offset + width ≤ length put_bytes = omega (arith, there.1, stays.same_length) in
@@ -84,7 +85,7 @@ numbers_are_put = record {
 
 -- what is put where two calls that read find an item
 put_as : {X Y : Type 0} (found : Result (Option X) RefusalAt) (other : Result (Option Y) RefusalAt) (x : X) (y : Y)
-    (put : Result (Option (List ℕ)) RefusalAt)
+    (put : Put)
     → found ≡ Ok (Some x) → other ≡ Ok (Some y) → put_if_there found put ≡ put_if_there other put
 put_as {X = X} {Y = Y} found other x y put is same =
     ap (λ (r : Result (Option X) RefusalAt). put_if_there r put) is
@@ -105,13 +106,13 @@ in_range_there bytes h range offset width value is =
     (read_there bytes h (range.offset + offset) width value there.2).1
 
 -- what a call puts at the offset in the file is what is to be put in the range
-pub puts_in_range : (Fits : Type 0) (expected other : Bool → Result (Option (List ℕ)) RefusalAt)
+pub puts_in_range : (Fits : Type 0) (misfit : Misfit) (expected other : Option Misfit → Put)
     (old : List ℕ) (was : GoblinRefusal) (status : ℕ) (new : List ℕ) (why : GoblinRefusal)
-    → ((fits : Bool) → expected fits ≡ other fits) → Puts Fits other old was status new why
-    → Puts Fits expected old was status new why
-puts_in_range Fits expected other old was status new why same (inl (fits, stores)) =
-    let P : Result (Option (List ℕ)) RefusalAt → Type 0 = λ r. Stores r old was status new why in
-    inl (fits, subst P (sym (same true)) stores)
-puts_in_range Fits expected other old was status new why same (inr (unfit, stores)) =
-    let P : Result (Option (List ℕ)) RefusalAt → Type 0 = λ r. Stores r old was status new why in
-    inr (unfit, subst P (sym (same false)) stores)
+    → ((m : Option Misfit) → expected m ≡ other m) → Puts Fits misfit other old was status new why
+    → Puts Fits misfit expected old was status new why
+puts_in_range Fits misfit expected other old was status new why same (inl (fits, changes)) =
+    let P : Put → Type 0 = λ r. Changes r old was status new why in
+    inl (fits, subst P (sym (same None)) changes)
+puts_in_range Fits misfit expected other old was status new why same (inr (unfit, changes)) =
+    let P : Put → Type 0 = λ r. Changes r old was status new why in
+    inr (unfit, subst P (sym (same (Some misfit))) changes)

@@ -3,8 +3,8 @@
 -- The item that a call stores is read from the bytes at its place (`found_at`). After a put these are the record's
 -- image (`own_bytes`), which is read as the record. The call finds one there if the list has as many items as before
 -- (`still_there`).
-use Rattle.goblin_c.proofs.Common.{◌≡◌, ◌≤◌, ◌<◌, ◌+◌, ◌*◌, ℕ, Bool, true, List, ◌++◌, length, take, drop}
-use Rattle.goblin_c.proofs.Common.{get_or, slice_get, Option, Some, Result, Ok, Err, refl, sym, ap, subst}
+use Rattle.goblin_c.proofs.Common.{◌≡◌, ◌≤◌, ◌<◌, ◌+◌, ◌*◌, ℕ, List, ◌++◌, length, take, drop}
+use Rattle.goblin_c.proofs.Common.{get_or, slice_get, Option, Some, None, Result, Ok, Err, refl, sym, ap, subst}
 use Rattle.goblin_c.proofs.Common.{◌∙◌, arith, append_assoc, length-append, take-append_seam, drop-drop, drop_at}
 use Rattle.goblin_c.proofs.Common.{length-take-le, take-append-drop}
 use Rattle.goblin_c.proofs.Common.{take_all, slice_get-get_or, slice_get_within, IsRecord, Layout, IsBytes}
@@ -16,9 +16,10 @@ use Rattle.goblin_c.proofs.Common.{symbol_expected}
 use Rattle.std.proofs.Common.{length-drop}
 use Rattle.goblin_c.specs.Expected.{section_expected}
 use Rattle.goblin_c.specs.Places.{number_in_expected}
-use Rattle.goblin_c.specs.Write.{put_at, put_if, put_if_there, with_bytes, reloc_ctx, reloc_layout, reloc_of}
+use Rattle.goblin_c.specs.Write.{put_at, put_unless, put_if_there, with_bytes, reloc_ctx, reloc_layout, reloc_of}
 use Rattle.goblin_c.specs.Write.{section_layout, section_of, segment_layout, segment_of, symbol_layout, symbol_of}
 use Rattle.goblin_c.specs.Write.{unfit}
+use Rattle.goblin_c.specs.declared.misfit.Misfit.{Misfit}
 use Rattle.goblin_c.specs.WriteLaws.{ChangesOnly, IsUnfit, PutsAreRead, PutsChangeOne, ReadsArePut, UnfitAreRefused}
 use Rattle.std.specs.Prelude.{ℤ}
 use Rattle.goblin_c.specs.declared.types.GoblinReloc.{GoblinReloc}
@@ -74,10 +75,11 @@ rewritten bytes place size room =
     ∙ take-append-drop place bytes
 
 -- what is put was found, and fits
-pub put_found : {Y : Type 0} (found : Result (Option Y) RefusalAt) (fits : Bool) (place : ℕ) (put new : List ℕ)
-    → put_if_there found (put_if fits place put) ≡ Ok (Some new)
+pub put_found : {Y : Type 0} (found : Result (Option Y) RefusalAt) (misfit : Option Misfit) (place : ℕ)
+    (put new : List ℕ)
+    → put_if_there found (put_unless misfit place put) ≡ Ok (Some new)
     → (y : Y) × (found ≡ Ok (Some y)) × (new ≡ put)
-put_found found fits place put new is = grind arith
+put_found found misfit place put new is = grind arith
 
 -- a list of as many items has one at the same index
 there_in : {X : Type 0} (items others : List X) (index : ℕ) (x : X)
@@ -104,14 +106,14 @@ module _ {R Y : Type 0} (l : Layout R) (laws : IsRecord l) (convert : R → Y) (
   -- such a call stores what was put
   pub put_is_read : (bytes new : List ℕ) (x : R)
       → l.Fits x
-      → put_if_there (item_at (each_converted convert (list bytes)) index) (put_at l bytes start index x true)
+      → put_if_there (item_at (each_converted convert (list bytes)) index) (put_at l bytes start index x None)
       ≡ Ok (Some new)
       → count_of (each_converted convert (list new)) ≡ count_of (each_converted convert (list bytes))
       → item_at (each_converted convert (list new)) index ≡ Ok (Some (convert x))
   put_is_read bytes new x fits put same =
       let place = start + index * l.size in
       let image = l.image x in
-      let found = put_found (item_at (each_converted convert (list bytes)) index) true place
+      let found = put_found (item_at (each_converted convert (list bytes)) index) None place
       (with_bytes bytes place image) new put in
       let room = (found_at convert l.size l.read bytes start index (list bytes) found.0 (lists bytes) found.1).0 in
       let long = laws.length_image x in
@@ -125,14 +127,14 @@ module _ {R Y : Type 0} (l : Layout R) (laws : IsRecord l) (convert : R → Y) (
       there.1 ∙ ap (λ (y : Y). Ok (Some y))
       (read.1 ∙ ap (λ (xs : List ℕ). convert (l.read xs)) bytes_are ∙ ap convert (laws.reads_back x fits))
 
-  pub put_changes_one : (bytes new : List ℕ) (x : R) (fits : Bool)
-      → put_if_there (item_at (each_converted convert (list bytes)) index) (put_at l bytes start index x fits)
+  pub put_changes_one : (bytes new : List ℕ) (x : R) (misfit : Option Misfit)
+      → put_if_there (item_at (each_converted convert (list bytes)) index) (put_at l bytes start index x misfit)
       ≡ Ok (Some new)
       → ChangesOnly (start + index * l.size) l.size bytes new
-  put_changes_one bytes new x fits put =
+  put_changes_one bytes new x misfit put =
       let place = start + index * l.size in
       let image = l.image x in
-      let found = put_found (item_at (each_converted convert (list bytes)) index) fits place
+      let found = put_found (item_at (each_converted convert (list bytes)) index) misfit place
       (with_bytes bytes place image) new put in
       let room = (found_at convert l.size l.read bytes start index (list bytes) found.0 (lists bytes) found.1).0 in
       let long = laws.length_image x in
@@ -144,7 +146,7 @@ module _ {R Y : Type 0} (l : Layout R) (laws : IsRecord l) (convert : R → Y) (
   pub read_is_put : (back : Y → R) (bytes : List ℕ) (y : Y)
       → ((x : R) → back (convert x) ≡ x) → IsBytes bytes
       → item_at (each_converted convert (list bytes)) index ≡ Ok (Some y)
-      → put_if_there (item_at (each_converted convert (list bytes)) index) (put_at l bytes start index (back y) true)
+      → put_if_there (item_at (each_converted convert (list bytes)) index) (put_at l bytes start index (back y) None)
       ≡ Ok (Some bytes)
   read_is_put back bytes y same are found =
       let place = start + index * l.size in
@@ -251,18 +253,19 @@ puts_change_one = record {
 }
 
 -- what doesn't fit is refused where it would be put
-unfit_put : {X : Type 0} (found : Result (Option X) RefusalAt) (x : X) (place : ℕ)
-    → found ≡ Ok (Some x) → IsUnfit place (put_if_there found (Err (unfit place)))
-unfit_put found x place is = grind arith
+unfit_put : {X : Type 0} (found : Result (Option X) RefusalAt) (x : X) (place : ℕ) (misfit : Misfit)
+    → found ≡ Ok (Some x) → IsUnfit place misfit (put_if_there found (Err (unfit place misfit)))
+unfit_put found x place misfit is = grind arith
 
 pub unfit_are_refused : UnfitAreRefused
 unfit_are_refused = record {
-  section = λ bytes h index s found is. unfit_put (section_expected bytes h index) found _ is;
-  segment = λ bytes h index s found is. unfit_put (segment_expected bytes h index) found _ is;
-  symbol = λ bytes h table index s found is. unfit_put (symbol_expected bytes h table index) found _ is;
-  reloc = λ bytes h table is_rela index r found is.
-      unfit_put (reloc_expected bytes h table is_rela index) found _ is;
-  number = λ bytes h offset width value found is. unfit_put (number_expected bytes h offset width) found _ is;
-  number_in = λ bytes h range offset width value found is.
-      unfit_put (number_in_expected bytes h range offset width) found _ is;
+  section = λ bytes h index s found misfit is. unfit_put (section_expected bytes h index) found _ misfit is;
+  segment = λ bytes h index s found misfit is. unfit_put (segment_expected bytes h index) found _ misfit is;
+  symbol = λ bytes h table index s found misfit is. unfit_put (symbol_expected bytes h table index) found _ misfit is;
+  reloc = λ bytes h table is_rela index r found misfit is.
+      unfit_put (reloc_expected bytes h table is_rela index) found _ misfit is;
+  number = λ bytes h offset width value found misfit is.
+      unfit_put (number_expected bytes h offset width) found _ misfit is;
+  number_in = λ bytes h range offset width value found misfit is.
+      unfit_put (number_in_expected bytes h range offset width) found _ misfit is;
 }

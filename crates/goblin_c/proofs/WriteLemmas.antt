@@ -1,12 +1,14 @@
 -- Puts: a record that is found is put at its place, in range, and the library's test decides whether it fits.
-use Rattle.goblin_c.proofs.Common.{◌≡◌, ◌≤◌, ◌<◌, ◌+◌, ◌*◌, ◌^◌, ◌⊎◌, ℕ, Bool, List, [], ◌∷◌}
+use Rattle.goblin_c.proofs.Common.{◌≡◌, ◌≤◌, ◌<◌, ◌+◌, ◌*◌, ◌^◌, ◌⊎◌, ℕ, List, [], ◌∷◌}
 use Rattle.goblin_c.proofs.Common.{◌++◌, length, drop, map, Option, Some, Result, Ok, Err, inl, refl, sym}
 use Rattle.goblin_c.proofs.Common.{ap, subst, ◌∙◌, arith, ◌>>=◌, refuse_as, number_expected, ctx_of}
-use Rattle.goblin_c.proofs.Common.{item_at, Returns, RefusalAt, refusal_at, refused_at, Stores, converted_list}
+use Rattle.goblin_c.proofs.Common.{item_at, Returns, RefusalAt, refusal_at, refused_at, converted_list}
 use Rattle.goblin_c.proofs.Common.{refusal_converted, Container, Little, Big, Ctx, Error, refusal_of, Header, cases_lt}
 use Rattle.goblin_c.proofs.Common.{Refused, GoblinHeader, GoblinRange, GoblinRefusal}
 use Rattle.goblin_c.specs.Places.{number_in_expected}
-use Rattle.goblin_c.specs.Write.{FitsClass, Puts, header_of, header_put_expected, named_ctx, put_if}
+use Rattle.goblin_c.specs.Write.{Changes, FitsClass, Put, Puts, header_misfit, header_of, header_put_expected}
+use Rattle.goblin_c.specs.Write.{named_ctx, put_unless}
+use Rattle.goblin_c.specs.declared.misfit.Misfit.{Misfit}
 use Rattle.goblin_base.specs.Fields.{Field, FieldsFit}
 use Rattle.goblin.specs.Header.{HeaderFits, as32, as64, header32, header64, header_layout, header_size}
 use Rattle.goblin_c.proofs.NumberLemmas.{read_there}
@@ -62,29 +64,31 @@ header_decided Little h = fields_decided (header32.fields (as32 h))
 header_decided Big h = fields_decided (header64.fields (as64 h))
 
 -- a header whose class, byte order or room is refused
-refused_first : {Y : Type 0} (answer : Result Ctx Error) (e : Error) (next : Ctx → Result Y RefusalAt)
+refused_first : (answer : Result Ctx Error) (e : Error) (next : Ctx → Put)
     → answer ≡ Err e
-    → (refused_at 0 (refuse_as refusal_of answer) >>= next) ≡ Err (record { refusal = refusal_of e; offset = 0 })
+    → (refuse_as refusal_converted (refused_at 0 (refuse_as refusal_of answer)) >>= next)
+    ≡ Err (refusal_converted (record { refusal = refusal_of e; offset = 0 }))
 refused_first answer e next is = grind arith
 
-either : (Fits : Type 0) (expected : Bool → Result (Option (List ℕ)) RefusalAt)
+either : (Fits : Type 0) (misfit : Misfit) (expected : Option Misfit → Put)
     (old : List ℕ) (was : GoblinRefusal) (status : ℕ) (new : List ℕ) (why : GoblinRefusal)
-    → Fits ⊎ (¬ Fits) → ((fits : Bool) → Stores (expected fits) old was status new why)
-    → Puts Fits expected old was status new why
-either Fits expected old was status new why h stores = grind arith
+    → Fits ⊎ (¬ Fits) → ((m : Option Misfit) → Changes (expected m) old was status new why)
+    → Puts Fits misfit expected old was status new why
+either Fits misfit expected old was status new why h changes = grind arith
 
 pub header_refused : (bytes : List ℕ) (h : GoblinHeader) (e : Error) (was : GoblinRefusal) (status : ℕ)
     (why : GoblinRefusal)
     → named_ctx bytes h ≡ Err e
     → status ≡ (refusal_converted (record { refusal = refusal_of e; offset = 0 })).kind
     → why ≡ refusal_converted (record { refusal = refusal_of e; offset = 0 })
-    → Puts (FitsClass bytes h) (header_put_expected bytes h) bytes was status bytes why
+    → Puts (FitsClass bytes h) (header_misfit (ctx_of h).container (header_of bytes h)) (header_put_expected bytes h)
+    bytes was status bytes why
 header_refused bytes h e was status why is kind stored =
-    let next = λ (fits : Bool) (ctx : Ctx).
-    put_if fits 0
+    let next = λ (m : Option Misfit) (ctx : Ctx).
+    put_unless m 0
     ((header_layout ctx.container ctx.le).image (header_of bytes h) ++ drop (header_size ctx.container) bytes) in
-    let P : Result (Option (List ℕ)) RefusalAt → Type 0 = λ r. Stores r bytes was status bytes why in
-    let stores = λ (fits : Bool).
-    subst P (sym (refused_first (named_ctx bytes h) e (next fits) is)) (kind, refl, stored) in
-    either (FitsClass bytes h) (header_put_expected bytes h) bytes was status bytes why
-    (header_decided (ctx_of h).container (header_of bytes h)) stores
+    let P : Put → Type 0 = λ r. Changes r bytes was status bytes why in
+    let changes = λ (m : Option Misfit).
+    subst P (sym (refused_first (named_ctx bytes h) e (next m) is)) (kind, refl, stored) in
+    either (FitsClass bytes h) _ (header_put_expected bytes h) bytes was status bytes why
+    (header_decided (ctx_of h).container (header_of bytes h)) changes

@@ -1,9 +1,10 @@
 -- Each refusal of each call has the library's text when it is converted for C.
-use Rattle.std.proofs.Common.{◌≡◌, ◌+◌, ℕ, zero, suc, Bool, List, codes, Option, Result, Ok}
+use Rattle.std.proofs.Common.{◌≡◌, ◌⊎◌, ◌+◌, ℕ, zero, suc, Bool, List, codes, Option, Some, None, Result, Ok}
 use Rattle.std.proofs.Common.{Err, inl, inr, refl, arith}
 use Rattle.std.specs.Bool.{⊤}
 use Rattle.goblin_base.specs.declared.container.Container.TheVariants.{Little, Big}
-use Rattle.goblin_c.specs.Common.{Ctx, DataType, Layout, Refusal, buffer_too_short, misplaced, refusal_of, room_of}
+use Rattle.goblin_c.specs.Common.{Ctx, DataType, IntegerFit, Layout, Refusal, buffer_too_short, malformed, misplaced}
+use Rattle.goblin_c.specs.Common.{refusal_of, room_of, ◌>>=◌}
 use Rattle.goblin_c.specs.Common.{refuse_as, with_size, range_in, refusal_text, header_layout, header_size, read_header}
 use Rattle.goblin_c.specs.Common.{read_in_order, section_headers_from, section_headers_from_tested, GoblinHeader}
 use Rattle.goblin_c.specs.Common.{GoblinRange, GoblinSection, GoblinSegment, GoblinReloc, GoblinSymbol}
@@ -11,23 +12,26 @@ use Rattle.goblin_base.specs.declared.container.Endian.{Endian}
 use Rattle.goblin_base.specs.Eager.{records_from, records_in, room_of_each}
 use Rattle.goblin_base.specs.Record.{read_within}
 use Rattle.goblin.specs.Note.{PartRefusal, places_at, read_places}
-use Rattle.goblin_c.specs.Refused.{RefusalAt}
+use Rattle.goblin_c.specs.Refused.{RefusalAt, refused_at}
 use Rattle.goblin_c.specs.Expected.{ctx_of, header_expected, reloc_count_expected, reloc_expected, relocs_from_expected}
 use Rattle.goblin_c.specs.Expected.{relocs_expected, section_by_name_expected, section_by_type_expected}
 use Rattle.goblin_c.specs.Expected.{section_count_expected, section_names_expected, section_expected}
 use Rattle.goblin_c.specs.Expected.{sections_from_expected, sections_expected, segment_count_expected, segment_expected}
 use Rattle.goblin_c.specs.Expected.{segments_from_expected}
-use Rattle.goblin_c.specs.Expected.{segments_expected, string_expected, strings_expected, symbol_by_address_expected}
+use Rattle.goblin_c.specs.Expected.{segments_expected, string_expected, string_is_expected, string_starts_expected}
+use Rattle.goblin_c.specs.Expected.{strings_expected, symbol_by_address_expected}
 use Rattle.goblin_c.specs.Expected.{symbol_by_name_expected, symbol_count_expected, symbol_expected}
 use Rattle.goblin_c.specs.Expected.{symbols_from_expected, symbols_expected}
 use Rattle.goblin_c.specs.Expected.{table_expected}
 use Rattle.goblin_c.specs.Bytes.{number_expected, section_bytes_expected, segment_bytes_expected, string_bytes_expected}
+use Rattle.goblin_c.specs.Bytes.{string_closed_expected}
 use Rattle.goblin_c.specs.Notes.{note_bytes_expected, note_expected, part_converted}
 use Rattle.goblin_c.specs.Places.{address_to_offset_expected, number_in_expected}
 use Rattle.goblin_c.specs.Types.{refusal_converted}
-use Rattle.goblin_c.specs.Write.{header_put_expected, number_in_put_expected, number_put_expected, put_if, put_if_there}
-use Rattle.goblin_c.specs.Write.{reloc_put_expected}
-use Rattle.goblin_c.specs.Write.{section_put_expected, segment_put_expected, symbol_put_expected}
+use Rattle.goblin_c.specs.Write.{Put, header_put_expected, named_ctx, number_in_put_expected, number_put_expected}
+use Rattle.goblin_c.specs.Write.{put_if_there, put_unless, reloc_put_expected, section_put_expected}
+use Rattle.goblin_c.specs.Write.{segment_put_expected, symbol_put_expected}
+use Rattle.goblin_c.specs.declared.misfit.Misfit.{Misfit}
 use Rattle.goblin_c.specs.Texts.{NamesKnown, TextIsSame, converted_text}
 
 pub text-same : TextIsSame
@@ -37,6 +41,13 @@ text-same why known = grind arith
 abbrev pub HasSameText : {X : Type 0} → Result X RefusalAt → Type 0
 HasSameText (Ok x) = ⊤
 HasSameText (Err why) = converted_text (refusal_converted why) ≡ refusal_text why.refusal
+
+-- so has the refusal of a put: it is one that is converted, or that of a value that doesn't fit
+abbrev pub PutHasSameText : Put → Type 0
+PutHasSameText (Ok x) = ⊤
+PutHasSameText (Err why) =
+    ((e : RefusalAt) × (why ≡ refusal_converted e) × (converted_text why ≡ refusal_text e.refusal))
+    ⊎ ((why.kind ≡ 24) × (converted_text why ≡ refusal_text (malformed (IntegerFit (record { 0 = tt })))))
 
 -- so has the refusal of a whole note, whose item is the part
 abbrev pub PartHasSameText : {X : Type 0} → ℕ → Result X PartRefusal → Type 0
@@ -113,15 +124,24 @@ unfolding places_at read_places read_within
 known_note bytes offset ctx = grind (arith, known_room)
 
 -- what is put, and the header
-known_put : {X : Type 0} (found : Result (Option X) RefusalAt) (fits : Bool) (place : ℕ) (put : List ℕ)
-    → KnownAt found → KnownAt (put_if_there found (put_if fits place put))
-known_put found fits place put known = grind arith
+known_put : {X : Type 0} (found : Result (Option X) RefusalAt) (misfit : Option Misfit) (place : ℕ) (put : List ℕ)
+    → KnownAt found → PutHasSameText (put_if_there found (put_unless misfit place put))
+known_put (Ok (Some x)) None place put known = tt
+known_put (Ok (Some x)) (Some misfit) place put known = inr (refl, refl)
+known_put (Ok None) misfit place put known = tt
+known_put (Err why) misfit place put known = inl (why, refl, text-same why known)
+
+known_header_put : (ctx : Result Ctx RefusalAt) (misfit : Option Misfit) (put : Ctx → List ℕ)
+    → KnownAt ctx → PutHasSameText (refuse_as refusal_converted ctx >>= λ c. put_unless misfit 0 (put c))
+known_header_put (Ok ctx) None put known = tt
+known_header_put (Ok ctx) (Some misfit) put known = inr (refl, refl)
+known_header_put (Err why) misfit put known = inl (why, refl, text-same why known)
 
 -- so does the refusal of each call with these arguments
 pub record HaveSameText
     (bytes : List ℕ) (h : GoblinHeader) (range names : GoblinRange) (name : List ℕ) (is_rela : Bool)
     (index offset address alignment width sh_type value : ℕ) (s : GoblinSection) (p : GoblinSegment)
-    (y : GoblinSymbol) (r : GoblinReloc) (fits : Bool) : Type 0 where
+    (y : GoblinSymbol) (r : GoblinReloc) (misfit : Option Misfit) : Type 0 where
   pub header : HasSameText (header_expected bytes)
   pub section_count : HasSameText (section_count_expected bytes h)
   pub section : HasSameText (section_expected bytes h index)
@@ -146,28 +166,31 @@ pub record HaveSameText
   pub section_bytes : HasSameText (section_bytes_expected bytes s)
   pub segment_bytes : HasSameText (segment_bytes_expected bytes p)
   pub string_bytes : HasSameText (string_bytes_expected bytes range offset)
+  pub string_closed : HasSameText (string_closed_expected bytes range offset)
+  pub string_is : HasSameText (string_is_expected bytes range offset name)
+  pub string_starts : HasSameText (string_starts_expected bytes range offset name)
   pub number : HasSameText (number_expected bytes h offset width)
   pub number_in : HasSameText (number_in_expected bytes h range offset width)
   pub address_to_offset : HasSameText (address_to_offset_expected bytes h address)
-  pub put_header : HasSameText (header_put_expected bytes h fits)
-  pub put_section : HasSameText (section_put_expected bytes h index s fits)
-  pub put_segment : HasSameText (segment_put_expected bytes h index p fits)
-  pub put_symbol : HasSameText (symbol_put_expected bytes h range index y fits)
-  pub put_reloc : HasSameText (reloc_put_expected bytes h range is_rela index r fits)
-  pub put_number : HasSameText (number_put_expected bytes h offset width value fits)
-  pub put_number_in : HasSameText (number_in_put_expected bytes h range offset width value fits)
+  pub put_header : PutHasSameText (header_put_expected bytes h misfit)
+  pub put_section : PutHasSameText (section_put_expected bytes h index s misfit)
+  pub put_segment : PutHasSameText (segment_put_expected bytes h index p misfit)
+  pub put_symbol : PutHasSameText (symbol_put_expected bytes h range index y misfit)
+  pub put_reloc : PutHasSameText (reloc_put_expected bytes h range is_rela index r misfit)
+  pub put_number : PutHasSameText (number_put_expected bytes h offset width value misfit)
+  pub put_number_in : PutHasSameText (number_in_put_expected bytes h range offset width value misfit)
 
 -- so does each refusal of each call
 abbrev pub RefusalsHaveSameText : Type 0
 RefusalsHaveSameText =
     (bytes : List ℕ) (h : GoblinHeader) (range names : GoblinRange) (name : List ℕ) (is_rela : Bool)
     (index offset address alignment width sh_type value : ℕ) (s : GoblinSection) (p : GoblinSegment)
-    (y : GoblinSymbol) (r : GoblinReloc) (fits : Bool)
-    → HaveSameText bytes h range names name is_rela index offset address alignment width sh_type value s p y r fits
+    (y : GoblinSymbol) (r : GoblinReloc) (misfit : Option Misfit)
+    → HaveSameText bytes h range names name is_rela index offset address alignment width sh_type value s p y r misfit
 
 pub refusals_have_same_text : RefusalsHaveSameText
 refusals_have_same_text bytes h range names name is_rela index offset address alignment width sh_type value s p y r
-    fits =
+    misfit =
     let sections = known_sections bytes h in
     let segments = known_segments bytes h in
     let symbols = known_symbols bytes h range in
@@ -202,21 +225,20 @@ refusals_have_same_text bytes h range names name is_rela index offset address al
       section_bytes = same_text (section_bytes_expected bytes s) (grind (arith, known_room));
       segment_bytes = same_text (segment_bytes_expected bytes p) (grind (arith, known_room));
       string_bytes = same_text (string_bytes_expected bytes range offset) (grind (arith, known_strings bytes range));
+      string_closed = same_text (string_closed_expected bytes range offset) (grind (arith, known_strings bytes range));
+      string_is = same_text (string_is_expected bytes range offset name) (grind (arith, known_strings bytes range));
+      string_starts = same_text (string_starts_expected bytes range offset name)
+          (grind (arith, known_strings bytes range));
       number = same_text (number_expected bytes h offset width) (grind (arith, known_room));
       number_in = same_text (number_in_expected bytes h range offset width) (grind (arith, known_room));
       address_to_offset = same_text (address_to_offset_expected bytes h address)
           (grind (arith, segments, known_room));
-      put_header = same_text (header_put_expected bytes h fits) (grind (arith, known_room));
-      put_section = same_text (section_put_expected bytes h index s fits)
-          (known_put (section_expected bytes h index) fits _ _ (grind (arith, sections)));
-      put_segment = same_text (segment_put_expected bytes h index p fits)
-          (known_put (segment_expected bytes h index) fits _ _ (grind (arith, segments)));
-      put_symbol = same_text (symbol_put_expected bytes h range index y fits)
-          (known_put (symbol_expected bytes h range index) fits _ _ (grind (arith, symbols)));
-      put_reloc = same_text (reloc_put_expected bytes h range is_rela index r fits)
-          (known_put (reloc_expected bytes h range is_rela index) fits _ _ (grind (arith, relocs)));
-      put_number = same_text (number_put_expected bytes h offset width value fits)
-          (known_put (number_expected bytes h offset width) fits _ _ (grind (arith, known_room)));
-      put_number_in = same_text (number_in_put_expected bytes h range offset width value fits)
-          (known_put (number_in_expected bytes h range offset width) fits _ _ (grind (arith, known_room)));
+      put_header = known_header_put (refused_at 0 (refuse_as refusal_of (named_ctx bytes h))) misfit _
+          (grind (arith, known_room));
+      put_section = known_put (section_expected bytes h index) misfit _ _ (grind (arith, sections));
+      put_segment = known_put (segment_expected bytes h index) misfit _ _ (grind (arith, segments));
+      put_symbol = known_put (symbol_expected bytes h range index) misfit _ _ (grind (arith, symbols));
+      put_reloc = known_put (reloc_expected bytes h range is_rela index) misfit _ _ (grind (arith, relocs));
+      put_number = known_put (number_expected bytes h offset width) misfit _ _ (grind (arith, known_room));
+      put_number_in = known_put (number_in_expected bytes h range offset width) misfit _ _ (grind (arith, known_room));
     }

@@ -1,51 +1,87 @@
 -- Putting records and numbers into the bytes of a file: the bytes after, or the refusal.
-use Rattle.std.specs.Prelude.{◌≡◌, ◌⊎◌, ℕ, ◌+◌, ◌*◌, ◌==◌, ◌<◌, ◌^◌, true, false, Bool, if◌then◌else◌, List, ◌∷◌, ◌++◌}
-use Rattle.std.specs.Prelude.{length, take, drop, Option, Some, None, Result, Ok, Err}
-use Rattle.goblin_c.specs.Common.{Ctx, Error, Data, IntegerFit, InvalidClass, Layout, malformed, refusal_of, room_of}
+use Rattle.std.specs.Prelude.{◌≡◌, ◌⊎◌, ℕ, ◌+◌, ◌*◌, ◌==◌, ◌<◌, ◌^◌, nat_lt, not, Bool, if◌then◌else◌, List, []}
+use Rattle.std.specs.Prelude.{◌∷◌, ◌++◌, length, take, drop, Option, Some, None, Result, Ok, Err}
+use Rattle.goblin_c.specs.Common.{Ctx, Error, Data, InvalidClass, Layout, refusal_of, room_of, OK, END}
 use Rattle.goblin_c.specs.Common.{◌>>=◌, refuse_as, Header, ProgramHeader, Reloc, SectionHeader, Sym, HeaderFits}
 use Rattle.goblin_c.specs.Common.{class_of, header_layout, header_size, magic, order_of, sym_layout, GoblinHeader}
 use Rattle.goblin_c.specs.Common.{GoblinRange, GoblinRefusal, GoblinReloc, GoblinSection, GoblinSegment, GoblinSymbol}
 use Rattle.goblin_base.specs.declared.error.Error.TheVariants.{Scroll}
+use Rattle.goblin_base.specs.Fields.{Field}
+use Rattle.goblin_base.specs.Layout.{word_size}
 use Rattle.goblin_base.specs.Place.{with_number}
+use Rattle.goblin_base.specs.Signed.{complement}
+use Rattle.goblin_base.specs.declared.container.Container.{Container}
+use Rattle.goblin_base.specs.declared.container.Container.TheVariants.{Little, Big}
 use Rattle.goblin.specs.declared.elf.reloc.RelocCtx.{RelocCtx}
-use Rattle.goblin.specs.ProgramHeader.{program_header_layout}
+use Rattle.goblin.specs.Header.{header32, header64, as32 as header_as32, as64 as header_as64}
+use Rattle.goblin.specs.ProgramHeader.{program_header_layout, program_header32, program_header64}
+use Rattle.goblin.specs.ProgramHeader.{as32 as segment_as32, as64 as segment_as64}
 use Rattle.goblin.specs.Reloc.{reloc_layout_in}
-use Rattle.goblin.specs.SectionHeader.{section_header_layout}
+use Rattle.goblin.specs.RelocInfo.{symbols, types}
+use Rattle.goblin.specs.SectionHeader.{section_header_layout, section_header32, section_header64}
+use Rattle.goblin.specs.SectionHeader.{as32 as section_as32, as64 as section_as64}
+use Rattle.goblin.specs.Sym.{sym32, sym64, as32 as symbol_as32, as64 as symbol_as64}
 use Rattle.goblin_c.specs.Bytes.{number_expected}
 use Rattle.goblin_c.specs.Expected.{ctx_of, is_mips64el, reloc_expected, section_expected, segment_expected}
 use Rattle.goblin_c.specs.Expected.{symbol_expected}
 use Rattle.goblin_c.specs.Places.{number_in_expected}
 use Rattle.goblin_c.specs.Refused.{RefusalAt, refused_at}
-use Rattle.goblin_c.specs.Status.{Stores}
-use Rattle.goblin_c.specs.Types.{reloc_converted}
+use Rattle.goblin_c.specs.Types.{refusal_converted, reloc_converted}
+use Rattle.goblin_c.specs.declared.misfit.Misfit.{Misfit}
 
 -- ---- one record
 -- the bytes after others were written over them at an offset
 abbrev pub with_bytes : List ℕ → ℕ → List ℕ → List ℕ
 with_bytes bytes place own = take place bytes ++ own ++ drop (place + length own) bytes
 
--- the refusal of a number that doesn't fit its field, of the record at an offset
-abbrev pub unfit : ℕ → RefusalAt
-unfit place = record { refusal = malformed (IntegerFit (record { 0 = tt })); offset = place }
+-- the first of these fields from an offset on whose value is out of the range of its width; if none is, 0 after them
+abbrev pub misfit_from : ℕ → List Field → Misfit
+misfit_from offset [] = record { value = 0; offset = offset }
+misfit_from offset (f ∷ fields) =
+    if nat_lt f.value (256 ^ f.width) then misfit_from (offset + f.width) fields
+    else record { value = f.value; offset = offset }
 
--- what is put at an offset: these bytes, if they are of a record that fits
-abbrev pub put_if : Bool → ℕ → List ℕ → Result (Option (List ℕ)) RefusalAt
-put_if fits place bytes = if fits then Ok (Some bytes) else Err (unfit place)
+-- the refusal of a record at an offset for a value that doesn't fit its field
+abbrev pub unfit : ℕ → Misfit → GoblinRefusal
+unfit place m = record {
+  kind = 24;
+  item = 0;
+  first = m.value;
+  second = 0;
+  third = 0;
+  fourth = 0;
+  offset = place + m.offset;
+}
+
+-- the file after a put, or the refusal of the call
+abbrev pub Put : Type 0
+Put = Result (Option (List ℕ)) GoblinRefusal
+
+-- what is put at an offset: these bytes, unless a value doesn't fit
+abbrev pub put_unless : Option Misfit → ℕ → List ℕ → Put
+put_unless None place bytes = Ok (Some bytes)
+put_unless (Some misfit) place bytes = Err (unfit place misfit)
 
 -- the same if a call that reads stores an item there: else its end, or its refusal
-abbrev pub put_if_there : {X : Type 0}
-    → Result (Option X) RefusalAt → Result (Option (List ℕ)) RefusalAt → Result (Option (List ℕ)) RefusalAt
+abbrev pub put_if_there : {X : Type 0} → Result (Option X) RefusalAt → Put → Put
 put_if_there (Ok (Some x)) put = put
 put_if_there (Ok None) put = Ok None
-put_if_there (Err refusal) put = Err refusal
+put_if_there (Err refusal) put = Err (refusal_converted refusal)
 
--- What a call that puts a record returns and changes: the result that is expected if the record fits, or the one if it
--- doesn't.
+-- What a call returns and changes whose expected result is this: 0 and the bytes; 1 if there is no place; or the number
+-- of the kind, and the refusal. All else is unchanged.
+abbrev pub Changes : Put → List ℕ → GoblinRefusal → ℕ → List ℕ → GoblinRefusal → Type 0
+Changes (Ok (Some bytes)) old was status new why = (status ≡ OK) × (new ≡ bytes) × (why ≡ was)
+Changes (Ok None) old was status new why = (status ≡ END) × (new ≡ old) × (why ≡ was)
+Changes (Err refusal) old was status new why = (status ≡ refusal.kind) × (new ≡ old) × (why ≡ refusal)
+
+-- What a call that puts a record returns and changes: the result that is expected if the record fits, or the one for
+-- its first value that doesn't.
 abbrev pub Puts : Type 0
-    → (Bool → Result (Option (List ℕ)) RefusalAt) → List ℕ → GoblinRefusal → ℕ → List ℕ → GoblinRefusal → Type 0
-Puts Fits expected old was status new why =
-    (Fits × Stores (expected true) old was status new why)
-    ⊎ (¬ Fits × Stores (expected false) old was status new why)
+    → Misfit → (Option Misfit → Put) → List ℕ → GoblinRefusal → ℕ → List ℕ → GoblinRefusal → Type 0
+Puts Fits misfit expected old was status new why =
+    (Fits × Changes (expected None) old was status new why)
+    ⊎ (¬ Fits × Changes (expected (Some misfit)) old was status new why)
 
 -- ---- records from C
 abbrev pub section_of : GoblinSection → SectionHeader
@@ -134,34 +170,30 @@ abbrev pub reloc_layout : GoblinHeader → Bool → Layout Reloc
 reloc_layout h is_rela = reloc_layout_in (reloc_ctx h is_rela)
 
 -- the bytes after the record with an index was put into a list of such records from an offset on
-abbrev pub put_at : {R : Type 0} → Layout R → List ℕ → ℕ → ℕ → R → Bool → Result (Option (List ℕ)) RefusalAt
-put_at l bytes start index x fits =
-    let place = start + index * l.size in put_if fits place (with_bytes bytes place (l.image x))
+abbrev pub put_at : {R : Type 0} → Layout R → List ℕ → ℕ → ℕ → R → Option Misfit → Put
+put_at l bytes start index x misfit =
+    let place = start + index * l.size in put_unless misfit place (with_bytes bytes place (l.image x))
 
 -- each record is put where the call that reads it at this index finds one
-abbrev pub section_put_expected :
-    List ℕ → GoblinHeader → ℕ → GoblinSection → Bool → Result (Option (List ℕ)) RefusalAt
-section_put_expected bytes h index s fits =
+abbrev pub section_put_expected : List ℕ → GoblinHeader → ℕ → GoblinSection → Option Misfit → Put
+section_put_expected bytes h index s misfit =
     put_if_there (section_expected bytes h index)
-    (put_at (section_layout h) bytes h.e_shoff index (section_of s) fits)
+    (put_at (section_layout h) bytes h.e_shoff index (section_of s) misfit)
 
-abbrev pub segment_put_expected :
-    List ℕ → GoblinHeader → ℕ → GoblinSegment → Bool → Result (Option (List ℕ)) RefusalAt
-segment_put_expected bytes h index s fits =
+abbrev pub segment_put_expected : List ℕ → GoblinHeader → ℕ → GoblinSegment → Option Misfit → Put
+segment_put_expected bytes h index s misfit =
     put_if_there (segment_expected bytes h index)
-    (put_at (segment_layout h) bytes h.e_phoff index (segment_of s) fits)
+    (put_at (segment_layout h) bytes h.e_phoff index (segment_of s) misfit)
 
-abbrev pub symbol_put_expected :
-    List ℕ → GoblinHeader → GoblinRange → ℕ → GoblinSymbol → Bool → Result (Option (List ℕ)) RefusalAt
-symbol_put_expected bytes h table index s fits =
+abbrev pub symbol_put_expected : List ℕ → GoblinHeader → GoblinRange → ℕ → GoblinSymbol → Option Misfit → Put
+symbol_put_expected bytes h table index s misfit =
     put_if_there (symbol_expected bytes h table index)
-    (put_at (symbol_layout h) bytes table.offset index (symbol_of s) fits)
+    (put_at (symbol_layout h) bytes table.offset index (symbol_of s) misfit)
 
-abbrev pub reloc_put_expected :
-    List ℕ → GoblinHeader → GoblinRange → Bool → ℕ → GoblinReloc → Bool → Result (Option (List ℕ)) RefusalAt
-reloc_put_expected bytes h table is_rela index r fits =
+abbrev pub reloc_put_expected : List ℕ → GoblinHeader → GoblinRange → Bool → ℕ → GoblinReloc → Option Misfit → Put
+reloc_put_expected bytes h table is_rela index r misfit =
     put_if_there (reloc_expected bytes h table is_rela index)
-    (put_at (reloc_layout h is_rela) bytes table.offset index (reloc_of r) fits)
+    (put_at (reloc_layout h is_rela) bytes table.offset index (reloc_of r) misfit)
 
 -- each field fits the class; a relocation's addend is 0 if it isn't there
 abbrev pub SectionFits : GoblinHeader → GoblinSection → Type 0
@@ -176,24 +208,47 @@ SymbolFits h s = (symbol_layout h).Fits (symbol_of s)
 abbrev pub RelocFits : GoblinHeader → Bool → GoblinReloc → Type 0
 RelocFits h is_rela r = (reloc_layout h is_rela).Fits (reloc_of r) × (reloc_converted (reloc_of r) ≡ r)
 
+-- the first value of a record, in file order, that doesn't fit its field in a class
+abbrev pub section_misfit : Container → SectionHeader → Misfit
+section_misfit Little s = misfit_from 0 (section_header32.fields (section_as32 s))
+section_misfit Big s = misfit_from 0 (section_header64.fields (section_as64 s))
+
+abbrev pub segment_misfit : Container → ProgramHeader → Misfit
+segment_misfit Little s = misfit_from 0 (program_header32.fields (segment_as32 s))
+segment_misfit Big s = misfit_from 0 (program_header64.fields (segment_as64 s))
+
+abbrev pub symbol_misfit : Container → Sym → Misfit
+symbol_misfit Little s = misfit_from 0 (sym32.fields (symbol_as32 s))
+symbol_misfit Big s = misfit_from 0 (sym64.fields (symbol_as64 s))
+
+-- the same of a relocation, whose symbol and type share `r_info`; the addend doesn't fit if all others do
+abbrev pub reloc_misfit : Container → GoblinReloc → Misfit
+reloc_misfit class r =
+    let width = word_size class in
+    if not (nat_lt r.r_offset (256 ^ width)) then record { value = r.r_offset; offset = 0 }
+    else if not (nat_lt r.r_sym (symbols class)) then record { value = r.r_sym; offset = width }
+    else if not (nat_lt r.r_type (types class)) then record { value = r.r_type; offset = width }
+    else record { value = complement 8 r.r_addend; offset = 2 * width }
+
 -- a number is put where the call that reads one of this width finds it
-abbrev pub number_put_expected :
-    List ℕ → GoblinHeader → ℕ → ℕ → ℕ → Bool → Result (Option (List ℕ)) RefusalAt
-number_put_expected bytes h offset width value fits =
+abbrev pub number_put_expected : List ℕ → GoblinHeader → ℕ → ℕ → ℕ → Option Misfit → Put
+number_put_expected bytes h offset width value misfit =
     put_if_there (number_expected bytes h offset width)
-    (put_if fits offset (with_number (ctx_of h).le bytes offset width value))
+    (put_unless misfit offset (with_number (ctx_of h).le bytes offset width value))
 
 -- so is one in a range
-abbrev pub number_in_put_expected :
-    List ℕ → GoblinHeader → GoblinRange → ℕ → ℕ → ℕ → Bool → Result (Option (List ℕ)) RefusalAt
-number_in_put_expected bytes h range offset width value fits =
+abbrev pub number_in_put_expected : List ℕ → GoblinHeader → GoblinRange → ℕ → ℕ → ℕ → Option Misfit → Put
+number_in_put_expected bytes h range offset width value misfit =
     let place = range.offset + offset in
     put_if_there (number_in_expected bytes h range offset width)
-    (put_if fits place (with_number (ctx_of h).le bytes place width value))
+    (put_unless misfit place (with_number (ctx_of h).le bytes place width value))
 
 -- it fits so many bytes
 abbrev pub NumberFits : ℕ → ℕ → Type 0
 NumberFits width value = value < 256 ^ width
+
+abbrev pub number_misfit : ℕ → Misfit
+number_misfit value = record { value = value; offset = 0 }
 
 -- the header is put at the start of the file, in the class and the byte order that it names: first the class is
 -- refused, then the byte order, and then the room
@@ -204,11 +259,15 @@ named_ctx bytes h = do
   _ ← refuse_as Scroll (room_of (length bytes) 0 (header_size class))
   Ok (record { container = class; le = order })
 
-abbrev pub header_put_expected : List ℕ → GoblinHeader → Bool → Result (Option (List ℕ)) RefusalAt
-header_put_expected bytes h fits = do
-  ctx ← refused_at 0 (refuse_as refusal_of (named_ctx bytes h))
-  put_if fits 0
+abbrev pub header_put_expected : List ℕ → GoblinHeader → Option Misfit → Put
+header_put_expected bytes h misfit = do
+  ctx ← refuse_as refusal_converted (refused_at 0 (refuse_as refusal_of (named_ctx bytes h)))
+  put_unless misfit 0
       ((header_layout ctx.container ctx.le).image (header_of bytes h) ++ drop (header_size ctx.container) bytes)
 
 abbrev pub FitsClass : List ℕ → GoblinHeader → Type 0
 FitsClass bytes h = HeaderFits (ctx_of h).container (header_of bytes h)
+
+abbrev pub header_misfit : Container → Header → Misfit
+header_misfit Little h = misfit_from 16 (header32.fields (header_as32 h))
+header_misfit Big h = misfit_from 16 (header64.fields (header_as64 h))

@@ -1,6 +1,6 @@
 -- Laws of the calls that put: what is put is read again, what was read is put without a change, no other byte changes,
 -- and what doesn't fit is refused.
-use Rattle.std.specs.Prelude.{◌≡◌, ◌+◌, ◌*◌, ℕ, true, false, Bool, List, length, take, drop, Option, Some, Result, Ok}
+use Rattle.std.specs.Prelude.{◌≡◌, ◌+◌, ◌*◌, ℕ, Bool, List, length, take, drop, Option, Some, None, Ok}
 use Rattle.std.specs.Prelude.{Err}
 use Rattle.goblin_base.specs.Number.{IsBytes}
 use Rattle.goblin_c.specs.Expected.{reloc_count_expected, reloc_expected, section_count_expected, section_expected}
@@ -8,35 +8,34 @@ use Rattle.goblin_c.specs.Expected.{segment_count_expected, segment_expected, sy
 use Rattle.goblin_c.specs.Expected.{header_expected}
 use Rattle.goblin_c.specs.Bytes.{number_expected}
 use Rattle.goblin_c.specs.Places.{number_in_expected}
-use Rattle.goblin_c.specs.Refused.{RefusalAt}
-use Rattle.goblin_c.specs.Types.{refusal_converted}
-use Rattle.goblin_c.specs.Write.{FitsClass, NumberFits, header_put_expected, number_in_put_expected}
+use Rattle.goblin_c.specs.Write.{FitsClass, NumberFits, Put, header_put_expected, number_in_put_expected}
 use Rattle.goblin_c.specs.Write.{number_put_expected, RelocFits}
 use Rattle.goblin_c.specs.Write.{SectionFits, SegmentFits, SymbolFits, reloc_layout, reloc_put_expected, section_layout}
 use Rattle.goblin_c.specs.Write.{section_put_expected, segment_layout, segment_put_expected, symbol_layout}
 use Rattle.goblin_c.specs.Write.{symbol_put_expected}
+use Rattle.goblin_c.specs.declared.misfit.Misfit.{Misfit}
 use Rattle.goblin_c.specs.Common.{GoblinHeader, GoblinRange, GoblinReloc, GoblinSection, GoblinSegment, GoblinSymbol}
 
 -- a record that fits and was put is stored by the call that reads it, if the list has as many items as before
 pub record PutsAreRead : Type 0 where
   pub section :
       (bytes new : List ℕ) (h : GoblinHeader) (index : ℕ) (s : GoblinSection)
-      → SectionFits h s → section_put_expected bytes h index s true ≡ Ok (Some new)
+      → SectionFits h s → section_put_expected bytes h index s None ≡ Ok (Some new)
       → section_count_expected new h ≡ section_count_expected bytes h
       → section_expected new h index ≡ Ok (Some s)
   pub segment :
       (bytes new : List ℕ) (h : GoblinHeader) (index : ℕ) (s : GoblinSegment)
-      → SegmentFits h s → segment_put_expected bytes h index s true ≡ Ok (Some new)
+      → SegmentFits h s → segment_put_expected bytes h index s None ≡ Ok (Some new)
       → segment_count_expected new h ≡ segment_count_expected bytes h
       → segment_expected new h index ≡ Ok (Some s)
   pub symbol :
       (bytes new : List ℕ) (h : GoblinHeader) (table : GoblinRange) (index : ℕ) (s : GoblinSymbol)
-      → SymbolFits h s → symbol_put_expected bytes h table index s true ≡ Ok (Some new)
+      → SymbolFits h s → symbol_put_expected bytes h table index s None ≡ Ok (Some new)
       → symbol_count_expected new h table ≡ symbol_count_expected bytes h table
       → symbol_expected new h table index ≡ Ok (Some s)
   pub reloc :
       (bytes new : List ℕ) (h : GoblinHeader) (table : GoblinRange) (is_rela : Bool) (index : ℕ) (r : GoblinReloc)
-      → RelocFits h is_rela r → reloc_put_expected bytes h table is_rela index r true ≡ Ok (Some new)
+      → RelocFits h is_rela r → reloc_put_expected bytes h table is_rela index r None ≡ Ok (Some new)
       → reloc_count_expected new h table is_rela ≡ reloc_count_expected bytes h table is_rela
       → reloc_expected new h table is_rela index ≡ Ok (Some r)
 
@@ -59,21 +58,22 @@ pub record ChangesOnly (place size : ℕ) (old new : List ℕ) : Type 0 where
 -- only the bytes of the record change
 pub record PutsChangeOne : Type 0 where
   pub section :
-      (bytes new : List ℕ) (h : GoblinHeader) (index : ℕ) (s : GoblinSection) (fits : Bool)
-      → section_put_expected bytes h index s fits ≡ Ok (Some new)
+      (bytes new : List ℕ) (h : GoblinHeader) (index : ℕ) (s : GoblinSection) (misfit : Option Misfit)
+      → section_put_expected bytes h index s misfit ≡ Ok (Some new)
       → ChangesOnly (h.e_shoff + index * (section_layout h).size) (section_layout h).size bytes new
   pub segment :
-      (bytes new : List ℕ) (h : GoblinHeader) (index : ℕ) (s : GoblinSegment) (fits : Bool)
-      → segment_put_expected bytes h index s fits ≡ Ok (Some new)
+      (bytes new : List ℕ) (h : GoblinHeader) (index : ℕ) (s : GoblinSegment) (misfit : Option Misfit)
+      → segment_put_expected bytes h index s misfit ≡ Ok (Some new)
       → ChangesOnly (h.e_phoff + index * (segment_layout h).size) (segment_layout h).size bytes new
   pub symbol :
-      (bytes new : List ℕ) (h : GoblinHeader) (table : GoblinRange) (index : ℕ) (s : GoblinSymbol) (fits : Bool)
-      → symbol_put_expected bytes h table index s fits ≡ Ok (Some new)
+      (bytes new : List ℕ) (h : GoblinHeader) (table : GoblinRange) (index : ℕ) (s : GoblinSymbol)
+      (misfit : Option Misfit)
+      → symbol_put_expected bytes h table index s misfit ≡ Ok (Some new)
       → ChangesOnly (table.offset + index * (symbol_layout h).size) (symbol_layout h).size bytes new
   pub reloc :
       (bytes new : List ℕ) (h : GoblinHeader) (table : GoblinRange) (is_rela : Bool) (index : ℕ) (r : GoblinReloc)
-      (fits : Bool)
-      → reloc_put_expected bytes h table is_rela index r fits ≡ Ok (Some new)
+      (misfit : Option Misfit)
+      → reloc_put_expected bytes h table is_rela index r misfit ≡ Ok (Some new)
       → let size = (reloc_layout h is_rela).size in ChangesOnly (table.offset + index * size) size bytes new
 
 -- what the call that reads stores fits, and if it is put at its index, no byte changes; a relocation may be put back
@@ -82,78 +82,85 @@ pub record ReadsArePut : Type 0 where
   pub section :
       (bytes : List ℕ) (h : GoblinHeader) (index : ℕ) (s : GoblinSection)
       → IsBytes bytes → section_expected bytes h index ≡ Ok (Some s)
-      → SectionFits h s × (section_put_expected bytes h index s true ≡ Ok (Some bytes))
+      → SectionFits h s × (section_put_expected bytes h index s None ≡ Ok (Some bytes))
   pub segment :
       (bytes : List ℕ) (h : GoblinHeader) (index : ℕ) (s : GoblinSegment)
       → IsBytes bytes → segment_expected bytes h index ≡ Ok (Some s)
-      → SegmentFits h s × (segment_put_expected bytes h index s true ≡ Ok (Some bytes))
+      → SegmentFits h s × (segment_put_expected bytes h index s None ≡ Ok (Some bytes))
   pub symbol :
       (bytes : List ℕ) (h : GoblinHeader) (table : GoblinRange) (index : ℕ) (s : GoblinSymbol)
       → IsBytes bytes → symbol_expected bytes h table index ≡ Ok (Some s)
-      → SymbolFits h s × (symbol_put_expected bytes h table index s true ≡ Ok (Some bytes))
+      → SymbolFits h s × (symbol_put_expected bytes h table index s None ≡ Ok (Some bytes))
   pub reloc :
       (bytes : List ℕ) (h : GoblinHeader) (table : GoblinRange) (is_rela : Bool) (index : ℕ) (r : GoblinReloc)
       → IsBytes bytes → reloc_expected bytes h table is_rela index ≡ Ok (Some r)
-      → reloc_put_expected bytes h table is_rela index r true ≡ Ok (Some bytes)
+      → reloc_put_expected bytes h table is_rela index r None ≡ Ok (Some bytes)
 
 -- a number that fits its width and was put is read again, nothing else changes, and what was read is put without a
 -- change
 pub record NumbersArePut : Type 0 where
   pub read :
       (bytes new : List ℕ) (h : GoblinHeader) (offset width value : ℕ)
-      → NumberFits width value → number_put_expected bytes h offset width value true ≡ Ok (Some new)
+      → NumberFits width value → number_put_expected bytes h offset width value None ≡ Ok (Some new)
       → number_expected new h offset width ≡ Ok (Some value)
   pub one :
-      (bytes new : List ℕ) (h : GoblinHeader) (offset width value : ℕ) (fits : Bool)
-      → number_put_expected bytes h offset width value fits ≡ Ok (Some new) → ChangesOnly offset width bytes new
+      (bytes new : List ℕ) (h : GoblinHeader) (offset width value : ℕ) (misfit : Option Misfit)
+      → number_put_expected bytes h offset width value misfit ≡ Ok (Some new) → ChangesOnly offset width bytes new
   pub back :
       (bytes : List ℕ) (h : GoblinHeader) (offset width value : ℕ)
       → IsBytes bytes → number_expected bytes h offset width ≡ Ok (Some value)
-      → NumberFits width value × (number_put_expected bytes h offset width value true ≡ Ok (Some bytes))
+      → NumberFits width value × (number_put_expected bytes h offset width value None ≡ Ok (Some bytes))
 
 -- a number that is found in a range is put as at its offset in the file
 abbrev pub NumbersInRangesArePut : Type 0
 NumbersInRangesArePut =
-    (bytes : List ℕ) (h : GoblinHeader) (range : GoblinRange) (offset width value found : ℕ) (fits : Bool)
+    (bytes : List ℕ) (h : GoblinHeader) (range : GoblinRange) (offset width value found : ℕ) (misfit : Option Misfit)
     → number_in_expected bytes h range offset width ≡ Ok (Some found)
-    → number_in_put_expected bytes h range offset width value fits
-    ≡ number_put_expected bytes h (range.offset + offset) width value fits
+    → number_in_put_expected bytes h range offset width value misfit
+    ≡ number_put_expected bytes h (range.offset + offset) width value misfit
 
 -- a header that fits and was put is read again
 abbrev pub HeadersAreRead : Type 0
 HeadersAreRead =
     (bytes new : List ℕ) (h : GoblinHeader)
-    → FitsClass bytes h → header_put_expected bytes h true ≡ Ok (Some new) → header_expected new ≡ Ok (Some h)
+    → FitsClass bytes h → header_put_expected bytes h None ≡ Ok (Some new) → header_expected new ≡ Ok (Some h)
 
--- a result is a refusal of kind 24 at an offset
-abbrev pub IsUnfit : ℕ → Result (Option (List ℕ)) RefusalAt → Type 0
-IsUnfit place (Ok put) = ⊥
-IsUnfit place (Err why) = ((refusal_converted why).kind ≡ 24) × ((refusal_converted why).offset ≡ place)
+-- a result is a refusal of kind 24 that names a value and the offset of its field, of a record at an offset
+abbrev pub IsUnfit : ℕ → Misfit → Put → Type 0
+IsUnfit place misfit (Ok put) = ⊥
+IsUnfit place misfit (Err why) =
+    (why.kind ≡ 24) × (why.first ≡ misfit.value) × (why.offset ≡ place + misfit.offset)
 
--- so is what doesn't fit, at its own offset, if the call that reads stores an item there
+-- so is what doesn't fit, if the call that reads stores an item there
 pub record UnfitAreRefused : Type 0 where
   pub section :
-      (bytes : List ℕ) (h : GoblinHeader) (index : ℕ) (s found : GoblinSection)
+      (bytes : List ℕ) (h : GoblinHeader) (index : ℕ) (s found : GoblinSection) (misfit : Misfit)
       → section_expected bytes h index ≡ Ok (Some found)
-      → IsUnfit (h.e_shoff + index * (section_layout h).size) (section_put_expected bytes h index s false)
+      → let place = h.e_shoff + index * (section_layout h).size in
+      IsUnfit place misfit (section_put_expected bytes h index s (Some misfit))
   pub segment :
-      (bytes : List ℕ) (h : GoblinHeader) (index : ℕ) (s found : GoblinSegment)
+      (bytes : List ℕ) (h : GoblinHeader) (index : ℕ) (s found : GoblinSegment) (misfit : Misfit)
       → segment_expected bytes h index ≡ Ok (Some found)
-      → IsUnfit (h.e_phoff + index * (segment_layout h).size) (segment_put_expected bytes h index s false)
+      → let place = h.e_phoff + index * (segment_layout h).size in
+      IsUnfit place misfit (segment_put_expected bytes h index s (Some misfit))
   pub symbol :
       (bytes : List ℕ) (h : GoblinHeader) (table : GoblinRange) (index : ℕ) (s found : GoblinSymbol)
+      (misfit : Misfit)
       → symbol_expected bytes h table index ≡ Ok (Some found)
-      → IsUnfit (table.offset + index * (symbol_layout h).size) (symbol_put_expected bytes h table index s false)
+      → let place = table.offset + index * (symbol_layout h).size in
+      IsUnfit place misfit (symbol_put_expected bytes h table index s (Some misfit))
   pub reloc :
       (bytes : List ℕ) (h : GoblinHeader) (table : GoblinRange) (is_rela : Bool) (index : ℕ) (r found : GoblinReloc)
+      (misfit : Misfit)
       → reloc_expected bytes h table is_rela index ≡ Ok (Some found)
-      → let size = (reloc_layout h is_rela).size in
-      IsUnfit (table.offset + index * size) (reloc_put_expected bytes h table is_rela index r false)
+      → let place = table.offset + index * (reloc_layout h is_rela).size in
+      IsUnfit place misfit (reloc_put_expected bytes h table is_rela index r (Some misfit))
   pub number :
-      (bytes : List ℕ) (h : GoblinHeader) (offset width value found : ℕ)
+      (bytes : List ℕ) (h : GoblinHeader) (offset width value found : ℕ) (misfit : Misfit)
       → number_expected bytes h offset width ≡ Ok (Some found)
-      → IsUnfit offset (number_put_expected bytes h offset width value false)
+      → IsUnfit offset misfit (number_put_expected bytes h offset width value (Some misfit))
   pub number_in :
       (bytes : List ℕ) (h : GoblinHeader) (range : GoblinRange) (offset width value found : ℕ)
+      (misfit : Misfit)
       → number_in_expected bytes h range offset width ≡ Ok (Some found)
-      → IsUnfit (range.offset + offset) (number_in_put_expected bytes h range offset width value false)
+      → IsUnfit (range.offset + offset) misfit (number_in_put_expected bytes h range offset width value (Some misfit))

@@ -13,6 +13,7 @@ mod kinds;
 mod laws;
 mod layout;
 mod lists;
+mod misfit;
 mod names;
 mod notes;
 mod place_laws;

@@ -1,7 +1,6 @@
 //! Why a call is refused, and where in the file what is refused begins.
 ghost use Rattle.std.specs.Prelude.{◌≡◌};
-ghost use Rattle.goblin_c.specs.Refused.{refusal_at, with_offset};
-ghost use Rattle.goblin_c.specs.Write.{unfit};
+ghost use Rattle.goblin_c.specs.Refused.{with_offset};
 
 use goblin::error::Error;
 use std::result;
@@ -25,18 +24,5 @@ pub fn refused_at<T>(offset: u64, answer: goblin::error::Result<T>) -> Result<T>
     match answer {
         Ok(found) => Ok(found),
         Err(error) => Err(Refused { error, offset }),
-    }
-}
-
-/// Returns the refusal of a record at an offset of which a number doesn't fit.
-pub fn unfit(offset: u64) -> Refused
-    ensures { refusal_at result ≡ unfit offset }
-{
-    match u8::try_from(u16::MAX) {
-        Ok(_) => unreachable!(),
-        Err(e) => Refused {
-            error: e.into(),
-            offset,
-        },
     }
 }

@@ -7,16 +7,18 @@ ghost use Rattle.goblin.specs.Header.{header_size, order_named};
 ghost use Rattle.goblin_c.specs.Bytes.{is_width};
 ghost use Rattle.goblin_c.specs.Expected.{ctx_of};
 ghost use Rattle.goblin_c.specs.Refused.{refusal_at};
-ghost use Rattle.goblin_c.specs.Status.{Stores};
 ghost use Rattle.goblin_c.specs.Types.{reloc_converted};
-ghost use Rattle.goblin_c.specs.Write.{FitsClass, NumberFits, Puts, RelocFits, SectionFits, SegmentFits, SymbolFits, header_put_expected, named_ctx, number_in_put_expected, number_put_expected, put_at, put_if_there, reloc_ctx, reloc_of, reloc_put_expected, section_put_expected, segment_put_expected, symbol_put_expected, with_bytes};
+ghost use Rattle.goblin_c.specs.Write.{Changes, FitsClass, NumberFits, Puts, RelocFits, SectionFits, SegmentFits, SymbolFits, header_misfit, header_of, header_put_expected, named_ctx, number_in_put_expected, number_misfit, number_put_expected, put_at, put_if_there, reloc_ctx, reloc_misfit, reloc_of, reloc_put_expected, section_misfit, section_of, section_put_expected, segment_misfit, segment_of, segment_put_expected, symbol_misfit, symbol_of, symbol_put_expected, with_bytes};
 
 use crate::bytes::number;
 use crate::headers::{ctx_of, sections_of, segments_of};
 use crate::kinds::{END, OK};
 use crate::lists::item_at;
+use crate::misfit::{
+    Misfit, header_misfit, reloc_misfit, section_misfit, segment_misfit, symbol_misfit,
+};
 use crate::places::number_in;
-use crate::refused::{Refused, Result, unfit};
+use crate::refused::{Refused, Result};
 use crate::status::refuse;
 use crate::tables::{relocs_of, symbols_of};
 use crate::types::{
@@ -40,8 +42,8 @@ fn put_record<R: LaidOut<C>, C: Copy>(bytes: &mut [u8], place: usize, own: R, ct
     own.put(&mut bytes[place..], ctx);
 }
 
-// Puts a record at an index of a list that starts at an offset, if a call that reads found one there and the record
-// fits. Returns the status.
+// Puts a record at an index of a list that starts at an offset, if a call that reads found one there and no value is a
+// misfit. Returns the status.
 fn put_found<T: Drop, R: LaidOut<C>, C: Copy>(
     bytes: &mut [u8],
     found: Result<Option<T>>,
@@ -49,20 +51,20 @@ fn put_found<T: Drop, R: LaidOut<C>, C: Copy>(
     index: u64,
     own: R,
     ctx: C,
-    fits: bool,
+    misfit: Option<Misfit>,
     why: &mut GoblinRefusal,
 ) -> u32
     requires { (x : T) → found ≡ Ok (Some x)
         → start + index * (R.layout ctx).size + (R.layout ctx).size ≤ length bytes.old }
-    ensures { let put = put_at (R.layout ctx) bytes.old start index own fits in
-        Stores (put_if_there (refuse_as refusal_at found) put)
+    ensures { let put = put_at (R.layout ctx) bytes.old start index own misfit in
+        Changes (put_if_there (refuse_as refusal_at found) put)
         bytes.old why.old result bytes.new why.new }
 {
     match found {
         Ok(Some(_)) => {
             let place = start as usize + index as usize * R::size_in(ctx);
-            if !fits {
-                return refuse(&unfit(place as u64), why);
+            if let Some(misfit) = misfit {
+                return misfit.refuse_at(place as u64, why);
             }
             put_record(bytes, place, own, ctx);
             OK
@@ -82,13 +84,14 @@ pub extern "C" fn goblin_put_section(
     why: &mut GoblinRefusal,
 ) -> u32
     ensures { Puts (SectionFits header.now section.now)
+        (section_misfit (ctx_of header.now).container (section_of section.now))
         (section_put_expected bytes.old header.now index section.now)
         bytes.old why.old result bytes.new why.new }
 {
     let found = item_at(sections_of(bytes, header), index);
     let (ctx, record) = (ctx_of(header), section_of(section));
-    let fits = record.fits(ctx);
-    put_found(bytes, found, header.e_shoff, index, record, ctx, fits, why)
+    let unfit = (!record.fits(ctx)).then(|| section_misfit(&record, ctx.container));
+    put_found(bytes, found, header.e_shoff, index, record, ctx, unfit, why)
 }
 
 /// Puts the program header at an index.
@@ -101,13 +104,14 @@ pub extern "C" fn goblin_put_segment(
     why: &mut GoblinRefusal,
 ) -> u32
     ensures { Puts (SegmentFits header.now segment.now)
+        (segment_misfit (ctx_of header.now).container (segment_of segment.now))
         (segment_put_expected bytes.old header.now index segment.now)
         bytes.old why.old result bytes.new why.new }
 {
     let found = item_at(segments_of(bytes, header), index);
     let (ctx, record) = (ctx_of(header), segment_of(segment));
-    let fits = record.fits(ctx);
-    put_found(bytes, found, header.e_phoff, index, record, ctx, fits, why)
+    let unfit = (!record.fits(ctx)).then(|| segment_misfit(&record, ctx.container));
+    put_found(bytes, found, header.e_phoff, index, record, ctx, unfit, why)
 }
 
 /// Puts the symbol at an index of the table that lies in a range.
@@ -121,13 +125,14 @@ pub extern "C" fn goblin_put_symbol(
     why: &mut GoblinRefusal,
 ) -> u32
     ensures { Puts (SymbolFits header.now symbol.now)
+        (symbol_misfit (ctx_of header.now).container (symbol_of symbol.now))
         (symbol_put_expected bytes.old header.now table.now index symbol.now)
         bytes.old why.old result bytes.new why.new }
 {
     let found = item_at(symbols_of(bytes, header, table), index);
     let (ctx, record) = (ctx_of(header), symbol_of(symbol));
-    let fits = record.fits(ctx);
-    put_found(bytes, found, table.offset, index, record, ctx, fits, why)
+    let unfit = (!record.fits(ctx)).then(|| symbol_misfit(&record, ctx.container));
+    put_found(bytes, found, table.offset, index, record, ctx, unfit, why)
 }
 
 // Returns the layout of the relocations of a file.
@@ -162,17 +167,19 @@ pub extern "C" fn goblin_put_reloc(
     why: &mut GoblinRefusal,
 ) -> u32
     ensures { Puts (RelocFits header.now is_rela reloc.now)
+        (reloc_misfit (ctx_of header.now).container reloc.now)
         (reloc_put_expected bytes.old header.now table.now is_rela index reloc.now)
         bytes.old why.old result bytes.new why.new }
 {
     let found = item_at(relocs_of(bytes, header, table, is_rela), index);
     let (ctx, record) = (reloc_ctx(header, is_rela), reloc_of(reloc));
     let fits = record.fits(ctx) && is_exact(reloc);
-    put_found(bytes, found, table.offset, index, record, ctx, fits, why)
+    let unfit = (!fits).then(|| reloc_misfit(reloc, ctx.ctx.container));
+    put_found(bytes, found, table.offset, index, record, ctx, unfit, why)
 }
 
-// Reports whether a number fits into so many bytes.
-fn number_fits(width: u64, value: u64) -> bool
+/// Reports whether a number fits into so many bytes.
+pub fn number_fits(width: u64, value: u64) -> bool
     requires { IsTrue (is_width width) }
     ensures { IsTrue result ↔ NumberFits width value }
 {
@@ -209,14 +216,14 @@ pub extern "C" fn goblin_put_number(
     value: u64,
     why: &mut GoblinRefusal,
 ) -> u32
-    ensures { Puts (NumberFits width value)
+    ensures { Puts (NumberFits width value) (number_misfit value)
         (number_put_expected bytes.old header.now offset width value)
         bytes.old why.old result bytes.new why.new }
 {
     match number(bytes, header, offset, width) {
         Ok(Some(_)) => {
             if !number_fits(width, value) {
-                return refuse(&unfit(offset), why);
+                return Misfit { value, offset: 0 }.refuse_at(offset, why);
             }
             put_width(bytes, offset as usize, width, value, ctx_of(header).le);
             OK
@@ -237,7 +244,7 @@ pub extern "C" fn goblin_put_number_in(
     value: u64,
     why: &mut GoblinRefusal,
 ) -> u32
-    ensures { Puts (NumberFits width value)
+    ensures { Puts (NumberFits width value) (number_misfit value)
         (number_in_put_expected bytes.old header.now range.now offset width value)
         bytes.old why.old result bytes.new why.new }
 {
@@ -280,7 +287,9 @@ pub extern "C" fn goblin_put_header(
     header: &GoblinHeader,
     why: &mut GoblinRefusal,
 ) -> u32
-    ensures { Puts (FitsClass bytes.old header.now) (header_put_expected bytes.old header.now)
+    ensures { Puts (FitsClass bytes.old header.now)
+        (header_misfit (ctx_of header.now).container (header_of bytes.old header.now))
+        (header_put_expected bytes.old header.now)
         bytes.old why.old result bytes.new why.new }
 {
     let ctx = match named_ctx(bytes, header) {
@@ -289,7 +298,7 @@ pub extern "C" fn goblin_put_header(
     };
     let record = header_of(bytes, header);
     if !record.fits(ctx.container) {
-        return refuse(&unfit(0), why);
+        return header_misfit(&record, ctx.container).refuse_at(0, why);
     }
     record.into_ctx(bytes, ctx);
     OK

@@ -47,27 +47,41 @@ static SECTION: &[u8; 40] =
     b"\x06\x05\0\0\x10\x0f\0\0\x08\x07\0\0\x0a\x09\0\0\x02\x01\0\0\x04\x03\0\0\
     \x12\x11\0\0\x14\x13\0\0\x0c\x0b\0\0\x0e\x0d\0\0";
 
-// Puts a section at an index of the file. Returns the status and where the refusal begins, and whether the file then
-// has these bytes at an offset, and no other changed.
-fn puts_section(s: &GoblinSection, index: u64, offset: usize, own: &[u8]) -> (u32, u64, bool) {
+// What a call returned, and of its refusal the first number and the offset: of a value that doesn't fit its field, the
+// value and where the field lies.
+type Answer = (u32, u64, u64);
+
+// Puts a section at an index of the file. Returns the answer, and whether the file then has these bytes at an offset,
+// and no other changed.
+fn puts_section(s: &GoblinSection, index: u64, offset: usize, own: &[u8]) -> (Answer, bool) {
     let (mut file, mut why) = (*FILE, unread());
     let status = goblin_put_section(&mut file, &header(), index, s, &mut why);
-    (status, why.offset, has_at(&file, offset, own, FILE))
+    (
+        (status, why.first, why.offset),
+        has_at(&file, offset, own, FILE),
+    )
 }
 
 const MARK: u64 = 0x0707_0707_0707_0707;
 
+// The answer of a call that puts, and of one that finds no place: the refusal has its marks.
+const DONE: Answer = (0, 0x0303_0303_0303_0303, MARK);
+
+const NONE: Answer = (1, 0x0303_0303_0303_0303, MARK);
+
 #[test]
 fn puts_sections(rt: HostRuntime) {
-    assert!(rt; puts_section(&section(), 1, 128, SECTION) == (0, MARK, true));
-    assert!(rt; puts_section(&section(), 2, 168, SECTION) == (0, MARK, true));
-    assert!(rt; puts_section(&section(), 3, 0, b"") == (1, MARK, true));
+    assert!(rt; puts_section(&section(), 1, 128, SECTION) == (DONE, true));
+    assert!(rt; puts_section(&section(), 2, 168, SECTION) == (DONE, true));
+    assert!(rt; puts_section(&section(), 3, 0, b"") == (NONE, true));
     let mut wide = section();
     wide.sh_flags = 1 << 32;
-    assert!(rt; puts_section(&wide, 1, 0, b"") == (24, 128, true));
+    assert!(rt; puts_section(&wide, 1, 0, b"") == ((24, 1 << 32, 128 + 8), true));
+    wide.sh_name = (1 << 32) + 5;
+    assert!(rt; puts_section(&wide, 2, 0, b"") == ((24, (1 << 32) + 5, 168), true));
     wide = section();
-    wide.sh_name = 1 << 32;
-    assert!(rt; puts_section(&wide, 2, 0, b"") == (24, 168, true));
+    wide.sh_entsize = u64::MAX;
+    assert!(rt; puts_section(&wide, 0, 0, b"") == ((24, u64::MAX, 88 + 36), true));
 }
 
 #[test]
@@ -96,13 +110,13 @@ static SEGMENT: &[u8; 56] =
     b"\0\0\x0d\x0e\0\0\x0f\x10\0\0\0\0\0\0\x01\x02\0\0\0\0\0\0\x05\x06\0\0\0\0\0\0\x07\x08\
     \0\0\0\0\0\0\x03\x04\0\0\0\0\0\0\x09\x0a\0\0\0\0\0\0\x0b\x0c";
 
-fn puts_segment(s: &GoblinSegment, class: u8, index: u64) -> (u32, bool, bool) {
+fn puts_segment(s: &GoblinSegment, class: u8, index: u64) -> (Answer, bool, bool) {
     let (mut file, mut why) = (*FILE, unread());
     let mut header = names(class, 2);
     (header.e_phoff, header.e_phnum) = (8, 2);
     let status = goblin_put_segment(&mut file, &header, index, s, &mut why);
     (
-        status,
+        (status, why.first, why.offset),
         has_at(&file, 64, SEGMENT, FILE),
         has_at(&file, 0, b"", FILE),
     )
@@ -110,12 +124,14 @@ fn puts_segment(s: &GoblinSegment, class: u8, index: u64) -> (u32, bool, bool) {
 
 #[test]
 fn puts_segments(rt: HostRuntime) {
-    assert!(rt; puts_segment(&segment(), 2, 1) == (0, true, false));
-    assert!(rt; puts_segment(&segment(), 2, 2) == (1, false, true));
+    assert!(rt; puts_segment(&segment(), 2, 1) == (DONE, true, false));
+    assert!(rt; puts_segment(&segment(), 2, 2) == (NONE, false, true));
     let mut wide = segment();
     wide.p_align = u64::MAX;
-    assert!(rt; puts_segment(&wide, 2, 0).0 == 0);
-    assert!(rt; puts_segment(&wide, 1, 0) == (24, false, true));
+    assert!(rt; puts_segment(&wide, 2, 0).0 == DONE);
+    assert!(rt; puts_segment(&wide, 1, 0) == ((24, u64::MAX, 8 + 28), false, true));
+    wide.p_memsz = 1 << 40;
+    assert!(rt; puts_segment(&wide, 1, 1) == ((24, 1 << 40, 40 + 20), false, true));
 }
 
 fn symbol() -> GoblinSymbol {
@@ -129,23 +145,26 @@ fn symbol() -> GoblinSymbol {
     }
 }
 
-fn puts_symbol(s: &GoblinSymbol, index: u64, offset: usize, own: &[u8]) -> (u32, bool) {
+fn puts_symbol(s: &GoblinSymbol, index: u64, offset: usize, own: &[u8]) -> (Answer, bool) {
     let (mut file, mut why) = (*FILE, unread());
     let status = goblin_put_symbol(&mut file, &header(), &SYMBOLS, index, s, &mut why);
-    (status, has_at(&file, offset, own, FILE))
+    (
+        (status, why.first, why.offset),
+        has_at(&file, offset, own, FILE),
+    )
 }
 
 #[test]
 fn puts_symbols(rt: HostRuntime) {
     let own = b"\x02\0\0\0\x50\x40\x30\x20\x07\0\0\0\x21\x03\xf1\xff";
-    assert!(rt; puts_symbol(&symbol(), 1, 72, own) == (0, true));
-    assert!(rt; puts_symbol(&symbol(), 2, 0, b"") == (1, true));
+    assert!(rt; puts_symbol(&symbol(), 1, 72, own) == (DONE, true));
+    assert!(rt; puts_symbol(&symbol(), 2, 0, b"") == (NONE, true));
     let mut wide = symbol();
     wide.st_shndx = 0x1_0000;
-    assert!(rt; puts_symbol(&wide, 1, 0, b"") == (24, true));
+    assert!(rt; puts_symbol(&wide, 1, 0, b"") == ((24, 0x1_0000, 72 + 14), true));
     wide = symbol();
     wide.st_value = 1 << 32;
-    assert!(rt; puts_symbol(&wide, 0, 0, b"") == (24, true));
+    assert!(rt; puts_symbol(&wide, 0, 0, b"") == ((24, 1 << 32, 56 + 4), true));
 }
 
 fn reloc(r_sym: u64, r_type: u32, r_addend: i64, has_addend: u32) -> GoblinReloc {
@@ -160,36 +179,48 @@ fn reloc(r_sym: u64, r_type: u32, r_addend: i64, has_addend: u32) -> GoblinReloc
 
 static NOTHING: &[u8; 48] = &[0; 48];
 
-// Puts a relocation at index 1 of 48 bytes. Returns the status, and whether the bytes then are these at an offset.
+// Puts a relocation at index 1 of 48 bytes. Returns the answer, and whether the bytes then are these at an offset.
 fn puts_reloc(
     h: &GoblinHeader,
     is_rela: bool,
     r: &GoblinReloc,
     offset: usize,
     own: &[u8],
-) -> (u32, bool) {
+) -> (Answer, bool) {
     let (mut file, mut why) = (*NOTHING, unread());
     let status = goblin_put_reloc(&mut file, h, &range(0, 48), is_rela, 1, r, &mut why);
-    (status, has_at(&file, offset, own, NOTHING))
+    (
+        (status, why.first, why.offset),
+        has_at(&file, offset, own, NOTHING),
+    )
 }
 
 #[test]
 fn puts_relocations(rt: HostRuntime) {
     let own = b"\x10\0\0\0\x01\x02\0\0\xfc\xff\xff\xff";
-    assert!(rt; puts_reloc(&names(1, 1), true, &reloc(2, 1, -4, 1), 12, own) == (0, true));
-    assert!(rt; puts_reloc(&names(1, 1), false, &reloc(2, 1, 0, 0), 8, &own[..8]) == (0, true));
+    assert!(rt; puts_reloc(&names(1, 1), true, &reloc(2, 1, -4, 1), 12, own) == (DONE, true));
+    assert!(rt; puts_reloc(&names(1, 1), false, &reloc(2, 1, 0, 0), 8, &own[..8]) == (DONE, true));
     let wide = b"\0\0\0\0\0\0\0\x10\0\0\0\x02\0\0\x01\x01\xff\xff\xff\xff\xff\xff\xff\xfc";
-    assert!(rt; puts_reloc(&names(2, 2), true, &reloc(2, 0x101, -4, 1), 24, wide) == (0, true));
-    assert!(rt; puts_reloc(&names(1, 1), true, &reloc(2, 0x101, -4, 1), 0, b"") == (24, true));
-    assert!(rt; puts_reloc(&names(1, 1), true, &reloc(2, 1, 1 << 31, 1), 0, b"") == (24, true));
+    assert!(rt; puts_reloc(&names(2, 2), true, &reloc(2, 0x101, -4, 1), 24, wide) == (DONE, true));
+    assert!(rt;
+        puts_reloc(&names(1, 1), true, &reloc(2, 0x101, -4, 1), 0, b"")
+            == ((24, 0x101, 12 + 4), true)
+    );
+    assert!(rt;
+        puts_reloc(&names(1, 1), true, &reloc(2, 1, 1 << 31, 1), 0, b"")
+            == ((24, 1 << 31, 12 + 8), true)
+    );
 }
 
 #[test]
 fn refuses_addends_that_do_not_agree(rt: HostRuntime) {
-    assert!(rt; puts_reloc(&names(1, 1), true, &reloc(2, 1, 0, 0), 0, b"") == (24, true));
-    assert!(rt; puts_reloc(&names(1, 1), false, &reloc(2, 1, 0, 1), 0, b"") == (24, true));
-    assert!(rt; puts_reloc(&names(1, 1), false, &reloc(2, 1, 5, 0), 0, b"") == (24, true));
-    assert!(rt; puts_reloc(&names(1, 1), true, &reloc(2, 1, 0, 2), 0, b"") == (24, true));
+    let (little, big) = (names(1, 1), names(2, 1));
+    assert!(rt; puts_reloc(&little, true, &reloc(2, 1, 0, 0), 0, b"") == ((24, 0, 12 + 8), true));
+    assert!(rt; puts_reloc(&little, false, &reloc(2, 1, 0, 1), 0, b"") == ((24, 0, 8 + 8), true));
+    assert!(rt; puts_reloc(&little, false, &reloc(2, 1, 5, 0), 0, b"") == ((24, 5, 8 + 8), true));
+    assert!(rt;
+        puts_reloc(&big, true, &reloc(2, 1, -1, 2), 0, b"") == ((24, u64::MAX, 24 + 16), true)
+    );
 }
 
 // Of little-endian MIPS64: the symbol, then the type with its bytes in the other order.
@@ -198,29 +229,31 @@ fn puts_pairs_of_mips64(rt: HostRuntime) {
     let mut mips = names(2, 1);
     mips.e_machine = 8;
     let own = b"\x10\0\0\0\0\0\0\0\x02\0\0\0\x04\x03\x02\x01";
-    assert!(rt; puts_reloc(&mips, false, &reloc(2, 0x0403_0201, 0, 0), 16, own) == (0, true));
-    assert!(rt; puts_reloc(&mips, false, &reloc(1 << 32, 1, 0, 0), 0, b"") == (24, true));
+    assert!(rt; puts_reloc(&mips, false, &reloc(2, 0x0403_0201, 0, 0), 16, own) == (DONE, true));
+    assert!(rt;
+        puts_reloc(&mips, false, &reloc(1 << 32, 1, 0, 0), 0, b"") == ((24, 1 << 32, 16 + 8), true)
+    );
 }
 
-fn puts_number(order: u8, offset: u64, width: u64, value: u64) -> (u32, [u8; 4]) {
+fn puts_number(order: u8, offset: u64, width: u64, value: u64) -> (Answer, [u8; 4]) {
     let (mut bytes, mut why) = (*b"....", unread());
     let header = names(1, order);
     let status = goblin_put_number(&mut bytes, &header, offset, width, value, &mut why);
-    (status, bytes)
+    ((status, why.first, why.offset), bytes)
 }
 
 #[test]
 fn puts_numbers(rt: HostRuntime) {
-    assert!(rt; puts_number(1, 1, 2, 0x4142) == (0, *b".BA."));
-    assert!(rt; puts_number(2, 1, 2, 0x4142) == (0, *b".AB."));
-    assert!(rt; puts_number(2, 0, 4, 0x4142_4344) == (0, *b"ABCD"));
-    assert!(rt; puts_number(1, 3, 1, 0x41) == (0, *b"...A"));
-    assert!(rt; puts_number(1, 0, 3, 1) == (1, *b"...."));
-    assert!(rt; puts_number(1, 0, 1, 0x100) == (24, *b"...."));
-    assert!(rt; puts_number(1, 0, 2, 0x1_0000) == (24, *b"...."));
-    assert!(rt; puts_number(1, 0, 4, 1 << 32) == (24, *b"...."));
-    assert!(rt; puts_number(1, 1, 4, 0) == (3, *b"...."));
-    assert!(rt; puts_number(1, 4, 1, 0) == (4, *b"...."));
+    assert!(rt; puts_number(1, 1, 2, 0x4142) == (DONE, *b".BA."));
+    assert!(rt; puts_number(2, 1, 2, 0x4142) == (DONE, *b".AB."));
+    assert!(rt; puts_number(2, 0, 4, 0x4142_4344) == (DONE, *b"ABCD"));
+    assert!(rt; puts_number(1, 3, 1, 0x41) == (DONE, *b"...A"));
+    assert!(rt; puts_number(1, 0, 3, 1) == (NONE, *b"...."));
+    assert!(rt; puts_number(1, 0, 1, 0x100) == ((24, 0x100, 0), *b"...."));
+    assert!(rt; puts_number(1, 1, 2, 0x1_0000) == ((24, 0x1_0000, 1), *b"...."));
+    assert!(rt; puts_number(1, 0, 4, 1 << 32) == ((24, 1 << 32, 0), *b"...."));
+    assert!(rt; puts_number(1, 1, 4, 0) == ((3, 4, 1), *b"...."));
+    assert!(rt; puts_number(1, 4, 1, 0) == ((4, 4, 4), *b"...."));
 }
 
 // The same in a range: the status, where the refusal begins, and the bytes.
@@ -274,6 +307,14 @@ fn refuses_header(class: u8, order: u8, len: usize, entry: u64) -> (u32, bool) {
     (status, bytes.iter().all(|byte| *byte == 0xaa))
 }
 
+// Puts a 32-bit header with these offsets of headers. Returns what is said of the one that doesn't fit.
+fn refuses_offsets(e_phoff: u64, e_shoff: u64) -> Answer {
+    let (mut bytes, mut why, mut own) = ([0; 64], unread(), header());
+    (own.e_phoff, own.e_shoff) = (e_phoff, e_shoff);
+    let status = goblin_put_header(&mut bytes, &own, &mut why);
+    (status, why.first, why.offset)
+}
+
 #[test]
 fn refuses_headers_that_are_put(rt: HostRuntime) {
     assert!(rt; refuses_header(3, 3, 0, 0) == (10, true));
@@ -285,6 +326,8 @@ fn refuses_headers_that_are_put(rt: HostRuntime) {
     );
     assert!(rt; refuses_header(1, 1, 52, 1 << 32) == (24, true));
     assert!(rt; refuses_header(2, 1, 64, 1 << 32) == (0, false));
+    assert!(rt; refuses_offsets(1 << 32, 1 << 33) == (24, 1 << 32, 28));
+    assert!(rt; refuses_offsets(0, 1 << 33) == (24, 1 << 33, 32) && refuses_offsets(0, 0) == DONE);
 }
 
 // The whole part of a header by a file's first bytes: `e_shoff`, `e_shnum` and `e_phnum`.

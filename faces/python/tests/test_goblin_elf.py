@@ -407,7 +407,8 @@ class Written(unittest.TestCase):
         changed = bytearray(file.bytes)
         symbols = Elf(changed).symbols
         error = refusal(symbols.__setitem__, 1, symbols[1]._replace(st_value=1 << 32))
-        self.assertEqual((error.kind, error.offset), (Kind.INTEGER_FIT, file.offsets['.symtab'][0] + file.size(made.SYM)))
+        place = file.offsets['.symtab'][0] + file.size(made.SYM) + 4
+        self.assertEqual((error.kind, error.numbers, error.offset), (Kind.INTEGER_FIT, (1 << 32,), place))
         relocations = Elf(changed).section('.rel.text').relocations
         self.assertEqual(refusal(relocations.__setitem__, 0, relocations[0]._replace(r_addend=1)).kind, Kind.INTEGER_FIT)
         for value in (1 << 64, -1, 'text'):

@@ -145,9 +145,9 @@ pub enum Kind {
         /// True.
         overflow: bool,
     },
-    /// A number that is to be written does not fit its bytes, or a relocation has an addend where its section has none,
-    /// or the reverse.
-    IntegerFit,
+    /// A number that is to be written does not fit its field, or a relocation has an addend where its section has none,
+    /// or the reverse: the number, of a negative one its two's complement. [`Error::offset`] is that of the field.
+    IntegerFit(u64),
     /// A section was read as symbols or relocations, and has another type.
     SectionType {
         /// Its type, an `SHT_` number.
@@ -251,7 +251,7 @@ impl Error {
             21 => Kind::StrtabRange { size: first, offset: second, len: third, overflow },
             22 => Kind::SectionOffset { name: first, size: second, offset: third, overflow },
             23 => Kind::SectionAddr { name: first, size: second, addr: third, overflow },
-            24 => Kind::IntegerFit,
+            24 => Kind::IntegerFit(first),
             SECTION_TYPE => Kind::SectionType { sh_type: first as u32, expected: HELD[self.0.item as usize] },
             other => Kind::Other(other),
         }

@@ -406,10 +406,10 @@ fn headers_are_written() {
         assert_eq!(why(header::Header { ei_data: 0, ..header }.put(&mut file)), (Kind::Data(0), 0));
         let long_name = SectionHeader { sh_name: 1 << 32, ..section };
         let place = header.e_shoff + 3 * of_section as u64;
-        assert_eq!(why(header.put_section_header(&mut file, 3, &long_name)), (Kind::IntegerFit, place));
+        assert_eq!(why(header.put_section_header(&mut file, 3, &long_name)), (Kind::IntegerFit(1 << 32), place));
         assert_eq!(changed(&before, &file), None);
         let high = header::Header { e_entry: 1 << 32, ..header }.put(&mut file).map_err(|e| e.kind());
-        assert_eq!(high, if form.is_64 { Ok(()) } else { Err(Kind::IntegerFit) });
+        assert_eq!(high, if form.is_64 { Ok(()) } else { Err(Kind::IntegerFit(1 << 32)) });
     }
 }
 
@@ -445,12 +445,17 @@ fn symbols_relocations_and_numbers_are_written() {
         // none of these is written
         let past = (header.put_symbol(&mut file, &table, 5, &symbol), header.put_reloc(&mut file, &rel, 1, &without));
         assert_eq!((past, header.put_number(&mut file, 0, 3, 0)), ((Ok(false), Ok(false)), Ok(false)));
-        assert_eq!(why(header.put_reloc(&mut file, &rel, 0, &moved)), (Kind::IntegerFit, rel.sh_offset));
-        assert_eq!(why(header.put_reloc(&mut file, &rela, 0, &without)), (Kind::IntegerFit, rela.sh_offset));
+        let addend = 2 * form.wide() as u64;
+        let moves = why(header.put_reloc(&mut file, &rel, 0, &moved));
+        assert_eq!(moves, (Kind::IntegerFit(-9_i64 as u64), rel.sh_offset + addend));
+        let leaves = why(header.put_reloc(&mut file, &rela, 0, &without));
+        assert_eq!(leaves, (Kind::IntegerFit(0), rela.sh_offset + addend));
         let high = Sym { st_shndx: 0x10000, ..symbol };
-        assert_eq!(why(header.put_symbol(&mut file, &table, 0, &high)), (Kind::IntegerFit, table.sh_offset));
-        assert_eq!(why(header.put_number(&mut file, 18, 2, 0x10000)), (Kind::IntegerFit, 18));
-        assert_eq!(why(header.put_number_in(&mut file, &rel, 2, 1, 0x100)), (Kind::IntegerFit, rel.sh_offset + 2));
+        let index = table.sh_offset + if form.is_64 { 6 } else { 14 };
+        assert_eq!(why(header.put_symbol(&mut file, &table, 0, &high)), (Kind::IntegerFit(0x10000), index));
+        assert_eq!(why(header.put_number(&mut file, 18, 2, 0x10000)), (Kind::IntegerFit(0x10000), 18));
+        let byte = why(header.put_number_in(&mut file, &rel, 2, 1, 0x100));
+        assert_eq!(byte, (Kind::IntegerFit(0x100), rel.sh_offset + 2));
         let end = rel.sh_offset + rel.sh_size;
         assert_eq!(why(header.put_number_in(&mut file, &rel, rel.sh_size, 1, 0)), (Kind::BadOffset(rel.sh_size), end));
         assert_eq!(header.put_number_in(&mut file, &rel, 2, 3, 0), Ok(false));

@@ -22,9 +22,9 @@ returns-in-Ok-Some c =
     let width = c.args.width in
     let there = number_in_found bytes h range offset width c.in-Ok-Some.field-0-0
     c.number_in.result c.number_in.ensures (c.in-Ok-Some.is ∙ ap Ok c.in-Ok-Some.field-0-is) in
-    puts_in_range (NumberFits width c.args.value)
+    puts_in_range (NumberFits width c.args.value) _
     (number_in_put_expected bytes h range offset width c.args.value)
     (number_put_expected bytes h (range.offset + offset) width c.args.value)
     _ _ _ _ _
-    (λ fits. numbers_in_ranges_are_put bytes h range offset width c.args.value c.in-Ok-Some.field-0-0 fits there)
+    (λ m. numbers_in_ranges_are_put bytes h range offset width c.args.value c.in-Ok-Some.field-0-0 m there)
     c.goblin_put_number.ensures
