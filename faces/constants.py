@@ -16,7 +16,8 @@ the library doesn't have. So a constant is written by hand only there. Git has g
 for Rust, so that cargo can take the crate from a repository. It ignores the files for JavaScript and Python, which faces/install.sh makes;
 by hand they must be made before node or Python reads them.
 
-Flags of sections and indices of sections get the type of the field that holds them: `sh_flags` and `st_shndx`. JavaScript and Python also
+Flags of sections and indices of sections get the type of the field that holds them: `sh_flags` and `st_shndx`. What the dynamic section holds
+has 64 bits. JavaScript and Python also
 get the number of the interface, from goblin.h, and Python all that it declares.
 """
 import os
@@ -35,10 +36,11 @@ RECORDS = [
     ('sym', 'goblin_records', 'symbols', 'The constants of symbols'),
     ('reloc', 'goblin_records', 'relocations', 'The sizes of relocations'),
     ('note', 'goblin_records', 'notes', 'The constants of notes'),
+    ('dynamic', 'goblin_dynamic', 'the dynamic section', 'The constants of the dynamic section'),
     ('other', '', 'what the library does not have', 'Constants that the library does not have'),
 ]
 # What stands elsewhere.
-MORE = {'program_header': ['crates/goblin_headers/src/whole_part.rt'], 'other': ['faces/other_constants.rs']}
+MORE = {'program_header': ['crates/goblin_headers/src/whole_part.rt'], 'dynamic': ['crates/goblin_dynamic/src/tags.rt'], 'other': ['faces/other_constants.rs']}
 CLASSES = (32, 64)
 MADE = "Made by faces/constants.py of the library's constants: do not edit."
 MADE_OTHER = 'Made by faces/constants.py of faces/other_constants.rs: do not edit.'
@@ -66,7 +68,7 @@ class Constant:
 
     def has_wide_field(self):
         """Whether it is held by a field of 64 bits."""
-        return self.prefix() in ('SHF', 'SHN') and 'u32' in self.kind
+        return self.kind == 'u64' or self.prefix() in ('SHF', 'SHN') and 'u32' in self.kind
 
 
 def path_of(name):

@@ -58,7 +58,7 @@
        const uint8_t *bytes; uint8_t *own; size_t len; goblin_header_t header, whole; goblin_refusal_t why;
        goblin_range_t range, string; goblin_section_t section, table, names, sections[64];
        goblin_segment_t segment, segments[64]; goblin_symbol_t symbol, symbols[64];
-       goblin_reloc_t reloc, relocs[64]; goblin_note_t note;
+       goblin_reloc_t reloc, relocs[64]; goblin_note_t note; goblin_dyn_t entries[64];
        goblin_range_t ranges[64]; uint64_t offsets[64]; uint64_t count, index, filled, value; char text[160]; */
 #ifndef GOBLIN_H
 #define GOBLIN_H
@@ -243,6 +243,12 @@ typedef struct {
     uint32_t n_type;     /* its type, whose meaning depends on the name */
 } goblin_note_t;
 
+/* An entry of the dynamic section. */
+typedef struct {
+    uint64_t d_tag; /* what it says, a GOBLIN_DT_ number */
+    uint64_t d_val; /* a number, an address, or an offset in the strings, which depends on the tag */
+} goblin_dyn_t;
+
 /* One of each struct, to test that this file matches the library: see goblin_layout. */
 typedef struct {
     uint64_t size_of_refusal; /* the sizes of the structs in the library */
@@ -253,6 +259,7 @@ typedef struct {
     uint64_t size_of_symbol;
     uint64_t size_of_reloc;
     uint64_t size_of_note;
+    uint64_t size_of_dyn;
     goblin_refusal_t refusal;
     goblin_range_t range;
     goblin_header_t header;
@@ -261,6 +268,7 @@ typedef struct {
     goblin_symbol_t symbol;
     goblin_reloc_t reloc;
     goblin_note_t note;
+    goblin_dyn_t dyn;
 } goblin_layout_t;
 
 /* A refusal that is written and not read, for `why`: in C up to the end of the block, in C++ (11 or later) one for
@@ -527,6 +535,46 @@ uint32_t goblin_note(const uint8_t *bytes, size_t len, const goblin_header_t *he
             &why)) return 1; */
 uint32_t goblin_note_bytes(const uint8_t *bytes, size_t len, const goblin_header_t *header, const goblin_range_t *notes,
     uint64_t alignment, uint64_t offset, goblin_note_t *note, goblin_refusal_t *why) GOBLIN_STATUS((3, 4, 7, 8));
+
+/* ---- the dynamic section ----
+
+   It says what a program needs of the loader: libraries, search paths, and where tables are. goblin_dynamic finds it by
+   the program headers, as a loader does. In a file without them it is the section of type GOBLIN_SHT_DYNAMIC, if there
+   is one: pass its `file` as `dynamic`. Its strings are then the section that goblin_linked_section finds. */
+
+/* Finds the range of the dynamic section: the `file` of the first segment of type GOBLIN_PT_DYNAMIC, also if its size
+   is 0. GOBLIN_END if no segment has that type.
+   Refused as goblin_segment_count is. GOBLIN_BAD_OFFSET or GOBLIN_TOO_BIG: the range is not inside the file.
+   Example: if (goblin_dynamic(bytes, len, &header, &range, &why)) return 1; */
+uint32_t goblin_dynamic(const uint8_t *bytes, size_t len, const goblin_header_t *header, goblin_range_t *dynamic,
+    goblin_refusal_t *why) GOBLIN_STATUS((3, 4, 5));
+
+/* Reads the entries of a dynamic section from the index `first` on into an array of `capacity` items. They end before
+   the next entry of tag GOBLIN_DT_NULL, or else with the last one that lies in the range `dynamic` whole. `*filled` is
+   the number of items that are written; those after them are unchanged. If it is below `capacity`, there are no more.
+   GOBLIN_END if there is no entry at `first`, or one of tag GOBLIN_DT_NULL. What follows that entry is read from its
+   own index on, and has no meaning. The call reads at most `capacity` entries and one more.
+   GOBLIN_BAD_OFFSET or GOBLIN_TOO_BIG: the range is not inside the file.
+   Example: while (!goblin_dynamic_entries(bytes, len, &header, &range, index, entries, 64, &filled, &why))
+                index += filled; */
+uint32_t goblin_dynamic_entries(const uint8_t *bytes, size_t len, const goblin_header_t *header,
+    const goblin_range_t *dynamic, uint64_t first, goblin_dyn_t *entries, size_t capacity, uint64_t *filled,
+    goblin_refusal_t *why) GOBLIN_STATUS((3, 4, 8, 9));
+
+/* Finds the value of the first entry with a tag, a GOBLIN_DT_ number, among those that goblin_dynamic_entries reads
+   from index 0 on. GOBLIN_END if none has the tag. Refused as goblin_dynamic_entries is.
+   Example: if (goblin_dynamic_value(bytes, len, &header, &range, GOBLIN_DT_SONAME, &value, &why)) return 1; */
+uint32_t goblin_dynamic_value(const uint8_t *bytes, size_t len, const goblin_header_t *header,
+    const goblin_range_t *dynamic, uint64_t tag, uint64_t *value, goblin_refusal_t *why) GOBLIN_STATUS((3, 4, 6, 7));
+
+/* Finds the range of the strings of a dynamic section. The value of GOBLIN_DT_STRTAB is their address, from which
+   goblin_address_to_offset finds their offset, and that of GOBLIN_DT_STRSZ is their size. GOBLIN_END if one of these
+   entries is missing, or if no segment loads the address from the file.
+   Refused as goblin_dynamic_entries is, and then as goblin_segment_count is. GOBLIN_BAD_OFFSET or GOBLIN_TOO_BIG, with
+   the offset of the strings as `why->offset`: they are not inside the file.
+   Example: if (goblin_dynamic_strings(bytes, len, &header, &range, &string, &why)) return 1; */
+uint32_t goblin_dynamic_strings(const uint8_t *bytes, size_t len, const goblin_header_t *header,
+    const goblin_range_t *dynamic, goblin_range_t *strings, goblin_refusal_t *why) GOBLIN_STATUS((3, 4, 5, 6));
 
 /* ---- strings ---- */
 
@@ -1135,6 +1183,58 @@ uint64_t goblin_refusal_to_str(const goblin_refusal_t *why, void *text, size_t c
 #define GOBLIN_NT_PRPSINFO 3u /* In a core file: information on the process. */
 #define GOBLIN_NT_SIGINFO 0x53494749u /* In a core file: the signal that ended the process. */
 #define GOBLIN_NT_FILE 0x46494c45u /* In a core file: which files were mapped where. */
+
+/* -- the dynamic section -- */
+
+/* Tags of the standard. All sizes are in bytes. */
+#define GOBLIN_DT_NULL UINT64_C(0) /* No entry: the end of the entries. */
+#define GOBLIN_DT_NEEDED UINT64_C(1) /* The name of a library that is needed: an offset in the string table. */
+#define GOBLIN_DT_PLTRELSZ UINT64_C(2) /* The size of the relocations of the procedure linkage table. */
+#define GOBLIN_DT_HASH UINT64_C(4) /* The address of the symbol hash table. */
+#define GOBLIN_DT_STRTAB UINT64_C(5) /* The address of the string table. */
+#define GOBLIN_DT_SYMTAB UINT64_C(6) /* The address of the symbol table. */
+#define GOBLIN_DT_RELA UINT64_C(7) /* The address of relocations with addends. */
+#define GOBLIN_DT_RELASZ UINT64_C(8) /* The size of the relocations with addends. */
+#define GOBLIN_DT_STRSZ UINT64_C(10) /* The size of the string table. */
+#define GOBLIN_DT_SONAME UINT64_C(14) /* The name of this library: an offset in the string table. */
+#define GOBLIN_DT_RPATH UINT64_C(15) /* The library search path in older files: an offset in the string table. */
+#define GOBLIN_DT_REL UINT64_C(17) /* The address of relocations without addends. */
+#define GOBLIN_DT_RELSZ UINT64_C(18) /* The size of the relocations without addends. */
+/* The kind of the relocations of the procedure linkage table: GOBLIN_DT_REL or GOBLIN_DT_RELA. */
+#define GOBLIN_DT_PLTREL UINT64_C(20)
+#define GOBLIN_DT_DEBUG UINT64_C(21) /* For debuggers. */
+#define GOBLIN_DT_TEXTREL UINT64_C(22) /* Relocations may change a segment that is not writable. */
+#define GOBLIN_DT_JMPREL UINT64_C(23) /* The address of the relocations of the procedure linkage table. */
+#define GOBLIN_DT_BIND_NOW UINT64_C(24) /* All relocations are processed before the program runs. */
+#define GOBLIN_DT_RUNPATH UINT64_C(29) /* The library search path: an offset in the string table. */
+#define GOBLIN_DT_FLAGS UINT64_C(30) /* The DF_ flags. */
+#define GOBLIN_DT_RELRSZ UINT64_C(35) /* The size of the relative relocations. */
+#define GOBLIN_DT_RELR UINT64_C(36) /* The address of relative relocations. */
+
+/* Tags of GNU. */
+#define GOBLIN_DT_GNU_HASH UINT64_C(0x6ffffef5) /* The address of the symbol hash table of GNU. */
+#define GOBLIN_DT_FLAGS_1 UINT64_C(0x6ffffffb) /* The DF_1_ flags. */
+#define GOBLIN_DT_VERNEED UINT64_C(0x6ffffffe) /* The address of the versions that are needed. */
+#define GOBLIN_DT_VERNEEDNUM UINT64_C(0x6fffffff) /* The number of libraries of which versions are needed. */
+
+/* Flags of `DT_FLAGS`. */
+#define GOBLIN_DF_ORIGIN UINT64_C(1) /* A search path may name the folder of this file (`$ORIGIN`). */
+#define GOBLIN_DF_SYMBOLIC (UINT64_C(1) << 1) /* Symbols are searched in this library before the program. */
+#define GOBLIN_DF_TEXTREL (UINT64_C(1) << 2) /* As GOBLIN_DT_TEXTREL. */
+#define GOBLIN_DF_BIND_NOW (UINT64_C(1) << 3) /* As GOBLIN_DT_BIND_NOW. */
+/* Thread-local storage is static, so the running program can't load the library. */
+#define GOBLIN_DF_STATIC_TLS (UINT64_C(1) << 4)
+
+/* Flags of `DT_FLAGS_1`. */
+#define GOBLIN_DF_1_NOW UINT64_C(1) /* As GOBLIN_DT_BIND_NOW. */
+#define GOBLIN_DF_1_GLOBAL (UINT64_C(1) << 1) /* All libraries may use the symbols. */
+#define GOBLIN_DF_1_NODELETE (UINT64_C(1) << 3) /* The library is never unloaded. */
+#define GOBLIN_DF_1_INITFIRST (UINT64_C(1) << 5) /* The library is initialized before others. */
+#define GOBLIN_DF_1_NOOPEN (UINT64_C(1) << 6) /* The running program can't load the library. */
+#define GOBLIN_DF_1_ORIGIN (UINT64_C(1) << 7) /* As GOBLIN_DF_ORIGIN. */
+#define GOBLIN_DF_1_INTERPOSE (UINT64_C(1) << 10) /* The symbols come before those of other libraries. */
+#define GOBLIN_DF_1_NODEFLIB (UINT64_C(1) << 11) /* The default search path is not used. */
+#define GOBLIN_DF_1_PIE (UINT64_C(1) << 27) /* A position-independent executable. */
 
 /* -- what the library does not have -- */
 #define GOBLIN_ELFCOMPRESS_ZLIB 1u /* A section is compressed by zlib (System V gABI, "Section Compression"). */

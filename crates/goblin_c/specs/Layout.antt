@@ -2,6 +2,7 @@
 use Rattle.std.specs.Prelude.{ℕ, ◌+◌, ◌-◌, ◌*◌, ◌/◌, ◌^◌, pos}
 use Rattle.goblin_c.specs.Common.{GoblinHeader, GoblinNote, GoblinRange, GoblinRefusal, GoblinReloc, GoblinSection}
 use Rattle.goblin_c.specs.Common.{GoblinSegment, GoblinSymbol}
+use Rattle.goblin_c.specs.declared.types.GoblinDyn.{GoblinDyn}
 use Rattle.goblin_c.specs.declared.layout.GoblinLayout.{GoblinLayout}
 
 -- the number of so many bytes, each of which is a mark
@@ -103,6 +104,10 @@ note_marked = record {
   n_type = each_byte 4 6;
 }
 
+-- an entry of the dynamic section whose fields have the marks 1 and 2
+abbrev pub dyn_marked : GoblinDyn
+dyn_marked = record { d_tag = each_byte 8 1; d_val = each_byte 8 2 }
+
 -- the sizes, and one of each struct, whose fields are numbered from 1 on, those of a range in it too
 abbrev pub layout : GoblinLayout
 layout = record {
@@ -114,6 +119,7 @@ layout = record {
   size_of_symbol = 40;
   size_of_reloc = 32;
   size_of_note = 48;
+  size_of_dyn = 16;
   refusal = refusal_marked;
   range = range_marked 1;
   header = header_marked;
@@ -122,4 +128,5 @@ layout = record {
   symbol = symbol_marked;
   reloc = reloc_marked;
   note = note_marked;
+  entry = dyn_marked;
 }

@@ -1,5 +1,6 @@
 pub mod Bytes
 pub mod Common
+pub mod Dynamic
 pub mod Expected
 pub mod FilledBuffer
 pub mod Laws

@@ -7,6 +7,8 @@ use Rattle.goblin_c.specs.Common.{Facts, kind_number, refusal_facts, Header, Pro
 use Rattle.goblin_c.specs.Common.{names_index, INVALID_UTF8, SECTION_HEADERS, PROGRAM_HEADERS, GoblinHeader, GoblinNote}
 use Rattle.goblin_c.specs.Common.{GoblinRefusal, GoblinReloc, GoblinSection, GoblinSegment, GoblinSymbol}
 use Rattle.goblin.specs.declared.elf.note.NotePlaces.{NotePlaces}
+use Rattle.goblin_dynamic.specs.declared.entry.Dyn.{Dyn}
+use Rattle.goblin_c.specs.declared.types.GoblinDyn.{GoblinDyn}
 use Rattle.goblin_c.specs.Refused.{RefusalAt}
 
 -- 1 or 0
@@ -119,3 +121,7 @@ note_converted offset places = record {
   next = offset + places.next;
   n_type = places.n_type;
 }
+
+-- an entry of the dynamic section for C
+abbrev pub dyn_converted : Dyn → GoblinDyn
+dyn_converted d = record { d_tag = d.d_tag; d_val = d.d_val }

@@ -1,9 +1,9 @@
 //! One of each struct that calls share with C, with numbers by which C can check the place of each field.
 ghost use Rattle.std.specs.Prelude.{◌≡◌, ◌<◌, ◌^◌};
-ghost use Rattle.goblin_c.specs.Layout.{each_byte, header_marked, layout, note_marked, range_marked, refusal_marked, reloc_marked, section_marked, segment_marked, symbol_marked};
+ghost use Rattle.goblin_c.specs.Layout.{dyn_marked, each_byte, header_marked, layout, note_marked, range_marked, refusal_marked, reloc_marked, section_marked, segment_marked, symbol_marked};
 
 use crate::types::{
-    GoblinHeader, GoblinNote, GoblinRange, GoblinRefusal, GoblinReloc, GoblinSection,
+    GoblinDyn, GoblinHeader, GoblinNote, GoblinRange, GoblinRefusal, GoblinReloc, GoblinSection,
     GoblinSegment, GoblinSymbol,
 };
 
@@ -20,6 +20,7 @@ pub struct GoblinLayout {
     pub size_of_symbol: u64,
     pub size_of_reloc: u64,
     pub size_of_note: u64,
+    pub size_of_dyn: u64,
     pub refusal: GoblinRefusal,
     pub range: GoblinRange,
     pub header: GoblinHeader,
@@ -28,6 +29,7 @@ pub struct GoblinLayout {
     pub symbol: GoblinSymbol,
     pub reloc: GoblinReloc,
     pub note: GoblinNote,
+    pub entry: GoblinDyn,
 }
 
 /// Returns the sizes, and one of each struct.
@@ -43,6 +45,7 @@ pub fn marked_layout() -> GoblinLayout
         size_of_symbol: size_of::<GoblinSymbol>() as u64,
         size_of_reloc: size_of::<GoblinReloc>() as u64,
         size_of_note: size_of::<GoblinNote>() as u64,
+        size_of_dyn: size_of::<GoblinDyn>() as u64,
         refusal: marked_refusal(),
         range: marked_range(1),
         header: marked_header(),
@@ -51,6 +54,7 @@ pub fn marked_layout() -> GoblinLayout
         symbol: marked_symbol(),
         reloc: marked_reloc(),
         note: marked_note(),
+        entry: marked_dyn(),
     }
 }
 
@@ -182,6 +186,16 @@ fn marked_note() -> GoblinNote
         desc: marked_range(3),
         next: wide(5),
         n_type: word(6),
+    }
+}
+
+// Returns an entry of the dynamic section whose fields have the marks 1 and 2.
+fn marked_dyn() -> GoblinDyn
+    ensures { result ≡ dyn_marked }
+{
+    GoblinDyn {
+        d_tag: wide(1),
+        d_val: wide(2),
     }
 }
 

@@ -7,6 +7,7 @@ ghost use Rattle.std.specs.Prelude.{◌≡◌};
 mod bytes;
 #[cfg(test)]
 mod bytes_tests;
+mod dynamic;
 mod headers;
 mod inside;
 mod kinds;
@@ -36,6 +37,9 @@ mod write_tests;
 mod writer;
 
 pub use bytes::{goblin_number, goblin_section_bytes, goblin_segment_bytes, goblin_string_bytes};
+pub use dynamic::{
+    goblin_dynamic, goblin_dynamic_entries, goblin_dynamic_strings, goblin_dynamic_value,
+};
 pub use headers::{
     goblin_header, goblin_linked_section, goblin_section_by_type, goblin_section_count,
     goblin_section_names, goblin_sections, goblin_segment_count, goblin_segments,

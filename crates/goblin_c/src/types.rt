@@ -4,7 +4,7 @@ ghost use Rattle.std.specs.Prelude.{◌≡◌, ◌+◌, ◌<◌, ◌≤◌, ◌^
 ghost use Rattle.std.specs.Option.{option_map};
 ghost use Rattle.goblin_c.specs.Write.{header_of, reloc_of, section_of, segment_of, symbol_of};
 ghost use Rattle.goblin_c.specs.Refused.{refusal_at};
-ghost use Rattle.goblin_c.specs.Types.{header_converted, item_number, names_index_of, note_converted, refusal_converted, reloc_converted, section_converted, segment_converted, symbol_converted};
+ghost use Rattle.goblin_c.specs.Types.{header_converted, item_number, names_index_of, dyn_converted, note_converted, refusal_converted, reloc_converted, section_converted, segment_converted, symbol_converted};
 
 use crate::kinds::{INVALID_UTF8, PROGRAM_HEADERS, SECTION_HEADERS};
 use crate::refused::Refused;
@@ -14,6 +14,7 @@ use goblin::elf::program_header::ProgramHeader;
 use goblin::elf::reloc::Reloc;
 use goblin::elf::section_header::SectionHeader;
 use goblin::elf::sym::Sym;
+use goblin_dynamic::entry::Dyn;
 
 /// Why a file is refused.
 #[repr(C)]
@@ -387,5 +388,23 @@ pub(crate) fn convert_note(offset: u64, places: &NotePlaces) -> GoblinNote
         },
         next: offset + places.next as u64,
         n_type: places.n_type,
+    }
+}
+
+/// An entry of the dynamic section.
+#[repr(C)]
+#[derive(Clone, Copy, Debug)]
+pub struct GoblinDyn {
+    pub d_tag: u64,
+    pub d_val: u64,
+}
+
+// Converts an entry for C.
+pub(crate) fn convert_dyn(d: &Dyn) -> GoblinDyn
+    ensures { result ≡ dyn_converted d.now }
+{
+    GoblinDyn {
+        d_tag: d.d_tag,
+        d_val: d.d_val,
     }
 }

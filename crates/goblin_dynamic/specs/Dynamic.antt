@@ -22,15 +22,21 @@ whole_entries bytes ctx =
     let size = entry_size ctx.container in
     records size (entry_of ctx.container ctx.le) (length bytes / size) bytes
 
+-- those of a range, which must lie in the file
+abbrev pub whole_entries_in : List ℕ → FileRange → Ctx → Result (List Dyn) Error
+whole_entries_in bytes range ctx =
+    unless_fault (room_of (length bytes) range.offset range.size)
+    (whole_entries (take range.size (drop range.offset bytes)) ctx)
+
 -- those before the first with tag 0 (DT_NULL), or all if none has it
 abbrev pub entries_up_to_null : List Dyn → List Dyn
 entries_up_to_null entries = take_while (λ d. not (d.d_tag == 0)) entries
 
--- the entries of a range, which must lie in the file
+-- those of a range, which must lie in the file
 abbrev pub entries_in : List ℕ → FileRange → Ctx → Result (List Dyn) Error
-entries_in bytes range ctx =
-    unless_fault (room_of (length bytes) range.offset range.size)
-    (entries_up_to_null (whole_entries (take range.size (drop range.offset bytes)) ctx))
+entries_in bytes range ctx = do
+  entries ← whole_entries_in bytes range ctx
+  Ok (entries_up_to_null entries)
 
 -- the entries of a range, if there is one
 abbrev pub entries_at : List ℕ → Option FileRange → Ctx → Result (Option (List Dyn)) Error
@@ -50,6 +56,11 @@ first_value tag entries = slice_get (values_with tag entries) 0
 -- so many bytes at an offset of the file
 abbrev pub file_range : ℕ → ℕ → FileRange
 file_range offset size = record { offset = offset; size = size }
+
+-- a range, if there is one, which must lie in the file
+abbrev pub in_file : List ℕ → Option FileRange → Result (Option FileRange) Error
+in_file bytes (Some range) = unless_fault (room_of (length bytes) range.offset range.size) (Some range)
+in_file bytes None = Ok None
 
 -- ---- by segments
 -- the bytes of a segment in the file

@@ -4,9 +4,9 @@ ghost use Rattle.std.specs.Iterator.{YieldsFirst, item_count};
 ghost use Rattle.goblin_base.specs.Common.{ComparesAndClones};
 ghost use Rattle.goblin_dynamic.specs.Dyn.{entry_size};
 ghost use Rattle.goblin_dynamic.specs.Dynamic.{entries_at, entries_in, entries_up_to_null, first_value};
-ghost use Rattle.goblin_dynamic.specs.Dynamic.{dynamic_range, dynamic_segment, strings_range};
+ghost use Rattle.goblin_dynamic.specs.Dynamic.{dynamic_range, dynamic_segment, in_file, strings_range};
 ghost use Rattle.goblin_dynamic.specs.Dynamic.{dynamic_section, dynamic_section_range, section_range};
-ghost use Rattle.goblin_dynamic.specs.Dynamic.{strings_section_range, values_with, whole_entries};
+ghost use Rattle.goblin_dynamic.specs.Dynamic.{strings_section_range, values_with, whole_entries, whole_entries_in};
 
 use crate::entry::{Dyn, SIZEOF_DYN32, SIZEOF_DYN64};
 use crate::tags::{DT_NULL, DT_STRSZ, DT_STRTAB};
@@ -63,6 +63,23 @@ impl<'a> Dynamic<'a> {
         })
     }
 
+    /// Reads all entries that lie whole in a range, also those after a `DT_NULL`.
+    ///
+    /// # Errors
+    ///
+    /// Those of [`Dynamic::in_range`].
+    pub fn whole_in_range(
+        bytes: &'a [u8],
+        range: FileRange,
+        ctx: Ctx,
+    ) -> Result<Table<'a, Dyn, Ctx>>
+        ensures { result ≡ whole_entries_in bytes.now range ctx }
+    {
+        room(bytes.len(), range.offset, range.size)?;
+        let part = &bytes[range.offset..range.offset + range.size];
+        Ok(whole_entries(part, ctx))
+    }
+
     // Reads the entries of a range, if there is one.
     fn at(bytes: &'a [u8], range: Option<FileRange>, ctx: Ctx) -> Result<Option<Dynamic<'a>>>
         ensures { result ≡ entries_at bytes.now range ctx }
@@ -105,7 +122,8 @@ impl<'a> Dynamic<'a> {
         Dynamic::at(bytes, Dynamic::range_by_sections(sections), ctx)
     }
 
-    /// Returns the range of the first segment of type `PT_DYNAMIC`, or `None` if there is none.
+    /// Returns the range of the first segment of type `PT_DYNAMIC`, or `None` if there is none. The file may be too
+    /// short for it.
     pub fn range_by_segments(segments: &Table<'_, ProgramHeader, Ctx>) -> Option<FileRange>
         ensures { result ≡ dynamic_range segments.now }
     {
@@ -116,17 +134,33 @@ impl<'a> Dynamic<'a> {
         })
     }
 
-    /// Returns the range of the first section of type `SHT_DYNAMIC`, or `None` if there is none.
+    /// Returns the range of the first section of type `SHT_DYNAMIC`, or `None` if there is none. The file may be too
+    /// short for it.
     pub fn range_by_sections(sections: &Table<'_, SectionHeader, Ctx>) -> Option<FileRange>
         ensures { result ≡ dynamic_section_range sections.now }
     {
         Some(range_of(&dynamic_section(sections)?))
     }
 
+    /// Returns the range of the strings, as [`Dynamic::strings_range`] does, if the file holds it.
+    ///
+    /// # Errors
+    ///
+    /// Those of [`room`] if the range doesn't lie in the bytes.
+    pub fn strings(
+        &self,
+        bytes: &[u8],
+        segments: &Table<'_, ProgramHeader, Ctx>,
+    ) -> Result<Option<FileRange>>
+        ensures { result ≡ in_file bytes.now (strings_range self.now segments.now) }
+    {
+        in_file(bytes, self.strings_range(segments))
+    }
+
     /// Returns the range of the strings by the segments: `DT_STRTAB` is its address, and `DT_STRSZ` its size. The
     /// offset is that of [`ProgramHeader::loaded_from`]. Returns `None` if one of the entries is missing, or if no
-    /// segment loads a byte of the file at the address.
-    pub fn strings(&self, segments: &Table<'_, ProgramHeader, Ctx>) -> Option<FileRange>
+    /// segment loads a byte of the file at the address. The file may be too short for the range.
+    pub fn strings_range(&self, segments: &Table<'_, ProgramHeader, Ctx>) -> Option<FileRange>
         ensures { result ≡ strings_range self.now segments.now }
     {
         let address = self.value(DT_STRTAB)?;
@@ -140,11 +174,17 @@ impl<'a> Dynamic<'a> {
 
     /// Returns the range of the strings by the sections: that of the section which the `sh_link` of the first section
     /// of type `SHT_DYNAMIC` names. Returns `None` if there is no such section, as [`SectionHeader::linked_in`] does.
-    pub fn strings_by_sections(sections: &Table<'_, SectionHeader, Ctx>) -> Option<FileRange>
-        ensures { result ≡ strings_section_range sections.now }
+    ///
+    /// # Errors
+    ///
+    /// Those of [`room`] if the range doesn't lie in the bytes.
+    pub fn strings_by_sections(
+        bytes: &[u8],
+        sections: &Table<'_, SectionHeader, Ctx>,
+    ) -> Result<Option<FileRange>>
+        ensures { result ≡ in_file bytes.now (strings_section_range sections.now) }
     {
-        let index = dynamic_section(sections)?.sh_link as usize;
-        Some(range_of(&SectionHeader::linked_in(sections, index)?))
+        in_file(bytes, linked_range(sections))
     }
 
     /// Returns the entry at an index, or `None` from `len()` on.
@@ -194,6 +234,24 @@ impl<'a> Dynamic<'a> {
             tag,
         }
     }
+}
+
+// Returns a range, if there is one, which must lie in the file.
+fn in_file(bytes: &[u8], range: Option<FileRange>) -> Result<Option<FileRange>>
+    ensures { result ≡ in_file bytes.now range }
+{
+    if let Some(range) = range {
+        room(bytes.len(), range.offset, range.size)?;
+    }
+    Ok(range)
+}
+
+// Returns the range of the section that the `sh_link` of the dynamic section names.
+fn linked_range(sections: &Table<'_, SectionHeader, Ctx>) -> Option<FileRange>
+    ensures { result ≡ strings_section_range sections.now }
+{
+    let index = dynamic_section(sections)?.sh_link as usize;
+    Some(range_of(&SectionHeader::linked_in(sections, index)?))
 }
 
 // Returns the table of the entries before the first `DT_NULL` of some bytes.

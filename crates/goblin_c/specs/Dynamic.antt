@@ -1,0 +1,61 @@
+-- The expected results of the calls for the dynamic section: its range, its entries, the value of a tag, and the range
+-- of its strings.
+use Rattle.std.specs.Prelude.{ℕ, List, [], ◌∷◌, drop, map, Option, Some, None, Result, Ok}
+use Rattle.goblin_dynamic.specs.Dynamic.{dynamic_range, entries_in, entries_up_to_null, first_value, strings_range}
+use Rattle.goblin_dynamic.specs.Dynamic.{whole_entries_in}
+use Rattle.goblin_dynamic.specs.declared.dynamic.FileRange.{FileRange}
+use Rattle.goblin_dynamic.specs.declared.entry.Dyn.{Dyn}
+use Rattle.goblin_c.specs.Common.{◌>>=◌, refusal_of, refuse_as, GoblinHeader, GoblinRange}
+use Rattle.goblin_c.specs.Bytes.{range_expected}
+use Rattle.goblin_c.specs.Expected.{ctx_of, segments_expected}
+use Rattle.goblin_c.specs.Refused.{RefusalAt, refused_at}
+use Rattle.goblin_c.specs.Types.{dyn_converted}
+use Rattle.goblin_c.specs.declared.types.GoblinDyn.{GoblinDyn}
+
+-- a range from C, and one for C
+abbrev pub file_range_of : GoblinRange → FileRange
+file_range_of range = record { offset = range.offset; size = range.size }
+
+abbrev pub range_converted : FileRange → GoblinRange
+range_converted range = record { offset = range.offset; size = range.size }
+
+-- a range, if there is one, which must lie in the file
+abbrev pub range_in_file : List ℕ → Option FileRange → Result (Option GoblinRange) RefusalAt
+range_in_file bytes (Some range) = range_expected bytes (range_converted range)
+range_in_file bytes None = Ok None
+
+-- the range of the dynamic section, as the loader finds it
+abbrev pub dynamic_expected : List ℕ → GoblinHeader → Result (Option GoblinRange) RefusalAt
+dynamic_expected bytes h = do
+  segments ← segments_expected bytes h
+  range_in_file bytes (dynamic_range segments)
+
+-- a list that has items, or none
+abbrev pub unless_empty : {X : Type 0} → List X → Option (List X)
+unless_empty [] = None
+unless_empty (x ∷ xs) = Some (x ∷ xs)
+
+-- the entries for C of a range from an index on, before the next one of tag 0 (DT_NULL)
+abbrev pub entries_from_expected :
+    List ℕ → GoblinHeader → GoblinRange → ℕ → Result (Option (List GoblinDyn)) RefusalAt
+entries_from_expected bytes h range first = do
+  entries ← refused_at range.offset (refuse_as refusal_of (whole_entries_in bytes (file_range_of range) (ctx_of h)))
+  Ok (unless_empty (map dyn_converted (entries_up_to_null (drop first entries))))
+
+-- the entries of a range before its first one of tag 0, as the library reads them
+abbrev pub entries_expected : List ℕ → GoblinHeader → GoblinRange → Result (List Dyn) RefusalAt
+entries_expected bytes h range =
+    refused_at range.offset (refuse_as refusal_of (entries_in bytes (file_range_of range) (ctx_of h)))
+
+-- the value of the first of these with a tag
+abbrev pub dynamic_value_expected : List ℕ → GoblinHeader → GoblinRange → ℕ → Result (Option ℕ) RefusalAt
+dynamic_value_expected bytes h range tag = do
+  entries ← entries_expected bytes h range
+  Ok (first_value tag entries)
+
+-- the range of the strings, by the entries and the segments
+abbrev pub dynamic_strings_expected : List ℕ → GoblinHeader → GoblinRange → Result (Option GoblinRange) RefusalAt
+dynamic_strings_expected bytes h range = do
+  entries ← entries_expected bytes h range
+  segments ← segments_expected bytes h
+  range_in_file bytes (strings_range entries segments)

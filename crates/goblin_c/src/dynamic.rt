@@ -1,0 +1,197 @@
+//! The dynamic section: its range by the segments, its entries, the value of a tag, and the range of its strings.
+ghost use Rattle.std.specs.Prelude.{◌≡◌, ◌≤◌, drop, length, map, min, slice_get};
+ghost use Rattle.std.specs.Option.{option_and_then};
+ghost use Rattle.goblin_c.specs.Refused.{Returns, refused_at};
+ghost use Rattle.goblin_c.specs.Dynamic.{dynamic_expected, dynamic_strings_expected, dynamic_value_expected, entries_expected, entries_from_expected, file_range_of, range_in_file};
+ghost use Rattle.goblin_c.specs.FilledBuffer.{laid};
+ghost use Rattle.goblin_c.specs.Status.{Fills, Stores};
+ghost use Rattle.goblin_dynamic.specs.Dynamic.{entries_up_to_null, whole_entries_in};
+ghost use Rattle.goblin.specs.Refusal.{refusal_of};
+ghost use Rattle.goblin.specs.Steps.{refuse_as};
+
+use crate::bytes::fits;
+use crate::headers::{ctx_of, segments_of};
+use crate::kinds::{END, OK};
+use crate::refused::{Result, refused_at};
+use crate::status::{refuse, store};
+use crate::types::{GoblinDyn, GoblinHeader, GoblinRange, GoblinRefusal, convert_dyn};
+use goblin::container::Ctx;
+use goblin_base::table::Table;
+use goblin_dynamic::dynamic::{Dynamic, FileRange};
+use goblin_dynamic::entry::Dyn;
+use goblin_dynamic::tags::DT_NULL;
+
+// Returns a range from C.
+fn file_range_of(range: &GoblinRange) -> FileRange
+    ensures { result ≡ file_range_of range.now }
+{
+    FileRange {
+        offset: range.offset as usize,
+        size: range.size as usize,
+    }
+}
+
+// Returns a range for C, if there is one, which must lie in the file.
+fn range_in_file(bytes: &[u8], range: Option<FileRange>) -> Result<Option<GoblinRange>>
+    ensures { Returns (λ found. found) result (range_in_file bytes.now range) }
+{
+    match range {
+        Some(range) => {
+            let (offset, size) = (range.offset as u64, range.size as u64);
+            fits(bytes, offset, size)?;
+            Ok(Some(GoblinRange { offset, size }))
+        }
+        None => Ok(None),
+    }
+}
+
+// Returns the range of the dynamic section.
+fn range_of(bytes: &[u8], header: &GoblinHeader) -> Result<Option<GoblinRange>>
+    ensures { Returns (λ found. found) result (dynamic_expected bytes.now header.now) }
+{
+    let segments = segments_of(bytes, header)?;
+    range_in_file(bytes, Dynamic::range_by_segments(&segments))
+}
+
+/// Stores the range of the dynamic section, as the loader finds it.
+#[unsafe(no_mangle)]
+pub extern "C" fn goblin_dynamic(
+    bytes: &[u8],
+    header: &GoblinHeader,
+    dynamic: &mut GoblinRange,
+    why: &mut GoblinRefusal,
+) -> u32
+    ensures { Stores (dynamic_expected bytes.now header.now)
+        dynamic.old why.old result dynamic.new why.new }
+{
+    store(range_of(bytes, header), dynamic, why)
+}
+
+// Returns the entry at an index for C, or `None` if there is none or it ends the entries.
+#[inline(always)]
+fn entry_at(all: &Table<'_, Dyn, Ctx>, index: usize) -> Option<GoblinDyn>
+    ensures { result ≡ slice_get (map dyn_converted (entries_up_to_null (drop index all.now))) 0 }
+{
+    match all.get(index) {
+        Some(entry) if entry.d_tag != DT_NULL => Some(convert_dyn(&entry)),
+        _ => None,
+    }
+}
+
+// Fills a buffer with the entries from an index on. Returns how many it holds.
+fn fill(all: &Table<'_, Dyn, Ctx>, first: usize, buffer: &mut [GoblinDyn]) -> usize
+    requires { first ≤ length all.now }
+    ensures written { let entries = map dyn_converted (entries_up_to_null (drop first all.now)) in
+        buffer.new ≡ laid entries buffer.old }
+    ensures value { let entries = map dyn_converted (entries_up_to_null (drop first all.now)) in
+        result ≡ min (length entries) (length buffer.old) }
+{
+    let mut count = 0;
+    for (i, place) in buffer.iter_mut().enumerate() {
+        match entry_at(all, first + i) {
+            Some(entry) => *place = entry,
+            None => break,
+        }
+        count = i + 1;
+    }
+    count
+}
+
+/// Stores the entries from an index on, before the one that ends them, as many as the buffer holds.
+#[unsafe(no_mangle)]
+pub extern "C" fn goblin_dynamic_entries(
+    bytes: &[u8],
+    header: &GoblinHeader,
+    dynamic: &GoblinRange,
+    first: u64,
+    entries: &mut [GoblinDyn],
+    filled: &mut u64,
+    why: &mut GoblinRefusal,
+) -> u32
+    ensures { Fills (entries_from_expected bytes.now header.now dynamic.now first)
+        entries.old filled.old why.old result entries.new filled.new why.new }
+{
+    let all = Dynamic::whole_in_range(bytes, file_range_of(dynamic), ctx_of(header));
+    match refused_at(dynamic.offset, all) {
+        Ok(all) => {
+            let first = first as usize;
+            if entry_at(&all, first).is_none() {
+                return END;
+            }
+            *filled = fill(&all, first, entries) as u64;
+            OK
+        }
+        Err(e) => refuse(&e, why),
+    }
+}
+
+// Returns the entries of a range, before the one that ends them.
+fn entries_of<'a>(
+    bytes: &'a [u8],
+    header: &GoblinHeader,
+    range: &GoblinRange,
+) -> Result<Dynamic<'a>>
+    ensures { Returns (λ entries. entries) result
+        (entries_expected bytes.now header.now range.now) }
+{
+    let entries = Dynamic::in_range(bytes, file_range_of(range), ctx_of(header));
+    refused_at(range.offset, entries)
+}
+
+// Returns the value of the first entry with a tag.
+fn value_of(
+    bytes: &[u8],
+    header: &GoblinHeader,
+    range: &GoblinRange,
+    tag: u64,
+) -> Result<Option<u64>>
+    ensures { Returns (λ found. found) result
+        (dynamic_value_expected bytes.now header.now range.now tag) }
+{
+    Ok(entries_of(bytes, header, range)?.value(tag))
+}
+
+/// Stores the value of the first entry with a tag.
+#[unsafe(no_mangle)]
+pub extern "C" fn goblin_dynamic_value(
+    bytes: &[u8],
+    header: &GoblinHeader,
+    dynamic: &GoblinRange,
+    tag: u64,
+    value: &mut u64,
+    why: &mut GoblinRefusal,
+) -> u32
+    ensures { Stores (dynamic_value_expected bytes.now header.now dynamic.now tag)
+        value.old why.old result value.new why.new }
+{
+    store(value_of(bytes, header, dynamic, tag), value, why)
+}
+
+// Returns the range of the strings.
+fn strings_of(
+    bytes: &[u8],
+    header: &GoblinHeader,
+    range: &GoblinRange,
+) -> Result<Option<GoblinRange>>
+    ensures { Returns (λ found. found) result
+        (dynamic_strings_expected bytes.now header.now range.now) }
+{
+    let entries = entries_of(bytes, header, range)?;
+    let segments = segments_of(bytes, header)?;
+    range_in_file(bytes, entries.strings_range(&segments))
+}
+
+/// Stores the range of the strings, by the entries and the segments.
+#[unsafe(no_mangle)]
+pub extern "C" fn goblin_dynamic_strings(
+    bytes: &[u8],
+    header: &GoblinHeader,
+    dynamic: &GoblinRange,
+    strings: &mut GoblinRange,
+    why: &mut GoblinRefusal,
+) -> u32
+    ensures { Stores (dynamic_strings_expected bytes.now header.now dynamic.now)
+        strings.old why.old result strings.new why.new }
+{
+    store(strings_of(bytes, header, dynamic), strings, why)
+}
