@@ -80,6 +80,7 @@ static goblin_section_t section;
 static goblin_segment_t segment;
 static goblin_symbol_t symbol;
 static goblin_reloc_t reloc;
+static goblin_dyn_t entry;
 static goblin_range_t table, range;
 static uint64_t number;
 
@@ -107,6 +108,11 @@ REPEATED(symbol_by_name, GOBLIN_OK,
          goblin_symbol_by_name(bytes, len, &header, &table, &table, "", 0, i, &number, &symbol, &why))
 REPEATED(relocs_counted, GOBLIN_OK, goblin_reloc_count(bytes, len, &header, &table, true, &number, &why))
 REPEATED(relocs_one_by_one, GOBLIN_OK, goblin_relocs(bytes, len, &header, &table, true, i, &reloc, 1, &number, &why))
+REPEATED(dynamic_found, GOBLIN_OK, goblin_dynamic(bytes, len, &header, &range, &why))
+REPEATED(entries_one_by_one, GOBLIN_OK,
+         goblin_dynamic_entries(bytes, len, &header, &table, i, &entry, 1, &number, &why))
+REPEATED(value_of_a_tag, GOBLIN_OK, goblin_dynamic_value(bytes, len, &header, &range, DT_STRSZ, &number, &why))
+REPEATED(dynamic_strings, GOBLIN_OK, goblin_dynamic_strings(bytes, len, &header, &range, &table, &why))
 REPEATED(each_number_of_the_file, GOBLIN_OK, goblin_number(bytes, len, &header, i * 8, 8, &number, &why))
 REPEATED(header_written, GOBLIN_OK, goblin_put_header(bytes, len, &header, &why))
 REPEATED(sections_written, GOBLIN_OK, goblin_put_section(bytes, len, &header, i, &section, &why))
@@ -186,6 +192,17 @@ static uint64_t all_relocs(void) {
     return goblin_relocs(bytes, len, &header, &relocs, true, 0, (goblin_reloc_t *)array, ITEMS, &filled, &why)
                ? 0
                : filled;
+}
+
+static uint64_t all_entries(void) {
+    uint64_t filled = 0;
+    goblin_dyn_t *entries = (goblin_dyn_t *)array;
+    return goblin_dynamic_entries(bytes, len, &header, &table, 0, entries, ITEMS, &filled, &why) ? 0 : filled;
+}
+
+static uint64_t value_of_no_tag(void) {
+    uint64_t value;
+    return goblin_dynamic_value(bytes, len, &header, &table, 1, &value, &why) == GOBLIN_END ? ITEMS : 0;
 }
 
 static uint64_t each_note(void) {
@@ -412,6 +429,28 @@ static int strings_take_little(void) {
     return right;
 }
 
+/* The dynamic section: one whose entries are in the long strings, of which none is zero, and one of three entries, which
+   the first segment has. The second segment loads its string. */
+static int dynamic_takes_little(void) {
+    static const uint64_t few[] = {DT_NEEDED, 0, DT_STRTAB, 0, DT_STRSZ, 1};
+    int right = 1;
+    Elf64_Phdr two[2];
+    memset(two, 0, sizeof two);
+    two[0].p_type = PT_DYNAMIC, two[0].p_offset = LONG_AT - sizeof few, two[0].p_filesz = sizeof few;
+    two[1].p_type = PT_LOAD, two[1].p_filesz = 1;
+    memcpy(bytes + two[0].p_offset, few, sizeof few), memcpy(bytes + 128, two, sizeof two);
+    table.offset = LONG_AT, table.size = ITEMS * sizeof(Elf64_Dyn);
+    right &= takes_little("all entries of the dynamic section", all_entries, ITEMS);
+    right &= takes_little("its entries one by one", entries_one_by_one, ITEMS);
+    right &= takes_little("the value of a tag that no entry has", value_of_no_tag, ITEMS);
+    right &= takes_little("the dynamic section", dynamic_found, ITEMS);
+    right &= takes_little("the value of a tag", value_of_a_tag, ITEMS);
+    right &= takes_little("the strings of the dynamic section", dynamic_strings, ITEMS);
+    memset(bytes + 128, 0, sizeof two), memset(bytes + two[0].p_offset, 0, sizeof few);
+    table = range_of(ITEMS, sizeof(Elf64_Sym));
+    return right;
+}
+
 /* Symbols by their addresses. */
 static int addresses_take_little(void) {
     int right = 1;
@@ -443,6 +482,7 @@ int main(void) {
     if (!make_file()) return 2;
     int right = lists_take_little();
     right &= repeated_calls_take_little();
+    right &= dynamic_takes_little();
     right &= strings_take_little();
     right &= addresses_take_little();
     right &= writing_takes_little();

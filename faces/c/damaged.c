@@ -406,6 +406,78 @@ static void addresses(const goblin_header_t *h) {
     }
 }
 
+/* Reads an entry of the dynamic section by numbers. Returns whether there is one that doesn't end the entries. */
+static bool plain_entry(const goblin_header_t *h, goblin_range_t range, uint64_t index, goblin_dyn_t *entry) {
+    uint64_t width = h->ei_class == 2 ? 8 : 4, at = index * 2 * width;
+    return index < range.size / (2 * width)
+        && goblin_number_in(bytes, len, h, &range, at, width, &entry->d_tag, &why) == GOBLIN_OK
+        && goblin_number_in(bytes, len, h, &range, at + width, width, &entry->d_val, &why) == GOBLIN_OK
+        && entry->d_tag != 0;
+}
+
+/* Finds the value of the first entry with a tag by numbers. Returns whether there is one. */
+static bool plain_value(const goblin_header_t *h, goblin_range_t range, uint64_t tag, uint64_t *value) {
+    goblin_dyn_t entry;
+    for (uint64_t i = 0; plain_entry(h, range, i, &entry); i++)
+        if (entry.d_tag == tag) return *value = entry.d_val, true;
+    return false;
+}
+
+/* Reads some entries of a range at once. They must be those that are read by numbers. */
+static void entries(const goblin_header_t *h, goblin_range_t range) {
+    goblin_dyn_t items[BATCH], entry;
+    uint64_t filled = 0, first = any(2) ? any(9) : any(2) ? any(range.size / 8 % 0x1000 + 2) : odd();
+    size_t capacity = (size_t)any(BATCH + 1);
+    begins(range.offset, range.offset);
+    blank(items, sizeof items);
+    uint32_t status = goblin_dynamic_entries(bytes, len, h, &range, first, items, capacity, &filled, &why);
+    if (filled > capacity || (status != GOBLIN_OK && filled != 0)) wrong("goblin_dynamic_entries", status), filled = 0;
+    check("goblin_dynamic_entries", status, items, status == GOBLIN_OK ? 0 : sizeof items);
+    if (!is_blank(items + filled, sizeof *items * (BATCH - filled)))
+        wrong("goblin_dynamic_entries: after the items", status);
+    for (uint64_t i = 0; i < filled; i++) {
+        add(items + i, sizeof *items);
+        if (!plain_entry(h, range, first + i, &entry) || memcmp(&entry, items + i, sizeof entry))
+            wrong("goblin_dynamic_entries: an item", status);
+    }
+    if (filled < capacity && plain_entry(h, range, first + filled, &entry)) wrong("goblin_dynamic_entries", status);
+    if (capacity == 0 && plain_entry(h, range, first, &entry) != (status == GOBLIN_OK))
+        wrong("goblin_dynamic_entries: none asked", status);
+}
+
+/* Reads a range as the dynamic section. */
+static void dynamic(const goblin_header_t *h, goblin_range_t range) {
+    goblin_range_t strings;
+    uint64_t value, expected = 0, address = 0, size = 0, number, tag = any(4) ? any(32) : odd();
+    entries(h, range);
+    begins(range.offset, range.offset);
+    bool has_value = READS(goblin_dynamic_value, value, h, &range, tag);
+    if (has_value != plain_value(h, range, tag, &expected) || (has_value && value != expected))
+        wrong("goblin_dynamic_value", has_value);
+    bool is_inside = range.offset <= len && range.size <= len - range.offset;
+    bool is_whole = plain_value(h, range, GOBLIN_DT_STRTAB, &address) && plain_value(h, range, GOBLIN_DT_STRSZ, &size);
+    expected = is_whole ? loaded(h, address) : 0;
+    if (is_inside) begins(stated_segments(h, &number) ? h->e_phoff : h->e_shoff, expected);
+    if (!READS(goblin_dynamic_strings, strings, h, &range)) return;
+    inside("goblin_dynamic_strings", strings);
+    if (!is_whole || strings.offset != expected || strings.size != size) wrong("goblin_dynamic_strings", GOBLIN_OK);
+}
+
+/* Finds the dynamic section, which must be the first segment of its type, and reads it. */
+static void find_dynamic(const goblin_header_t *h) {
+    goblin_segment_t segment;
+    goblin_range_t range;
+    uint64_t number, i = 0;
+    bool is_there = false;
+    for (; !is_there && goblin_segment(bytes, len, h, i, &segment, &why) == GOBLIN_OK; i++)
+        is_there = segment.p_type == GOBLIN_PT_DYNAMIC;
+    begins(stated_segments(h, &number) ? h->e_phoff : h->e_shoff, is_there ? segment.file.offset : h->e_phoff);
+    if (!READS(goblin_dynamic, range, h)) return;
+    inside("goblin_dynamic", range);
+    if (!is_there || memcmp(&range, &segment.file, sizeof range)) wrong("goblin_dynamic", GOBLIN_OK);
+    dynamic(h, range);
+}
+
 /* Makes a call that writes, whose last argument is `why`. Returns whether it has written. */
 #define WRITES(call, ...) \
     (memcpy(saved, bytes, len), memset(&why, 0x5a, sizeof why), \
@@ -671,6 +743,7 @@ static void table(const goblin_header_t *h, goblin_range_t range, goblin_range_t
     SEVERAL(goblin_symbol, goblin_symbols, goblin_symbol_t, st_other, h, &range);
     SEVERAL(goblin_reloc, goblin_relocs, goblin_reloc_t, has_addend, h, &range, is_rela);
     notes(h, range);
+    dynamic(h, range);
     put_records(h, range);
 }
 
@@ -735,6 +808,7 @@ static void file(void) {
     }
     whole(&h);
     addresses(&h);
+    find_dynamic(&h);
     put_header(&h);
     begins(h.e_shoff, h.e_shoff);
     SEVERAL(goblin_section, goblin_sections, goblin_section_t, sh_info, &h);

@@ -95,6 +95,40 @@ static void note(goblin_note_t *n) {
     n->name.offset = end, n->name.size = 7, n->desc.offset = end + 8, n->next = end + 16;
 }
 
+/* Writes this entry as the second of the dynamic section at 0xe00, between another one and the one that ends it. */
+static void entry(goblin_dyn_t *d) {
+    end = 0xe00;
+    put(wide, GOBLIN_DT_SONAME), put(wide, 0x21);
+    d->d_tag = any(wide), d->d_val = any(wide);
+    put(wide, GOBLIN_DT_NULL), put(wide, 7);
+}
+
+/* Tests the calls for the dynamic section. The file has no segment of it. */
+static void dynamic_all(const goblin_header_t *h, const goblin_dyn_t *wanted, goblin_dyn_t *got,
+                        goblin_refusal_t *why) {
+    goblin_range_t dynamic = {0xe00, 8 * wide}, found;
+    goblin_dyn_t both[3];
+    uint64_t number = 0;
+    same("goblin_dynamic", goblin_dynamic(file, sizeof file, h, &found, why), GOBLIN_END);
+    same("goblin_dynamic_entries",
+         goblin_dynamic_entries(file, sizeof file, h, &dynamic, 1, got, 1, &number, why), GOBLIN_OK);
+    same("goblin_dynamic_entries",
+         goblin_dynamic_entries(file, sizeof file, h, &dynamic, 0, both, 3, &number, why), GOBLIN_OK);
+    same("goblin_dynamic_entries", number, 2), same("goblin_dynamic_entries", both[1].d_val, wanted->d_val);
+    same("goblin_dynamic_entries",
+         goblin_dynamic_entries(file, sizeof file, h, &dynamic, 2, both, 3, &number, why), GOBLIN_END);
+    same("goblin_dynamic_value",
+         goblin_dynamic_value(file, sizeof file, h, &dynamic, GOBLIN_DT_SONAME, &number, why), GOBLIN_OK);
+    same("goblin_dynamic_value", number, 0x21);
+    same("goblin_dynamic_value",
+         goblin_dynamic_value(file, sizeof file, h, &dynamic, GOBLIN_DT_NULL, &number, why), GOBLIN_END);
+    same("goblin_dynamic_strings", goblin_dynamic_strings(file, sizeof file, h, &dynamic, &found, why), GOBLIN_END);
+    dynamic.size = sizeof file;
+    same("entries outside",
+         goblin_dynamic_entries(file, sizeof file, h, &dynamic, 0, both, 0, &number, why), GOBLIN_TOO_BIG);
+    same("entries outside", why->offset, 0xe00);
+}
+
 /* Tests the calls for numbers of items and for sections of a type. */
 static void count_all(const goblin_header_t *h, const goblin_range_t *symbols, const goblin_range_t *relocs,
                       goblin_refusal_t *why) {
@@ -275,7 +309,7 @@ static void read_all(void) {
     goblin_layout_t wanted, got;
     memset(&wanted, 0, sizeof wanted), memset(&got, 0, sizeof got);
     header(&wanted.header), segment(&wanted.segment), section(&wanted.section);
-    symbol(&wanted.symbol), reloc(&wanted.reloc), note(&wanted.note);
+    symbol(&wanted.symbol), reloc(&wanted.reloc), note(&wanted.note), entry(&wanted.dyn);
     goblin_header_t *h = &got.header;
     goblin_refusal_t *why = &got.refusal;
     same("goblin_header", goblin_header(file, sizeof file, h, why), GOBLIN_OK);
@@ -288,6 +322,7 @@ static void read_all(void) {
     count_all(h, &symbols, &relocs, why);
     range_all(&wanted, why);
     whole_all(h, &wanted, why);
+    dynamic_all(h, &wanted.dyn, &got.dyn, why);
     same("goblin_symbol", goblin_symbol(file, sizeof file, h, &symbols, 1, &got.symbol, why), GOBLIN_OK);
     same("goblin_symbol", goblin_symbol(file, sizeof file, h, &symbols, 2, &got.symbol, why), GOBLIN_END);
     same("goblin_reloc", goblin_reloc(file, sizeof file, h, &relocs, true, 1, &got.reloc, why), GOBLIN_OK);

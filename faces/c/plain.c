@@ -150,7 +150,7 @@ static void fill(uint8_t *bytes, size_t size) {
 /* (what is tested by this call is the library's layout alone) */
 void goblin_layout(goblin_layout_t *layout) {
     FILL(refusal, refusal), FILL(range, range), FILL(header, header), FILL(section, section), FILL(segment, segment);
-    FILL(symbol, symbol), FILL(reloc, reloc), FILL(note, note);
+    FILL(symbol, symbol), FILL(reloc, reloc), FILL(note, note), FILL(dyn, dyn);
 }
 
 uint32_t goblin_header(const uint8_t *bytes, size_t len, goblin_header_t *header, goblin_refusal_t *why) {
@@ -679,6 +679,72 @@ uint32_t goblin_note_bytes(const uint8_t *bytes, size_t len, const goblin_header
         : notes->offset + notes->size;
     if (is_past(notes, offset)) return GOBLIN_END;
     return read_note(bytes, end < offset ? offset : end, h, alignment, offset, true, note, why);
+}
+
+/* ---- the dynamic section ---- */
+
+uint32_t goblin_dynamic(const uint8_t *bytes, size_t len, const goblin_header_t *h, goblin_range_t *dynamic,
+                        goblin_refusal_t *why) {
+    goblin_segment_t p;
+    uint32_t status;
+    for (uint64_t i = 0; !(status = goblin_segment(bytes, len, h, i, &p, why)); i++)
+        if (p.p_type == GOBLIN_PT_DYNAMIC) break;
+    if (!status) status = inside(len, p.file.offset, p.file.size, p.file.offset, why);
+    if (!status) *dynamic = p.file;
+    return status;
+}
+
+/* Reads the entry at an index, and returns whether there is one that doesn't end the entries. */
+static bool has_entry(const uint8_t *bytes, const goblin_header_t *h, const goblin_range_t *dynamic, uint64_t index,
+                      goblin_dyn_t *entry) {
+    uint64_t width = is_64(h) ? 8 : 4;
+    if (index >= dynamic->size / (2 * width)) return false;
+    cursor_t c = reader(bytes + dynamic->offset + index * 2 * width, h);
+    entry->d_tag = wide(&c, 0), entry->d_val = wide(&c, 0);
+    return entry->d_tag != GOBLIN_DT_NULL;
+}
+
+uint32_t goblin_dynamic_entries(const uint8_t *bytes, size_t len, const goblin_header_t *h,
+                                const goblin_range_t *dynamic, uint64_t first, goblin_dyn_t *entries, size_t capacity,
+                                uint64_t *filled, goblin_refusal_t *why) {
+    goblin_dyn_t entry;
+    uint64_t number = 0;
+    uint32_t status = inside(len, dynamic->offset, dynamic->size, dynamic->offset, why);
+    if (status) return status;
+    if (!has_entry(bytes, h, dynamic, first, &entry)) return GOBLIN_END;
+    for (; number < capacity && has_entry(bytes, h, dynamic, first + number, &entry); number++)
+        entries[number] = entry;
+    *filled = number;
+    return GOBLIN_OK;
+}
+
+uint32_t goblin_dynamic_value(const uint8_t *bytes, size_t len, const goblin_header_t *h, const goblin_range_t *dynamic,
+                              uint64_t tag, uint64_t *value, goblin_refusal_t *why) {
+    goblin_dyn_t entry;
+    uint32_t status = inside(len, dynamic->offset, dynamic->size, dynamic->offset, why);
+    for (uint64_t i = 0; !status && has_entry(bytes, h, dynamic, i, &entry); i++)
+        if (entry.d_tag == tag) return *value = entry.d_val, GOBLIN_OK;
+    return status ? status : (uint32_t)GOBLIN_END;
+}
+
+uint32_t goblin_dynamic_strings(const uint8_t *bytes, size_t len, const goblin_header_t *h,
+                                const goblin_range_t *dynamic, goblin_range_t *strings, goblin_refusal_t *why) {
+    uint64_t address, count;
+    goblin_range_t found;
+    goblin_segment_t p;
+    uint32_t no_address = goblin_dynamic_value(bytes, len, h, dynamic, GOBLIN_DT_STRTAB, &address, why);
+    uint32_t no_size = goblin_dynamic_value(bytes, len, h, dynamic, GOBLIN_DT_STRSZ, &found.size, why);
+    uint32_t status = no_address > GOBLIN_END ? no_address : goblin_segment_count(bytes, len, h, &count, why);
+    for (uint64_t i = 0; !status && !no_address && !no_size && i < count; i++) {
+        if (goblin_segment(bytes, len, h, i, &p, why)) break;
+        if (p.p_type != GOBLIN_PT_LOAD || p.p_vaddr > address || address - p.p_vaddr >= p.file.size) continue;
+        uint64_t more = address - p.p_vaddr;
+        found.offset = more > UINT64_MAX - p.file.offset ? UINT64_MAX : p.file.offset + more;
+        status = inside(len, found.offset, found.size, found.offset, why);
+        if (!status) *strings = found;
+        return status;
+    }
+    return status ? status : (uint32_t)GOBLIN_END;
 }
 
 /* ---- numbers and ranges ---- */

@@ -35,12 +35,16 @@ abbrev pub unless_empty : {X : Type 0} → List X → Option (List X)
 unless_empty [] = None
 unless_empty (x ∷ xs) = Some (x ∷ xs)
 
--- the entries for C of a range from an index on, before the next one of tag 0 (DT_NULL)
+-- the entries for C from an index on, before the next one of tag 0 (DT_NULL)
+abbrev pub entries_from : List Dyn → ℕ → List GoblinDyn
+entries_from entries first = map dyn_converted (entries_up_to_null (drop first entries))
+
+-- those of a range, if there are some
 abbrev pub entries_from_expected :
     List ℕ → GoblinHeader → GoblinRange → ℕ → Result (Option (List GoblinDyn)) RefusalAt
 entries_from_expected bytes h range first = do
   entries ← refused_at range.offset (refuse_as refusal_of (whole_entries_in bytes (file_range_of range) (ctx_of h)))
-  Ok (unless_empty (map dyn_converted (entries_up_to_null (drop first entries))))
+  Ok (unless_empty (entries_from entries first))
 
 -- the entries of a range before its first one of tag 0, as the library reads them
 abbrev pub entries_expected : List ℕ → GoblinHeader → GoblinRange → Result (List Dyn) RefusalAt

@@ -1,13 +1,9 @@
 //! The dynamic section: its range by the segments, its entries, the value of a tag, and the range of its strings.
-ghost use Rattle.std.specs.Prelude.{◌≡◌, ◌≤◌, drop, length, map, min, slice_get};
-ghost use Rattle.std.specs.Option.{option_and_then};
-ghost use Rattle.goblin_c.specs.Refused.{Returns, refused_at};
-ghost use Rattle.goblin_c.specs.Dynamic.{dynamic_expected, dynamic_strings_expected, dynamic_value_expected, entries_expected, entries_from_expected, file_range_of, range_in_file};
+ghost use Rattle.std.specs.Prelude.{◌≡◌, ◌≤◌, length, min, slice_get};
+ghost use Rattle.goblin_c.specs.Refused.{Returns};
+ghost use Rattle.goblin_c.specs.Dynamic.{dynamic_expected, dynamic_strings_expected, dynamic_value_expected, entries_expected, entries_from, entries_from_expected, file_range_of, range_in_file};
 ghost use Rattle.goblin_c.specs.FilledBuffer.{laid};
 ghost use Rattle.goblin_c.specs.Status.{Fills, Stores};
-ghost use Rattle.goblin_dynamic.specs.Dynamic.{entries_up_to_null, whole_entries_in};
-ghost use Rattle.goblin.specs.Refusal.{refusal_of};
-ghost use Rattle.goblin.specs.Steps.{refuse_as};
 
 use crate::bytes::fits;
 use crate::headers::{ctx_of, segments_of};
@@ -69,8 +65,9 @@ pub extern "C" fn goblin_dynamic(
 
 // Returns the entry at an index for C, or `None` if there is none or it ends the entries.
 #[inline(always)]
+#[tactic(auto, using(crate::proofs::DynamicLemmas::first_entry))]
 fn entry_at(all: &Table<'_, Dyn, Ctx>, index: usize) -> Option<GoblinDyn>
-    ensures { result ≡ slice_get (map dyn_converted (entries_up_to_null (drop index all.now))) 0 }
+    ensures { result ≡ slice_get (entries_from all.now index) 0 }
 {
     match all.get(index) {
         Some(entry) if entry.d_tag != DT_NULL => Some(convert_dyn(&entry)),
@@ -81,18 +78,18 @@ fn entry_at(all: &Table<'_, Dyn, Ctx>, index: usize) -> Option<GoblinDyn>
 // Fills a buffer with the entries from an index on. Returns how many it holds.
 fn fill(all: &Table<'_, Dyn, Ctx>, first: usize, buffer: &mut [GoblinDyn]) -> usize
     requires { first ≤ length all.now }
-    ensures written { let entries = map dyn_converted (entries_up_to_null (drop first all.now)) in
-        buffer.new ≡ laid entries buffer.old }
-    ensures value { let entries = map dyn_converted (entries_up_to_null (drop first all.now)) in
-        result ≡ min (length entries) (length buffer.old) }
+    ensures written { buffer.new ≡ laid (entries_from all.now first) buffer.old }
+    ensures value { result ≡ min (length (entries_from all.now first)) (length buffer.old) }
 {
-    let mut count = 0;
+    let mut count = buffer.len().min(all.len() - first);
     for (i, place) in buffer.iter_mut().enumerate() {
         match entry_at(all, first + i) {
             Some(entry) => *place = entry,
-            None => break,
+            None => {
+                count = i;
+                break;
+            }
         }
-        count = i + 1;
     }
     count
 }

@@ -169,15 +169,18 @@ static SEGMENTS: &[u8; 96] =
     \x02\0\0\0\x08\0\0\0\x08\x10\0\0\0\0\0\0\x30\0\0\0\x30\0\0\0\x04\0\0\0\x04\0\0\0\
     \x02\0\0\0\x00\x01\0\0\0\0\0\0\0\0\0\0\x30\0\0\0\x30\0\0\0\x04\0\0\0\x04\0\0\0";
 
-// The offset and the size of the strings of a file by so many of the segments from an offset on, or what is missing.
+// The offset and the size of the strings of a file by so many of the segments from an offset on, what is missing, or
+// the size and the bytes left of strings that are cut.
 fn strings_of(bytes: &[u8], first: usize, count: usize) -> (usize, usize) {
     let Ok(segments) = ProgramHeader::table(SEGMENTS, first, count, LITTLE32) else {
         return (100, 0);
     };
     match Dynamic::by_segments(bytes, &segments, LITTLE32) {
-        Ok(Some(dynamic)) => match dynamic.strings(&segments) {
-            Some(found) => (found.offset, found.size),
-            None => (200, dynamic.len()),
+        Ok(Some(dynamic)) => match dynamic.strings(bytes, &segments) {
+            Ok(Some(found)) => (found.offset, found.size),
+            Ok(None) => (200, dynamic.len()),
+            Err(Error::Scroll(scroll::Error::TooBig { size, len })) => (size, 500 + len),
+            Err(_) => (600, 0),
         },
         Ok(None) => (300, 0),
         Err(_) => (400, 0),
@@ -198,6 +201,12 @@ fn finds_the_section_and_its_strings_by_segments(rt: HostRuntime) {
     bytes = *IN_LITTLE32;
     bytes[24] = 11;
     assert!(rt; strings_of(&bytes, 0, 3) == (200, 4));
+    // With strings that end with the file, and with a byte more.
+    bytes[24] = 10;
+    bytes[28] = 56;
+    assert!(rt; strings_of(&bytes, 0, 3) == (0, 56));
+    bytes[28] = 57;
+    assert!(rt; strings_of(&bytes, 0, 3) == (57, 556));
     assert!(rt; strings_of(&IN_LITTLE32[..55], 0, 3) == (400, 0));
 }
 
@@ -211,7 +220,8 @@ static SECTIONS: &[u8; 200] = b"\0\0\0\0\0\0\0\0\
     \0\0\0\0\0\0\0\x03\0\0\0\0\0\0\0\x02\0\0\0\0\0\0\x10\0\0\0\0\0\0\0\0\0\
     \0\0\0\0\0\0\0\x08\0\0\0\0\0\0\0\0\0\0\0\0\0\0\0\x01\0\0\0\0\0\0\0\0";
 
-// The number of entries of the section, and the offset and the size of its strings, or what is missing.
+// The number of entries of the section, and the offset and the size of its strings, what is missing, or the offset of
+// strings that the file doesn't hold.
 fn section_of(bytes: &[u8], headers: &[u8]) -> (usize, usize, usize) {
     let Ok(sections) = SectionHeader::table(headers, 8, 3, BIG64) else {
         return (100, 0, 0);
@@ -221,9 +231,11 @@ fn section_of(bytes: &[u8], headers: &[u8]) -> (usize, usize, usize) {
         Ok(None) => 200,
         Err(_) => 300,
     };
-    match Dynamic::strings_by_sections(&sections) {
-        Some(found) => (count, found.offset, found.size),
-        None => (count, 0, 0),
+    match Dynamic::strings_by_sections(bytes, &sections) {
+        Ok(Some(found)) => (count, found.offset, found.size),
+        Ok(None) => (count, 0, 0),
+        Err(Error::Scroll(scroll::Error::BadOffset(offset))) => (count, 400, offset),
+        Err(_) => (count, 500, 0),
     }
 }
 
@@ -238,4 +250,8 @@ fn finds_the_section_and_its_strings_by_sections(rt: HostRuntime) {
     headers[79] = 6;
     headers[115] = 0;
     assert!(rt; section_of(IN_BIG64, &headers) == (4, 0, 0));
+    // With strings from the end of the file on.
+    headers[115] = 2;
+    headers[167] = 104;
+    assert!(rt; section_of(IN_BIG64, &headers) == (4, 400, 104));
 }

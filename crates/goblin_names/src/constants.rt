@@ -8,6 +8,7 @@ use goblin::elf64::{
     header as header64, program_header as program_header64, reloc as reloc64,
     section_header as section_header64, sym as sym64,
 };
+use goblin_dynamic::tags;
 use std::fmt::Display;
 use std::io;
 
@@ -90,6 +91,14 @@ static SIZES: &[(&str, usize)] = rows![
     reloc64: SIZEOF_REL SIZEOF_RELA;
 ];
 
+static ENTRIES: &[(&str, u64)] = rows![
+    tags: DT_NULL DT_NEEDED DT_PLTRELSZ DT_HASH DT_STRTAB DT_SYMTAB DT_RELA DT_RELASZ DT_STRSZ
+        DT_SONAME DT_RPATH DT_REL DT_RELSZ DT_PLTREL DT_DEBUG DT_TEXTREL DT_JMPREL DT_BIND_NOW
+        DT_RUNPATH DT_FLAGS DT_RELRSZ DT_RELR DT_GNU_HASH DT_FLAGS_1 DT_VERNEED DT_VERNEEDNUM
+        DF_ORIGIN DF_SYMBOLIC DF_TEXTREL DF_BIND_NOW DF_STATIC_TLS DF_1_NOW DF_1_GLOBAL
+        DF_1_NODELETE DF_1_INITFIRST DF_1_NOOPEN DF_1_ORIGIN DF_1_INTERPOSE DF_1_NODEFLIB DF_1_PIE;
+];
+
 // Prints the rows, a line each.
 fn print_rows<T: Display>(rt: HostRuntime, rows: &[(&str, T)]) -> io::Result<()> {
     for (name, number) in rows {
@@ -104,6 +113,7 @@ pub(crate) fn print(rt: HostRuntime) -> io::Result<()> {
     print_rows(rt, HALVES)?;
     print_rows(rt, WORDS)?;
     print_rows(rt, SIZES)?;
+    print_rows(rt, ENTRIES)?;
     println!(rt; "header::ELFMAG {:?}", header::ELFMAG)?;
     println!(rt; "section_header::SHF_FLAGS {:?}", section_header::SHF_FLAGS)
 }

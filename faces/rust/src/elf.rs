@@ -1,4 +1,5 @@
 //! A file as a whole.
+use crate::dynamic::Dynamic;
 use crate::error::{Error, Result, RELOCATIONS, SYMBOLS};
 use crate::file::File;
 use crate::header::{Header, ET_DYN};
@@ -278,6 +279,14 @@ impl<'a> Elf<'a> {
     /// If the program headers are not inside the file, or the file has no byte at that offset.
     pub fn address_to_offset(&self, address: u64) -> Result<Option<u64>> {
         sys::goblin_address_to_offset(&self.file, &self.header, address)
+    }
+
+    /// Returns the dynamic section, as a loader finds it, or `None` if no segment is of type `PT_DYNAMIC`.
+    ///
+    /// # Errors
+    /// If the program headers or the dynamic section are not inside the file.
+    pub fn dynamic(&self) -> Result<Option<Dynamic<'a>>> {
+        Dynamic::of(*self)
     }
 
     /// Returns the string table of the section names. It is empty if the file has none: the index of its section is 0

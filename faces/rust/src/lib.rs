@@ -106,12 +106,12 @@
 //! # }
 //! ```
 //!
-//! This crate does not read the dynamic section, so it has no `elf.libraries`, `elf.soname`, `elf.rpaths`,
-//! `elf.runpaths` and `elf.interpreter`. The example `needed` reads them in a few lines.
+//! The example `needed` has what `elf.libraries`, `elf.soname`, `elf.rpaths`, `elf.runpaths` and `elf.interpreter` are.
 #![deny(missing_docs, unsafe_code)]
 
 mod address_map;
 mod constants;
+pub mod dynamic;
 pub mod elf;
 pub mod error;
 mod file;

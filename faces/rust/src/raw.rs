@@ -160,6 +160,20 @@ records! {
     Reloc { r_offset: u64, r_sym: u64, r_addend: i64, r_type: u32, has_addend: u32 }
     /// A note.
     Note { name: Range, desc: Range, next: u64, n_type: u32 }
+    /// An entry of the dynamic section.
+    ///
+    /// ```
+    /// use goblin_rs::dynamic::{Dyn, DF_BIND_NOW, DT_FLAGS};
+    ///
+    /// let entry = Dyn { d_tag: DT_FLAGS, d_val: DF_BIND_NOW };
+    /// assert_eq!(entry.d_tag, 30);
+    /// ```
+    Dyn {
+        /// What it says, a `DT_` number.
+        d_tag: u64,
+        /// A number, an address, or an offset in the strings, which depends on the tag.
+        d_val: u64,
+    }
 }
 
 /// Returns the indices of the bytes of a range that the library returned.
@@ -195,8 +209,9 @@ pub mod tests {
         /// One of each struct, which the library fills.
         Layout {
             size_of_refusal: u64, size_of_range: u64, size_of_header: u64, size_of_section: u64, size_of_segment: u64,
-            size_of_symbol: u64, size_of_reloc: u64, size_of_note: u64, refusal: Refusal, range: Range, header: Header,
-            section: SectionHeader, segment: ProgramHeader, symbol: Sym, reloc: Reloc, note: Note,
+            size_of_symbol: u64, size_of_reloc: u64, size_of_note: u64, size_of_dyn: u64, refusal: Refusal,
+            range: Range, header: Header, section: SectionHeader, segment: ProgramHeader, symbol: Sym, reloc: Reloc,
+            note: Note, entry: Dyn,
         }
     }
 
@@ -224,5 +239,6 @@ pub mod tests {
         assert_filled(&layout.symbol, layout.size_of_symbol, 6);
         assert_filled(&layout.reloc, layout.size_of_reloc, 5);
         assert_filled(&layout.note, layout.size_of_note, 6);
+        assert_filled(&layout.entry, layout.size_of_dyn, 2);
     }
 }

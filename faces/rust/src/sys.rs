@@ -4,7 +4,7 @@
 //! writes only its mutable ones, within their lengths. Only the tests compare these declarations with the library's.
 use crate::error::{Error, Result};
 use crate::file::File;
-use crate::raw::{Header, Note, ProgramHeader, Range, Refusal, Reloc, SectionHeader, Sym};
+use crate::raw::{Dyn, Header, Note, ProgramHeader, Range, Refusal, Reloc, SectionHeader, Sym};
 use std::ffi::CStr;
 use std::str;
 
@@ -55,6 +55,10 @@ calls! {
     fn goblin_segment_count(header: &Header) -> u64;
     fn goblin_segment_bytes(segment: &ProgramHeader) -> Range;
     fn goblin_address_to_offset(header: &Header, address: u64) -> u64;
+    fn goblin_dynamic(header: &Header) -> Range;
+    fn goblin_dynamic_entries(header: &Header, dynamic: &Range, first: u64) into [Dyn] -> u64;
+    fn goblin_dynamic_value(header: &Header, dynamic: &Range, tag: u64) -> u64;
+    fn goblin_dynamic_strings(header: &Header, dynamic: &Range) -> Range;
     fn goblin_symbol_count(header: &Header, table: &Range) -> u64;
     fn goblin_reloc_count(header: &Header, relocs: &Range, is_rela: bool) -> u64;
     fn goblin_string_bytes(strings: &Range, offset: u64) -> Range;

@@ -1,0 +1,59 @@
+-- After i turns the buffer holds the first i entries (`laid-item`). Where there is no entry for the next place, these
+-- were all (`none`), so the buffer stays as it is.
+use Rattle.goblin_c.proofs.Common.{◌≡◌, ◌≤◌, ◌<◌, ◌+◌, length, slice_get, Some, None, sym, ap, ◌∙◌, arith, set-get_or}
+use Rattle.goblin_c.proofs.Common.{slice_get_within}
+use Rattle.goblin_c.proofs.DynamicLemmas.{entry_at, few_entries}
+use Rattle.goblin_c.proofs.FilledBufferLemmas.{ends-before, laid-enough, laid-item}
+use Rattle.goblin_c.specs.Dynamic.{entries_from}
+use Rattle.goblin_c.proofs.dynamic.fill.Goals as goal
+
+pub overflow_add-first : goal.overflow_add-first
+overflow_add-first c = omega (arith, c.loop-i.invariant.within, few_entries c.args.all.now c.args.first)
+
+pub loop-i-preserved : goal.loop-i-preserved
+loop-i-preserved c =
+    let entries = entries_from c.args.all.now c.args.first in
+    let found : slice_get entries c.loop-i.i ≡ Some c.in-Some.entry =
+    sym (entry_at c.args.all.now c.args.first c.loop-i.i c.loop-i.invariant.within)
+    ∙ sym c.entry_at.ensures ∙ c.in-Some.is in
+    let inside : c.loop-i.i < length entries = slice_get_within entries c.loop-i.i c.in-Some.entry found in
+    let place : 0 + c.loop-i.i ≡ c.loop-i.i = omega arith in
+    record {
+      within = omega (arith, inside);
+      filled = laid-item entries 0 c.loop-i.i c.args.buffer.now c.loop-i.buffer c.in-Some.entry
+          (ap (slice_get entries) place ∙ found) c.loop-i.invariant.filled c.loop-i-test.true;
+      counted = c.loop-i.invariant.counted;
+    }
+
+pub returns-after-loop-i-clause-written : goal.returns-after-loop-i-clause-written
+returns-after-loop-i-clause-written c =
+    c.loop-i.invariant.filled
+    ∙ laid-enough c.loop-i.i (entries_from c.args.all.now c.args.first) c.args.buffer.now
+    (omega (arith, c.loop-i-test.false))
+
+pub returns-after-loop-i-clause-value : goal.returns-after-loop-i-clause-value
+returns-after-loop-i-clause-value c =
+    omega (
+      arith,
+      c.loop-i.invariant.counted,
+      c.loop-i.invariant.within,
+      c.loop-i-test.false,
+      c.loop-i.auto.i-end,
+      few_entries c.args.all.now c.args.first,
+    )
+
+-- there is no entry from here on
+none : (c : goal.In-None) → length (entries_from c.args.all.now c.args.first) ≤ c.loop-i.i
+none c =
+    ends-before (entries_from c.args.all.now c.args.first) c.loop-i.i
+    (sym (entry_at c.args.all.now c.args.first c.loop-i.i c.loop-i.invariant.within)
+    ∙ sym c.entry_at.ensures ∙ c.in-None.is)
+
+pub returns-in-None-clause-written : goal.returns-in-None-clause-written
+returns-in-None-clause-written c =
+    set-get_or c.loop-i.buffer c.loop-i.i _
+    ∙ c.loop-i.invariant.filled
+    ∙ laid-enough c.loop-i.i (entries_from c.args.all.now c.args.first) c.args.buffer.now (omega (arith, none c))
+
+pub returns-in-None-clause-value : goal.returns-in-None-clause-value
+returns-in-None-clause-value c = omega (arith, none c, c.loop-i.invariant.within, c.loop-i-test.true)
