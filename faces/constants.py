@@ -40,7 +40,8 @@ RECORDS = [
     ('other', '', 'what the library does not have', 'Constants that the library does not have'),
 ]
 # What stands elsewhere.
-MORE = {'program_header': ['crates/goblin_headers/src/whole_part.rt'], 'dynamic': ['crates/goblin_dynamic/src/tags.rt'], 'other': ['faces/other_constants.rs']}
+MORE = {'program_header': ['crates/goblin_headers/src/whole_part.rt'], 'other': ['faces/other_constants.rs'],
+        'dynamic': ['crates/goblin_dynamic/src/tags.rt', 'crates/goblin_dynamic/src/entry.rt']}
 CLASSES = (32, 64)
 MADE = "Made by faces/constants.py of the library's constants: do not edit."
 MADE_OTHER = 'Made by faces/constants.py of faces/other_constants.rs: do not edit.'

@@ -429,8 +429,8 @@ static int strings_take_little(void) {
     return right;
 }
 
-/* The dynamic section: one whose entries are in the long strings, of which none is zero, and one of three entries, which
-   the first segment has. The second segment loads its string. */
+/* The dynamic section: one whose entries are in the long strings, none of which is zero, and one of three entries,
+   which the first segment has. The second segment loads its string. */
 static int dynamic_takes_little(void) {
     static const uint64_t few[] = {DT_NEEDED, 0, DT_STRTAB, 0, DT_STRSZ, 1};
     int right = 1;

@@ -1235,6 +1235,8 @@ uint64_t goblin_refusal_to_str(const goblin_refusal_t *why, void *text, size_t c
 #define GOBLIN_DF_1_INTERPOSE (UINT64_C(1) << 10) /* The symbols come before those of other libraries. */
 #define GOBLIN_DF_1_NODEFLIB (UINT64_C(1) << 11) /* The default search path is not used. */
 #define GOBLIN_DF_1_PIE (UINT64_C(1) << 27) /* A position-independent executable. */
+#define GOBLIN_SIZEOF_DYN32 (4u + 4u) /* The size of an entry of the 32-bit class in bytes. */
+#define GOBLIN_SIZEOF_DYN64 (8u + 8u) /* The size of an entry of the 64-bit class in bytes. */
 
 /* -- what the library does not have -- */
 #define GOBLIN_ELFCOMPRESS_ZLIB 1u /* A section is compressed by zlib (System V gABI, "Section Compression"). */

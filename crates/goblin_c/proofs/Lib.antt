@@ -6,6 +6,7 @@ pub mod OffsetLemmas
 pub mod ClosedLemmas
 pub mod CompareLemmas
 pub mod CountLemmas
+pub mod DynamicLawLemmas
 pub mod DynamicLemmas
 pub mod EachLemmas
 pub mod HeaderPutLemmas

@@ -8,7 +8,7 @@ use Rattle.goblin_c.specs.Laws.{BytesLieInFile, EmptyHaveNoBytes, LiesIn, String
 use Rattle.goblin_c.proofs.StringLemmas.{in_range, plain_is}
 
 -- a range that is stored lies in the file
-range_lies : (bytes : List ℕ) (range found : GoblinRange)
+pub range_lies : (bytes : List ℕ) (range found : GoblinRange)
     → range_expected bytes range ≡ Ok (Some found) → LiesIn bytes found
 range_lies bytes range found is = grind (arith, fits-room_of (length bytes) range.offset range.size)
 

@@ -1,6 +1,7 @@
 pub mod Bytes
 pub mod Common
 pub mod Dynamic
+pub mod DynamicLaws
 pub mod Expected
 pub mod FilledBuffer
 pub mod Laws

@@ -1,12 +1,9 @@
 //! The dynamic section: where it lies, its entries, and where its strings lie. System V gABI, "Dynamic Section".
-ghost use Rattle.std.specs.Prelude.{◌≡◌, ◌<◌, ◌^◌, ◌/◌, ◌↔◌, IsTrue, [], length, slice_get};
+ghost use Rattle.std.specs.Prelude.{◌≡◌, ◌<◌, ◌^◌, ◌/◌, length};
 ghost use Rattle.std.specs.Iterator.{YieldsFirst, item_count};
 ghost use Rattle.goblin_base.specs.Common.{ComparesAndClones};
 ghost use Rattle.goblin_dynamic.specs.Dyn.{entry_size};
-ghost use Rattle.goblin_dynamic.specs.Dynamic.{entries_at, entries_in, entries_up_to_null, first_value};
-ghost use Rattle.goblin_dynamic.specs.Dynamic.{dynamic_range, dynamic_segment, in_file, strings_range};
-ghost use Rattle.goblin_dynamic.specs.Dynamic.{dynamic_section, dynamic_section_range, section_range};
-ghost use Rattle.goblin_dynamic.specs.Dynamic.{strings_section_range, values_with, whole_entries, whole_entries_in};
+ghost use Rattle.goblin_dynamic.specs.Dynamic.{dynamic_range, dynamic_section, dynamic_section_range, dynamic_segment, entries_at, entries_in, entries_up_to_null, first_value, in_file, section_range, strings_range, strings_section_range, values_with, whole_entries, whole_entries_in};
 
 use crate::entry::{Dyn, SIZEOF_DYN32, SIZEOF_DYN64};
 use crate::tags::{DT_NULL, DT_STRSZ, DT_STRTAB};
@@ -27,12 +24,22 @@ pub struct FileRange {
     pub size: usize,
 }
 
+/// The program headers of a file.
+pub type Segments<'a> = Table<'a, ProgramHeader, Ctx>;
+
+/// The section headers of a file.
+pub type Sections<'a> = Table<'a, SectionHeader, Ctx>;
+
+/// Entries, one after another.
+pub type Entries<'a> = Table<'a, Dyn, Ctx>;
+
 /// The entries of a dynamic section before its first `DT_NULL`.
 ///
 /// Each is read from the file's bytes when it is asked for. It allocates nothing, and its entries outlive it.
 #[derive(Debug, Drop)]
 pub struct Dynamic<'a> {
-    table: Table<'a, Dyn, Ctx>,
+    /// The entries.
+    pub entries: Entries<'a>,
 }
 
 // A dynamic section is seen as the list of its entries.
@@ -42,7 +49,7 @@ impl<'a> Model for Dynamic<'a> {
 
     ghost Value = { List Dyn };
 
-    ghost view = { λ d. d.table };
+    ghost view = { λ d. d.entries };
 }
 
 impl<'a> Dynamic<'a> {
@@ -58,9 +65,8 @@ impl<'a> Dynamic<'a> {
     {
         room(bytes.len(), range.offset, range.size)?;
         let part = &bytes[range.offset..range.offset + range.size];
-        Ok(Dynamic {
-            table: up_to_null(part, ctx),
-        })
+        let entries = up_to_null(part, ctx);
+        Ok(Dynamic { entries })
     }
 
     /// Reads all entries that lie whole in a range, also those after a `DT_NULL`.
@@ -68,26 +74,12 @@ impl<'a> Dynamic<'a> {
     /// # Errors
     ///
     /// Those of [`Dynamic::in_range`].
-    pub fn whole_in_range(
-        bytes: &'a [u8],
-        range: FileRange,
-        ctx: Ctx,
-    ) -> Result<Table<'a, Dyn, Ctx>>
+    pub fn whole_in_range(bytes: &'a [u8], range: FileRange, ctx: Ctx) -> Result<Entries<'a>>
         ensures { result ≡ whole_entries_in bytes.now range ctx }
     {
-        room(bytes.len(), range.offset, range.size)?;
-        let part = &bytes[range.offset..range.offset + range.size];
-        Ok(whole_entries(part, ctx))
-    }
-
-    // Reads the entries of a range, if there is one.
-    fn at(bytes: &'a [u8], range: Option<FileRange>, ctx: Ctx) -> Result<Option<Dynamic<'a>>>
-        ensures { result ≡ entries_at bytes.now range ctx }
-    {
-        match range {
-            Some(range) => Ok(Some(Dynamic::in_range(bytes, range, ctx)?)),
-            None => Ok(None),
-        }
+        let FileRange { offset, size } = range;
+        room(bytes.len(), offset, size)?;
+        Ok(whole_entries(&bytes[offset..offset + size], ctx))
     }
 
     /// Reads the entries of the dynamic section as the loader finds them, by the first segment of type `PT_DYNAMIC`.
@@ -96,14 +88,12 @@ impl<'a> Dynamic<'a> {
     /// # Errors
     ///
     /// Those of [`Dynamic::in_range`].
-    pub fn by_segments(
-        bytes: &'a [u8],
-        segments: &Table<'_, ProgramHeader, Ctx>,
-        ctx: Ctx,
-    ) -> Result<Option<Dynamic<'a>>>
+    pub fn by_segments(bytes: &'a [u8], segments: &Segments<'_>, ctx: Ctx) -> Result<Option<Self>>
         ensures { result ≡ entries_at bytes.now (dynamic_range segments.now) ctx }
     {
-        Dynamic::at(bytes, Dynamic::range_by_segments(segments), ctx)
+        Dynamic::range_by_segments(segments)
+            .map(|range| Dynamic::in_range(bytes, range, ctx))
+            .transpose()
     }
 
     /// Reads the entries of the first section of type `SHT_DYNAMIC`, for files without segments. There is no dynamic
@@ -112,19 +102,17 @@ impl<'a> Dynamic<'a> {
     /// # Errors
     ///
     /// Those of [`Dynamic::in_range`].
-    pub fn by_sections(
-        bytes: &'a [u8],
-        sections: &Table<'_, SectionHeader, Ctx>,
-        ctx: Ctx,
-    ) -> Result<Option<Dynamic<'a>>>
+    pub fn by_sections(bytes: &'a [u8], sections: &Sections<'_>, ctx: Ctx) -> Result<Option<Self>>
         ensures { result ≡ entries_at bytes.now (dynamic_section_range sections.now) ctx }
     {
-        Dynamic::at(bytes, Dynamic::range_by_sections(sections), ctx)
+        Dynamic::range_by_sections(sections)
+            .map(|range| Dynamic::in_range(bytes, range, ctx))
+            .transpose()
     }
 
     /// Returns the range of the first segment of type `PT_DYNAMIC`, or `None` if there is none. The file may be too
     /// short for it.
-    pub fn range_by_segments(segments: &Table<'_, ProgramHeader, Ctx>) -> Option<FileRange>
+    pub fn range_by_segments(segments: &Segments<'_>) -> Option<FileRange>
         ensures { result ≡ dynamic_range segments.now }
     {
         let segment = dynamic_segment(segments)?;
@@ -136,7 +124,7 @@ impl<'a> Dynamic<'a> {
 
     /// Returns the range of the first section of type `SHT_DYNAMIC`, or `None` if there is none. The file may be too
     /// short for it.
-    pub fn range_by_sections(sections: &Table<'_, SectionHeader, Ctx>) -> Option<FileRange>
+    pub fn range_by_sections(sections: &Sections<'_>) -> Option<FileRange>
         ensures { result ≡ dynamic_section_range sections.now }
     {
         Some(range_of(&dynamic_section(sections)?))
@@ -147,11 +135,7 @@ impl<'a> Dynamic<'a> {
     /// # Errors
     ///
     /// Those of [`room`] if the range doesn't lie in the bytes.
-    pub fn strings(
-        &self,
-        bytes: &[u8],
-        segments: &Table<'_, ProgramHeader, Ctx>,
-    ) -> Result<Option<FileRange>>
+    pub fn strings(&self, bytes: &[u8], segments: &Segments<'_>) -> Result<Option<FileRange>>
         ensures { result ≡ in_file bytes.now (strings_range self.now segments.now) }
     {
         in_file(bytes, self.strings_range(segments))
@@ -160,7 +144,7 @@ impl<'a> Dynamic<'a> {
     /// Returns the range of the strings by the segments: `DT_STRTAB` is its address, and `DT_STRSZ` its size. The
     /// offset is that of [`ProgramHeader::loaded_from`]. Returns `None` if one of the entries is missing, or if no
     /// segment loads a byte of the file at the address. The file may be too short for the range.
-    pub fn strings_range(&self, segments: &Table<'_, ProgramHeader, Ctx>) -> Option<FileRange>
+    pub fn strings_range(&self, segments: &Segments<'_>) -> Option<FileRange>
         ensures { result ≡ strings_range self.now segments.now }
     {
         let address = self.value(DT_STRTAB)?;
@@ -178,43 +162,10 @@ impl<'a> Dynamic<'a> {
     /// # Errors
     ///
     /// Those of [`room`] if the range doesn't lie in the bytes.
-    pub fn strings_by_sections(
-        bytes: &[u8],
-        sections: &Table<'_, SectionHeader, Ctx>,
-    ) -> Result<Option<FileRange>>
+    pub fn strings_by_sections(bytes: &[u8], sections: &Sections<'_>) -> Result<Option<FileRange>>
         ensures { result ≡ in_file bytes.now (strings_section_range sections.now) }
     {
         in_file(bytes, linked_range(sections))
-    }
-
-    /// Returns the entry at an index, or `None` from `len()` on.
-    pub fn get(&self, index: usize) -> Option<Dyn>
-        ensures { result ≡ slice_get self.now index }
-    {
-        self.table.get(index)
-    }
-
-    /// Returns the number of entries.
-    pub fn len(&self) -> usize
-        ensures value { result ≡ length self.now }
-        ensures bound { result < usize.MAX }
-    {
-        self.table.len()
-    }
-
-    /// Reports whether there are no entries.
-    pub fn is_empty(&self) -> bool
-        ensures { IsTrue result ↔ (self.now ≡ []) }
-    {
-        self.table.is_empty()
-    }
-
-    /// Returns an iterator over the entries.
-    pub fn iter(&self) -> DynIterator<'a>
-        ensures value { result ≡ self.now }
-        ensures bound { length self.now < 2 ^ 64 }
-    {
-        self.table.iter()
     }
 
     /// Returns the value of the first entry with a tag, or `None` if there is none.
@@ -230,7 +181,7 @@ impl<'a> Dynamic<'a> {
         ensures bound { length (values_with tag self.now) < 2 ^ 64 }
     {
         Values {
-            left: self.table.iter(),
+            left: self.entries.iter(),
             tag,
         }
     }
@@ -240,14 +191,14 @@ impl<'a> Dynamic<'a> {
 fn in_file(bytes: &[u8], range: Option<FileRange>) -> Result<Option<FileRange>>
     ensures { result ≡ in_file bytes.now range }
 {
-    if let Some(range) = range {
-        room(bytes.len(), range.offset, range.size)?;
+    if let Some(FileRange { offset, size }) = range {
+        room(bytes.len(), offset, size)?;
     }
     Ok(range)
 }
 
 // Returns the range of the section that the `sh_link` of the dynamic section names.
-fn linked_range(sections: &Table<'_, SectionHeader, Ctx>) -> Option<FileRange>
+fn linked_range(sections: &Sections<'_>) -> Option<FileRange>
     ensures { result ≡ strings_section_range sections.now }
 {
     let index = dynamic_section(sections)?.sh_link as usize;
@@ -255,7 +206,7 @@ fn linked_range(sections: &Table<'_, SectionHeader, Ctx>) -> Option<FileRange>
 }
 
 // Returns the table of the entries before the first `DT_NULL` of some bytes.
-fn up_to_null<'a>(part: &'a [u8], ctx: Ctx) -> Table<'a, Dyn, Ctx>
+fn up_to_null<'a>(part: &'a [u8], ctx: Ctx) -> Entries<'a>
     ensures { result ≡ entries_up_to_null (whole_entries part.now ctx) }
 {
     let count = count_before_null(&whole_entries(part, ctx));
@@ -263,7 +214,7 @@ fn up_to_null<'a>(part: &'a [u8], ctx: Ctx) -> Table<'a, Dyn, Ctx>
 }
 
 // Returns the table of the entries that lie whole in some bytes.
-fn whole_entries<'a>(part: &'a [u8], ctx: Ctx) -> Table<'a, Dyn, Ctx>
+fn whole_entries<'a>(part: &'a [u8], ctx: Ctx) -> Entries<'a>
     ensures { result ≡ whole_entries part.now ctx }
 {
     Table::of(part, count_in(part.len(), ctx.container), ctx)
@@ -280,7 +231,7 @@ fn count_in(size: usize, class: Container) -> usize
 }
 
 // Returns the number of entries before the first `DT_NULL`.
-fn count_before_null(entries: &Table<'_, Dyn, Ctx>) -> usize
+fn count_before_null(entries: &Entries<'_>) -> usize
     ensures { result ≡ length (entries_up_to_null entries.now) }
 {
     entries
@@ -290,14 +241,14 @@ fn count_before_null(entries: &Table<'_, Dyn, Ctx>) -> usize
 }
 
 // Returns the first segment of type `PT_DYNAMIC`.
-fn dynamic_segment(segments: &Table<'_, ProgramHeader, Ctx>) -> Option<ProgramHeader>
+fn dynamic_segment(segments: &Segments<'_>) -> Option<ProgramHeader>
     ensures { result ≡ dynamic_segment segments.now }
 {
     segments.iter().find(|segment| segment.p_type == PT_DYNAMIC)
 }
 
 // Returns the first section of type `SHT_DYNAMIC`.
-fn dynamic_section(sections: &Table<'_, SectionHeader, Ctx>) -> Option<SectionHeader>
+fn dynamic_section(sections: &Sections<'_>) -> Option<SectionHeader>
     ensures { result ≡ dynamic_section sections.now }
 {
     sections
@@ -315,13 +266,10 @@ fn range_of(section: &SectionHeader) -> FileRange
     }
 }
 
-/// An iterator over the entries of a dynamic section, from the first to the last.
-pub type DynIterator<'a> = TableIter<'a, Dyn, Ctx>;
-
 /// An iterator over the values of a tag: from the first to the last, and `None` from then on.
 #[derive(Debug, Drop)]
 pub struct Values<'a> {
-    left: DynIterator<'a>,
+    left: TableIter<'a, Dyn, Ctx>,
     tag: u64,
 }
 

@@ -59,16 +59,20 @@ fn range(offset: usize, size: usize) -> FileRange {
 
 // Reports whether these are the entries before the end, by index and in turn.
 fn has_entries(dynamic: &Dynamic<'_>) -> bool {
-    let mut entries = dynamic.iter();
+    let mut entries = dynamic.entries.iter();
     let is_each = ENTRIES.iter().enumerate().all(|(i, (d_tag, d_val))| {
         let entry = Some(Dyn {
             d_tag: *d_tag,
             d_val: *d_val,
         });
-        dynamic.get(i) == entry
+        dynamic.entries.get(i) == entry
     });
-    let is_first = entries.next() == dynamic.get(0) && entries.len() == 3;
-    is_each && is_first && dynamic.get(4).is_none() && dynamic.len() == 4 && !dynamic.is_empty()
+    let is_first = entries.next() == dynamic.entries.get(0) && entries.len() == 3;
+    is_each
+        && is_first
+        && dynamic.entries.get(4).is_none()
+        && dynamic.entries.len() == 4
+        && !dynamic.entries.is_empty()
 }
 
 // Reports whether the value of each tag is the first one with it, and whether both libraries are listed.
@@ -102,6 +106,25 @@ fn lists_entries_up_to_the_end(rt: HostRuntime) {
     assert!(rt; is_listed(IN_BIG64, 96, BIG64));
 }
 
+// The number of all entries of the range after the strings, and the tag and the value of the last one.
+fn last_of(bytes: &[u8], size: usize, ctx: Ctx) -> (usize, u64, u64) {
+    let Ok(entries) = Dynamic::whole_in_range(bytes, range(8, size), ctx) else {
+        return (100, 0, 0);
+    };
+    match entries.iter().last() {
+        Some(Dyn { d_tag, d_val }) => (entries.len(), d_tag, d_val),
+        None => (0, 0, 0),
+    }
+}
+
+#[test]
+fn lists_entries_after_the_end(rt: HostRuntime) {
+    assert!(rt; last_of(IN_LITTLE32, 48, LITTLE32) == (6, 14, 1));
+    assert!(rt; last_of(IN_BIG64, 96, BIG64) == (6, 14, 1));
+    assert!(rt; last_of(IN_BIG64, 95, BIG64) == (5, 0, 0));
+    assert!(rt; last_of(IN_BIG64, 97, BIG64) == (100, 0, 0));
+}
+
 // Without an end, with or without a part of one more entry, the range's end is the end.
 #[test]
 fn lists_entries_without_an_end(rt: HostRuntime) {
@@ -113,7 +136,7 @@ fn lists_entries_without_an_end(rt: HostRuntime) {
 // The number of entries of a range, or the numbers of the refusal: the size and the bytes left, or the offset.
 fn count_in(bytes: &[u8], offset: usize, size: usize) -> (usize, usize, usize) {
     match Dynamic::in_range(bytes, range(offset, size), LITTLE32) {
-        Ok(dynamic) => (dynamic.len(), 0, 0),
+        Ok(dynamic) => (dynamic.entries.len(), 0, 0),
         Err(Error::Scroll(scroll::Error::TooBig { size, len })) => (100, size, len),
         Err(Error::Scroll(scroll::Error::BadOffset(offset))) => (200, offset, 0),
         Err(_) => (300, 0, 0),
@@ -178,7 +201,7 @@ fn strings_of(bytes: &[u8], first: usize, count: usize) -> (usize, usize) {
     match Dynamic::by_segments(bytes, &segments, LITTLE32) {
         Ok(Some(dynamic)) => match dynamic.strings(bytes, &segments) {
             Ok(Some(found)) => (found.offset, found.size),
-            Ok(None) => (200, dynamic.len()),
+            Ok(None) => (200, dynamic.entries.len()),
             Err(Error::Scroll(scroll::Error::TooBig { size, len })) => (size, 500 + len),
             Err(_) => (600, 0),
         },
@@ -227,7 +250,7 @@ fn section_of(bytes: &[u8], headers: &[u8]) -> (usize, usize, usize) {
         return (100, 0, 0);
     };
     let count = match Dynamic::by_sections(bytes, &sections, BIG64) {
-        Ok(Some(dynamic)) => dynamic.len(),
+        Ok(Some(dynamic)) => dynamic.entries.len(),
         Ok(None) => 200,
         Err(_) => 300,
     };

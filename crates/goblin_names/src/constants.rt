@@ -8,7 +8,7 @@ use goblin::elf64::{
     header as header64, program_header as program_header64, reloc as reloc64,
     section_header as section_header64, sym as sym64,
 };
-use goblin_dynamic::tags;
+use goblin_dynamic::{entry, tags};
 use std::fmt::Display;
 use std::io;
 
@@ -89,6 +89,7 @@ static SIZES: &[(&str, usize)] = rows![
     sym64: SIZEOF_SYM;
     reloc32: SIZEOF_REL SIZEOF_RELA;
     reloc64: SIZEOF_REL SIZEOF_RELA;
+    entry: SIZEOF_DYN32 SIZEOF_DYN64;
 ];
 
 static ENTRIES: &[(&str, u64)] = rows![

@@ -1,4 +1,5 @@
 //! Tests what is read of small files that are made here, of both classes and byte orders, whole and damaged.
+use goblin_rs::dynamic::{DT_NEEDED, DT_NULL, DT_SONAME, DT_STRSZ, DT_STRTAB};
 use goblin_rs::error::Kind;
 use goblin_rs::program_header::{
     ProgramHeader, PT_DYNAMIC, PT_GNU_EH_FRAME, PT_GNU_RELRO, PT_GNU_STACK, PT_INTERP, PT_LOAD, PT_NOTE, PT_PHDR,
@@ -915,4 +916,72 @@ fn damaged() {
         assert_eq!(fewer + refused + same, 6 * file.len());
         assert!(fewer > file.len() && refused > 60 && same > file.len(), "{} {} {}", fewer, refused, same);
     }
+}
+
+/// Returns a file with a dynamic section and its strings, each with a segment, and the header that has these segments.
+/// The section has these entries, one that ends them, and another one.
+fn with_dynamic(form: Form, entries: &[(u64, u64)]) -> (Vec<u8>, header::Header) {
+    let mut file = made(form, 0);
+    let strings = file.len() as u64;
+    file.extend(b"\0liba\0libb\0");
+    let dynamic = file.len() as u64;
+    for (tag, value) in entries.iter().chain(&[(DT_NULL, 0), (DT_SONAME, 1)]) {
+        file.extend(form.numbers(&[(form.wide(), *tag), (form.wide(), *value)]));
+    }
+    let segments = file.len() as u64;
+    file.extend(form.segment(PT_LOAD.into(), 4, strings, 11));
+    file.extend(form.segment(PT_DYNAMIC.into(), 4, dynamic, segments - dynamic));
+    let header = header::Header { e_phoff: segments, e_phnum: 2, ..Elf::parse(&file).unwrap().header };
+    (file, header)
+}
+
+// Some entries, more than are read at a time. The first segment of `with_dynamic` loads the strings at 0x4000.
+fn entries(strings_size: u64) -> Vec<(u64, u64)> {
+    let first = [(DT_NEEDED, 1), (DT_STRTAB, 0x4000), (DT_STRSZ, strings_size), (DT_NEEDED, 6)];
+    first.into_iter().chain((0..60).map(|i| (0x6000_0000 + i, i))).collect()
+}
+
+#[test]
+fn dynamic_sections() {
+    for form in FORMS {
+        // (their number is also one that is read at a time)
+        for count in [4, 32, 64] {
+            let wanted = &entries(11)[..count];
+            let (file, header) = with_dynamic(form, wanted);
+            let mut elf = Elf::parse(&file).unwrap();
+            assert!(elf.dynamic().unwrap().is_none());
+            elf.header = header;
+            let dynamic = elf.dynamic().unwrap().unwrap();
+            assert!(dynamic.entries().map(|entry| (entry.d_tag, entry.d_val)).eq(wanted.iter().copied()));
+            assert_eq!(dynamic.values(DT_NEEDED).collect::<Vec<_>>(), [1, 6]);
+            assert_eq!(dynamic.value(DT_NEEDED), Some(1));
+            assert_eq!((dynamic.value(DT_NULL), dynamic.value(DT_SONAME)), (None, None));
+            let strings = dynamic.strings().unwrap().unwrap();
+            assert_eq!([1, 6, 11].map(|at| strings.get(at)), [Ok(Some("liba")), Ok(Some("libb")), Ok(None)]);
+        }
+    }
+}
+
+#[test]
+fn damaged_dynamic_sections() {
+    for form in FORMS {
+        let (file, header) = with_dynamic(form, &entries(1 << 20));
+        let mut elf = Elf::parse(&file).unwrap();
+        elf.header = header;
+        let strings = elf.dynamic().unwrap().unwrap().strings();
+        assert!(matches!(strings.map_err(|e| e.kind()), Err(Kind::TooBig { size: 0x10_0000, .. })));
+        elf.header.e_phnum = 3;
+        assert!(elf.dynamic().is_err());
+        // a size in the file of the second segment that is too great
+        let (mut file, header) = with_dynamic(form, &entries(11)[..2]);
+        let at = header.e_phoff as usize + if form.is_64 { 56 + 32 } else { 32 + 16 };
+        file[at..at + form.wide()].copy_from_slice(&form.numbers(&[(form.wide(), 0x7fff_0000)]));
+        let mut elf = Elf::parse(&file).unwrap();
+        elf.header = header;
+        assert!(elf.dynamic().is_err());
+    }
+    let (file, header) = with_dynamic(FORMS[0], &entries(11)[..2]);
+    let mut elf = Elf::parse(&file).unwrap();
+    elf.header = header;
+    assert!(elf.dynamic().unwrap().unwrap().strings().unwrap().is_none(), "there is no entry with their size");
 }

@@ -49,8 +49,9 @@ const RUN: &str = "run `python3 faces/constants.py`";
 fn constants_are_the_library_s() {
     let mut theirs = constants("crates/goblin_headers/src");
     theirs.extend(constants("crates/goblin_records/src"));
+    theirs.extend(constants("crates/goblin_dynamic/src"));
     theirs.extend(constants("faces"));
-    assert!(theirs.len() >= 374);
+    assert!(theirs.len() >= 416);
     let mut theirs: Vec<_> = theirs.iter().map(|constant| with_type_of_field(constant)).collect();
     let mut ours = constants("faces/rust/src/constants");
     theirs.sort();
@@ -64,7 +65,7 @@ fn constants_are_the_library_s() {
 /// Returns the lines of a source that declare public types. `raw.rs` declares them by a macro.
 fn declarations<'a>(name: &str, source: &'a str) -> Vec<(usize, &'a str)> {
     let words = ["pub struct ", "pub enum ", "pub trait "];
-    let records = ["    Header {", "    SectionHeader {", "    ProgramHeader {", "    Sym {"];
+    let records = ["    Header {", "    SectionHeader {", "    ProgramHeader {", "    Sym {", "    Dyn {"];
     let declares = |line: &str| match name {
         "raw.rs" => records.contains(&line),
         // (its type is private to the crate)
@@ -89,5 +90,5 @@ fn each_type_has_an_example() {
             found += 1;
         }
     }
-    assert!(found >= 22, "{found} types");
+    assert!(found >= 24, "{found} types");
 }

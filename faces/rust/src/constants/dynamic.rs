@@ -92,3 +92,9 @@ pub const DF_1_INTERPOSE: u64 = 1 << 10;
 pub const DF_1_NODEFLIB: u64 = 1 << 11;
 /// A position-independent executable.
 pub const DF_1_PIE: u64 = 1 << 27;
+
+/// The size of an entry of the 32-bit class in bytes.
+pub const SIZEOF_DYN32: usize = 4 + 4;
+
+/// The size of an entry of the 64-bit class in bytes.
+pub const SIZEOF_DYN64: usize = 8 + 8;

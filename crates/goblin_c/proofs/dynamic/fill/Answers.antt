@@ -1,6 +1,6 @@
 -- After i turns the buffer holds the first i entries (`laid-item`). Where there is no entry for the next place, these
 -- were all (`none`), so the buffer stays as it is.
-use Rattle.goblin_c.proofs.Common.{◌≡◌, ◌≤◌, ◌<◌, ◌+◌, length, slice_get, Some, None, sym, ap, ◌∙◌, arith, set-get_or}
+use Rattle.goblin_c.proofs.Common.{◌≡◌, ◌≤◌, ◌<◌, ◌+◌, length, slice_get, Some, sym, ap, ◌∙◌, arith, set-get_or}
 use Rattle.goblin_c.proofs.Common.{slice_get_within}
 use Rattle.goblin_c.proofs.DynamicLemmas.{entry_at, few_entries}
 use Rattle.goblin_c.proofs.FilledBufferLemmas.{ends-before, laid-enough, laid-item}
