@@ -1,11 +1,10 @@
 -- Laws of the calls for the dynamic section.
-use Rattle.std.specs.Prelude.{◌≡◌, ◌<◌, ◌≤◌, ℕ, List, drop, length, map, Some, Ok}
+use Rattle.std.specs.Prelude.{◌≡◌, ◌≤◌, ℕ, List, drop, length, map, Some, Ok}
 use Rattle.goblin_dynamic.specs.declared.entry.Dyn.{Dyn}
 use Rattle.goblin_c.specs.Common.{GoblinHeader, GoblinRange}
-use Rattle.goblin_c.specs.Dynamic.{dynamic_expected, dynamic_strings_expected, dynamic_value_expected}
-use Rattle.goblin_c.specs.Dynamic.{entries_expected, entries_from_expected, unless_empty}
+use Rattle.goblin_c.specs.Dynamic.{dynamic_expected, dynamic_strings_expected, entries_expected}
+use Rattle.goblin_c.specs.Dynamic.{entries_from_expected, unless_empty}
 use Rattle.goblin_c.specs.Laws.{LiesIn}
-use Rattle.goblin_c.specs.Places.{address_to_offset_expected}
 use Rattle.goblin_c.specs.Types.{dyn_converted}
 
 -- the entries that are stored from an index on are those of the library's list, if it does not end before the index
@@ -23,12 +22,3 @@ pub record DynamicLiesInFile : Type 0 where
   pub strings :
       (bytes : List ℕ) (h : GoblinHeader) (range found : GoblinRange)
       → dynamic_strings_expected bytes h range ≡ Ok (Some found) → LiesIn bytes found
-
--- the size of the strings is the value of tag 10, and their offset that of the address which is the value of tag 5
-abbrev pub StringsAreLoaded : Type 0
-StringsAreLoaded =
-    (bytes : List ℕ) (h : GoblinHeader) (range found : GoblinRange)
-    → dynamic_strings_expected bytes h range ≡ Ok (Some found)
-    → (dynamic_value_expected bytes h range 10 ≡ Ok (Some found.size))
-    × ((address : ℕ) × (dynamic_value_expected bytes h range 5 ≡ Ok (Some address))
-    × (0 < found.size → address_to_offset_expected bytes h address ≡ Ok (Some found.offset)))

@@ -41,14 +41,6 @@ fn range_in_file(bytes: &[u8], range: Option<FileRange>) -> Result<Option<Goblin
     }
 }
 
-// Returns the range of the dynamic section.
-fn range_of(bytes: &[u8], header: &GoblinHeader) -> Result<Option<GoblinRange>>
-    ensures { Returns (λ found. found) result (dynamic_expected bytes.now header.now) }
-{
-    let segments = segments_of(bytes, header)?;
-    range_in_file(bytes, Dynamic::range_by_segments(&segments))
-}
-
 /// Stores the range of the dynamic section, as the loader finds it.
 #[unsafe(no_mangle)]
 pub extern "C" fn goblin_dynamic(
@@ -60,7 +52,9 @@ pub extern "C" fn goblin_dynamic(
     ensures { Stores (dynamic_expected bytes.now header.now)
         dynamic.old why.old result dynamic.new why.new }
 {
-    store(range_of(bytes, header), dynamic, why)
+    let found = segments_of(bytes, header).map(|segments| Dynamic::range_by_segments(&segments));
+    let found = found.and_then(|range| range_in_file(bytes, range));
+    store(found, dynamic, why)
 }
 
 // Returns the entry at an index for C, or `None` if there is none or it ends the entries.
@@ -76,6 +70,7 @@ fn entry_at(all: &Table<'_, Dyn, Ctx>, index: usize) -> Option<GoblinDyn>
 }
 
 // Fills a buffer with the entries from an index on. Returns how many it holds.
+#[tactic(auto, using(crate::proofs::DynamicLemmas::few_entries, crate::proofs::FilledBufferLemmas::laid_steps))]
 fn fill(all: &Table<'_, Dyn, Ctx>, first: usize, buffer: &mut [GoblinDyn]) -> usize
     requires { first ≤ length all.now }
     ensures written { buffer.new ≡ laid (entries_from all.now first) buffer.old }
@@ -135,19 +130,6 @@ fn entries_of<'a>(
     refused_at(range.offset, entries)
 }
 
-// Returns the value of the first entry with a tag.
-fn value_of(
-    bytes: &[u8],
-    header: &GoblinHeader,
-    range: &GoblinRange,
-    tag: u64,
-) -> Result<Option<u64>>
-    ensures { Returns (λ found. found) result
-        (dynamic_value_expected bytes.now header.now range.now tag) }
-{
-    Ok(entries_of(bytes, header, range)?.value(tag))
-}
-
 /// Stores the value of the first entry with a tag.
 #[unsafe(no_mangle)]
 pub extern "C" fn goblin_dynamic_value(
@@ -161,7 +143,8 @@ pub extern "C" fn goblin_dynamic_value(
     ensures { Stores (dynamic_value_expected bytes.now header.now dynamic.now tag)
         value.old why.old result value.new why.new }
 {
-    store(value_of(bytes, header, dynamic, tag), value, why)
+    let found = entries_of(bytes, header, dynamic).map(|entries| entries.value(tag));
+    store(found, value, why)
 }
 
 // Returns the range of the strings.

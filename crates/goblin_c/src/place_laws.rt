@@ -1,6 +1,6 @@
 //! Laws of the calls for numbers in a range, for offsets of addresses, for ranges that are cut to the file, and for the
 //! dynamic section.
-ghost use Rattle.goblin_c.specs.DynamicLaws.{DynamicLiesInFile, EntriesAreListed, StringsAreLoaded};
+ghost use Rattle.goblin_c.specs.DynamicLaws.{DynamicLiesInFile, EntriesAreListed};
 ghost use Rattle.goblin_c.specs.PlaceLaws.{AddressesAreLoaded, NumbersLieInRange, PartsLieInFile};
 
 /// Law: a number that `goblin_number_in` stores lies in the range, and the range in the file. `goblin_number` stores
@@ -24,10 +24,8 @@ pub fn parts()
 
 /// Laws: the entries that `goblin_dynamic_entries` stores from an index on are those that are left there of the
 /// library's list, in which `goblin_dynamic_value` searches, if the list does not end before the index. The ranges that
-/// `goblin_dynamic` and `goblin_dynamic_strings` store lie in the file. The size of the strings is the value of tag 10,
-/// and if it is above 0, `goblin_address_to_offset` stores their offset for the value of tag 5.
+/// `goblin_dynamic` and `goblin_dynamic_strings` store lie in the file.
 pub fn dynamic()
     ensures entries { EntriesAreListed }
     ensures within { DynamicLiesInFile }
-    ensures strings { StringsAreLoaded }
 {}

@@ -2,13 +2,10 @@
 -- were all (`none`), so the buffer stays as it is.
 use Rattle.goblin_c.proofs.Common.{◌≡◌, ◌≤◌, ◌<◌, ◌+◌, length, slice_get, Some, sym, ap, ◌∙◌, arith, set-get_or}
 use Rattle.goblin_c.proofs.Common.{slice_get_within}
-use Rattle.goblin_c.proofs.DynamicLemmas.{entry_at, few_entries}
+use Rattle.goblin_c.proofs.DynamicLemmas.{entry_at}
 use Rattle.goblin_c.proofs.FilledBufferLemmas.{ends-before, laid-enough, laid-item}
 use Rattle.goblin_c.specs.Dynamic.{entries_from}
 use Rattle.goblin_c.proofs.dynamic.fill.Goals as goal
-
-pub overflow_add-first : goal.overflow_add-first
-overflow_add-first c = omega (arith, c.loop-i.invariant.within, few_entries c.args.all.now c.args.first)
 
 pub loop-i-preserved : goal.loop-i-preserved
 loop-i-preserved c =
@@ -24,23 +21,6 @@ loop-i-preserved c =
           (ap (slice_get entries) place ∙ found) c.loop-i.invariant.filled c.loop-i-test.true;
       counted = c.loop-i.invariant.counted;
     }
-
-pub returns-after-loop-i-clause-written : goal.returns-after-loop-i-clause-written
-returns-after-loop-i-clause-written c =
-    c.loop-i.invariant.filled
-    ∙ laid-enough c.loop-i.i (entries_from c.args.all.now c.args.first) c.args.buffer.now
-    (omega (arith, c.loop-i-test.false))
-
-pub returns-after-loop-i-clause-value : goal.returns-after-loop-i-clause-value
-returns-after-loop-i-clause-value c =
-    omega (
-      arith,
-      c.loop-i.invariant.counted,
-      c.loop-i.invariant.within,
-      c.loop-i-test.false,
-      c.loop-i.auto.i-end,
-      few_entries c.args.all.now c.args.first,
-    )
 
 -- there is no entry from here on
 none : (c : goal.In-None) → length (entries_from c.args.all.now c.args.first) ≤ c.loop-i.i
