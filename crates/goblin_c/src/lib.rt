@@ -8,6 +8,8 @@ mod bytes;
 #[cfg(test)]
 mod bytes_tests;
 mod dynamic;
+#[cfg(test)]
+mod dynamic_tests;
 mod headers;
 mod inside;
 mod kinds;

@@ -1,0 +1,100 @@
+//! The calls for the dynamic section, on bytes with two program headers, strings, and the section: a library, the
+//! address and the size of the strings, the end, and the library's own name after it.
+use crate::layout::marked_layout;
+use crate::tests::{called, header, range};
+use crate::types::{GoblinHeader, GoblinRange, GoblinRefusal};
+use crate::*;
+
+static BYTES: &[u8; 112] =
+    b"\x01\0\0\0\x40\0\0\0\0\x10\0\0\0\0\0\0\x30\0\0\0\x30\0\0\0\x04\0\0\0\0\0\0\0\
+    \x02\0\0\0\x48\0\0\0\x08\x10\0\0\0\0\0\0\x28\0\0\0\x28\0\0\0\x04\0\0\0\0\0\0\0\
+    \0liba\0b\0\
+    \x01\0\0\0\x01\0\0\0\x05\0\0\0\0\x10\0\0\x0a\0\0\0\x08\0\0\0\0\0\0\0\0\0\0\0\x0e\0\0\0\x01\0\0\0";
+
+const DYNAMIC: GoblinRange = GoblinRange {
+    offset: 72,
+    size: 40,
+};
+
+// The file's header, with so many of the program headers.
+fn with_segments(count: u16) -> GoblinHeader {
+    let mut header = header();
+    (header.e_phoff, header.e_phnum) = (0, count);
+    header
+}
+
+// The answer for a range: the range, or the first number of the refusal and where it begins.
+fn range_shown((status, found, why): (u32, GoblinRange, GoblinRefusal)) -> (u32, u64, u64) {
+    if status > 1 {
+        return (status, why.first, why.offset);
+    }
+    (status, found.offset, found.size)
+}
+
+fn dynamic(len: usize, segments: u16) -> (u32, u64, u64) {
+    let header = with_segments(segments);
+    range_shown(called!(goblin_dynamic(&BYTES[..len], &header), range(9, 9)))
+}
+
+#[test]
+fn finds_the_dynamic_section(rt: HostRuntime) {
+    assert!(rt; dynamic(112, 2) == (0, 72, 40) && dynamic(112, 1) == (1, 9, 9));
+    assert!(rt; dynamic(111, 2) == (3, 40, 72) && dynamic(72, 2) == (4, 72, 72));
+    assert!(rt; dynamic(63, 2) == (6, 2, 0));
+}
+
+fn strings(dynamic: GoblinRange, segments: u16) -> (u32, u64, u64) {
+    let header = with_segments(segments);
+    range_shown(called!(
+        goblin_dynamic_strings(BYTES, &header, &dynamic),
+        range(9, 9)
+    ))
+}
+
+#[test]
+fn finds_its_strings(rt: HostRuntime) {
+    assert!(rt; strings(DYNAMIC, 2) == (0, 64, 8) && strings(DYNAMIC, 0) == (1, 9, 9));
+    assert!(rt; strings(range(72, 23), 2) == (1, 9, 9) && strings(range(72, 41), 2) == (3, 41, 72));
+    assert!(rt; strings(DYNAMIC, 4) == (6, 4, 0) && strings(range(72, 41), 4) == (3, 41, 72));
+}
+
+fn value(tag: u64) -> (u32, u64) {
+    let (status, value, _) = called!(
+        goblin_dynamic_value(BYTES, &with_segments(0), &DYNAMIC, tag),
+        9
+    );
+    (status, value)
+}
+
+#[test]
+fn finds_values_before_the_end(rt: HostRuntime) {
+    assert!(rt; value(1) == (0, 1) && value(5) == (0, 0x1000) && value(10) == (0, 8));
+    assert!(rt; value(0) == (1, 9) && value(14) == (1, 9));
+}
+
+// The status, the number of entries, and the tags of three, from an index on, of a buffer with a capacity.
+fn entries(first: u64, capacity: usize) -> (u32, u64, [u64; 3]) {
+    let (mut all, mut filled, mut why) = ([marked_layout().entry; 3], 9, marked_layout().refusal);
+    let header = with_segments(0);
+    let status = goblin_dynamic_entries(
+        BYTES,
+        &header,
+        &DYNAMIC,
+        first,
+        &mut all[..capacity],
+        &mut filled,
+        &mut why,
+    );
+    (status, filled, [all[0].d_tag, all[1].d_tag, all[2].d_tag])
+}
+
+// The tag of an entry that is not written.
+const MARK: u64 = 0x0101_0101_0101_0101;
+
+#[test]
+fn fills_entries_up_to_the_end(rt: HostRuntime) {
+    assert!(rt; entries(0, 3) == (0, 3, [1, 5, 10]) && entries(0, 2) == (0, 2, [1, 5, MARK]));
+    assert!(rt; entries(1, 3) == (0, 2, [5, 10, MARK]) && entries(2, 0) == (0, 0, [MARK; 3]));
+    assert!(rt; entries(3, 3) == (1, 9, [MARK; 3]) && entries(4, 3) == (0, 1, [14, MARK, MARK]));
+    assert!(rt; entries(5, 3) == (1, 9, [MARK; 3]) && entries(u64::MAX, 3) == (1, 9, [MARK; 3]));
+}
