@@ -155,9 +155,9 @@ typedef struct {
     uint64_t third;
     uint64_t fourth;
     uint64_t offset; /* where in the file the thing begins that is refused: 0 for the header; the range's offset for
-                        symbols, relocations or strings; the offset of the string, note or bytes; the field of a number
-                        that does not fit (r_info for r_sym and r_type); for a list of headers its start, e_shoff or
-                        e_phoff, though the numbers may be about one header in it */
+                        symbols, relocations, entries or strings; the offset of the string, note or bytes; the field of
+                        a number that does not fit (r_info for r_sym and r_type); for a list of headers its start,
+                        e_shoff or e_phoff, though the numbers may be about one header in it */
 } goblin_refusal_t;
 
 /* Some bytes of the file. A range that a call returns lies inside the file, if its struct does not say otherwise. Its
@@ -552,8 +552,8 @@ uint32_t goblin_dynamic(const uint8_t *bytes, size_t len, const goblin_header_t 
 /* Reads the entries of a dynamic section from the index `first` on into an array of `capacity` items. They end before
    the next entry of tag GOBLIN_DT_NULL, or else with the last one that lies in the range `dynamic` whole. `*filled` is
    the number of items that are written; those after them are unchanged. If it is below `capacity`, there are no more.
-   GOBLIN_END if there is no entry at `first`, or one of tag GOBLIN_DT_NULL. What follows that entry is read from its
-   own index on, and has no meaning. The call reads at most `capacity` entries and one more.
+   GOBLIN_END if there is no entry at `first`, or one of tag GOBLIN_DT_NULL. From an index past that entry the call
+   reads what follows it, which has no meaning. It reads at most `capacity` entries and one more.
    GOBLIN_BAD_OFFSET or GOBLIN_TOO_BIG: the range is not inside the file.
    Example: while (!goblin_dynamic_entries(bytes, len, &header, &range, index, entries, 64, &filled, &why))
                 index += filled; */
