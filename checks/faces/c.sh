@@ -207,7 +207,7 @@ check_damaged() {
     fi
     build damaged -std=c99 "$@"
     strictly cc -std=c99 -Ifaces/c -o "$folder/plain" faces/c/damaged.c faces/c/plain.c
-    for file in "$folder/nm" "$folder/made" "$files" checks/files/made/s390x_program checks/files/made/mips_program; do
+    for file in checks/files/made/s390x_program checks/files/made/mips_program "$folder/nm" "$folder/made" "$files"; do
         if [ -d "$file" ]; then set -- "$file"/*; else set -- "$file"; fi
         quietly "$folder/plain" 1000 "$@"
         mv "$folder/output" "$folder/wanted"
