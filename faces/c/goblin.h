@@ -539,8 +539,10 @@ uint32_t goblin_note_bytes(const uint8_t *bytes, size_t len, const goblin_header
 /* ---- the dynamic section ----
 
    It says what a program needs of the loader: libraries, search paths, and where tables are. goblin_dynamic finds it by
-   the program headers, as a loader does. In a file without them it is the section of type GOBLIN_SHT_DYNAMIC, if there
-   is one: pass its `file` as `dynamic`. Its strings are then the section that goblin_linked_section finds. */
+   the program headers. In a file without them it is the section of type GOBLIN_SHT_DYNAMIC, if there is one: pass its
+   `file` as `dynamic`. Its strings are then the section that goblin_linked_section finds.
+   These calls take the first segment of the type, and of a tag the first value. Of a malformed file that has several,
+   a loader may take others: that of glibc takes the last segment, and of most tags the last value. */
 
 /* Finds the range of the dynamic section: the `file` of the first segment of type GOBLIN_PT_DYNAMIC, also if its size
    is 0. GOBLIN_END if no segment has that type.

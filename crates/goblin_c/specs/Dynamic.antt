@@ -24,7 +24,7 @@ abbrev pub range_in_file : List ℕ → Option FileRange → Result (Option Gobl
 range_in_file bytes (Some range) = range_expected bytes (range_converted range)
 range_in_file bytes None = Ok None
 
--- the range of the dynamic section, as the loader finds it
+-- the range of the dynamic section that the segments have
 abbrev pub dynamic_expected : List ℕ → GoblinHeader → Result (Option GoblinRange) RefusalAt
 dynamic_expected bytes h = do
   segments ← segments_expected bytes h

@@ -41,7 +41,7 @@ fn range_in_file(bytes: &[u8], range: Option<FileRange>) -> Result<Option<Goblin
     }
 }
 
-/// Stores the range of the dynamic section, as the loader finds it.
+/// Stores the range of the dynamic section that the segments have.
 #[unsafe(no_mangle)]
 pub extern "C" fn goblin_dynamic(
     bytes: &[u8],

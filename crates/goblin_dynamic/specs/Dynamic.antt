@@ -71,7 +71,7 @@ segment_range s = file_range s.p_offset s.p_filesz
 abbrev pub dynamic_segment : List ProgramHeader → Option ProgramHeader
 dynamic_segment segments = find (λ s. s.p_type == 2) segments
 
--- where the dynamic section lies, as the loader sees it
+-- where the dynamic section lies, by the segments
 abbrev pub dynamic_range : List ProgramHeader → Option FileRange
 dynamic_range segments = option_map segment_range (dynamic_segment segments)
 

@@ -82,7 +82,7 @@ impl<'a> Dynamic<'a> {
         Ok(whole_entries(&bytes[offset..offset + size], ctx))
     }
 
-    /// Reads the entries of the dynamic section as the loader finds them, by the first segment of type `PT_DYNAMIC`.
+    /// Reads the entries of the dynamic section by the first segment of type `PT_DYNAMIC`, at its offset in the file.
     /// There is no dynamic section if no segment has that type.
     ///
     /// # Errors

@@ -281,7 +281,7 @@ impl<'a> Elf<'a> {
         sys::goblin_address_to_offset(&self.file, &self.header, address)
     }
 
-    /// Returns the dynamic section, as a loader finds it, or `None` if no segment is of type `PT_DYNAMIC`.
+    /// Returns the dynamic section, by the first segment of type `PT_DYNAMIC`, or `None` if no segment has that type.
     ///
     /// # Errors
     /// If the program headers or the dynamic section are not inside the file.
