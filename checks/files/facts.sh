@@ -1,0 +1,111 @@
+#!/bin/sh
+# Makes the files of checks/files/facts, each of which shows a fact that few files show: sh checks/files/facts.sh checks/files/facts
+# They were made on Debian 12 for x86-64 by gcc 12.2.0, clang and lld 14.0.6 and binutils 2.40. Nothing in them is anybody else's. No check
+# runs this script. facts.py beside it says what their facts are. Run it from the repository's root.
+set -eu
+export LC_ALL=C
+to=$(cd "$1" && pwd)
+folder=$(mktemp -d)
+trap 'rm -rf "$folder"' EXIT
+trap 'exit 1' HUP INT TERM
+cd "$folder"
+
+cat > code.c << 'C'
+int first(int), second(int);
+static int data = 7;
+int *const pointer __attribute__((section(".data.rel.ro"))) = &data;
+__attribute__((noinline)) int called(int given) { volatile char room[16]; room[given & 15] = 1; return room[0] + *pointer; }
+#ifdef INTERPRETER
+const char interpreter[] __attribute__((section(".interp"))) = "/lib/ld-made.so.1";
+#endif
+#ifdef LIBRARIES
+void _start(void) { for (;;) called(first(1) + second(2)); }
+#else
+void _start(void) { for (;;) called(1); }
+#endif
+C
+echo 'int first(int given) { return given; }' > first.c
+echo 'int second(int given) { return given; } void __stack_chk_fail(void) { for (;;); }' > second.c
+# Compiles and links small files.
+small() {
+    gcc -O1 -nostdlib -ffreestanding -fno-asynchronous-unwind-tables -Wl,-z,max-page-size=256,-z,common-page-size=256,-z,noseparate-code \
+        -Wl,--build-id=none -fno-stack-protector -fcf-protection=none "$@"
+}
+
+for name in first second; do small -fPIC -shared -Wl,-soname,lib$name.so.1 -o $name.so $name.c; done
+
+# Static programs: stripped; with symbols, code that can be written and a stack that can be executed; and position-independent.
+small -fno-pie -static -no-pie -s -Wl,-z,relro -o static_program code.c
+small -fno-pie -static -no-pie -Wl,-N -Wl,-z,norelro -Wl,-z,execstack -o writable_code code.c
+small -fpie -static-pie -s -Wl,-z,relro -o static_pie code.c
+# A program bound at its start, with a canary, marks of control-flow enforcement, a search path and two libraries.
+small -DLIBRARIES -fpie -pie -s -fcf-protection=full -fstack-protector-all -Wl,-z,relro,-z,now,--enable-new-dtags,-rpath,/made/runpath \
+    -Wl,-z,ibt,-z,shstk -Wl,--build-id=sha1 -Wl,--dynamic-linker,/lib/ld-made.so.1 -o full code.c first.so second.so
+# A library with an interpreter, as libc has, of two compilers and a linker that say their names, and one of another machine.
+small -DINTERPRETER -fPIC -c -o gcc.o code.c
+clang -O1 -ffreestanding -fPIC -c -o clang.o first.c
+ld.lld -shared -soname libtwo.so.1 -z max-page-size=256 -z noseparate-code --no-rosegment -o two_compilers gcc.o clang.o
+clang --target=aarch64-linux-gnu -O1 -ffreestanding -fPIC -mbranch-protection=standard -c -o aarch64.o first.c
+ld.lld -shared -soname libfirst.so.1 -z max-page-size=256 -z noseparate-code -z force-bti -z now -o branch_targets aarch64.o
+# An object whose symbols have versions in their names.
+gcc -O1 -ffreestanding -fno-asynchronous-unwind-tables -fPIC -fstack-protector-all -fcf-protection=branch -c -o canary.o code.c
+objcopy --redefine-sym __stack_chk_fail=__stack_chk_fail@GLIBC_2.4 canary.o object
+# Separate debug files, as objcopy makes them, and below as elfutils does: with the sizes of the segments.
+objcopy --only-keep-debug full debug
+
+python3 - << 'PYTHON'
+import struct
+
+FILE = {32: '>16sHHIIIIIHHHHHH', 64: '<16sHHIQQQIHHHHHH'}
+
+
+def put(name, content):
+    with open(name, 'wb') as file:
+        file.write(content)
+
+
+def segments(content):
+    """Yields the offset of each program header and its fields: p_type, p_flags, p_offset, p_vaddr, p_paddr, p_filesz, p_memsz, p_align."""
+    start, count = struct.unpack_from('<Q', content, 32)[0], struct.unpack_from('<H', content, 56)[0]
+    for at in range(start, start + 56 * count, 56):
+        yield at, struct.unpack_from('<IIQQQQQQ', content, at)
+
+
+full, debug, thing = (bytearray(open(name, 'rb').read()) for name in ('full', 'debug', 'object'))
+dynamic_at, dynamic = next((at, fields) for at, fields in segments(full) if fields[0] == 2)
+# cut inside the dynamic section, and inside the section headers; and whole, with a dynamic section that is said to go on past the end
+put('cut_dynamic', full[:dynamic[2] + 40])
+put('cut_headers', full[:-10])
+long = full[:]
+struct.pack_into('<Q', long, dynamic_at + 32, len(full))
+put('long_dynamic', long)
+put('cut_debug', debug[:-10])
+for (_, fields), (at, _) in zip(segments(full), segments(debug)):
+    struct.pack_into('<Q', debug, at + 8, fields[2])
+    struct.pack_into('<Q', debug, at + 32, fields[5])
+put('debug_with_sizes', debug)
+# without DT_STRTAB, and without program headers
+bare = bytearray(open('two_compilers', 'rb').read())
+start, size = next(fields[2::3] for _, fields in segments(bare) if fields[0] == 2)
+unnamed = bare[:]
+strings = next(at for at in range(start, start + size, 16) if struct.unpack_from('<Q', bare, at)[0] == 5)
+struct.pack_into('<Q', unnamed, strings, 0x60000000)
+put('no_strings', unnamed)
+struct.pack_into('<Q', bare, 32, 0)
+struct.pack_into('<HH', bare, 54, 0, 0)
+put('no_segments', bare)
+# the number of sections in the first section header, as where there are more than 0xfeff
+start, count = struct.unpack_from('<Q', thing, 40)[0], struct.unpack_from('<H', thing, 60)[0]
+struct.pack_into('<Q', thing, start + 32, count)
+struct.pack_into('<H', thing, 60, 0)
+put('many_sections', thing)
+# a core with a note and a segment that is loaded
+note = struct.pack('>III', 5, 4, 1) + b'CORE\0\0\0\0' + bytes(4)
+head = struct.pack(FILE[32], b'\x7fELF\1\2\1', 4, 20, 1, 0, 52, 0, 0, 52, 32, 2, 0, 0, 0)
+place = 52 + 2 * 32
+heads = struct.pack('>8I', 4, place, 0, 0, len(note), 0, 0, 4) + struct.pack('>8I', 1, place + len(note), 0x1000, 0, 16, 16, 6, 4)
+put('core', head + heads + note + bytes(16))
+PYTHON
+chmod 644 ./*
+cp static_program writable_code static_pie full two_compilers branch_targets object debug_with_sizes debug cut_debug cut_dynamic cut_headers \
+    long_dynamic no_segments no_strings many_sections core "$to/"
