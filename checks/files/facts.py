@@ -13,15 +13,16 @@ file of another one. The rules:
   file (p_filesz is 0) makes all of them unknown, and pie, bind_now and relro, too, unless there is no PT_GNU_RELRO.
 - interpreter: the string in the first PT_INTERP, unknown if that has no bytes in the file.
 - pie, nx (the stack may not be executed: PT_GNU_STACK is there, and none has PF_X), writable_code (a PT_LOAD has PF_W and PF_X), bind_now
-  (DT_BIND_NOW, DF_BIND_NOW or DF_1_NOW) and relro are said of programs and libraries. bind_now is null if there is no dynamic section, and
-  of a static program, which is one without PT_INTERP. relro is `no` without PT_GNU_RELRO, else `partial` if bind_now is false, else `full`.
+  (DT_BIND_NOW, DF_BIND_NOW or DF_1_NOW) and relro are said of programs and libraries. bind_now is null if no dynamic section has an entry,
+  and of a static program, which is one without PT_INTERP. relro is `no` without PT_GNU_RELRO, else `partial` if bind_now is false, else `full`.
 - canary: a symbol of the first SHT_SYMTAB or SHT_DYNSYM is __stack_chk_fail, __stack_chk_fail_local or __stack_chk_guard, with or without
   a version from an @ on. It is unknown if none is and there is no SHT_SYMTAB, unless there is SHT_DYNSYM and the file is no static program.
 - control_flow: what the first note GNU of type 5 marks: IBT and SHSTK for x86, BTI and PAC for AArch64, null for other machines.
 - compilers: the strings of the section .comment that are not empty, each once, but those that begin with `Linker:`, `LLD`, `GNU ld`, `GNU gold`
   or `mold`, which are a linker's.
-- build_id: the descriptor of the first note GNU of type 3. stripped: there is no SHT_SYMTAB. sizes: the sums of sh_size by what the sections
-  are for, without section 0.
+- build_id: the descriptor of the first note GNU of type 3. Notes are those of all PT_NOTE, or if there are none, of all SHT_NOTE. What comes
+  after a damaged one is unknown.
+- stripped: there is no SHT_SYMTAB. sizes: the sums of sh_size by what the sections are for, without section 0.
 - cut: the section headers, the program headers, or the bytes of a section or segment are not all in the file (of a debug file's segments they
   never are).
 - A core has neither canary, control_flow, stripped nor compilers, and a debug file nothing of what PT_DYNAMIC, PT_INTERP, other segments and
@@ -54,7 +55,7 @@ def first(pattern, text):
 
 def sections_of(path):
     """Returns the type, the size, the size of an entry and the flags of each section but section 0."""
-    rows = re.findall(r'^  \[ *(\d+)\] .*? +([A-Z_]\w+) +[0-9a-f]{8,16} [0-9a-f]{6} ([0-9a-f]{6,}) ([0-9a-f]{2,}) +([A-Zldop]*) +\d+ +\d+ +\d+$',
+    rows = re.findall(r'^  \[ *(\d+)\] .*? +([A-Z][\w+:]*) +[0-9a-f]{8,16} [0-9a-f]{6} ([0-9a-f]{6,}) ([0-9a-f]{2,}) +([A-Zldop]*) +\d+ +\d+ +\d+$',
                       printed(path, '-S'), re.M)
     return [(kind, int(size, 16), int(entry, 16), flags) for index, kind, size, entry, flags in rows if index != '0']
 
@@ -134,8 +135,8 @@ BY_HAND = {
     'facts/long_dynamic': lambda rows: without(rows['facts/full'], *DYNAMIC, kind='program or library', cut=True),
     # Its name can't be read: DT_STRTAB is missing.
     'facts/no_strings': lambda rows: without(rows['facts/two_compilers'], 'soname'),
-    # Its last segment ends at 0x104e6 + 0x1388, and the file at 66,800.
-    'uses': lambda rows: {**rows['uses'], 'cut': True},
+    # Its last segment ends at 0x104e6 + 0x1388, and the file at 66,800. Its PT_NOTE has an alignment of 4,096, and notes are aligned to 4 or 8.
+    'uses': lambda rows: without(rows['uses'], 'build_id', cut=True),
     # readelf looks for no dynamic section without program headers. Without them there is no PT_INTERP, PT_GNU_STACK or PT_GNU_RELRO.
     'facts/no_segments': lambda rows: {**rows['facts/two_compilers'], 'interpreter': None, 'nx': False, 'relro': 'no', 'segments': 0},
 }
