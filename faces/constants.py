@@ -214,7 +214,7 @@ export const VERSION = {interface()};
 # ---- Python ----
 
 # The constants that make an enumeration, by the start of their names, and those whose values are flags.
-GROUPS = re.compile(r'(ELFCLASS|ELFDATA|ELFOSABI|ELF_NOTE_OS|NT_GNU|NT|ET|EM|PT|PF|SHN|SHT|SHF|STB|STT|STV)(?=_|NONE|NUM|\d)')
+GROUPS = re.compile(r'(ELFCLASS|ELFDATA|ELFOSABI|ELF_NOTE_OS|NT_GNU|NT|ET|EM|PT|PF|SHN|SHT|SHF|STB|STT|STV|DT)(?=_|NONE|NUM|\d)')
 FLAGS = ('PF', 'SHF')
 # The ends of ranges, which come after all other members, so that a number that also has a name of its own gets that one.
 BOUND = re.compile(r'_(LO|HI)(OS|PROC|SUNW|USER|RESERVE)$|NUM$')
@@ -280,7 +280,7 @@ __version__ = '{version()}'
 
 # What goblin.h declares, for the module interface.py: the structs that are items, with the class of their tables, and the types of C as
 # codes of Python's module struct. `z` is a size_t, `b` a bool, and `p` any pointer.
-ITEMS = {'header': '', 'section': 'Sections', 'segment': 'Segments', 'symbol': 'Symbols', 'reloc': 'Relocations'}
+ITEMS = {'header': '', 'section': 'Sections', 'segment': 'Segments', 'symbol': 'Symbols', 'reloc': 'Relocations', 'dyn': 'Dynamic'}
 CODES = {'uint64_t': 'Q', 'int64_t': 'q', 'uint32_t': 'I', 'uint16_t': 'H', 'uint8_t': 'B', 'size_t': 'z', 'bool': 'b', 'void': '-'}
 
 
@@ -364,15 +364,17 @@ class Named(enum.IntEnum):
     def __format__(self, form: str) -> str:
         return format(int(self), form) if form else self.name
 """
-    own = ('A section was read as symbols or relocations, and has another type: its type. This kind is the package\'s own.', 'SECTION_TYPE',
-           '0xffffffff')
-    text += py_members('Kind', 'The kinds of refusals. After the colon are the numbers that belong to a kind, in order.', [*kinds, own])
+    kinds += [('The value of an entry of the dynamic section is the offset of no string: its tag; its value. This kind is the package\'s own.',
+               'NO_STRING', '0xfffffffe'),
+              ('A section was read as symbols or relocations, and has another type: its type. This kind is the package\'s own.', 'SECTION_TYPE',
+               '0xffffffff')]
+    text += py_members('Kind', 'The kinds of refusals. After the colon are the numbers that belong to a kind, in order.', kinds)
     text += '\n\nclass Item(Named):\n    """What a refusal is about, if its kind alone does not say it."""\n\n'
     text += ''.join(f'    {name} = {value}\n' for name, value in parts)
     for name, comment, fields in all_structs:
         text += py_item(name, comment, fields) if name in ITEMS else ''
     text += '\n\n# How many numbers belong to each kind.\nNUMBERS = {\n'
-    text += ''.join(f'    Kind.{name}: {numbers_in(words)},\n' for words, name, _ in [*kinds, own])
+    text += ''.join(f'    Kind.{name}: {numbers_in(words)},\n' for words, name, _ in kinds)
     text += '}\n\n# The fields of each struct, and their codes in the module struct.\nSTRUCTS = {\n'
     text += ''.join(f"    '{name}': ({tuple(field for field, _, _ in fields)!r}, '{''.join(code for _, code, _ in fields)}'),\n"
                     for name, _, fields in all_structs)

@@ -12,13 +12,14 @@ from . import constants
 from .constants import *  # noqa: F401, F403
 from .constants import __version__
 from .elf import Elf
-from .items import Header, Note, Notes, Relocation, Relocations, Section, Sections, Segment, Segments, Strings, Symbol, Symbols, Table
+from .items import (Dyn, Dynamic, Header, Note, Notes, Relocation, Relocations, Section, Sections, Segment, Segments, Strings, Symbol, Symbols,
+                    Table)
 from .interface import Item, Kind
 from .names import (bind_to_str, class_to_str, et_to_str, machine_to_str, note_type_to_str, pt_to_str, shf_to_str, sht_to_str, type_to_str,
                     visibility_to_str)
 from .refused import Refused
 
-__all__ = ['Elf', 'Header', 'Item', 'Kind', 'Note', 'Notes', 'Refused', 'Relocation', 'Relocations', 'Section', 'Sections', 'Segment',
-           'Segments', 'Strings', 'Symbol', 'Symbols', 'Table', 'bind_to_str', 'class_to_str', 'et_to_str', 'machine_to_str',
+__all__ = ['Dyn', 'Dynamic', 'Elf', 'Header', 'Item', 'Kind', 'Note', 'Notes', 'Refused', 'Relocation', 'Relocations', 'Section', 'Sections',
+           'Segment', 'Segments', 'Strings', 'Symbol', 'Symbols', 'Table', 'bind_to_str', 'class_to_str', 'et_to_str', 'machine_to_str',
            'note_type_to_str', 'pt_to_str', 'shf_to_str', 'sht_to_str', 'type_to_str', 'visibility_to_str', '__version__']
 __all__ += constants.__all__

@@ -4,11 +4,12 @@ import itertools
 import mmap
 import os
 import stat
-from typing import Any, Iterable, Iterator, Optional, Union
+from typing import Any, Iterable, Iterator, List, Optional, Union
 
 from ._library import FUNCTIONS, HEADER, RANGE, RECORDS, File, call, found, unsigned
-from .constants import ELFCLASS64, ELFDATA2MSB, NT_GNU_BUILD_ID, PT_NOTE, SHT_DYNSYM, SHT_NOTE, SHT_SYMTAB
-from .items import Header, Name, Note, Section, Sections, Segment, Segments, Symbol, Symbols, T, Table, named, read_notes
+from .constants import (DT_NEEDED, DT_RPATH, DT_RUNPATH, DT_SONAME, ELFCLASS64, ELFDATA2MSB, NT_GNU_BUILD_ID, PT_INTERP, PT_NOTE, SHT_DYNAMIC,
+                        SHT_DYNSYM, SHT_NOTE, SHT_SYMTAB)
+from .items import Dynamic, Header, Name, Note, Section, Sections, Segment, Segments, Symbol, Symbols, T, Table, named, read_notes
 from .names import class_to_str, et_to_str, machine_to_str
 
 
@@ -122,6 +123,47 @@ class Elf:
         65,536 notes of the first 131,072 segments."""
         notes = itertools.islice(self._notes(self.segments[:1 << 17]), 1 << 16)
         return next((note.desc for note in notes if note.n_type == NT_GNU_BUILD_ID and note.name == 'GNU'), None)
+
+    @property
+    def dynamic(self) -> Dynamic:
+        """The dynamic section: that of the first segment of type PT_DYNAMIC, or in a file without program headers of the first section of type
+        SHT_DYNAMIC. It has no entries if there is none. Refused if the headers or the section are not inside the file."""
+        place = found('dynamic', RANGE, self._file, self._image)
+        section = None if place or self.segments else self.section_by_type(SHT_DYNAMIC)
+        strings = section.linked.strings if section and section.linked else None
+        offset, size = (place or section or (0, 0))[:2]
+        return Dynamic(self, offset, size, strings)
+
+    def _names(self, tag: int) -> Iterator[str]:
+        return (entry.string for entry in self.dynamic if entry.d_tag == tag)
+
+    @property
+    def needed(self) -> List[str]:
+        """The names of the libraries that the file needs, in its order. Refused as `dynamic` is, or if one is not in its strings. Bytes that
+        are not UTF-8 are decoded with 'surrogateescape', here and below."""
+        return list(self._names(DT_NEEDED))
+
+    @property
+    def soname(self) -> Optional[str]:
+        """The name of this library, or `None`. Refused as `needed` is."""
+        return next(self._names(DT_SONAME), None)
+
+    @property
+    def rpath(self) -> Optional[str]:
+        """The folders in which needed libraries are looked for first, with colons between, or `None`. Refused as `needed` is."""
+        return next(self._names(DT_RPATH), None)
+
+    @property
+    def runpath(self) -> Optional[str]:
+        """The folders in which needed libraries are looked for after those of LD_LIBRARY_PATH, with colons between, or `None`. If there is
+        one, `rpath` does not count. Refused as `needed` is."""
+        return next(self._names(DT_RUNPATH), None)
+
+    @property
+    def interpreter(self) -> Optional[str]:
+        """The path in the first segment of type PT_INTERP, or `None`. Refused if the program headers or the path are not inside the file."""
+        segment = next((segment for segment in self.segments if segment.p_type == PT_INTERP), None)
+        return segment and segment.strings.get(0, 'surrogateescape')
 
     def symbol_at(self, address: int) -> Optional[Symbol]:
         """Returns the symbol of an address, of the symbols or, if there are none, of the dynamic symbols, or `None`: see `Symbols.at`."""

@@ -8,7 +8,7 @@ from typing import TYPE_CHECKING, Any, Dict, Iterable, Iterator, List, NamedTupl
 
 from ._library import FUNCTIONS, RANGE, RECORDS, REFUSAL, Record, call, found, unsigned
 from .constants import SHT_DYNSYM, SHT_NOBITS, SHT_REL, SHT_RELA, SHT_SYMTAB
-from .interface import HeaderFields, Kind, RelocFields, SectionFields, SegmentFields, SymbolFields
+from .interface import DynFields, HeaderFields, Kind, RelocFields, SectionFields, SegmentFields, SymbolFields
 from .names import sht_to_str
 from .refused import Refused
 
@@ -172,6 +172,31 @@ class Relocation(Entry, RelocFields):
         return symbols[self.r_sym] if self.r_sym < len(symbols) else None
 
 
+class Dyn(Entry, DynFields):
+    """An entry of the dynamic section, with its index in it."""
+    __slots__ = ()
+
+    @property
+    def tag(self) -> int:
+        """What it says, a DT_ number."""
+        return self.d_tag
+
+    @property
+    def value(self) -> int:
+        """A number, an address, or the offset of a string, as the tag says."""
+        return self.d_val
+
+    @property
+    def string(self) -> str:
+        """The string that its value is the offset of, which need not be UTF-8: it is decoded with 'surrogateescape'. Refused if there is none,
+        or as `Dynamic.strings` is."""
+        found = self.table.strings.get(self.d_val, 'surrogateescape')
+        if found is None:
+            said = f'An entry of the dynamic section with the tag {self.d_tag:#x} names no string: {self.d_val}'
+            raise Refused(said, Kind.NO_STRING, 0, (self.d_tag, self.d_val), self.table.offset)
+        return found
+
+
 class Note(NamedTuple):
     """A note."""
 
@@ -214,13 +239,13 @@ class Table(Sequence[T]):
         places = range(len(self))[index]
         if isinstance(places, range):
             return list(self._items(places.start, places.stop)) if places.step == 1 else [self[place] for place in places]
-        fields = found(self.one, self.record, self.elf._file, self.elf._image, *self._arguments, self._places[places])
+        fields = self._read(self._places[places])
         if fields is None:
             raise IndexError(f'there is no item {places} any more')
         return self._made(fields, places)
 
     def __setitem__(self, index: int, item: T) -> None:
-        if not isinstance(item, self.item) or isinstance(item, Note):
+        if not isinstance(item, self.item) or isinstance(item, (Note, Dyn)):
             raise TypeError(f'an item of a {type(self).__name__} can not be a {type(item).__name__}, or can not be written')
         place, struct = range(len(self))[index], self.record.pack(self._raw(item))
         if not self.elf._write(f'put_{self.one}', self.elf._image, *self._arguments, place, struct):
@@ -248,6 +273,10 @@ class Table(Sequence[T]):
     def _columns(self, chunk: memoryview) -> List[List[Any]]:
         """Returns each field of the items of some structs as a list."""
         return self.record.columns(chunk)
+
+    def _read(self, place: int) -> Optional[Fields]:
+        """Reads the fields of a struct, or `None` if it is gone."""
+        return found(self.one, self.record, self.elf._file, self.elf._image, *self._arguments, place)
 
     def _made(self, fields: Fields, index: int) -> T:
         """Returns the item of the fields of a struct."""
@@ -364,6 +393,29 @@ class Relocations(Table[Relocation]):
         return item.r_offset, item.r_sym, item.r_addend or 0, item.r_type, int(item.r_addend is not None)
 
 
+class Dynamic(Table[Dyn]):
+    """The entries of a dynamic section in a range of the file, up to the first DT_NULL. Refused if the range is not inside the file. `strings`
+    are those that its names are in: by default those at the address that it says."""
+    record, item, many = RECORDS['dyn'], Dyn, 'dynamic_entries'
+
+    def __init__(self, elf: 'Elf', offset: int, size: int, strings: Optional['Strings'] = None) -> None:
+        self.elf, self.offset, self._arguments, self._given = elf, offset, (RANGE.pack((offset, size)),), strings
+        self._places = range(sum(len(chunk) for _, chunk in self._chunks(0, size)) // self.record.size)
+
+    @functools.cached_property
+    def strings(self) -> 'Strings':
+        """Its strings: an empty table if it does not say where they are. Refused if they are not inside the file."""
+        elf = self.elf
+        return self._given or Strings(elf, *(found('dynamic_strings', RANGE, elf._file, elf._image, *self._arguments) or (0, 0)))
+
+    def value(self, tag: int) -> Optional[int]:
+        """Returns the value of the first entry with a tag, or `None`."""
+        return self.elf._find_number('dynamic_value', *self._arguments, unsigned(tag))
+
+    def _read(self, place: int) -> Optional[Fields]:
+        return next((self.record.struct.unpack(chunk) for _, chunk in self._chunks(place, place + 1) if chunk), None)
+
+
 class Notes(Table[Note]):
     """The notes in a range of the file, as a segment or a section of notes has them. Refused at the first damaged note, and if a name is not
     UTF-8. With other `errors` than 'strict' a name is decoded as they mean instead, and a note must lie in the range whole."""
@@ -404,7 +456,7 @@ class Strings:
     """A string table: a range of the file. The offsets of its strings count from its start, in bytes."""
 
     def __init__(self, elf: 'Elf', offset: int, size: int) -> None:
-        self._file = elf._file
+        self._file, self.offset, self.size = elf._file, offset, size
         self._range: bytes = RANGE.pack((offset, size))
 
     def get(self, offset: int, errors: str = 'strict') -> Optional[str]:

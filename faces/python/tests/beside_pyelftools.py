@@ -25,7 +25,7 @@ from goblin_elf import Elf, Refused
 from goblin_elf.facts import facts
 
 import made
-from parts import PARTS, Ours, OursWhole, content_of, damaged, made_files, read_by, sum_of
+from parts import PARTS, Ours, OursWhole, content_of, damaged, elf_files, made_files, read_by, sum_of
 
 
 def number(value, names):
@@ -86,26 +86,14 @@ class Theirs:
         flags = {name: tag['d_val'] for name, tag in tags}
         now = 'DT_BIND_NOW' in flags or flags.get('DT_FLAGS', 0) & 8 or flags.get('DT_FLAGS_1', 0) & 1
         stacks = [segment['p_flags'] for segment in segments if segment['p_type'] == 'PT_GNU_STACK']
-        relro = any(segment['p_type'] == 'PT_GNU_RELRO' for segment in segments)
-        return [[tag.needed for name, tag in tags if name == 'DT_NEEDED'], [tag.soname for name, tag in tags if name == 'DT_SONAME'],
-                [segment.get_interp_name() for segment in segments if isinstance(segment, InterpSegment)],
-                [bool(stacks) and not any(flag & 1 for flag in stacks), 'no' if not relro else 'full' if now else 'partial',
-                 self.elf['e_type'] == 'ET_DYN' and ('DT_DEBUG' in flags or bool(flags.get('DT_FLAGS_1', 0) & 0x08000000))]]
-
-
-def elf_files(folders, count):
-    """Returns some ELF files, spread over those below the folders. A folder may also be a file."""
-    found = [path for path in folders if os.path.isfile(path)]
-    for folder in folders:
-        for root, _, names in os.walk(folder):
-            for name in names:
-                path = os.path.join(root, name)
-                if os.path.isfile(path) and not os.path.islink(path) and os.path.getsize(path) < 3 << 20:
-                    with open(path, 'rb') as file:
-                        if file.read(4) == b'\x7fELF':
-                            found.append(path)
-    found.sort()
-    return [found[index * len(found) // count] for index in range(min(count, len(found)))]
+        types = [segment['p_type'] for segment in segments]
+        pie = self.elf['e_type'] == 'ET_DYN' and ('DT_DEBUG' in flags or bool(flags.get('DT_FLAGS_1', 0) & 0x08000000))
+        # (a static program binds nothing later)
+        now = now or (pie or self.elf['e_type'] == 'ET_EXEC') and 'PT_INTERP' not in types
+        names = [[getattr(tag, kind) for name, tag in tags if name == f'DT_{kind.upper()}'] for kind in ('needed', 'soname', 'rpath', 'runpath')]
+        return [*names, [segment.get_interp_name() for segment in segments if isinstance(segment, InterpSegment)],
+                [bool(stacks) and not any(flag & 1 for flag in stacks),
+                 'no' if 'PT_GNU_RELRO' not in types else 'full' if now else 'partial', pie]]
 
 
 def first_difference(ours, theirs):

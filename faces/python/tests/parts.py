@@ -1,12 +1,14 @@
 """What goblin_elf reads of a file, as plain values, in parts that can be compared with what others read."""
 import hashlib
+import os
 import random
 
-from goblin_elf import SHT_DYNSYM, SHT_NOTE, SHT_REL, SHT_RELA, SHT_SYMTAB, Elf
+from goblin_elf import PT_DYNAMIC, SHT_DYNSYM, SHT_NOTE, SHT_REL, SHT_RELA, SHT_SYMTAB, Elf
 from goblin_elf.facts import facts
 
 import made
 
+FILES = os.path.join(os.path.dirname(os.path.abspath(__file__)), '..', '..', '..', 'checks', 'files')
 PARTS = ('header', 'sections', 'segments', 'symbols', 'relocations', 'notes', 'linking')
 
 
@@ -44,9 +46,10 @@ class Ours:
         return [[(note.n_type, note.name.split('\0')[0], bytes(note.desc)) for note in holder.notes] for holder in holders]
 
     def linking(self):
-        found = facts(self.elf)
-        return [found['needed'], *([found[name]] if found[name] is not None else [] for name in ('soname', 'interpreter')),
-                [found['nx'], found['relro'], found['pie']]]
+        found, texts = facts(self.elf), (self.elf.soname, self.elf.rpath, self.elf.runpath, self.elf.interpreter)
+        # (of a file that is not loaded the other side says no)
+        return [self.elf.needed, *([text] if text is not None else [] for text in texts),
+                [found['nx'] or False, found['relro'] or 'no', found['pie'] or False]]
 
 
 class OursWhole(Ours):
@@ -82,6 +85,48 @@ def sum_of(value):
 def content_of(path):
     with open(path, 'rb') as file:
         return file.read()
+
+
+def elf_files(folders, count):
+    """Returns some ELF files, spread over those below the folders. A folder may also be a file."""
+    found = [path for path in folders if os.path.isfile(path)]
+    for folder in folders:
+        for root, _, names in os.walk(folder):
+            for name in names:
+                path = os.path.join(root, name)
+                if os.path.isfile(path) and not os.path.islink(path) and os.path.getsize(path) < 3 << 20:
+                    with open(path, 'rb') as file:
+                        if file.read(4) == b'\x7fELF':
+                            found.append(path)
+    found.sort()
+    return [found[index * len(found) // count] for index in range(min(count, len(found)))]
+
+
+def stored(name):
+    """Returns the path of a stored file."""
+    return os.path.join(FILES, *name.split('/'))
+
+
+def changed(name):
+    """Returns a stored file whose bytes can be changed."""
+    with open(stored(name), 'rb') as file:
+        return Elf(bytearray(file.read()))
+
+
+def of_type(elf, p_type):
+    return next(segment for segment in elf.segments if segment.p_type == p_type)
+
+
+def replace(elf, kind, **fields):
+    """Changes fields of the first segment of a type."""
+    segment = of_type(elf, kind)
+    elf.segments[segment.index] = segment._replace(**fields)
+
+
+def put_value(elf, tag, value):
+    """Changes the value of the first entry with a tag in a 64-bit file."""
+    entry = next(entry for entry in elf.dynamic if entry.tag == tag)
+    elf.put_number(of_type(elf, PT_DYNAMIC).p_offset + 16 * entry.index + 8, 8, value)
 
 
 def made_files():

@@ -7,7 +7,7 @@ import random
 import threading
 import unittest
 
-from goblin_elf import Elf, Header, Kind, Notes, Refused, Relocations, Strings, Symbols
+from goblin_elf import Dynamic, Elf, Header, Kind, Notes, Refused, Relocations, Strings, Symbols
 from goblin_elf.facts import facts
 
 import made
@@ -33,6 +33,8 @@ class Reader:
                      lambda: elf.build_id, lambda: facts(elf), lambda: elf.whole().sections, lambda: elf.whole().segments,
                      lambda: elf.section('.text'), lambda: elf.section_by_type(number(32), number()), lambda: elf.symbol_at(number()),
                      lambda: elf.offset_of(number()), lambda: elf.number(number(), 8), lambda: Symbols(elf, *range_of),
+                     lambda: elf.dynamic, lambda: elf.needed, lambda: elf.soname, lambda: elf.rpath, lambda: elf.runpath,
+                     lambda: elf.interpreter, lambda: Dynamic(elf, *range_of), lambda: Dynamic(elf, *range_of).value(number()),
                      lambda: Relocations(elf, *range_of, bool(number() & 1)), lambda: Notes(elf, *range_of, number()),
                      lambda: Strings(elf, *range_of).get(number()), lambda: Strings(elf, *range_of).get_bytes(number()),
                      lambda: Strings(elf, *range_of).get_closed(number()), lambda: Strings(elf, *range_of).is_at(number(), b'a'),
@@ -54,7 +56,7 @@ class Reader:
 
     def items(self, table):
         for item in list(table)[:50]:
-            for name in ('name', 'bytes', 'bytes_in_file', 'linked', 'symbols', 'relocations', 'notes', 'symbol'):
+            for name in ('name', 'bytes', 'bytes_in_file', 'linked', 'symbols', 'relocations', 'notes', 'symbol', 'string'):
                 self.step(lambda: getattr(item, name, None))
             repr(item)
             if hasattr(item, 'number'):

@@ -4,9 +4,7 @@ import unittest
 
 from goblin_elf import Refused
 
-from parts import PARTS, Ours, OursWhole, content_of, damaged, made_files, read_by, sum_of
-
-FILES = os.path.join(os.path.dirname(os.path.abspath(__file__)), '..', '..', '..', 'checks', 'files')
+from parts import FILES, PARTS, Ours, OursWhole, content_of, damaged, made_files, read_by, sum_of
 
 
 def stored():

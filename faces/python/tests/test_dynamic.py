@@ -1,0 +1,128 @@
+"""Tests of the dynamic section and its names. Expected are those of checks/files/facts.json, which were read by readelf, and the numbers that are
+read here by the layouts of the System V gABI."""
+import json
+import os
+import struct
+import unittest
+
+from goblin_elf import DT, DT_NEEDED, DT_SONAME, DT_STRSZ, PT_DYNAMIC, PT_INTERP, SHT_DYNAMIC, Dyn, Elf, Kind, Refused
+
+import made
+from parts import changed, content_of, of_type, put_value, replace, stored
+
+NAMES = ('needed', 'soname', 'rpath', 'runpath', 'interpreter')
+
+
+class Names(unittest.TestCase):
+    def test_stored_files(self):
+        """What is unknown is refused, and what a file lacks is none."""
+        with open(stored('facts.json'), encoding='utf-8') as file:
+            rows = json.load(file)
+        for name, row in rows.items():
+            elf = Elf.open(stored(name))
+            for fact in NAMES:
+                with self.subTest(name, fact=fact):
+                    # (that a debug file, or a part of one, is of another file is no matter of its dynamic section)
+                    if 'debug' in name:
+                        continue
+                    if fact in row['unknown']:
+                        self.assertRaises(Refused, getattr, elf, fact)
+                    else:
+                        self.assertEqual(getattr(elf, fact), row[fact])
+
+
+class Entries(unittest.TestCase):
+    """The dynamic section."""
+
+    def expected(self, content):
+        """Returns the tags and values of the segment of type PT_DYNAMIC, read by hand."""
+        is_64, order = content[4] == 2, '<>'[content[5] - 1]
+        at, = struct.unpack_from(order + ('Q' if is_64 else 'I'), content, 32 if is_64 else 28)
+        count, = struct.unpack_from(order + 'H', content, 56 if is_64 else 44)
+        for index in range(count):
+            start = at + index * (56 if is_64 else 32)
+            head = struct.unpack_from(order + made.PHDR[64 if is_64 else 32], content, start)
+            if head[0] == 2:
+                offset, filled = (head[2], head[5]) if is_64 else (head[1], head[4])
+                width = 'QQ' if is_64 else 'II'
+                pairs = list(struct.iter_unpack(order + width, content[offset:offset + filled]))
+                return pairs[:[tag for tag, _ in pairs].index(0)]
+        return []
+
+    def test_stored_files(self):
+        tried = set()
+        for name in sorted(os.listdir(stored('made'))):
+            if not name.endswith(('.listed', '_debug')):
+                content = content_of(stored(f'made/{name}'))
+                dynamic, pairs = Elf(content).dynamic, self.expected(content)
+                self.assertEqual([(entry.tag, entry.value) for entry in dynamic], pairs)
+                self.assertEqual([dynamic.value(tag) for tag in (DT_NEEDED, DT_SONAME, 0, 99)],
+                                 [dict(reversed(pairs)).get(tag) for tag in (DT_NEEDED, DT_SONAME, 0, 99)])
+                tried.update([(content[4], content[5])] if pairs else [])
+        self.assertEqual(tried, {(1, 1), (1, 2), (2, 1), (2, 2)})
+
+    def test_sequence(self):
+        elf = changed('facts/full')
+        dynamic = elf.dynamic
+        items = list(dynamic)
+        self.assertEqual(([dynamic[index] for index in range(-len(items), len(items))], dynamic[1:3]), (items * 2, items[1:3]))
+        self.assertEqual((items[0].string, items[0].d_tag, items[0].index, DT(items[0].tag).name), ('libfirst.so.1', 1, 0, 'DT_NEEDED'))
+        self.assertRegex(repr(items[0]), r'^Dyn\(d_tag=1, d_val=0?x?[0-9a-f]+, index=0\)$')
+        self.assertEqual((type(items[0]), repr(dynamic)), (Dyn, f'<Dynamic: {len(items)} items>'))
+        self.assertRaises(IndexError, lambda: dynamic[len(items)])
+        self.assertRaises(TypeError, dynamic.__setitem__, 0, items[0])
+        self.assertRaises(ValueError, dynamic.value, -1)
+
+    def test_many_entries(self):
+        # more entries than one call reads
+        elf, count = changed('facts/full'), 5000
+        content = bytearray(elf.bytes) + b''.join(struct.pack('<QQ', 1, index) for index in range(count)) + bytes(16)
+        more = Elf(content)
+        replace(more, PT_DYNAMIC, p_offset=len(elf.bytes), p_filesz=16 * count + 16)
+        self.assertEqual([(entry.value, entry.index) for entry in more.dynamic], [(index, index) for index in range(count)])
+        self.assertEqual([(entry.value, entry.index) for entry in more.dynamic[2040:2060]], [(index, index) for index in range(2040, 2060)])
+        # (without DT_STRTAB they have no names)
+        self.assertEqual(self.refusal(lambda: more.needed), (Kind.NO_STRING, (1, 0), len(elf.bytes)))
+
+    def refusal(self, read):
+        with self.assertRaises(Refused) as caught:
+            read()
+        return caught.exception.kind, caught.exception.numbers, caught.exception.offset
+
+    def test_refusals(self):
+        elf, place = changed('facts/full'), of_type(changed('facts/full'), PT_DYNAMIC).p_offset
+        # a name past the strings, strings past the file's end, and an entry that is not whole
+        put_value(elf, DT_NEEDED, 1 << 40)
+        self.assertEqual(self.refusal(lambda: elf.needed), (Kind.NO_STRING, (1, 1 << 40), place))
+        self.assertEqual((elf.runpath, elf.soname), ('/made/runpath', None))
+        put_value(elf, DT_STRSZ, 1 << 40)
+        self.assertEqual(self.refusal(lambda: elf.runpath)[0], Kind.TOO_BIG)
+        self.assertIsNone(elf.soname)
+        replace(elf, PT_DYNAMIC, p_filesz=16 + 15)
+        self.assertEqual([entry.tag for entry in elf.dynamic], [DT_NEEDED])
+        replace(elf, PT_DYNAMIC, p_offset=len(elf.bytes))
+        self.assertEqual(self.refusal(lambda: elf.dynamic), (Kind.BAD_OFFSET, (len(elf.bytes),), len(elf.bytes)))
+        for offset, size, kind in ((len(elf.bytes) - 3, 4, Kind.STRTAB_RANGE), (len(elf.bytes) + 1, 4, Kind.STRTAB_OFFSET)):
+            replace(elf, PT_INTERP, p_offset=offset, p_filesz=size)
+            self.assertEqual(self.refusal(lambda: elf.interpreter)[0], kind)
+
+    def test_by_sections(self):
+        elf = changed('facts/full')
+        replace(elf, PT_DYNAMIC, p_type=0x60000000)
+        self.assertEqual((len(elf.dynamic), elf.section_by_type(SHT_DYNAMIC).name), (0, '.dynamic'))
+        elf = changed('facts/no_segments')
+        section = elf.section_by_type(SHT_DYNAMIC)
+        self.assertEqual((elf.soname, len(elf.segments), elf.dynamic.strings.size), ('libtwo.so.1', 0, section.linked.sh_size))
+        elf.sections[section.index] = section._replace(sh_link=0)
+        self.assertEqual(self.refusal(lambda: elf.soname)[0], Kind.NO_STRING)
+        elf.sections[section.index] = section._replace(sh_size=1 << 40)
+        self.assertEqual(self.refusal(lambda: elf.soname)[0], Kind.TOO_BIG)
+
+    def test_names_that_are_not_utf_8(self):
+        elf = changed('facts/full')
+        elf.put_number(bytes(elf.bytes).index(b'libfirst'), 1, 0xff)
+        self.assertEqual(elf.needed, ['\udcffibfirst.so.1', 'libsecond.so.1'])
+
+
+if __name__ == '__main__':
+    unittest.main()
