@@ -1,6 +1,7 @@
 """Prints what a person wants to know first of ELF files: python -m goblin_elf [--json] FILE..
 
-The exit status is 0, or 1 if a file can't be read or is refused. What is printed of the dynamic section is not proved, but tested.
+What a file does not hold is unknown. The exit status is 0, or 1 if a file can't be read, or it or a part of it is refused. What is printed
+is not proved, but tested.
 """
 import argparse
 import json
@@ -25,14 +26,16 @@ def described(path: str) -> Dict[str, Any]:
 
 def lines(found: Dict[str, Any]) -> Iterator[str]:
     """Yields the facts of a file as lines for a person, without what a terminal takes as a command."""
-    for name, value in {**found, **found.get('sizes', {})}.items():
-        if isinstance(value, bool):
+    for name, value in {**found, **(found.get('sizes') or {})}.items():
+        if name in found.get('unknown', ()):
+            value = 'unknown'
+        elif isinstance(value, bool):
             value = 'yes' if value else 'no'
         elif isinstance(value, list):
-            value = ', '.join(map(str, value))
+            value = ', '.join(map(str, value)) or 'none' * (name != 'numbers')
         elif name in ('entry', 'offset'):
             value = f'{value:#x}'
-        if value not in (None, '') and name != 'sizes':
+        if value not in (None, '') and name != 'unknown' and (name != 'sizes' or value == 'unknown'):
             line = value if name == 'file' else f'  {name.replace("_", " "):16} {value}'
             yield ''.join(sign if sign.isprintable() else '\N{REPLACEMENT CHARACTER}' for sign in line)
 
@@ -44,7 +47,7 @@ def main(arguments: Optional[List[str]] = None) -> int:
     options = parser.parse_args(arguments)
     all_found = [described(path) for path in options.files]
     print(json.dumps(all_found, indent=1) if options.json else '\n'.join(line for found in all_found for line in lines(found)))
-    return int(any('kind' not in found for found in all_found))
+    return int(any('refused' in found or 'error' in found for found in all_found))
 
 
 if __name__ == '__main__':

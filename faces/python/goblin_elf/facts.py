@@ -1,78 +1,168 @@
-"""What a person asks first of a file. It is made of the library's results, but what the dynamic section and flags mean is said here: that is
-not proved, but tested. All of it is bounded, whatever a file holds."""
-from typing import Any, Dict, Iterator, List, Optional, Tuple
+"""What a person asks first of a file. It is made of the library's results, but what flags and names mean is said here: that is not proved, but
+tested. All of it is bounded, whatever a file holds."""
+import functools
+from typing import Any, Callable, Dict, Iterator, List, NamedTuple, Optional, Set
 
-from .constants import (ET_CORE, ET_DYN, ET_EXEC, ET_REL, PF_X, PT_DYNAMIC, PT_GNU_RELRO, PT_GNU_STACK, PT_INTERP, SHF_ALLOC,
-                        SHF_EXECINSTR, SHF_WRITE, SHT_DYNSYM, SHT_NOBITS, SHT_SYMTAB)
+from .constants import (DF_1_NOW, DF_1_PIE, DF_BIND_NOW, DT_BIND_NOW, DT_DEBUG, DT_FLAGS, DT_FLAGS_1, DT_NEEDED, DT_RPATH, DT_RUNPATH, DT_SONAME,
+                        ET_CORE, ET_DYN, ET_EXEC, ET_REL, NT_GNU_BUILD_ID, PF_W, PF_X, PT_DYNAMIC, PT_GNU_RELRO, PT_GNU_STACK, PT_INTERP, PT_LOAD,
+                        SHF_ALLOC, SHF_EXECINSTR, SHF_WRITE, SHT_DYNSYM, SHT_NOBITS, SHT_NOTE, SHT_NULL, SHT_SYMTAB)
 from .elf import Elf
-from .items import Segment, Strings
+from .items import Dynamic, Segment, Strings
+from .marks import compilers, control_flow, first_note, has_canary
 from .names import class_to_str, et_to_str, machine_to_str
 from .refused import Refused
 
-DT_NEEDED, DT_STRTAB, DT_STRSZ, DT_SONAME, DT_DEBUG, DT_BIND_NOW, DT_FLAGS, DT_FLAGS_1 = 1, 5, 10, 14, 21, 24, 30, 0x6ffffffb
-DF_BIND_NOW, DF_1_NOW, DF_1_PIE = 8, 1, 0x08000000
-KINDS: Dict[int, str] = {ET_REL: 'object', ET_EXEC: 'program', ET_DYN: 'library', ET_CORE: 'core'}
-# The most that is read: entries of a dynamic section, bytes of a text and of a build id, segments, and sections for their sizes.
+KINDS: Dict[int, str] = {ET_REL: 'object', ET_EXEC: 'program', ET_CORE: 'core'}
+# The most that is read: entries of a dynamic section, bytes of a text and of a build ID, segments, and sections for their sizes.
 ENTRIES, TEXT, ID, SEGMENTS, SECTIONS = 4096, 4096, 64, 1 << 17, 1 << 20
 
 
+class Unknown(Exception):
+    """The file does not hold what says a fact."""
+
+
+class Counted(NamedTuple):
+    """What the sections say: their sizes in bytes by what they are for, whether all that is loaded is in another file, and if one is cut."""
+    sizes: Dict[str, int]
+    is_debug: bool
+    is_cut: bool
+
+
+class Parts:
+    """What facts are made of."""
+
+    def __init__(self, elf: Elf) -> None:
+        self.elf, self.type, self.length = elf, elf.header.e_type, len(elf.bytes)
+
+    @functools.cached_property
+    def segments(self) -> List[Segment]:
+        return self.elf.segments[:SEGMENTS]
+
+    def of_type(self, p_type: int) -> List[Segment]:
+        return [segment for segment in self.segments if segment.p_type == p_type]
+
+    @functools.cached_property
+    def counted(self) -> Counted:
+        sizes = {'code': 0, 'data': 0, 'read_only': 0, 'zeros': 0, 'not_loaded': 0}
+        # (an operator on plain numbers is much faster than one on flags)
+        null, nobits, alloc, execinstr, write = int(SHT_NULL), int(SHT_NOBITS), int(SHF_ALLOC), int(SHF_EXECINSTR), int(SHF_WRITE)
+        sections, is_cut = self.elf.sections, False
+        loaded: Set[int] = set()
+        # (the first header is of no section: its size may be the number of sections)
+        for section in sections._items(1, min(len(sections), SECTIONS)):
+            flags, kind, size = section.sh_flags, section.sh_type, section.sh_size
+            use = 'code' if flags & execinstr else 'data' if flags & write else 'read_only'
+            sizes['zeros' if kind == nobits else use if flags & alloc else 'not_loaded'] += size
+            loaded.update((kind,) if flags & alloc else ())
+            is_cut = is_cut or kind not in (null, nobits) and size > 0 and section.sh_offset + size > self.length
+        return Counted(sizes, nobits in loaded and loaded <= {nobits, int(SHT_NOTE)}, is_cut)
+
+    @functools.cached_property
+    def kind(self) -> str:
+        try:
+            if self.type in (ET_EXEC, ET_DYN) and self.counted.is_debug:
+                return 'debug file'
+        except Refused:
+            pass
+        try:
+            return KINDS.get(self.type, 'other') if self.type != ET_DYN else 'program' if self.is_pie() else 'library'
+        except (Refused, Unknown):
+            return 'program or library'
+
+    @functools.cached_property
+    def is_static(self) -> bool:
+        return self.kind == 'program' and not self.of_type(PT_INTERP)
+
+    @functools.cached_property
+    def dynamic(self) -> Dynamic:
+        """The dynamic section. It is unknown if its bytes are in another file, as those of a debug file, or if it has more than is read."""
+        found = self.elf.dynamic
+        if any(segment.p_filesz == 0 for segment in self.of_type(PT_DYNAMIC)[:1]) or len(found) > ENTRIES:
+            raise Unknown
+        return found
+
+    def flags(self, tag: int) -> int:
+        return self.dynamic.value(tag) or 0
+
+    def names(self, tag: int) -> Iterator[str]:
+        for entry in self.dynamic:
+            if entry.tag == tag:
+                start, strings = entry.value, entry.table.strings
+                # (past the end it is refused)
+                yield short_text(self.elf, strings.offset + start, strings.size - start) if start < strings.size else entry.string
+
+    def is_pie(self) -> bool:
+        return self.type == ET_DYN and (self.dynamic.value(DT_DEBUG) is not None or bool(self.flags(DT_FLAGS_1) & DF_1_PIE))
+
+    def is_bound_now(self) -> Optional[bool]:
+        if self.is_static or not self.dynamic:
+            return None
+        flags = self.flags(DT_FLAGS) & DF_BIND_NOW | self.flags(DT_FLAGS_1) & DF_1_NOW
+        return self.dynamic.value(DT_BIND_NOW) is not None or flags != 0
+
+    def build_id(self) -> Optional[str]:
+        found = first_note(self.elf, self.segments, NT_GNU_BUILD_ID)
+        if found and len(found) > ID:
+            raise Unknown
+        return None if found is None else found.hex()
+
+    def has_canary(self) -> bool:
+        is_found = has_canary(self.elf)
+        table = self.elf.section_by_type(SHT_SYMTAB) or (None if self.is_static else self.elf.section_by_type(SHT_DYNSYM))
+        if not is_found and table is None:
+            raise Unknown
+        return is_found
+
+    def is_cut(self) -> bool:
+        try:
+            segments = [] if self.kind == 'debug file' else self.segments
+            return self.counted.is_cut or any(segment.p_filesz and segment.p_offset + segment.p_filesz > self.length for segment in segments)
+        except Refused:
+            return True
+
+
+# What only programs and libraries have, and what some kinds of files lack.
+LOADED = ('interpreter', 'pie', 'nx', 'relro', 'bind_now', 'writable_code')
+LACKS = {'object': LOADED, 'other': LOADED, 'core': (*LOADED, 'canary', 'control_flow', 'compilers', 'stripped'),
+         'debug file': (*LOADED, 'soname', 'rpath', 'runpath', 'needed', 'canary', 'control_flow')}
+# The facts, each with what reads it: it is refused, or raises `Unknown`, if it can't be read.
+FACTS: Dict[str, Callable[[Parts], Any]] = {
+    'kind': lambda of: of.kind, 'build_id': Parts.build_id,
+    'interpreter': lambda of: next((short_text(of.elf, *path[:2]) for path in of.of_type(PT_INTERP)), None),
+    'soname': lambda of: next(of.names(DT_SONAME), None), 'rpath': lambda of: next(of.names(DT_RPATH), None),
+    'runpath': lambda of: next(of.names(DT_RUNPATH), None), 'needed': lambda of: list(of.names(DT_NEEDED)), 'pie': Parts.is_pie,
+    'nx': lambda of: bool(of.of_type(PT_GNU_STACK)) and not any(stack.p_flags & PF_X for stack in of.of_type(PT_GNU_STACK)),
+    'relro': lambda of: 'no' if not of.of_type(PT_GNU_RELRO) else 'partial' if of.is_bound_now() is False else 'full',
+    'bind_now': Parts.is_bound_now,
+    'writable_code': lambda of: any(segment.p_flags & PF_W and segment.p_flags & PF_X for segment in of.of_type(PT_LOAD)),
+    'canary': Parts.has_canary, 'control_flow': lambda of: control_flow(of.elf, of.segments), 'compilers': lambda of: compilers(of.elf),
+    'stripped': lambda of: of.elf.section_by_type(SHT_SYMTAB) is None, 'cut': Parts.is_cut, 'sections': lambda of: len(of.elf.sections),
+    'segments': lambda of: len(of.elf.segments), 'symbols': lambda of: len(of.elf.symbols),
+    'dynamic_symbols': lambda of: len(of.elf.dynamic_symbols), 'sizes': lambda of: of.counted.sizes}
+
+
 def facts(elf: Elf) -> Dict[str, Any]:
-    """Returns the facts of a file. Refused at the first thing that is."""
-    header, segments, build_id = elf.header, elf.segments[:SEGMENTS], elf.build_id
-    stacks = [segment for segment in segments if segment.p_type == PT_GNU_STACK]
-    paths = [short_text(elf, *segment[:2]) for segment in segments if segment.p_type == PT_INTERP]
-    linked = linking(elf, segments)
-    return {'kind': 'program' if linked['pie'] else KINDS.get(header.e_type, 'other'), 'type': et_to_str(header.e_type),
-            'class': class_to_str(header.ei_class), 'order': 'little' if elf.little_endian else 'big',
-            'machine': machine_to_str(header.e_machine), 'entry': header.e_entry,
-            'build_id': build_id.hex() if build_id is not None and len(build_id) <= ID else None, 'interpreter': next(iter(paths), None),
-            'nx': bool(stacks) and not any(segment.p_flags & PF_X for segment in stacks), **linked,
-            'segments': len(elf.segments), **counted(elf)}
+    """Returns the facts of a file. One that can't be read is `None`, and its name is in `unknown`. If one is refused, why the first is."""
+    header, of = elf.header, Parts(elf)
+    found: Dict[str, Any] = {'kind': None, 'type': et_to_str(header.e_type), 'class': class_to_str(header.ei_class),
+                             'order': 'little' if elf.little_endian else 'big', 'machine': machine_to_str(header.e_machine),
+                             'entry': header.e_entry, **dict.fromkeys(FACTS), 'unknown': []}
+    refusals: List[Refused] = []
+    for name in (name for name in FACTS if name not in LACKS.get(of.kind, ())):
+        try:
+            found[name] = FACTS[name](of)
+        except (Refused, Unknown) as error:
+            found['unknown'].append(name)
+            refusals += [error] if isinstance(error, Refused) else []
+    return {**found, **(refusal(refusals[0]) if refusals else {})}
 
 
-def linking(elf: Elf, segments: List[Segment]) -> Dict[str, Any]:
-    """Returns what the dynamic section says."""
-    entries = [entry for segment in segments if segment.p_type == PT_DYNAMIC for entry in dynamic(elf, segment)]
-    values = dict(reversed(entries))
-    start, size = elf.offset_of(values[DT_STRTAB]) if DT_STRTAB in values else None, values.get(DT_STRSZ, 0)
-    offsets = [(tag, value) for tag, value in entries if tag in (DT_NEEDED, DT_SONAME) and value < size and start is not None]
-    names = [(tag, short_text(elf, (start or 0) + offset, size - offset)) for tag, offset in offsets]
-    now = DT_BIND_NOW in values or values.get(DT_FLAGS, 0) & DF_BIND_NOW or values.get(DT_FLAGS_1, 0) & DF_1_NOW
-    return {'pie': elf.header.e_type == ET_DYN and (DT_DEBUG in values or bool(values.get(DT_FLAGS_1, 0) & DF_1_PIE)),
-            'relro': 'no' if all(segment.p_type != PT_GNU_RELRO for segment in segments) else 'full' if now else 'partial',
-            'soname': next((name for tag, name in names if tag == DT_SONAME), None),
-            'needed': [name for tag, name in names if tag == DT_NEEDED and name is not None]}
-
-
-def dynamic(elf: Elf, segment: Segment) -> Iterator[Tuple[int, int]]:
-    """Yields the tags and values of a dynamic section up to DT_NULL, or to its end."""
-    width = 8 if elf.is_64 else 4
-    for offset in range(0, min(segment.p_filesz, ENTRIES * 2 * width), 2 * width):
-        tag = segment.number(offset, width)
-        if tag == 0:
-            return
-        yield tag, segment.number(offset + width, width)
-
-
-def short_text(elf: Elf, offset: int, size: int) -> Optional[str]:
-    """Returns the string at the start of a range, or `None` if it is longer than is read."""
-    found = Strings(elf, offset, min(size, TEXT)).get(0, 'surrogateescape')
-    return None if found is None or len(found) == TEXT else found
-
-
-def counted(elf: Elf) -> Dict[str, Any]:
-    """Returns the numbers of sections and symbols, and the sizes in bytes of sections by what they are for."""
-    sizes = {'code': 0, 'data': 0, 'read_only': 0, 'zeros': 0, 'not_loaded': 0}
-    # (an operator on plain numbers is much faster than one on flags)
-    nobits, alloc, execinstr, write = int(SHT_NOBITS), int(SHF_ALLOC), int(SHF_EXECINSTR), int(SHF_WRITE)
-    sections = elf.sections
-    for section in sections._items(0, min(len(sections), SECTIONS)):
-        flags = section.sh_flags
-        loaded = 'code' if flags & execinstr else 'data' if flags & write else 'read_only'
-        sizes['zeros' if section.sh_type == nobits else loaded if flags & alloc else 'not_loaded'] += section.sh_size
-    tables = [elf.section_by_type(kind) for kind in (SHT_SYMTAB, SHT_DYNSYM)]
-    symbols, dynamic_symbols = (len(table.symbols) if table else 0 for table in tables)
-    return {'sections': len(sections), 'symbols': symbols, 'dynamic_symbols': dynamic_symbols, 'stripped': tables[0] is None, 'sizes': sizes}
+def short_text(elf: Elf, offset: int, size: int) -> str:
+    """Returns the string at the start of a range. It is unknown if the range has no bytes, or if it is longer than is read."""
+    found = Strings(elf, offset, min(size, TEXT)).get_bytes(0)
+    if found is None or len(found) == TEXT:
+        raise Unknown
+    return str(found, 'utf-8', 'surrogateescape')
 
 
 def refusal(error: Refused) -> Dict[str, Any]:

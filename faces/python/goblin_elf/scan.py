@@ -30,11 +30,14 @@ from .refused import Refused
 
 Row = Dict[str, Any]
 Result = List[Tuple[str, List[Row], float]]  # of each file of a batch its path, its rows, and the seconds that it took
-COLUMNS = ['file', 'member', 'class', 'order', 'type', 'kind', 'machine', 'build_id', 'interpreter', 'soname', 'needed', 'pie', 'nx', 'relro',
-           'stripped', 'sections', 'segments', 'symbols', 'dynamic_symbols', 'code', 'data', 'read_only', 'zeros', 'not_loaded', 'refused',
+COUNTS = ['sections', 'segments', 'symbols', 'dynamic_symbols', 'code', 'data', 'read_only', 'zeros', 'not_loaded']
+COLUMNS = ['file', 'member', 'class', 'order', 'type', 'kind', 'machine', 'build_id', 'interpreter', 'soname', 'rpath', 'runpath', 'needed', 'pie',
+           'nx', 'relro', 'bind_now', 'writable_code', 'canary', 'control_flow', 'compilers', 'stripped', 'cut', *COUNTS, 'unknown', 'refused',
            'numbers', 'offset', 'text']
-# What pyarrow calls the types of those that are no texts.
-TYPES = {**dict.fromkeys([*COLUMNS[15:24], 'offset'], 'uint64'), 'pie': 'bool_', 'nx': 'bool_', 'stripped': 'bool_'}
+# What pyarrow calls the types of those that are no texts, and what stands between the texts of a list.
+TYPES = {**dict.fromkeys([*COUNTS, 'offset'], 'uint64'),
+         **dict.fromkeys(['pie', 'nx', 'bind_now', 'writable_code', 'canary', 'stripped', 'cut'], 'bool_')}
+BETWEEN = {'compilers': '; '}
 MAGIC, AR = b'\x7fELF', b'!<arch>\n'
 MEMBER, PACKAGE = 64 << 20, 4 << 30  # the most bytes of a member that is unpacked into memory, and of all members of a package
 
@@ -43,10 +46,11 @@ def row_of(path: str, member: Optional[str], elf_of: Callable[[], Elf]) -> Row:
     """Returns the row of a file, or of a member of an archive."""
     try:
         found = facts(elf_of())
-        found.update(found['sizes'], needed=' '.join(found['needed']))
+        found.update(found['sizes'] or {})
     except Refused as error:
-        found = {**refusal(error), 'numbers': ' '.join(map(str, error.numbers))}
-    return row_with(path, member, **{column: value for column, value in found.items() if column in COLUMNS})
+        found = refusal(error)
+    texts = {name: BETWEEN.get(name, ' ').join(map(str, value)) if isinstance(value, list) else value for name, value in found.items()}
+    return row_with(path, member, **{column: value for column, value in texts.items() if column in COLUMNS})
 
 
 def row_with(path: str, member: Optional[str], **columns: Any) -> Row:

@@ -1,0 +1,62 @@
+"""What compilers leave in a file: their names, and marks of their protections. What these mean is said here: that is not proved, but tested."""
+import itertools
+import re
+from typing import Dict, Iterable, List, Optional, Set, Tuple
+
+from .constants import EM_386, EM_AARCH64, EM_X86_64, SHT_DYNSYM, SHT_SYMTAB
+from .elf import Elf
+from .items import Segment
+
+# The functions and the variable that a canary uses, with or without a version.
+CANARY = re.compile(rb'__stack_chk_(?:fail_local|fail|guard)(?:@[^\0]*)?')
+# How the strings begin in which a linker, and no compiler, names itself.
+LINKERS = ('Linker:', 'LLD', 'GNU ld', 'GNU gold', 'mold')
+NT_GNU_PROPERTY_TYPE_0 = 5
+# By machines the property whose bits, from the lowest one on, say that all code is made for these checks.
+X86 = 0xc0000002, ('IBT', 'SHSTK')
+CHECKS: Dict[int, Tuple[int, Tuple[str, ...]]] = {EM_386: X86, EM_X86_64: X86, EM_AARCH64: (0xc0000000, ('BTI', 'PAC'))}
+# The most that is read: names of canaries, bytes of a note and of .comment, and notes.
+CANARIES, BYTES, NOTES = 64, 1 << 16, 1 << 16
+
+
+def first_note(elf: Elf, segments: Iterable[Segment], n_type: int) -> Optional[memoryview]:
+    """Returns the descriptor of the first note GNU of a type, or `None`."""
+    notes = itertools.islice(elf._notes(segments), NOTES)
+    return next((note.desc for note in notes if note.n_type == n_type and note.name == 'GNU'), None)
+
+
+def has_canary(elf: Elf) -> bool:
+    """Whether a symbol is one of a stack canary."""
+    for table in filter(None, map(elf.section_by_type, (SHT_SYMTAB, SHT_DYNSYM))):
+        strings = table.linked
+        # (few names are looked for, and only those that the strings have)
+        names: Set[bytes] = set()
+        for match in CANARY.finditer(strings.bytes if strings else b''):
+            if match.group() not in names and table.symbols.find(match.group()):
+                return True
+            names.add(match.group())
+            if len(names) == CANARIES:
+                break
+    return False
+
+
+def control_flow(elf: Elf, segments: Iterable[Segment]) -> Optional[List[str]]:
+    """Returns the checks of jumps and returns that the first note of properties marks, or `None` on a machine without marks."""
+    if elf.header.e_machine not in CHECKS:
+        return None
+    wanted, names = CHECKS[elf.header.e_machine]
+    desc = bytes((first_note(elf, segments, NT_GNU_PROPERTY_TYPE_0) or b'')[:BYTES])
+    at, step = 0, 8 if elf.is_64 else 4
+    while at + 12 <= len(desc):
+        kind, size, flags = (int.from_bytes(desc[at + part:at + part + 4], 'little' if elf.little_endian else 'big') for part in (0, 4, 8))
+        if kind == wanted and size >= 4:
+            return [name for bit, name in enumerate(names) if flags >> bit & 1]
+        at += 8 + -(-size // step) * step
+    return []
+
+
+def compilers(elf: Elf) -> List[str]:
+    """Returns the names that compilers left in the section .comment, each once."""
+    section = elf.section('.comment')
+    texts = str(section.bytes[:BYTES], 'utf-8', 'surrogateescape').split('\0') if section else []
+    return [text for text in dict.fromkeys(texts) if text and not text.startswith(LINKERS)]

@@ -1,0 +1,196 @@
+"""Tests of what is said of files. The facts of the stored files are those of checks/files/facts.json, which were read by readelf."""
+import contextlib
+import csv
+import io
+import json
+import os
+import struct
+import tempfile
+import unittest
+
+from goblin_elf import DT_NEEDED, DT_STRSZ, PT_DYNAMIC, PT_GNU_STACK, PT_INTERP, PT_NOTE, SHT_SYMTAB, Elf
+from goblin_elf import __main__ as program
+from goblin_elf import scan
+from goblin_elf.facts import facts
+
+import made
+from parts import FILES, changed, of_type, put_value, replace, stored
+
+
+def shown(value):
+    """Returns how a fact is printed, or `None` if it is not."""
+    if value is None or isinstance(value, bool):
+        return {None: None, True: 'yes', False: 'no'}[value]
+    return ', '.join(value) or 'none' if isinstance(value, list) else str(value)
+
+
+class Table(unittest.TestCase):
+    """The stored table, to which the page is held, too."""
+
+    @classmethod
+    def setUpClass(cls):
+        with open(stored('facts.json'), encoding='utf-8') as file:
+            cls.rows = json.load(file)
+
+    def test_each_stored_file_has_a_row(self):
+        found = set()
+        for folder, _, names in os.walk(FILES):
+            for path in (os.path.join(folder, name) for name in names):
+                with open(path, 'rb') as file:
+                    if file.read(4) == b'\x7fELF':
+                        found.add(os.path.relpath(path, FILES).replace(os.sep, '/'))
+        self.assertEqual(found, set(self.rows))
+
+    def test_facts(self):
+        for name, row in self.rows.items():
+            with self.subTest(name):
+                found = facts(Elf.open(stored(name)))
+                more = ['type', 'class', 'order', 'machine', 'entry', 'refused', 'item', 'numbers', 'offset', 'text']
+                self.assertEqual({fact: value for fact, value in found.items() if fact not in more}, row)
+                self.assertEqual('refused' in found, bool(set(row['unknown']) - {'canary'}))
+
+    def test_what_is_printed(self):
+        for name, row in self.rows.items():
+            with self.subTest(name), contextlib.redirect_stdout(io.StringIO()) as said:
+                status = program.main([stored(name)])
+                lines = dict(line.strip().split('  ', 1) for line in said.getvalue().splitlines()[1:])
+                lines = {fact.strip(): value.strip() for fact, value in lines.items()}
+                self.assertEqual(status, int('refused' in lines))
+                for fact, value in {**row, **(row['sizes'] or {})}.items():
+                    if fact not in ('unknown', 'sizes'):
+                        self.assertEqual(lines.get(fact.replace('_', ' ')), 'unknown' if fact in row['unknown'] else shown(value), fact)
+
+    def test_report(self):
+        with tempfile.TemporaryDirectory() as folder, contextlib.redirect_stderr(io.StringIO()):
+            path = os.path.join(folder, 'r.csv')
+            self.assertEqual(scan.main([*map(stored, self.rows), '-o', path, '--workers', '0']), 0)
+            with open(path, newline='', encoding='utf-8') as file:
+                found = list(csv.DictReader(file))
+        self.assertEqual([row['file'] for row in found], [stored(name) for name in self.rows])
+        for line, row in zip(found, self.rows.values()):
+            expected = {**row, **(row['sizes'] or {})}
+            texts = {fact: {'compilers': '; '}.get(fact, ' ').join(value) if isinstance(value, list) else '' if value is None else str(value)
+                     for fact, value in expected.items() if fact != 'sizes'}
+            self.assertEqual({fact: line[fact] for fact in texts}, texts)
+
+
+class Facts(unittest.TestCase):
+    def test_what_is_unknown(self):
+        linked = ['soname', 'rpath', 'runpath', 'needed', 'pie', 'relro', 'bind_now']
+        elf, count = changed('facts/full'), 4097
+        # a name that is not in the strings, strings and an interpreter that are not in the file, and more entries than are read
+        for offset in (1 << 40, elf.dynamic.strings.size):
+            put_value(elf, DT_NEEDED, offset)
+            self.assertEqual((facts(elf)['unknown'], facts(elf)['refused']), (['needed'], 'NO_STRING'))
+        put_value(elf, DT_STRSZ, 1 << 40)
+        self.assertEqual((facts(elf)['unknown'], facts(elf)['refused']), (['runpath', 'needed'], 'TOO_BIG'))
+        replace(elf, PT_INTERP, p_filesz=1 << 40)
+        self.assertEqual((facts(elf)['unknown'], facts(elf)['refused']), (['interpreter', 'runpath', 'needed'], 'STRTAB_RANGE'))
+        replace(elf, PT_DYNAMIC, p_filesz=0)
+        self.assertEqual(facts(elf)['unknown'], ['interpreter', *linked])
+        many = Elf(bytearray(changed('facts/full').bytes) + struct.pack('<QQ', 1, 1) * count)
+        for entries, unknown in ((count - 1, ['needed']), (count, linked)):
+            replace(many, PT_DYNAMIC, p_offset=len(elf.bytes), p_filesz=16 * entries)
+            self.assertEqual(facts(many)['unknown'], unknown)
+
+    def test_long_names(self):
+        """A name is known if it has fewer than 4,096 bytes, and a build ID if it has at most 64."""
+        elf = changed('facts/full')
+        for name, expected in ((b'\xff' * 4095, '\udcff' * 4095), (b'\xff' * 4096, None), ('\xe9'.encode() * 2048, None)):
+            longer = Elf(bytearray(elf.bytes) + name + bytes(8))
+            replace(longer, PT_INTERP, p_offset=len(elf.bytes), p_filesz=len(name) + 1)
+            self.assertEqual((facts(longer)['interpreter'], facts(longer)['unknown']), (expected, [] if expected else ['interpreter']))
+            self.assertEqual(longer.interpreter, name.decode('utf-8', 'surrogateescape'))
+        for size, unknown in ((64, []), (65, ['build_id'])):
+            longer = Elf(bytearray(elf.bytes) + struct.pack('<III', 4, size, 3) + b'GNU\0' + b'\xab' * size + bytes(8))
+            replace(longer, PT_NOTE, p_offset=len(elf.bytes), p_filesz=16 + size, p_align=4)
+            self.assertEqual((facts(longer)['build_id'], facts(longer)['unknown']), (None if unknown else 'ab' * size, unknown))
+
+    def test_more_sections_than_the_header_counts(self):
+        count = 0xff10
+        section = struct.pack('<' + made.SHDR[64], 0, 1, 0, 0, 0, 2, 0, 0, 1, 0)
+        first = struct.pack('<' + made.SHDR[64], 0, 0, 0, 0, 0, count, 0, 0, 0, 0)
+        head = struct.pack('<' + made.EHDR[64], b'\x7fELF\2\1\1', 1, 62, 1, 0, 0, 64, 0, 64, 0, 0, 64, 0, 0)
+        found = facts(Elf(head + first + section * (count - 1)))
+        self.assertEqual((found['sections'], found['sizes']['not_loaded'], found['cut'], found['stripped']), (count, 2 * (count - 1), False, True))
+
+    def test_small_files(self):
+        """A section that ends with the file, one that ends after it, and one without bytes that lies past it, all without bytes in memory."""
+        for offset, size, cut in ((192, 8, False), (192, 9, True), (200, 1, True), (1 << 60, 0, False)):
+            head = struct.pack('<' + made.EHDR[64], b'\x7fELF\2\1\1', 1, 62, 1, 0, 0, 64, 0, 64, 0, 0, 64, 2, 0)
+            section = struct.pack('<' + made.SHDR[64], 0, 1, 0, 0, offset, size, 0, 0, 1, 0)
+            self.assertEqual(facts(Elf(head + bytes(64) + section + bytes(8)))['cut'], cut)
+        # (only a program or a library has a debug file)
+        section = struct.pack('<' + made.SHDR[64], 0, 8, 2, 0, 1 << 60, 7, 0, 0, 1, 0)
+        found = [facts(Elf(head[:16] + bytes((kind, 0)) + head[18:] + bytes(64) + section)) for kind in (1, 2, 3)]
+        self.assertEqual([(row['kind'], row['cut'], row['sizes']['zeros']) for row in found],
+                         [('object', False, 7), ('debug file', False, 7), ('debug file', False, 7)])
+
+    def test_segments(self):
+        elf = changed('facts/full')
+        replace(elf, PT_GNU_STACK, p_flags=7, p_offset=1 << 40)
+        self.assertEqual([facts(elf)[name] for name in ('nx', 'writable_code', 'cut')], [False, False, False])
+
+    def test_canaries(self):
+        # the name is that of a symbol, and all of it
+        for change, expected in ((lambda name: name, True), (lambda name: name + 1, False), (lambda name: 0, False)):
+            elf = changed('facts/object')
+            symbol = elf.symbols.find('__stack_chk_fail@GLIBC_2.4')
+            elf.symbols[symbol.index] = symbol._replace(st_name=change(symbol.st_name))
+            self.assertEqual((facts(elf)['canary'], facts(elf)['unknown']), (expected, []))
+        for name, expected in (('fail', True), ('fail_local', True), ('guard', True), ('guard@@A', True), ('failed', False), ('guards@A', False)):
+            elf = changed('facts/object')
+            put(elf, b'__stack_chk_fail@GLIBC_2.4', f'__stack_chk_{name}'.encode().ljust(26, b'\0'))
+            self.assertEqual(facts(elf)['canary'], expected)
+        table = elf.section_by_type(SHT_SYMTAB)
+        elf.sections[table.index] = table._replace(sh_type=1)
+        self.assertEqual((facts(elf)['canary'], facts(elf)['unknown']), (None, ['canary']))
+
+    def test_what_the_dynamic_section_says(self):
+        """An ET_DYN is a program by DT_DEBUG or by DF_1_PIE, and it is bound at its start by a tag or by a flag of one of two."""
+        for tag, value, expected in ((21, 0, ('program', True, False, 'partial')), (0x6ffffffb, 1 << 27, ('program', True, False, 'partial')),
+                                     (0x6ffffffb, 1, ('library', False, True, 'full')), (30, 8, ('library', False, True, 'full')),
+                                     (24, 0, ('library', False, True, 'full')), (30, 1 << 27, ('library', False, False, 'partial'))):
+            elf = changed('facts/full')
+            place = of_type(elf, PT_DYNAMIC).p_offset
+            places = [place + 16 * entry.index for entry in elf.dynamic if entry.tag in (21, 30, 0x6ffffffb)]
+            for at, number in zip(places, (tag, 0x60000000, 0x60000000)):
+                elf.put_number(at, 8, number)
+                elf.put_number(at + 8, 8, value)
+            self.assertEqual(tuple(facts(elf)[name] for name in ('kind', 'pie', 'bind_now', 'relro')), expected)
+        elf.put_header(elf.header._replace(e_type=0xfe00))
+        self.assertEqual((facts(elf)['kind'], facts(elf)['nx'], facts(elf)['unknown']), ('other', None, []))
+
+    def test_marks(self):
+        """The property of a machine may come after others, and end with the note."""
+        other, cut = (1, 3, 0x00030303), (0xc0000002, 0, 3)
+        for name, machine, wide, order, kind, names in (
+                ('facts/full', 62, 8, '<', 0xc0000002, ['IBT', 'SHSTK']), ('made/i386_library', 3, 4, '<', 0xc0000002, ['IBT', 'SHSTK']),
+                ('made/s390x_library', 183, 8, '>', 0xc0000000, ['BTI', 'PAC'])):
+            for properties, expected in (((other, (kind, 4, 1)), names[:1]), (((kind, 4, 2),), names[1:]), ((other,), []), ((cut,), [])):
+                elf = changed(name)
+                desc = b''.join(struct.pack(order + 'III', *one).ljust(12 + (-4 % wide), b'\0') for one in properties)
+                longer = Elf(bytearray(elf.bytes) + struct.pack(order + 'III', 4, len(desc), 5) + b'GNU\0' + desc)
+                longer.put_header(longer.header._replace(e_machine=machine))
+                replace(longer, PT_NOTE, p_offset=len(elf.bytes), p_filesz=16 + len(desc), p_align=wide)
+                self.assertEqual(facts(longer)['control_flow'], expected)
+        elf = changed('facts/full')
+        put(elf, b'GNU\0\x02\0\0\xc0', b'GNV\0')
+        self.assertEqual(facts(elf)['control_flow'], [])
+
+    def test_compilers(self):
+        elf = changed('facts/two_compilers')
+        comment = bytes(elf.section('.comment').bytes)
+        put(elf, comment, b'two\0LLD 9\0GNU ld 1\0one\0two\0GNU gold\0mold 1\0\xff'.ljust(len(comment), b'\0'))
+        self.assertEqual(facts(elf)['compilers'], ['two', 'one', '\udcff'])
+
+
+def put(elf, old, new):
+    """Writes some bytes in place of the first ones that are the same as others."""
+    start = bytes(elf.bytes).index(old)
+    for index, byte in enumerate(new):
+        elf.put_number(start + index, 1, byte)
+
+
+if __name__ == '__main__':
+    unittest.main()
