@@ -678,7 +678,7 @@ class Program(unittest.TestCase):
         """Our column of the lines of the page for those who come from pyelftools."""
         with open(os.path.join(FOLDER, '..', 'README.md'), encoding='utf-8') as file:
             rows = re.findall(r'^\|`([^|]*)`\|`([^|]*)`\|$', file.read(), re.M)
-        self.assertEqual(len(rows), 10)
+        self.assertEqual(len(rows), 11)
         with tempfile.NamedTemporaryFile() as file:
             file.write(MADE.bytes)
             file.flush()
