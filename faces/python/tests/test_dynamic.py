@@ -2,7 +2,11 @@
 read here by the layouts of the System V gABI."""
 import json
 import os
+import shutil
 import struct
+import subprocess
+import sys
+import tempfile
 import unittest
 
 from goblin_elf import DT, DT_NEEDED, DT_SONAME, DT_STRSZ, PT_DYNAMIC, PT_INTERP, SHT_DYNAMIC, Dyn, Elf, Kind, Refused
@@ -10,6 +14,7 @@ from goblin_elf import DT, DT_NEEDED, DT_SONAME, DT_STRSZ, PT_DYNAMIC, PT_INTERP
 import made
 from parts import changed, content_of, of_type, put_value, replace, stored
 
+FOLDER = os.path.dirname(os.path.abspath(__file__))
 NAMES = ('needed', 'soname', 'rpath', 'runpath', 'interpreter')
 
 
@@ -122,6 +127,25 @@ class Entries(unittest.TestCase):
         elf = changed('facts/full')
         elf.put_number(bytes(elf.bytes).index(b'libfirst'), 1, 0xff)
         self.assertEqual(elf.needed, ['\udcffibfirst.so.1', 'libsecond.so.1'])
+
+
+class Example(unittest.TestCase):
+    def test_lddtree(self):
+        """A system in a folder, with libraries of two machines."""
+        script = os.path.join(FOLDER, '..', 'examples', 'lddtree.py')
+        with tempfile.TemporaryDirectory() as root:
+            for name, source in (('made/runpath/libfirst.so.1', 'branch_targets'), ('lib/libfirst.so.1', 'two_compilers'),
+                                 ('made/runpath/libsecond.so.1', 'cut_headers'), ('usr/lib/libsecond.so.1', 'two_compilers')):
+                os.makedirs(os.path.dirname(os.path.join(root, name)), exist_ok=True)
+                shutil.copy(stored(f'facts/{source}'), os.path.join(root, name))
+            said = [subprocess.run([sys.executable, script, stored(f'facts/{name}'), root], stdout=subprocess.PIPE, stderr=subprocess.PIPE,
+                                   encoding='utf-8') for name in ('full', 'cut_dynamic')]
+        path = stored('facts/full')
+        self.assertEqual(said[0].stdout, f'{path} (interpreter => /lib/ld-made.so.1)\n    libfirst.so.1 => {root}/lib/libfirst.so.1\n'
+                                         f'    libsecond.so.1 => {root}/made/runpath/libsecond.so.1\n'
+                                         f'        libfirst.so.1 => {root}/lib/libfirst.so.1\n'
+                                         f'        libsecond.so.1 => {root}/made/runpath/libsecond.so.1\n')
+        self.assertEqual([(one.returncode, one.stderr) for one in said], [(0, ''), (1, 'refused: type is too big (384) for 40\n')])
 
 
 if __name__ == '__main__':
