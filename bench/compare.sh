@@ -23,5 +23,6 @@ for python in python3 /usr/bin/python3; do
         is_compared=1
     fi
 done
+PYTHONPATH="$installed/python" python3 faces/python/tests/beside_readelf.py --files 60 --damaged 200 ${SHOWN:+"$SHOWN"}
 [ -n "$is_compared" ] || left_out "pyelftools is not installed, so the Python package is not compared with it"
 python3 bench/compare.py "$folder" ${SHOWN:+"$SHOWN"}
