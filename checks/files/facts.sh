@@ -39,8 +39,11 @@ small -fno-pie -static -no-pie -s -Wl,-z,relro -o static_program code.c
 small -fno-pie -static -no-pie -Wl,-N -Wl,-z,norelro -Wl,-z,execstack -o writable_code code.c
 small -fpie -static-pie -s -Wl,-z,relro -o static_pie code.c
 # A program bound at its start, with a canary, marks of control-flow enforcement, a search path and two libraries.
-small -DLIBRARIES -fpie -pie -s -fcf-protection=full -fstack-protector-all -Wl,-z,relro,-z,now,--enable-new-dtags,-rpath,/made/runpath \
-    -Wl,-z,ibt,-z,shstk -Wl,--build-id=sha1 -Wl,--dynamic-linker,/lib/ld-made.so.1 -o full code.c first.so second.so
+full() {
+    small -DLIBRARIES -fpie -pie -s -fcf-protection=full -fstack-protector-all -Wl,-z,relro,-z,now,--enable-new-dtags,-rpath,/made/runpath \
+        -Wl,-z,ibt,-z,shstk,--build-id=0x00112233445566778899aabbccddeeff01234567,--dynamic-linker,/lib/ld-made.so.1 "$@" code.c first.so second.so
+}
+full -o full
 # A library with an interpreter, as libc has, of two compilers and a linker that say their names, and one of another machine.
 small -DINTERPRETER -fPIC -c -o gcc.o code.c
 clang -O1 -ffreestanding -fPIC -c -o clang.o first.c
@@ -50,8 +53,9 @@ ld.lld -shared -soname libfirst.so.1 -z max-page-size=256 -z noseparate-code -z 
 # An object whose symbols have versions in their names.
 gcc -O1 -ffreestanding -fno-asynchronous-unwind-tables -fPIC -fstack-protector-all -fcf-protection=branch -c -o canary.o code.c
 objcopy --redefine-sym __stack_chk_fail=__stack_chk_fail@GLIBC_2.4 canary.o object
-# Separate debug files, as objcopy makes them, and below as elfutils does: with the sizes of the segments.
-objcopy --only-keep-debug full debug
+# Separate debug files, as objcopy makes them, and below as elfutils does: with the sizes of the segments, which end past the end of the file.
+full -Wl,-z,max-page-size=4096,-z,common-page-size=4096 -o paged
+objcopy --only-keep-debug paged debug
 
 python3 - << 'PYTHON'
 import struct
@@ -71,7 +75,7 @@ def segments(content):
         yield at, struct.unpack_from('<IIQQQQQQ', content, at)
 
 
-full, debug, thing = (bytearray(open(name, 'rb').read()) for name in ('full', 'debug', 'object'))
+full, paged, debug, thing = (bytearray(open(name, 'rb').read()) for name in ('full', 'paged', 'debug', 'object'))
 dynamic_at, dynamic = next((at, fields) for at, fields in segments(full) if fields[0] == 2)
 # cut inside the dynamic section, and inside the section headers; and whole, with a dynamic section that is said to go on past the end
 put('cut_dynamic', full[:dynamic[2] + 40])
@@ -80,7 +84,7 @@ long = full[:]
 struct.pack_into('<Q', long, dynamic_at + 32, len(full))
 put('long_dynamic', long)
 put('cut_debug', debug[:-10])
-for (_, fields), (at, _) in zip(segments(full), segments(debug)):
+for (_, fields), (at, _) in zip(segments(paged), segments(debug)):
     struct.pack_into('<Q', debug, at + 8, fields[2])
     struct.pack_into('<Q', debug, at + 32, fields[5])
 put('debug_with_sizes', debug)
