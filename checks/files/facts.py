@@ -20,8 +20,8 @@ file of another one. The rules:
 - control_flow: what the first note GNU of type 5 marks: IBT and SHSTK for x86, BTI and PAC for AArch64, null for other machines.
 - compilers: the strings of the section .comment that are not empty, each once, but those that begin with `Linker:`, `LLD`, `GNU ld`, `GNU gold`
   or `mold`, which are a linker's.
-- build_id: the descriptor of the first note GNU of type 3. Notes are those of all PT_NOTE, or if there are none, of all SHT_NOTE. What comes
-  after a damaged one is unknown.
+- build_id: the descriptor of the first note GNU of type 3. Notes are looked for in all PT_NOTE, and then in all SHT_NOTE. What comes after a
+  damaged one is unknown.
 - stripped: there is no SHT_SYMTAB. sizes: the sums of sh_size by what the sections are for, without section 0.
 - cut: the section headers, the program headers, or the bytes of a section or segment are not all in the file (of a debug file's segments they
   never are).
@@ -112,7 +112,7 @@ def row(path):
         is_known = 'SYMTAB' in types or 'DYNSYM' in types and not is_static
         found['canary'] = bool(CANARY.search(printed(path, '-s'))) or (False if is_known else None)
         found['unknown'] = ['canary'] if found['canary'] is None else []
-        marks = first(r'Properties:.* feature: (.*)$', printed(path, '-n'))
+        marks = first(r'Properties:.* feature: ([A-Z, ]+)(?:, x86|$)', printed(path, '-n'))
         is_marked = re.search('Machine: +(AArch64|Intel 80386|Advanced Micro Devices X86-64)', header)
         found['control_flow'] = (marks or '').split(', ') if marks else [] if is_marked else None
     return found

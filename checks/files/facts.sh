@@ -80,8 +80,10 @@ dynamic_at, dynamic = next((at, fields) for at, fields in segments(full) if fiel
 # cut inside the dynamic section, and inside the section headers; and whole, with a dynamic section that is said to go on past the end
 put('cut_dynamic', full[:dynamic[2] + 40])
 put('cut_headers', full[:-10])
+# (and without the PT_NOTE of its build ID, as programs in Go)
 long = full[:]
 struct.pack_into('<Q', long, dynamic_at + 32, len(full))
+struct.pack_into('<I', long, [at for at, fields in segments(full) if fields[0] == 4][1], 0)
 put('long_dynamic', long)
 put('cut_debug', debug[:-10])
 for (_, fields), (at, _) in zip(segments(paged), segments(debug)):

@@ -104,25 +104,31 @@ class Elf:
     def notes(self) -> Iterator[Note]:
         """The notes of all segments of type PT_NOTE, or if there are none, of all sections of type SHT_NOTE, as they are read. Refused as
         the headers are, and then at the first damaged note."""
-        return self._notes(self.segments)
+        segments = (segment for segment in self.segments if segment.p_type == PT_NOTE)
+        first = next(segments, None)
+        return self._notes(itertools.chain([first], segments) if first else self._note_sections())
 
-    def _notes(self, segments: Iterable[Segment]) -> Iterator[Note]:
-        is_found = False
-        for segment in segments:
-            if segment.p_type == PT_NOTE:
-                is_found = True
-                yield from (note for _, note in read_notes(self, RANGE.pack(segment[:2]), segment.p_align, 'strict', segment.p_offset))
-        section = None if is_found else self.section_by_type(SHT_NOTE)
+    def _note_sections(self) -> Iterator[Section]:
+        section = self.section_by_type(SHT_NOTE)
         while section:
-            yield from (note for _, note in read_notes(self, RANGE.pack(section[:2]), section.sh_addralign, 'strict', section.sh_offset))
+            yield section
             section = self.section_by_type(SHT_NOTE, section.index + 1)
+
+    def _notes(self, holders: Iterable[Union[Segment, Section]]) -> Iterator[Note]:
+        for holder in holders:
+            yield from (note for _, note in read_notes(self, RANGE.pack(holder[:2]), holder[5], 'strict', holder[0]))
 
     @property
     def build_id(self) -> Optional[memoryview]:
-        """The descriptor of the first note GNU of type NT_GNU_BUILD_ID, or `None`. Refused as `notes` are. It is looked for in the first
-        65,536 notes of the first 131,072 segments."""
-        notes = itertools.islice(self._notes(self.segments[:1 << 17]), 1 << 16)
-        return next((note.desc for note in notes if note.n_type == NT_GNU_BUILD_ID and note.name == 'GNU'), None)
+        """The descriptor of the first note GNU of type NT_GNU_BUILD_ID of the segments or, if they have none, of the sections, or `None`.
+        Refused as these are, and then at the first damaged note. It is looked for in the first 65,536 notes of the first 131,072 of them."""
+        return self._note(self.segments[:1 << 17], NT_GNU_BUILD_ID)
+
+    def _note(self, segments: Iterable[Segment], n_type: int) -> Optional[memoryview]:
+        of_segments = (segment for segment in segments if segment.p_type == PT_NOTE)
+        of_sections = itertools.islice(self._note_sections(), 1 << 17)
+        notes = itertools.islice(itertools.chain(self._notes(of_segments), self._notes(of_sections)), 1 << 16)
+        return next((note.desc for note in notes if note.n_type == n_type and note.name == 'GNU'), None)
 
     @property
     def dynamic(self) -> Dynamic:

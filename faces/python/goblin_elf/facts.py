@@ -8,7 +8,7 @@ from .constants import (DF_1_NOW, DF_1_PIE, DF_BIND_NOW, DT_BIND_NOW, DT_DEBUG, 
                         SHF_ALLOC, SHF_EXECINSTR, SHF_WRITE, SHT_DYNSYM, SHT_NOBITS, SHT_NOTE, SHT_NULL, SHT_SYMTAB)
 from .elf import Elf
 from .items import Dynamic, Segment, Strings
-from .marks import compilers, control_flow, first_note, has_canary
+from .marks import compilers, control_flow, has_canary
 from .names import class_to_str, et_to_str, machine_to_str
 from .refused import Refused
 
@@ -101,7 +101,7 @@ class Parts:
         return self.dynamic.value(DT_BIND_NOW) is not None or flags != 0
 
     def build_id(self) -> Optional[str]:
-        found = first_note(self.elf, self.segments, NT_GNU_BUILD_ID)
+        found = self.elf._note(self.segments, NT_GNU_BUILD_ID)
         if found and len(found) > ID:
             raise Unknown
         return None if found is None else found.hex()

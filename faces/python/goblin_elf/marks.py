@@ -1,5 +1,4 @@
 """What compilers leave in a file: their names, and marks of their protections. What these mean is said here: that is not proved, but tested."""
-import itertools
 import re
 from typing import Dict, Iterable, List, Optional, Set, Tuple
 
@@ -15,14 +14,8 @@ NT_GNU_PROPERTY_TYPE_0 = 5
 # By machines the property whose bits, from the lowest one on, say that all code is made for these checks.
 X86 = 0xc0000002, ('IBT', 'SHSTK')
 CHECKS: Dict[int, Tuple[int, Tuple[str, ...]]] = {EM_386: X86, EM_X86_64: X86, EM_AARCH64: (0xc0000000, ('BTI', 'PAC'))}
-# The most that is read: names of canaries, bytes of a note and of .comment, and notes.
-CANARIES, BYTES, NOTES = 64, 1 << 16, 1 << 16
-
-
-def first_note(elf: Elf, segments: Iterable[Segment], n_type: int) -> Optional[memoryview]:
-    """Returns the descriptor of the first note GNU of a type, or `None`."""
-    notes = itertools.islice(elf._notes(segments), NOTES)
-    return next((note.desc for note in notes if note.n_type == n_type and note.name == 'GNU'), None)
+# The most that is read: names of canaries, and bytes of a note and of .comment.
+CANARIES, BYTES = 64, 1 << 16
 
 
 def has_canary(elf: Elf) -> bool:
@@ -45,7 +38,7 @@ def control_flow(elf: Elf, segments: Iterable[Segment]) -> Optional[List[str]]:
     if elf.header.e_machine not in CHECKS:
         return None
     wanted, names = CHECKS[elf.header.e_machine]
-    desc = bytes((first_note(elf, segments, NT_GNU_PROPERTY_TYPE_0) or b'')[:BYTES])
+    desc = bytes((elf._note(segments, NT_GNU_PROPERTY_TYPE_0) or b'')[:BYTES])
     at, step = 0, 8 if elf.is_64 else 4
     while at + 12 <= len(desc):
         kind, size, flags = (int.from_bytes(desc[at + part:at + part + 4], 'little' if elf.little_endian else 'big') for part in (0, 4, 8))

@@ -130,6 +130,10 @@ class Read(unittest.TestCase):
             for notes in (elf.notes, elf.section('.note.gnu.build-id').notes, elf.segments[1].notes):
                 self.assertEqual([(note.n_type, note.name, bytes(note.desc)) for note in notes], [(3, 'GNU', made.BUILD_ID)])
             self.assertEqual((elf.build_id, elf.build_id.hex()), (made.BUILD_ID, made.BUILD_ID.hex()))
+            # (it may be in a section alone, though there is a segment of notes)
+            changed = Elf(bytearray(elf.bytes))
+            changed.segments[1] = changed.segments[1]._replace(p_filesz=0)
+            self.assertEqual((list(changed.notes), changed.build_id), ([], made.BUILD_ID))
 
     def test_numbers(self):
         for file, elf in self.each():
