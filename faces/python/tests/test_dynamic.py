@@ -14,6 +14,11 @@ from goblin_elf import DT, DT_NEEDED, DT_SONAME, DT_STRSZ, PT_DYNAMIC, PT_INTERP
 import made
 from parts import changed, content_of, of_type, put_value, replace, stored
 
+try:
+    import numpy
+except ImportError:
+    numpy = None
+
 FOLDER = os.path.dirname(os.path.abspath(__file__))
 NAMES = ('needed', 'soname', 'rpath', 'runpath', 'interpreter')
 
@@ -77,6 +82,11 @@ class Entries(unittest.TestCase):
         self.assertRaises(IndexError, lambda: dynamic[len(items)])
         self.assertRaises(TypeError, dynamic.__setitem__, 0, items[0])
         self.assertRaises(ValueError, dynamic.value, -1)
+
+    @unittest.skipUnless(numpy, 'numpy is not installed')
+    def test_array(self):
+        dynamic = changed('facts/full').dynamic
+        self.assertEqual(dynamic.array().tolist(), [(entry.tag, entry.value) for entry in dynamic])
 
     def test_many_entries(self):
         # more entries than one call reads
