@@ -109,8 +109,7 @@ def stored(name):
 
 def changed(name):
     """Returns a stored file whose bytes can be changed."""
-    with open(stored(name), 'rb') as file:
-        return Elf(bytearray(file.read()))
+    return Elf(bytearray(content_of(stored(name))))
 
 
 def of_type(elf, p_type):

@@ -11,10 +11,10 @@ import unittest
 from goblin_elf import DT_NEEDED, DT_STRSZ, PT_DYNAMIC, PT_GNU_STACK, PT_INTERP, PT_NOTE, SHT_SYMTAB, Elf
 from goblin_elf import __main__ as program
 from goblin_elf import scan
-from goblin_elf.facts import facts
+from goblin_elf.facts import FACTS, facts
 
 import made
-from parts import FILES, changed, of_type, put_value, replace, stored
+from parts import FILES, changed, content_of, of_type, put_value, replace, stored
 
 
 def shown(value):
@@ -92,6 +92,19 @@ class Facts(unittest.TestCase):
         for entries, unknown in ((count - 1, ['needed']), (count, linked)):
             replace(many, PT_DYNAMIC, p_offset=len(elf.bytes), p_filesz=16 * entries)
             self.assertEqual(facts(many)['unknown'], unknown)
+
+    def test_cut_files(self):
+        """What is said of a part of a file is true of all of it, or unknown."""
+        for name in ('facts/full', 'facts/static_pie', 'made/i386_program', 'made/s390x_library', 'made/x86_64_stripped', 'made/riscv64_object'):
+            content = content_of(stored(name))
+            whole, unknown = facts(Elf(content)), set()
+            for length in range(64, len(content), 13):
+                part = facts(Elf(content[:length]))
+                said = {fact: part[fact] for fact in FACTS if fact not in part['unknown'] and fact != 'cut'}
+                self.assertEqual(said, {fact: 'program or library' if part[fact] == 'program or library' else whole[fact] for fact in said})
+                self.assertTrue(part['cut'] and set(whole['unknown']) <= set(part['unknown']))
+                unknown.update(part['unknown'])
+            self.assertLess({'segments', 'build_id'} if whole['segments'] else {'sections', 'sizes'}, unknown)
 
     def test_long_names(self):
         """A name is known if it has fewer than 4,096 bytes, and a build ID if it has at most 64."""
