@@ -4,6 +4,9 @@ The report is a .csv, a .json, or where pyarrow is installed a .parquet. Files a
 by the workers of a scheduler of Dask that runs already (--scheduler HOST:PORT), which need this package and the same files at the same
 paths. The report is the same in each case. This command listens on no port. `python -m goblin_elf.scan` is the same command.
 
+A cell is empty if such a file does not have the fact, or if it is unknown, and then the column `unknown` names it. If a part of a file is
+refused, `refused` and the columns after it say why.
+
 Files are mapped, and symbolic links are not followed. Members of `.a` and `.deb` archives are examined, too: those of a `.deb` if they have
 at most 64 MiB and Python can unpack its data. A batch whose worker ends is tried again by other ones; a file that ends one worker after
 another is a row with the refusal WORKER_LOST. With --resume, files of the report are left out.
