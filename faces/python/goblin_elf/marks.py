@@ -6,8 +6,8 @@ from .constants import EM_386, EM_AARCH64, EM_X86_64, SHT_DYNSYM, SHT_SYMTAB
 from .elf import Elf
 from .items import Segment
 
-# The functions and the variable that a canary uses, with or without a version.
-CANARY = re.compile(rb'__stack_chk_(?:fail_local|fail|guard)(?:@[^\0]*)?')
+# The functions and the variable that a canary uses, with or without a version, of which at most 255 bytes are read.
+CANARY = re.compile(rb'__stack_chk_(?:fail_local|fail|guard)(?:@[^\0]{0,255})?')
 # How the strings begin in which a linker, and no compiler, names itself.
 LINKERS = ('Linker:', 'LLD', 'GNU ld', 'GNU gold', 'mold')
 NT_GNU_PROPERTY_TYPE_0 = 5
