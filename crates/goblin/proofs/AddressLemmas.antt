@@ -6,8 +6,8 @@
 use Rattle.std.proofs.Common.{◌≡◌, ◌≤◌, ◌<◌, ◌+◌, ◌*◌, ◌&&◌, ◌||◌, not, ℕ, zero, suc, Bool, true, false, ltb, leb}
 use Rattle.std.proofs.Common.{◌==◌, if◌then◌else◌, List, [], ◌∷◌, length, get_or, slice_get, Option, Some, None, inl}
 use Rattle.std.proofs.Common.{inr, refl, sym, ap, subst, ◌∙◌, arith, position}
-use Rattle.std.proofs.lemmas.Bool.{and_parts, and_from, cases_lt, lt-ltb, le-ltb, le-leb, ltb-true, ltb-false, leb-true}
-use Rattle.std.proofs.lemmas.Bool.{false≢true, eqb-true, eqb-false, eq-eqb, ne_eqb, or_left, or_right}
+use Rattle.std.proofs.lemmas.Bool.{and_parts, and_from, cases_lt, lt-ltb, le-ltb, ltb-true, ltb-false, leb-true}
+use Rattle.std.proofs.lemmas.Bool.{false≢true, eqb-true, eqb-false, eq-eqb, or_right}
 use Rattle.std.proofs.lemmas.Bool.Decides.{nat_tests}
 use Rattle.std.proofs.lemmas.List.Elements.{All-from_get_or}
 use Rattle.std.proofs.lemmas.List.Folds.{list_any_at, list_any_none}
@@ -31,63 +31,22 @@ rank address false false value = 2 * value
 abbrev rank_of : ℕ → Sym → ℕ
 rank_of address s = rank address (reaches address s) (s.st_size == 0) s.st_value
 
-not_above : (address : ℕ) (s : Sym) → is_below address s ≡ true → s.st_value ≤ address
-not_above address s below =
-    let parts = and_parts (has_place s) (leb s.st_value address) below in
-    leb-true s.st_value address parts.1
-
 -- ---- candidates
 if_so : (x : Bool) → (x ≡ true → x ≡ false) → x ≡ false
 if_so true h = h refl
 if_so false h = refl
 
-left_false : (x : Bool) → (x && true) ≡ false → x ≡ false
-left_false true e = e
-left_false false e = refl
-
 -- a section holds an address as the law says
-abbrev start_of : ℕ → SectionHeader → ℕ
-start_of e_type section = if e_type == 1 then 0 else section.sh_addr
-
-start_is : (e_type : ℕ) (section : SectionHeader) (is_rel : Bool)
-    → (e_type == 1) ≡ is_rel → start_of e_type section ≡ (if is_rel then 0 else section.sh_addr)
-start_is e_type section is_rel is = ap (λ (b : Bool). if b then 0 else section.sh_addr) is
-
-holds_parts : (address e_type : ℕ) (section : SectionHeader)
-    → holds address e_type section ≡ true
-    → (start_of e_type section ≤ address) × (address < start_of e_type section + section.sh_size)
-holds_parts address e_type section h =
-    let start = start_of e_type section in
-    let parts = and_parts (leb start address) (ltb address (start + section.sh_size)) h in
-    (leb-true start address parts.0, ltb-true address (start + section.sh_size) parts.1)
-
 holds_in : (address e_type : ℕ) (section : SectionHeader) (is_rel : Bool)
     → (e_type == 1) ≡ is_rel → holds address e_type section ≡ true → HoldsAddress address e_type section
-holds_in address e_type section true is h =
-    let start : start_of e_type section ≡ 0 = start_is e_type section true is in
-    let parts = holds_parts address e_type section h in
-    inl (eqb-true e_type 1 is, omega (arith, start, parts.1))
+holds_in address e_type section true is h = inl (eqb-true e_type 1 is, grind (arith, nat_tests))
 holds_in address e_type section false is h =
-    let start : start_of e_type section ≡ section.sh_addr = start_is e_type section false is in
-    let parts = holds_parts address e_type section h in
-    inr (eqb-false e_type 1 is, omega (arith, start, parts.0), omega (arith, start, parts.1))
-
-holds_by : (address e_type : ℕ) (section : SectionHeader)
-    → start_of e_type section ≤ address → address < start_of e_type section + section.sh_size
-    → holds address e_type section ≡ true
-holds_by address e_type section above below =
-    let start = start_of e_type section in
-    and_from (leb start address) (ltb address (start + section.sh_size)) (le-leb start address above)
-    (lt-ltb address (start + section.sh_size) below)
+    inr (eqb-false e_type 1 is, grind (arith, nat_tests), grind (arith, nat_tests))
 
 holds_from : (address e_type : ℕ) (section : SectionHeader)
     → HoldsAddress address e_type section → holds address e_type section ≡ true
-holds_from address e_type section (inl (is, below)) =
-    let start : start_of e_type section ≡ 0 = start_is e_type section true (eq-eqb e_type 1 is) in
-    holds_by address e_type section (omega (arith, start)) (omega (arith, start, below))
-holds_from address e_type section (inr (is, above, below)) =
-    let start : start_of e_type section ≡ section.sh_addr = start_is e_type section false (ne_eqb e_type 1 is) in
-    holds_by address e_type section (omega (arith, start, above)) (omega (arith, start, below))
+holds_from address e_type section (inl has) = grind (arith, nat_tests)
+holds_from address e_type section (inr has) = grind (arith, nat_tests)
 
 -- the section that holds it
 holder : (test : SectionHeader → Bool) (section : Option SectionHeader)
@@ -100,28 +59,26 @@ module _ (address : ℕ) (sections : List SectionHeader) (e_type : ℕ) (s : Sym
   below_of : is_candidate address sections e_type s ≡ true → is_below address s ≡ true
   below_of fits = (and_parts (is_below address s) (reaches address s || is_held address sections e_type s) fits).0
 
+  not_above : is_candidate address sections e_type s ≡ true → s.st_value ≤ address
+  not_above fits = leb-true _ _ (and_parts (has_place s) (leb s.st_value address) (below_of fits)).1
+
   -- those that contain the address are candidates
-  candidate_if : is_below address s ≡ true → reaches address s ≡ true → is_candidate address sections e_type s ≡ true
-  candidate_if below inside =
-      and_from (is_below address s) (reaches address s || is_held address sections e_type s) below
-      (or_left (reaches address s) (is_held address sections e_type s) inside)
+  candidate_if : contains address s ≡ true → is_candidate address sections e_type s ≡ true
+  candidate_if inside = grind (arith, nat_tests)
 
   -- so are those in a section that holds it, and no others
   candidate_in : IsBelowInSection address sections e_type s → is_candidate address sections e_type s ≡ true
   candidate_in lies =
       let has = holds_from address e_type lies.section lies.has in
-      let held : unwrap_or (option_map (holds address e_type) (slice_get sections s.st_shndx)) false ≡ true =
-      ap (λ (x : Option SectionHeader). unwrap_or (option_map (holds address e_type) x) false) lies.there ∙ has in
-      and_from (is_below address s) (reaches address s || is_held address sections e_type s) lies.below
-      (or_right (reaches address s) (is_held address sections e_type s)
-      (and_from (ltb s.st_shndx 0xff00) _ (lt-ltb s.st_shndx 0xff00 lies.named) held))
+      let held : is_held address sections e_type s ≡ true =
+      rw (lt-ltb s.st_shndx 0xff00 lies.named, lies.there) has in
+      and_from _ _ lies.below (or_right (reaches address s) _ held)
 
   lies_in : is_candidate address sections e_type s ≡ true → reaches address s ≡ false
       → IsBelowInSection address sections e_type s
   lies_in fits outside =
       let parts = and_parts (is_below address s) (reaches address s || is_held address sections e_type s) fits in
-      let held : is_held address sections e_type s ≡ true =
-      sym (ap (λ (b : Bool). b || is_held address sections e_type s) outside) ∙ parts.1 in
+      let held : is_held address sections e_type s ≡ true = rw outside at parts.1 in
       let named = and_parts (ltb s.st_shndx 0xff00) _ held in
       let section = holder (holds address e_type) (slice_get sections s.st_shndx) named.1 in
       record {
@@ -133,12 +90,12 @@ module _ (address : ℕ) (sections : List SectionHeader) (e_type : ℕ) (s : Sym
       }
 
 -- how ranks compare
-by_rank : (address : ℕ) (s other : Sym)
-    → is_below address s ≡ true → is_below address other ≡ true
+by_rank : (address : ℕ) (sections : List SectionHeader) (e_type : ℕ) (s other : Sym)
+    → is_candidate address sections e_type s ≡ true → is_candidate address sections e_type other ≡ true
     → is_nearer address s other ≡ ltb (rank_of address other) (rank_of address s)
-by_rank address s other below other_below =
-    let low = not_above address s below in
-    let other_low = not_above address other other_below in
+by_rank address sections e_type s other fits other_fits =
+    let low = not_above address sections e_type s fits in
+    let other_low = not_above address sections e_type other other_fits in
     grind (arith, nat_tests)
 
 -- ---- a search through the symbols, one after another
@@ -173,11 +130,10 @@ module _ (address : ℕ) (sections : List SectionHeader) (e_type i : ℕ) (symbo
   -- a property of the new symbol and of those before it
   one_of : (k : ℕ) (other : Sym) (P : Sym → Type 0)
       → k < i + 1 → slice_get symbols k ≡ Some other → P s → (k < i → P other) → P other
-  one_of k other P l g here before =
-      elim (cases_lt k i) [
-        | inl earlier ↦ before earlier
-        | inr late ↦ subst P (sym (same_item symbols i k s other got g (omega (arith, l, late)))) here
-      ]
+  one_of k other P l g here before = elim (cases_lt k i) [
+    | inl earlier ↦ before earlier
+    | inr late ↦ subst P (sym (same_item symbols i k s other got g (omega (arith, l, late)))) here
+  ]
 
   first_one : (test : Bool)
       → (fits s && true) ≡ test → IsFound address sections e_type symbols i None
@@ -192,17 +148,16 @@ module _ (address : ℕ) (sections : List SectionHeader) (e_type i : ℕ) (symbo
     first = λ k other m g b. absurd (false≢true (sym (none k other m g) ∙ b));
   }
   first_one false tested none =
-      λ k other l g. one_of k other (λ x. fits x ≡ false) l g (left_false (fits s) tested) (λ m. none k other m g)
+      λ k other l g. one_of k other (λ x. fits x ≡ false) l g (if_so (fits s) (λ is. is ∙ (rw is at tested)))
+      (λ m. none k other m g)
 
   next_one : (found : ℕ × Sym) (test : Bool)
       → (fits s && is_nearer address s found.1) ≡ test → IsSoFar address sections e_type symbols i found
       → IsFound address sections e_type symbols (i + 1) (if test then Some (i, s) else Some found)
   next_one found true tested so =
       let parts = and_parts (fits s) (is_nearer address s found.1) tested in
-      let below = below_of address sections e_type s parts.0 in
-      let found_below = below_of address sections e_type found.1 so.fits in
       let higher : rank_of address found.1 < rank_of address s =
-      ltb-true _ _ (sym (by_rank address s found.1 below found_below) ∙ parts.1) in
+      ltb-true _ _ (sym (by_rank address sections e_type s found.1 parts.0 so.fits) ∙ parts.1) in
       record {
         within = omega arith;
         there = got;
@@ -218,11 +173,8 @@ module _ (address : ℕ) (sections : List SectionHeader) (e_type i : ℕ) (symbo
     fits = so.fits;
     highest = λ k other l g b.
         one_of k other (λ x. fits x ≡ true → rank_of address x ≤ rank_of address found.1) l g
-        (λ fitting.
-        let below = below_of address sections e_type s fitting in
-        let found_below = below_of address sections e_type found.1 so.fits in
-        ltb-false _ _ (sym (by_rank address s found.1 below found_below)
-        ∙ sym (ap (λ (b : Bool). b && is_nearer address s found.1) fitting) ∙ tested))
+        (λ fitting. ltb-false _ _ (sym (by_rank address sections e_type s found.1 fitting so.fits)
+        ∙ (rw fitting at tested)))
         (λ m fitting. so.highest k other m g fitting) b;
     first = so.first;
   }
@@ -249,74 +201,44 @@ found_up_to address sections e_type symbols (suc i) all =
     ]
 
 -- ---- which is what the law says
-and_false : (x y : Bool) → (x ≡ true → y ≡ false) → (x && y) ≡ false
-and_false x y h = grind (arith, nat_tests)
-
 module _ (address : ℕ) (sections : List SectionHeader) (e_type : ℕ) (symbols : List Sym) where
   module _ (found : ℕ × Sym) (so : IsSoFar address sections e_type symbols (length symbols) found) where
     abbrev s : Sym
     s = found.1
-
-    abbrev inside : Sym → Bool
-    inside other = reaches address other
-
-    abbrev empty : Sym → Bool
-    empty other = other.st_size == 0
 
     low : (k : ℕ) (other : Sym)
         → slice_get symbols k ≡ Some other → is_candidate address sections e_type other ≡ true
         → rank_of address other ≤ rank_of address s
     low k other g b = so.highest k other (slice_get_within symbols k other g) g b
 
-    s_below : is_below address s ≡ true
-    s_below = below_of address sections e_type s so.fits
-
     -- none contains the address if the one that was found doesn't
-    none_contains : inside s ≡ false → NoneContains address symbols
+    none_contains : reaches address s ≡ false → NoneContains address symbols
     none_contains outside k other g =
-        and_false (is_below address other) (inside other)
-        (λ b. if_so (inside other)
-        (λ is.
-        let l = low k other g (candidate_if address sections e_type other b is) in
-        let m = not_above address s s_below in
-        grind (arith, nat_tests)))
-
-    outside_of : inside s ≡ false → (k : ℕ) (other : Sym)
-        → slice_get symbols k ≡ Some other → is_candidate address sections e_type other ≡ true
-        → inside other ≡ false
-    outside_of outside k other g b =
-        sym (ap (λ (x : Bool). x && inside other) (below_of address sections e_type other b))
-        ∙ none_contains outside k other g
+        if_so (contains address other) (λ is.
+        let l = low k other g (candidate_if address sections e_type other is) in
+        grind (arith, nat_tests, not_above address sections e_type s so.fits))
 
     -- another one in a section that holds the address is no nearer
-    other_in : inside s ≡ false → (k : ℕ) (other : Sym)
+    other_in : reaches address s ≡ false → (k : ℕ) (other : Sym)
         → slice_get symbols k ≡ Some other → IsBelowInSection address sections e_type other
-        → (inside other ≡ false) × (is_candidate address sections e_type other ≡ true)
+        → (reaches address other ≡ false) × (is_candidate address sections e_type other ≡ true)
         × (rank_of address other ≤ rank_of address s)
     other_in outside k other g lies =
         let b = candidate_in address sections e_type other lies in
-        (outside_of outside k other g b, b, low k other g b)
+        (rw lies.below at (none_contains outside k other g), b, low k other g b)
 
     final : (x e : Bool)
-        → inside s ≡ x → empty s ≡ e
+        → reaches address s ≡ x → (s.st_size == 0) ≡ e
         → IsSymbolAt address sections e_type symbols (if x || e then Some found.0 else None)
     final true e is size = (
       s,
       so.there,
       inl (record {
-        inside = and_from _ _ s_below is;
-        high = λ k other g c.
-            let parts = and_parts (is_below address other) (inside other) c in
-            let l = low k other g (candidate_if address sections e_type other parts.0 parts.1) in
-            grind (arith, nat_tests, parts.1);
+        inside = and_from _ _ (below_of address sections e_type s so.fits) is;
+        high = λ k other g c. grind (arith, nat_tests, low k other g (candidate_if address sections e_type other c));
         early = λ k other g c same.
-            elim (cases_lt k found.0) [
-              | inl l ↦
-                  let parts = and_parts (is_below address other) (inside other) c in
-                  let lower = so.first k other l g (candidate_if address sections e_type other parts.0 parts.1) in
-                  grind (arith, nat_tests, parts.1)
-              | inr l ↦ l
-            ];
+            let fits = candidate_if address sections e_type other c in
+            grind (arith, nat_tests, λ (l : k < found.0). so.first k other l g fits);
       }),
     )
     final false true is size = (
@@ -326,29 +248,17 @@ module _ (address : ℕ) (sections : List SectionHeader) (e_type : ℕ) (symbols
         none = none_contains is;
         below = lies_in address sections e_type s so.fits is;
         empty = eqb-true s.st_size 0 size;
-        high = λ k other g lies.
-            let there = other_in is k other g lies in
-            let outside = there.0 in
-            let l = there.2 in
-            grind (arith, nat_tests);
+        high = λ k other g lies. grind (arith, nat_tests, other_in is k other g lies);
         early = λ k other g lies same none.
-            elim (cases_lt k found.0) [
-              | inl l ↦
-                  let there = other_in is k other g lies in
-                  let outside = there.0 in
-                  let lower = so.first k other l g there.1 in
-                  grind (arith, nat_tests)
-              | inr l ↦ l
-            ];
+            let there = other_in is k other g lies in
+            grind (arith, nat_tests, there.0, λ (l : k < found.0). so.first k other l g there.1);
       }),
     )
     final false false is size = record {
       none = none_contains is;
       higher = λ k other g lies none.
           let there = other_in is k other g lies in
-          let outside = there.0 in
-          let l = there.2 in
-          (found.0, s, so.there, lies_in address sections e_type s so.fits is, grind (arith, nat_tests));
+          (found.0, s, so.there, lies_in address sections e_type s so.fits is, grind (arith, nat_tests, there));
     }
 
   found_comes_first : (found : Option (ℕ × Sym))
@@ -359,9 +269,8 @@ module _ (address : ℕ) (sections : List SectionHeader) (e_type : ℕ) (symbols
       → slice_get symbols k ≡ Some other → is_candidate address sections e_type other ≡ true → ⊥ =
       (λ k other g b. false≢true (sym (none k other (slice_get_within symbols k other g) g) ∙ b)) in
       record {
-        none = λ k other g. and_false (is_below address other) (reaches address other)
-            (λ b. if_so (reaches address other)
-            (λ is. absurd (unfit k other g (candidate_if address sections e_type other b is))));
+        none = λ k other g. if_so (contains address other)
+            (λ is. absurd (unfit k other g (candidate_if address sections e_type other is)));
         higher = λ k other g lies empty. absurd (unfit k other g (candidate_in address sections e_type other lies));
       }
   found_comes_first (Some found) so = final found so (reaches address found.1) (found.1.st_size == 0) refl refl
@@ -402,24 +311,22 @@ module _ (test : Sym → Bool) (symbols : List Sym) (s : Sym) where
       let higher = λ (other : Sym). test other && ltb s.st_value other.st_value in
       and_from _ _ passes (ap not (list_any_none higher symbols
       (All-from_get_or (λ x. higher x ≡ false) symbols s
-      (λ k l. let other = get_or symbols k s in
-      let lower = high k other (slice_get-get_or symbols k s l) in
-      grind (arith, nat_tests)))))
+      (λ k l. grind (arith, nat_tests, high k (get_or symbols k s) (slice_get-get_or symbols k s l))))))
 
   highest_is_not : (i : ℕ) (other : Sym)
       → slice_get symbols i ≡ Some other → test other ≡ true → s.st_value < other.st_value
       → is_highest test symbols s ≡ false
   highest_is_not i other got passes lower =
       let higher = λ (x : Sym). test x && ltb s.st_value x.st_value in
-      let within = slice_get_within symbols i other got in
       let there = get_or_from_slice_get symbols i other s got in
-      let hit = list_any_at higher symbols i s within (ap higher there ∙ and_from _ _ passes (lt-ltb _ _ lower)) in
-      grind (arith, nat_tests)
+      grind (
+        arith,
+        nat_tests,
+        list_any_at higher symbols i s (slice_get_within symbols i other got)
+            (ap higher there ∙ and_from _ _ passes (lt-ltb _ _ lower)),
+      )
 
 module _ (address : ℕ) (sections : List SectionHeader) (e_type : ℕ) (symbols : List Sym) where
-  abbrev fitting : Sym → Bool
-  fitting s = is_candidate address sections e_type s
-
   abbrev is_label : Sym → Bool
   is_label s = is_highest (is_candidate address sections e_type) symbols s && s.st_size == 0
 
@@ -431,13 +338,13 @@ module _ (address : ℕ) (sections : List SectionHeader) (e_type : ℕ) (symbols
 
   -- where none contains the address, each candidate lies in a section that holds it
   lies_by : NoneContains address symbols → (k : ℕ) (s : Sym)
-      → slice_get symbols k ≡ Some s → fitting s ≡ true → IsBelowInSection address sections e_type s
+      → slice_get symbols k ≡ Some s → is_candidate address sections e_type s ≡ true
+      → IsBelowInSection address sections e_type s
   lies_by none k s g b =
-      lies_in address sections e_type s b
-      (sym (ap (λ (x : Bool). x && reaches address s) (below_of address sections e_type s b)) ∙ none k s g)
+      lies_in address sections e_type s b (rw (below_of address sections e_type s b) at (none k s g))
 
   not_label : (s : Sym)
-      → (fitting s ≡ true → s.st_size ≡ 0
+      → (is_candidate address sections e_type s ≡ true → s.st_size ≡ 0
       → is_highest (is_candidate address sections e_type) symbols s ≡ false)
       → is_label s ≡ false
   not_label s lower = grind (arith, nat_tests)
@@ -449,15 +356,11 @@ module _ (address : ℕ) (sections : List SectionHeader) (e_type : ℕ) (symbols
   contains_first i s got first =
       let before : (k : ℕ) (other : Sym)
       → k < i → slice_get symbols k ≡ Some other → is_highest (contains address) symbols other ≡ false =
-      (λ k other l g.
-      and_false (contains address other)
-      (not (list_any (λ x. contains address x && ltb other.st_value x.st_value) symbols))
-      (λ c.
-      let high = first.high k other g c in
-      let early = first.early k other g c in
-      let lower : other.st_value < s.st_value = grind (arith, nat_tests) in
-      sym (ap (λ (b : Bool). b && not (list_any (λ x. contains address x && ltb other.st_value x.st_value) symbols)) c)
-      ∙ highest_is_not (contains address) symbols other i s got first.inside lower)) in
+      (λ k other l g. if_so (is_highest (contains address) symbols other) (λ is.
+      let c = (and_parts (contains address other) _ is).0 in
+      let lower : other.st_value < s.st_value =
+      grind (arith, nat_tests, first.high k other g c, first.early k other g c) in
+      highest_is_not (contains address) symbols other i s got first.inside lower)) in
       let at = first_passes (is_highest (contains address) symbols) symbols i s got
       (highest_is (contains address) symbols s first.inside first.high) before in
       ap (λ (found : Option ℕ). option_or found (position is_label symbols)) at
@@ -470,19 +373,16 @@ module _ (address : ℕ) (sections : List SectionHeader) (e_type : ℕ) (symbols
       let test = is_candidate address sections e_type in
       let fits = candidate_in address sections e_type s first.below in
       let high : (k : ℕ) (other : Sym)
-      → slice_get symbols k ≡ Some other → fitting other ≡ true → other.st_value ≤ s.st_value =
+      → slice_get symbols k ≡ Some other → test other ≡ true → other.st_value ≤ s.st_value =
       (λ k other g b. first.high k other g (lies_by first.none k other g b)) in
       let before : (k : ℕ) (other : Sym) → k < i → slice_get symbols k ≡ Some other → is_label other ≡ false =
-      (λ k other l g.
-      not_label other (λ b empty.
+      (λ k other l g. not_label other (λ b empty.
       let lies = lies_by first.none k other g b in
-      let high = first.high k other g lies in
-      let early = first.early k other g lies in
-      let lower : other.st_value < s.st_value = grind (arith, nat_tests) in
+      let lower : other.st_value < s.st_value =
+      grind (arith, nat_tests, first.high k other g lies, first.early k other g lies) in
       highest_is_not test symbols other i s got fits lower)) in
       let at = first_passes is_label symbols i s got
-      (and_from _ _ (highest_is test symbols s fits high) (eq-eqb s.st_size 0 first.empty))
-      before in
+      (and_from _ _ (highest_is test symbols s fits high) (eq-eqb s.st_size 0 first.empty)) before in
       ap (λ (found : Option ℕ). option_or found (position is_label symbols)) (no_holder first.none) ∙ at
 
   has_none : HasNone address sections e_type symbols → symbol_at address sections e_type symbols ≡ None
