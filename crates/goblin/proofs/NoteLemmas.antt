@@ -4,8 +4,8 @@
 -- one step of their definition (`note_by_note`): at the range's end there is none, and before it there is one, which is
 -- the last if it is a refusal.
 use Rattle.std.proofs.Common.{◌≡◌, ◌+◌, ◌-◌, ◌<◌, ◌≤◌, ℕ, min, List, [], ◌∷◌, length, take, drop, Result, Ok, Err, IfOk}
-use Rattle.std.proofs.Common.{inl, inr, refl, ◌∙◌, arith}
-use Rattle.std.proofs.lemmas.Bool.{cases_lt, le-leb, lt-leb}
+use Rattle.std.proofs.Common.{refl, ◌∙◌, arith}
+use Rattle.std.proofs.lemmas.Bool.{le-leb, lt-leb}
 use Rattle.std.proofs.lemmas.List.{length-drop, take_all}
 use Rattle.goblin_base.specs.declared.container.Ctx.{Ctx}
 use Rattle.goblin_base.specs.declared.error.Error.{Error}
@@ -16,7 +16,7 @@ use Rattle.goblin.specs.declared.elf.note.NotePlaces.{NotePlaces}
 use Rattle.goblin.specs.Note.{NoteParts, parts_of, note_there, read_places, places_at, note_at, item_and_rest}
 use Rattle.goblin.specs.Note.{note_items}
 use Rattle.goblin.specs.Notes.{LieWithin, items_left, most_left}
-use Rattle.goblin.specs.NoteLaws.{at_ok, note_by_note, places_lie_within, few_notes}
+use Rattle.goblin.specs.NoteLaws.{note_by_note, places_lie_within, few_notes}
 
 -- before the end of the bytes, places are read from the rest
 pub places_at-before : (bytes : List ℕ) (offset : ℕ) (ctx : ℕ × Ctx)
@@ -61,9 +61,7 @@ note_at-read (Err e) bytes offset ctx is = rw is.places refl
 pub read-within : (answer : Result (Note × NotePlaces) Error) (bytes : List ℕ) (offset : ℕ) (ctx : ℕ × Ctx)
     → Returns (λ found. found.1) answer (places_at bytes offset ctx)
     → IfOk answer (λ found. LieWithin (length bytes) offset found.1)
-read-within (Ok found) bytes offset ctx is =
-    at_ok (places_at bytes offset ctx) found.1 _ is (places_lie_within bytes offset ctx)
-read-within (Err e) bytes offset ctx is = tt
+read-within answer bytes offset ctx is = grind (arith, is, places_lie_within bytes offset ctx)
 
 -- no item is left from the end of a range on
 pub note_items-past : (bytes : List ℕ) (size offset : ℕ) (ctx : ℕ × Ctx)
@@ -101,8 +99,4 @@ few_left it = few_notes it.bytes.now it.size it.offset it.ctx
 
 -- and at least one, before its end
 pub some_left : (it : NoteDataIterator) → min 1 (most_left it) ≤ length (items_left it)
-some_left it =
-    elim (cases_lt it.offset it.size) [
-      | inl before ↦ let some = note_items-some it.bytes.now it.size it.offset it.ctx before in omega arith
-      | inr past ↦ let none : most_left it ≡ 0 = omega arith in omega arith
-    ]
+some_left it = grind (arith, note_items-some it.bytes.now it.size it.offset it.ctx)

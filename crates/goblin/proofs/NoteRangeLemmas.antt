@@ -2,9 +2,9 @@
 --
 -- A range yields an item exactly before its end (`unspent`, `at_end`). So a range that yields none doesn't change, and
 -- the items after it are all that are left (`skipped`); one that yields an item is the only one that changes (`moved`).
-use Rattle.std.proofs.Common.{◌≡◌, ◌+◌, ◌<◌, ◌≤◌, ℕ, List, [], ◌∷◌, ◌++◌, Result, length, take, drop, get_or, set, inl}
-use Rattle.std.proofs.Common.{inr, refl, sym, ap, ◌∙◌, arith, add-one, drop-cons}
-use Rattle.std.proofs.lemmas.Bool.{cases_lt, le-leb, lt-ltb, le-ltb}
+use Rattle.std.proofs.Common.{◌≡◌, ◌+◌, ◌<◌, ◌≤◌, ℕ, List, [], ◌∷◌, ◌++◌, Result, length, take, drop, get_or, set}
+use Rattle.std.proofs.Common.{refl, sym, ap, ◌∙◌, arith, add-one, drop-cons}
+use Rattle.std.proofs.lemmas.Bool.{le-leb, lt-ltb, le-ltb}
 use Rattle.std.proofs.lemmas.List.{take-set, drop-set, take-append-drop}
 use Rattle.std.proofs.lemmas.List.Sums.{sum_by-cons}
 use Rattle.std.specs.List.{flat_map}
@@ -17,20 +17,11 @@ use Rattle.goblin.proofs.NoteLemmas.{note_items-past, note_items-some}
 -- a range with an item left is not at its end
 pub unspent : (it : NoteDataIterator) (item : Result NoteParts Refusal) (rest : List (Result NoteParts Refusal))
     → items_left it ≡ item ∷ rest → it.offset < it.size
-unspent it item rest is =
-    elim (cases_lt it.offset it.size) [
-      | inl before ↦ before
-      | inr past ↦ let none = note_items-past it.bytes.now it.size it.offset it.ctx past in absurd (cc)
-    ]
+unspent it item rest is = grind (arith, note_items-past it.bytes.now it.size it.offset it.ctx)
 
 -- and one without is
 pub at_end : (it : NoteDataIterator) → items_left it ≡ [] → it.size ≤ it.offset
-at_end it is =
-    elim (cases_lt it.offset it.size) [
-      | inl before ↦ let some = note_items-some it.bytes.now it.size it.offset it.ctx before in
-          absurd (omega (arith, ap length is))
-      | inr past ↦ past
-    ]
+at_end it is = grind (arith, note_items-some it.bytes.now it.size it.offset it.ctx, ap length is)
 
 -- a list with one element replaced
 set_is : {X : Type 0} (xs : List X) (i : ℕ) (y : X) → i < length xs → set xs i y ≡ take i xs ++ (y ∷ drop (i + 1) xs)

@@ -9,12 +9,10 @@ use Rattle.goblin_base.specs.declared.container.Ctx.{Ctx}
 use Rattle.goblin_base.specs.declared.container.Endian.{Endian}
 use Rattle.goblin_base.specs.declared.scroll.Error.{Error as Misplaced}
 use Rattle.goblin_base.specs.Record.{read_within, unless_fault}
-use Rattle.goblin_base.proofs.StepLemmas.{step}
 use Rattle.goblin_base.specs.RecordLaws.{fits-room_of, room_of_fits}
-use Rattle.goblin_base.specs.Refusal.{Refusal, refusal_of, misplaced, bad_offset}
+use Rattle.goblin_base.specs.Refusal.{Refusal, refusal_of, bad_offset}
 use Rattle.goblin_base.specs.Room.{room_of}
 use Rattle.goblin_base.specs.Steps.{◌>>=◌, refuse_as, refuse_if}
-use Rattle.goblin_base.specs.Utf8.{text_or_fault}
 use Rattle.goblin_records.specs.declared.note.Nhdr32.{Nhdr32}
 use Rattle.goblin_records.specs.Nhdr.{nhdr32_of, nhdr32_size}
 use Rattle.goblin_records.specs.NhdrLaws.{nhdr32_laws}
@@ -37,17 +35,10 @@ if_ok_more answer P Q h more = grind (arith, nat_tests)
 align_range : (alignment align : ℕ) → note_align alignment ≡ Ok align → (4 ≤ align) × (align ≤ 8)
 align_range alignment align is = grind (arith, nat_tests)
 
--- bytes that were read were there
-had_room : (room : Result (Unit {0}) Misplaced) (part other : List ℕ)
-    → (refuse_as misplaced room >>= λ _. Ok other) ≡ Ok part → room ≡ Ok tt
-had_room room part other is = grind (arith, nat_tests)
-
 -- bytes that are read are inside the bytes
 bytes_at-fits : (bytes : List ℕ) (place size : ℕ) (part : List ℕ)
     → bytes_at bytes place size ≡ Ok part → place + size ≤ length bytes
-bytes_at-fits bytes place size part is =
-    fits-room_of (length bytes) place size tt
-    (had_room (room_of (length bytes) place size) part (take size (drop place bytes)) is)
+bytes_at-fits bytes place size part is = grind (arith, fits-room_of (length bytes) place size)
 
 -- the least multiple from an offset on is less than the alignment past it
 multiple_range : (place align : ℕ)
@@ -57,9 +48,7 @@ multiple_range place align h = (omega arith, omega arith)
 -- and so is text that is read
 utf8_at-fits : (bytes : List ℕ) (place size : ℕ) (text : List ℕ)
     → utf8_at bytes place size ≡ Ok text → place + size ≤ length bytes
-utf8_at-fits bytes place size text is =
-    let part = step (bytes_at bytes place size) (λ part. text_or_fault part (length bytes - place)) text is in
-    bytes_at-fits bytes place size part.value part.is
+utf8_at-fits bytes place size text is = grind (arith, fits-room_of (length bytes) place size)
 
 -- places of parts that lie inside the bytes
 places_fit : (available align : ℕ) (header : Nhdr32)
@@ -98,13 +87,8 @@ read_steps : (align : Result ℕ Refusal) (room : Result (Unit {0}) Misplaced) (
     × ((part : List ℕ) × (bytes_at bytes places.desc places.desc_size ≡ Ok part))
 read_steps (Ok a) (Ok u) header bytes places is =
     let p = note_places a header in
-    let last = read_last (utf8_at bytes p.name p.name_size) (bytes_at bytes p.desc p.desc_size) p places is in (
-      a,
-      refl,
-      last.0,
-      subst (λ (q : NotePlaces). (part : List ℕ) × (bytes_at bytes q.desc q.desc_size ≡ Ok part))
-          (sym last.0) last.1,
-    )
+    let last = read_last (utf8_at bytes p.name p.name_size) (bytes_at bytes p.desc p.desc_size) p places is in
+    (a, refl, last.0, rw last.0 last.1)
 read_steps (Ok a) (Err e) header bytes places is = absurd (cc)
 read_steps (Err e) room header bytes places is = absurd (cc)
 
@@ -177,12 +161,7 @@ places_lie_within bytes offset ctx =
     λ p within.
     let there = leb-false (length bytes) offset before in
     let rest = length-drop offset bytes in
-    record {
-      name = omega (arith, within.name);
-      desc = omega (arith, within.desc);
-      least = within.least;
-      most = omega (arith, within.most);
-    }
+    grind (arith, within)
 
 -- the size of a note is at least its header's, and at most 7 more than the bytes'
 pub notes_advance : NotesAdvance
@@ -254,3 +233,5 @@ few_within (suc k) bytes size offset ctx =
 pub few_notes : FewNotes
 unfolding note_items
 few_notes bytes size offset ctx = few_within (size - offset) bytes size offset ctx
+
+pub ruleset note_laws = (note_by_note, places_lie_within, notes_advance, few_notes)

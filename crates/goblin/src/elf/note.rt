@@ -414,6 +414,7 @@ pub fn constants()
 /// Laws of notes: how the items of a range follow one another, where the parts of a note are, where
 /// it ends, how many items a range has, and which note is a whole note. `==` is true exactly if two
 /// places or two parts are the same. `clone` returns the value, and never fails.
+#[tactic(auto, using(crate::specs::NoteLaws::note_laws))]
 pub fn laws()
     ensures items { NoteByNote }
     ensures places { PlacesLieWithin }
