@@ -203,6 +203,7 @@ pub fn is_mips64el(header: &Header) -> bool
 
 /// Laws: a relocation section depends only on its own bytes and on the file's length, and its
 /// relocations are written as those bytes.
+#[tactic(auto, using(crate::specs::RelocSectionLaws::depends_on_its_range, crate::specs::RelocSectionLaws::writes_its_bytes))]
 pub fn laws()
     ensures range { DependsOnItsRange }
     ensures bytes { WritesItsBytes }

@@ -469,6 +469,7 @@ pub fn constants()
 
 /// Laws: a table that strict options accept is the same with permissive ones; a table depends only
 /// on the bytes of its range and on the file's length.
+#[tactic(auto, using(crate::specs::SymtabLaws::permissive_keeps_strict, crate::specs::SymtabLaws::depends_on_its_range))]
 pub fn laws()
     ensures permissive { PermissiveKeepsStrict }
     ensures range { DependsOnItsRange }
@@ -479,6 +480,7 @@ pub fn laws()
 /// or below it in a section that holds the address. Of the symbols there it is as high as any, and the
 /// first of size 0 of those as high. `None` is returned exactly if no symbol contains the address, and
 /// each one of size 0 there has a higher one there.
+#[tactic(auto, using(crate::proofs::AddressLemmas::symbol_at_comes_first))]
 pub fn addresses()
     ensures { SymbolAtComesFirst }
 {}
