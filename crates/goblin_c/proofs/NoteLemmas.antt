@@ -132,3 +132,5 @@ usual_note_is bytes h range alignment offset places other there before is =
     ∙ ap (λ (o : Endian). read_places alignment o part) order ∙ is in
     let past : nat_le (range.offset + range.size) offset ≡ false = lt-leb (range.offset + range.size) offset before in
     rw (past, read) refl
+
+pub ruleset note_laws = (notes_are_items, notes_in_a_row, notes_lie_in_file, whole_notes_are_notes)

@@ -40,3 +40,5 @@ strings_are_bytes bytes range offset found is = grind (arith, nat_tests, plain_i
 pub strings_lie_in_file : StringsLieInFile
 strings_lie_in_file bytes range offset found is =
     bytes_lie_in_file.string bytes range offset found (strings_are_bytes bytes range offset found is)
+
+pub ruleset place_laws = (bytes_lie_in_file, empty_have_no_bytes, strings_are_bytes)

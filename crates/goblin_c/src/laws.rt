@@ -7,6 +7,7 @@ ghost use Rattle.goblin_c.specs.Laws.{WholeHeaderKeeps, WholeNotesAreNotes, Text
 /// they store are the note's name and descriptor, and lie in the file. `next` is past the note's header. If such a
 /// note's descriptor lies in the range, `goblin_note_bytes` stores the same note with its whole name. The parts that it
 /// names have the numbers of `goblin.h`.
+#[tactic(auto, using(crate::proofs::NoteLemmas::note_laws))]
 pub fn notes()
     ensures first { NotesAreItems }
     ensures row { NotesInARow }
@@ -54,6 +55,7 @@ pub fn whole()
 /// Laws: `goblin_linked_section` stores what `goblin_section` stores at an index, but nothing at index 0 or of a
 /// section without bytes in the file. `goblin_section_names` stores the table at the index in the header,
 /// or if that is 0xffff at the index that the first section links to.
+#[tactic(auto, using(crate::proofs::IndexLemmas::tables_by_index, crate::proofs::IndexLemmas::names_by_index))]
 pub fn names()
     ensures tables { TablesByIndex }
     ensures names { NamesByIndex }
@@ -71,6 +73,7 @@ pub fn buffers()
 
 /// Laws: the range that `goblin_string` stores has the string that the library reads there, and lies in
 /// the file.
+#[tactic(auto, using(crate::proofs::StringLemmas::strings_are_there, crate::proofs::PlaceLemmas::strings_lie_in_file))]
 pub fn strings()
     ensures there { StringsAreThere }
     ensures within { StringsLieInFile }
@@ -79,6 +82,7 @@ pub fn strings()
 /// Laws: `goblin_string_is` and `goblin_string_starts` return 0 exactly if `goblin_string_bytes` stores a range whose
 /// bytes are the name, or start with it. They return the same refusals. With a name that is UTF-8 `goblin_string_is`
 /// compares as `goblin_section_by_name` and `goblin_symbol_by_name` do.
+#[tactic(auto, using(crate::proofs::CompareLemmas::strings_are_compared))]
 pub fn comparisons()
     ensures { StringsAreCompared }
 {}
@@ -87,6 +91,7 @@ pub fn comparisons()
 /// string, at the range that `goblin_string` stores, has the bytes of the name, and return the end if
 /// there is none. The item that is stored with the index is the one that `goblin_section` or `goblin_symbol` stores
 /// there. They refuse only what the calls for one item or for one string refuse at each index.
+#[tactic(auto, using(crate::proofs::StringLemmas::sections_by_name, crate::proofs::StringLemmas::symbols_by_name))]
 pub fn searches()
     ensures sections { SectionsByName }
     ensures symbols { SymbolsByName }
@@ -94,6 +99,7 @@ pub fn searches()
 
 /// Law: `goblin_section_by_type` stores the first section from an index on that has the type, as
 /// `goblin_section` stores it, with its index, and returns the end if there is none.
+#[tactic(auto, using(crate::proofs::SearchLemmas::sections_by_type))]
 pub fn types()
     ensures { SectionsByType }
 {}
@@ -101,6 +107,7 @@ pub fn types()
 /// Laws: the ranges that `goblin_section_bytes`, `goblin_segment_bytes` and `goblin_string_bytes` store lie
 /// in the file. A section of type 0 or 8 or without a size has none, nor has a segment of type 0 or without a size. If
 /// `goblin_string` stores a range, `goblin_string_bytes` stores the same one.
+#[tactic(auto, using(crate::proofs::PlaceLemmas::place_laws))]
 pub fn places()
     ensures within { BytesLieInFile }
     ensures none { EmptyHaveNoBytes }

@@ -5,6 +5,7 @@ ghost use Rattle.goblin_c.specs.PlaceLaws.{AddressesAreLoaded, NumbersLieInRange
 
 /// Law: a number that `goblin_number_in` stores lies in the range, and the range in the file. `goblin_number` stores
 /// the same one at its offset in the file.
+#[tactic(auto, using(crate::proofs::OffsetLemmas::numbers_lie_in_range))]
 pub fn numbers()
     ensures { NumbersLieInRange }
 {}
@@ -12,12 +13,14 @@ pub fn numbers()
 /// Law: the offset that `goblin_address_to_offset` stores is that of a byte of the file, by the first segment that
 /// loads the address. The call returns the end if no segment does. If the file has no byte there, the refusal has the
 /// same offset, at most `u64::MAX`.
+#[tactic(auto, using(crate::proofs::OffsetLemmas::addresses_are_loaded))]
 pub fn addresses()
     ensures { AddressesAreLoaded }
 {}
 
 /// Laws: the range that `goblin_range_in_file` stores lies in the file, and has the same bytes of the file as the range
 /// that it is given. A range that lies in the file stays the same.
+#[tactic(auto, using(crate::proofs::OffsetLemmas::parts_lie_in_file))]
 pub fn parts()
     ensures { PartsLieInFile }
 {}
