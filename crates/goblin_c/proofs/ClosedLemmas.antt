@@ -2,17 +2,17 @@
 --
 -- If a piece ends before the strings do, the byte after it is the zero byte that ends it (`zero-after`), and no byte
 -- of it is zero (`none-before`). So the range that is stored for it is a C string (`is_c_string`).
-use Rattle.goblin_c.proofs.Common.{◌≡◌, ◌+◌, ◌-◌, ◌<◌, ◌==◌, ℕ, Bool, true, false, if◌then◌else◌, nat_lt, List, length}
-use Rattle.goblin_c.proofs.Common.{take, drop, get_or, slice_get, Option, Some, None, Result, Ok, Err, refl, sym, ap}
-use Rattle.goblin_c.proofs.Common.{subst, ◌∙◌, arith, nat_tests, get_or-drop, get_or-take, length-drop, length-take}
-use Rattle.goblin_c.proofs.Common.{length-take-le, slice_get-get_or, position_or_len, piece, Refused, RefusalAt}
-use Rattle.goblin_c.proofs.Common.{Returns, GoblinRange, GoblinRefusal, Stores, refusal_at, refuse_as}
-use Rattle.goblin_c.proofs.Common.{strings_expected}
+use Rattle.goblin_c.proofs.Common.{◌≡◌, ◌+◌, ◌-◌, ◌<◌, ◌==◌, ℕ, false, List, length, take, drop, get_or, slice_get}
+use Rattle.goblin_c.proofs.Common.{Option, Some, Result, Ok, Err, refl, sym, ap, subst, ◌∙◌, arith, nat_tests}
+use Rattle.goblin_c.proofs.Common.{get_or-drop, get_or-take, length-drop, length-take, length-take-le, slice_get-get_or}
+use Rattle.goblin_c.proofs.Common.{position_or_len, piece, Refused, RefusalAt, Returns, GoblinRange, GoblinRefusal}
+use Rattle.goblin_c.proofs.Common.{Stores, refusal_at, refuse_as, strings_expected}
 use Rattle.std.proofs.lemmas.List.Sums.{fails_before_first, passes_at_first, prefix_len-le-length}
 use Rattle.std.specs.Prelude.{All, not, ◌≢◌}
 use Rattle.goblin_c.specs.Bytes.{IsCString, string_closed_expected}
 use Rattle.goblin_c.proofs.EachLemmas.{stored_item}
 use Rattle.goblin_c.proofs.PlaceLemmas.{piece_short}
+use Rattle.goblin_c.proofs.ReadLemmas.{expected_is}
 use Rattle.goblin_c.proofs.StringLemmas.{in_range, place_of}
 use Rattle.goblin_c.proofs.CompareLemmas.{piece_is_there}
 
@@ -45,14 +45,13 @@ module _ (bytes : List ℕ) (range : GoblinRange) (offset : ℕ) (strings : List
       let within : range.offset + k < length bytes = omega (arith, few, there.1) in
       let same : range.offset + offset + length (piece strings 0 offset) ≡ range.offset + k = omega (arith, size) in
       let byte : get_or bytes (range.offset + k) 0 ≡ 0 =
-      sym (get_or-drop range.offset bytes k 0)
-      ∙ sym (get_or-take range.size all k 0 few)
-      ∙ ap (λ (xs : List ℕ). get_or xs k 0) (sym there.0)
-      ∙ sym (get_or-drop offset strings end 0)
-      ∙ is_zero in
-      ap (λ (i : ℕ). slice_get bytes i) same
-      ∙ slice_get-get_or bytes (range.offset + k) 0 within
-      ∙ ap Some byte
+      rw (
+        ← get_or-drop range.offset bytes k 0,
+        ← get_or-take range.size all k 0 few,
+        ← there.0,
+        ← get_or-drop offset strings end 0,
+      ) is_zero in
+      rw (same, slice_get-get_or bytes (range.offset + k) 0 within, byte) refl
 
   -- and none of it is
   none-before : All (λ b. b ≢ 0) (take end rest)
@@ -66,46 +65,28 @@ module _ (bytes : List ℕ) (range : GoblinRange) (offset : ℕ) (strings : List
   closed_is =
       let before : offset < length strings = omega (arith, closed) in (
         zero-after,
-        subst (λ (xs : List ℕ). All (λ b. b ≢ 0) xs)
-            (sym (piece_is_there bytes range offset strings found before ∙ piece_is))
-            none-before,
+        rw (piece_is_there bytes range offset strings found before, piece_is) none-before,
       )
-
--- a range that is stored if a test passes
-abbrev stored_if : Bool → GoblinRange → Result (Option GoblinRange) RefusalAt
-stored_if test place = if test then Ok (Some place) else Ok None
-
-stored_parts : (test : Bool) (place found : GoblinRange)
-    → stored_if test place ≡ Ok (Some found) → (test ≡ true) × (place ≡ found)
-stored_parts true place found is = (refl, grind arith)
-stored_parts false place found is = absurd (cc)
 
 closed_from : (bytes : List ℕ) (range : GoblinRange) (offset : ℕ) (found : GoblinRange)
     (answer : Result (List ℕ) RefusalAt)
     → strings_expected bytes range ≡ answer → string_closed_expected bytes range offset ≡ Ok (Some found)
     → IsCString bytes found
 closed_from bytes range offset found (Ok strings) read is =
-    let place = place_of range offset (piece strings 0 offset) in
-    let end = offset + length (piece strings 0 offset) in
-    let stored = stored_parts (nat_lt end (length strings)) place found (rw read at is) in
-    let closed : end < length strings = (let test = stored.0 in grind (arith, nat_tests)) in
-    subst (λ (r : GoblinRange). IsCString bytes r) stored.1 (closed_is bytes range offset strings read closed)
+    let closed : offset + length (piece strings 0 offset) < length strings = grind (arith, nat_tests) in
+    let same : place_of range offset (piece strings 0 offset) ≡ found = grind (arith, nat_tests) in
+    subst (IsCString bytes) same (closed_is bytes range offset strings read closed)
 closed_from bytes range offset found (Err e) read is = let refused = rw read at is in absurd (cc)
 
 -- what a call stores at 0 is a C string
-returned : {X : Type 0} (result : Result (Option X) Refused) (expected : Result (Option X) RefusalAt)
-    → Returns (λ found. found) result expected → expected ≡ refuse_as refusal_at result
-returned (Ok found) expected is = is
-returned (Err e) expected is = is
-
 pub is_c_string : (bytes : List ℕ) (range : GoblinRange) (offset : ℕ) (result : Result (Option GoblinRange) Refused)
     (old new : GoblinRange) (was why : GoblinRefusal) (status : ℕ)
     → Returns (λ found. found) result (string_closed_expected bytes range offset)
     → Stores (refuse_as refusal_at result) old was status new why → status ≡ 0 → IsCString bytes new
 is_c_string bytes range offset result old new was why status is stores ok =
-    let expected = returned result (string_closed_expected bytes range offset) is in
     closed_from bytes range offset new (strings_expected bytes range) refl
-    (expected ∙ (stored_item (refuse_as refusal_at result) old new was why status stores ok).0)
+    (sym (expected_is result (string_closed_expected bytes range offset) is)
+    ∙ (stored_item (refuse_as refusal_at result) old new was why status stores ok).0)
 
 -- a string that ends before the strings do is closed
 pub closed_there : (bytes : List ℕ) (range : GoblinRange) (offset : ℕ) (strings : List ℕ) (size : ℕ)

@@ -36,18 +36,14 @@ module _ (bytes : List ℕ) (range : GoblinRange) (offset : ℕ) where
       → (answer >>= λ strings. Ok (is_piece strings 0 offset name))
       ≡ (place_in range offset answer >>= λ found. Ok (range_is bytes name found))
   unfolding is_piece
-  compared name (Ok strings) found =
-      grind (arith, nat_tests, piece_is_there bytes range offset strings found)
-  compared name (Err e) found = refl
+  compared name answer found = grind (arith, nat_tests, piece_is_there bytes range offset)
 
   start-compared : (start : List ℕ) (answer : Result (List ℕ) RefusalAt)
       → strings_expected bytes range ≡ answer
       → (answer >>= λ strings. Ok (starts_piece strings 0 offset start))
       ≡ (place_in range offset answer >>= λ found. Ok (range_starts bytes start found))
   unfolding starts_piece
-  start-compared start (Ok strings) found =
-      grind (arith, nat_tests, piece_is_there bytes range offset strings found)
-  start-compared start (Err e) found = refl
+  start-compared start answer found = grind (arith, nat_tests, piece_is_there bytes range offset)
 
 -- whether a piece is a name that is UTF-8: it has the same bytes, and so is UTF-8, too
 text_is : (u : Bool) (p name : List ℕ) (fault : Refusal)
@@ -67,8 +63,7 @@ named : (offset : ℕ) (name : List ℕ) (answer : Result (List ℕ) RefusalAt)
     → is_utf8 name ≡ true
     → (answer >>= λ strings. Ok (is_piece strings 0 offset name))
     ≡ (answer >>= λ strings. Ok (is_named strings name offset))
-named offset name (Ok strings) is = ap Ok (name_compared strings offset name is)
-named offset name (Err e) is = refl
+named offset name answer is = grind (arith, name_compared)
 
 pub strings_are_compared : StringsAreCompared
 strings_are_compared = record {

@@ -16,9 +16,8 @@ use Rattle.goblin_c.specs.Laws.{IsFilled, BufferIsFilled, TextIsClosed}
 -- one item more
 pub laid-more : {X : Type 0} (xs old : List X) (x : X)
     → length xs < length old → set (laid xs old) (length xs) x ≡ laid (xs ++ x ∷ []) old
-laid-more [] [] x h = absurd (omega arith)
+laid-more xs [] x h = absurd (omega arith)
 laid-more [] (o ∷ os) x h = refl
-laid-more (y ∷ ys) [] x h = absurd (omega arith)
 laid-more (y ∷ ys) (o ∷ os) x h = ap (λ rest. y ∷ rest) (laid-more ys os x (omega arith))
 
 -- only as many items as the buffer holds count
@@ -35,16 +34,14 @@ laid-enough (suc i) (x ∷ xs) (o ∷ os) h = ap (λ rest. x ∷ rest) (laid-eno
 pub laid-next : {X : Type 0} (i : ℕ) (xs old : List X) (x : X) (more : List X)
     → i ≤ length xs → i < length old → more ≡ take i xs ++ x ∷ [] → set (laid (take i xs) old) i x ≡ laid more old
 laid-next i xs old x more within room is =
-    let long : length (take i xs) ≡ i = length-take-le i xs within in
-    rw is (rw long at (laid-more (take i xs) old x (omega arith)))
+    rw is (rw (length-take-le i xs within) at (laid-more (take i xs) old x (omega (arith, length-take-le i xs within))))
 
 -- the step of a loop that writes a list from its start on
 pub laid-step : {X : Type 0} (i : ℕ) (xs old now : List X) (d : X)
     → now ≡ laid (take i xs) old → i < length xs → i < length old
     → set now i (get_or xs i d) ≡ laid (take (i + 1) xs) old
 laid-step {X = X} i xs old now d is within room =
-    ap (λ (buffer : List X). set buffer i (get_or xs i d)) is
-    ∙ laid-next i xs old (get_or xs i d) (take (i + 1) xs) (omega arith) room (take_more xs i d within)
+    rw is (laid-next i xs old (get_or xs i d) (take (i + 1) xs) (omega arith) room (take_more xs i d within))
 
 -- the step of a loop that writes the items from an index on
 pub laid-item : {X : Type 0} (all : List X) (first i : ℕ) (old now : List X) (x : X)
@@ -52,10 +49,8 @@ pub laid-item : {X : Type 0} (all : List X) (first i : ℕ) (old now : List X) (
     → set now i x ≡ laid (take (i + 1) (drop first all)) old
 laid-item {X = X} all first i old now x found is room =
     let inside : first + i < length all = slice_get_within all (first + i) x found in
-    let same : get_or (drop first all) i x ≡ x =
-    get_or-drop first all i x ∙ get_or_from_slice_get all (first + i) x x found in
-    ap (λ (v : X). set now i v) (sym same)
-    ∙ laid-step i (drop first all) old now x is (omega (arith, length-drop first all)) room
+    rw (get_or-drop first all i x, get_or_from_slice_get all (first + i) x x found) at
+    (laid-step i (drop first all) old now x is (omega (arith, length-drop first all)) room)
 
 -- a list ends before an index at which it has no item
 pub ends-before : {X : Type 0} (items : List X) (i : ℕ) → slice_get items i ≡ None → length items ≤ i
@@ -93,11 +88,8 @@ pub laid-into : (n : ℕ) (part old new all : List ℕ)
     → new ≡ laid part (take (length old - n) (drop n old)) → all ≡ put_mid n (length old - n) old new
     → all ≡ take n old ++ laid part (drop n old)
 laid-into n part old new all inside long same is put =
-    let whole : take (length old) all ≡ all = take_all (length old) all (omega arith) in
-    sym whole
-    ∙ ap (λ (xs : List ℕ). take (length old) xs) put
-    ∙ take-put_mid n (length old - n) old new (length old) (omega arith) (omega arith)
-    ∙ ap (λ (xs : List ℕ). take n old ++ xs) (is ∙ ap (λ (xs : List ℕ). laid part xs) (take_rest old n))
+    let front = take-put_mid n (length old - n) old new (length old) (omega arith) (omega arith) in
+    sym (take_all (length old) all (omega arith)) ∙ rw (put, front, is, take_rest old n) refl
 
 -- a buffer that was written into: its length, and what it holds before and after the end of what was written
 laid-length : {X : Type 0} (items old : List X) → length (laid items old) ≡ length old
@@ -133,9 +125,8 @@ buffer_is_filled = record {
 
 -- a text and the zero byte after it
 pub text_is_closed : TextIsClosed
-text_is_closed [] [] h = absurd (omega arith)
+text_is_closed text [] h = absurd (omega arith)
 text_is_closed [] (o ∷ old) h = (refl, refl)
-text_is_closed (x ∷ text) [] h = absurd (omega arith)
 text_is_closed (x ∷ text) (o ∷ old) h =
     let rest = text_is_closed text old (omega arith) in
     (ap (λ xs. x ∷ xs) rest.0, rest.1)

@@ -4,14 +4,13 @@
 -- for C at an index is the one that the library's item at that index is converted to (`listed`).
 use Rattle.goblin_c.proofs.Common.{◌≡◌, ◌+◌, ◌<◌, ◌≤◌, ◌==◌, ℕ, zero, suc, Bool, true, false, nat_le, if◌then◌else◌}
 use Rattle.goblin_c.proofs.Common.{List, [], ◌∷◌, length, drop, slice_get, slice_index, Option, Some, None, Result, Ok}
-use Rattle.goblin_c.proofs.Common.{Err, refl, sym, ap, subst, ◌∙◌, arith, leb-false, leb-true, nat_tests, length-drop}
-use Rattle.goblin_c.proofs.Common.{length-map, slice_get-map, slice_get_past, option_map, Container, Ctx, Endian}
-use Rattle.goblin_c.proofs.Common.{refusal_of, ◌>>=◌, refuse_as, Header, SectionHeader, RefusalAt, refused_at}
-use Rattle.goblin_c.proofs.Common.{GoblinSection, relocs_of, was_read, count_of, ctx_of, each_converted, item_at}
-use Rattle.goblin_c.proofs.Common.{items_from, reloc_count_expected, reloc_expected, relocs_expected, relocs_converted}
-use Rattle.goblin_c.proofs.Common.{sections_expected, sections_converted, segments_expected, symbols_expected}
-use Rattle.goblin_c.proofs.Common.{header_converted, reloc_converted, section_converted, segment_converted}
-use Rattle.goblin_c.proofs.Common.{segments_converted, symbol_converted, symbols_converted, table_at}
+use Rattle.goblin_c.proofs.Common.{Err, refl, ap, ◌∙◌, arith, leb-false, leb-true, nat_tests, length-drop, length-map}
+use Rattle.goblin_c.proofs.Common.{slice_get-map, slice_get_past, option_map, Container, Ctx, Endian, ◌>>=◌, Header}
+use Rattle.goblin_c.proofs.Common.{SectionHeader, RefusalAt, GoblinSection, was_read, count_of, ctx_of, each_converted}
+use Rattle.goblin_c.proofs.Common.{item_at, items_from, relocs_expected, relocs_converted, sections_expected}
+use Rattle.goblin_c.proofs.Common.{sections_converted, segments_expected, symbols_expected, header_converted}
+use Rattle.goblin_c.proofs.Common.{reloc_converted, section_converted, segment_converted, segments_converted}
+use Rattle.goblin_c.proofs.Common.{symbol_converted, symbols_converted, table_at}
 use Rattle.goblin.specs.Header.{class_named, order_named}
 use Rattle.goblin.specs.SectionHeaders.{link_of, linked, names_index}
 use Rattle.goblin_c.specs.Laws.{ContextIsTheHeaders, FilledByIndex, GivenFrom, HasHeader, NamesByIndex, NamesContext}
@@ -31,19 +30,12 @@ named bytes h has =
 context : (bytes : List ℕ) (h : Header) → HasHeader bytes h → NamesContext h (ctx_of (header_converted h))
 context bytes h has =
     let names = named bytes h has in
-    let class = names.2 in
-    let order = names.3 in
-    (grind (arith, nat_tests), grind (arith, nat_tests))
+    (grind (arith, nat_tests, names.2), grind (arith, nat_tests, names.3))
 
 pub context_is_the_headers : ContextIsTheHeaders
 context_is_the_headers bytes h has =
     let names = named bytes h has in
-    let class = names.2 in
-    let order = names.3 in
-    (context bytes h has, grind (arith, nat_tests))
-
-same : {A E : Type 0} (x y : A) → ◌≡◌ {A = Result A E} (Ok x) (Ok y) → x ≡ y
-same x y is = cc
+    (context bytes h has, grind (arith, nat_tests, names.2, names.3))
 
 -- a header names one context
 one_context : (bytes : List ℕ) (h : Header) (ctx : Ctx)
@@ -51,8 +43,8 @@ one_context : (bytes : List ℕ) (h : Header) (ctx : Ctx)
 one_context bytes h ctx has named =
     let own = context bytes h has in
     let handed = ctx_of (header_converted h) in
-    let classes = same handed.container ctx.container (sym own.0 ∙ named.0) in
-    let orders = same handed.le ctx.le (sym own.1 ∙ named.1) in
+    let classes : handed.container ≡ ctx.container = cc in
+    let orders : handed.le ≡ ctx.le = cc in
     λ j. record { container = classes j; le = orders j }
 
 -- the items of a list for C by index, and how many they are
@@ -78,16 +70,8 @@ symbols_by_index bytes h ctx range has named =
 
 pub relocs_by_index : RelocsByIndex
 relocs_by_index bytes h ctx range is_rela has named =
-    let of_pair =
-    λ (pair : Bool).
-    refused_at range.offset
-    (refuse_as refusal_of (relocs_of bytes range.offset range.size is_rela (ctx_of (header_converted h)) pair)) in
-    rw (← one_context bytes h ctx has named)
-    (subst (λ (pair : Bool).
-    ReturnsEach reloc_converted (of_pair pair) (reloc_expected bytes (header_converted h) range is_rela)
-    × ReturnsCount (of_pair pair) (reloc_count_expected bytes (header_converted h) range is_rela))
-    (context_is_the_headers bytes h has).1
-    (listed reloc_converted (relocs_expected bytes (header_converted h) range is_rela)))
+    rw (← one_context bytes h ctx has named, ← (context_is_the_headers bytes h has).1)
+    (listed reloc_converted (relocs_expected bytes (header_converted h) range is_rela))
 
 -- the item at an index after those that are dropped
 pub get_drop : {X : Type 0} (xs : List X) (n k : ℕ) → slice_get xs (n + k) ≡ slice_get (drop n xs) k
@@ -129,10 +113,7 @@ converted_table index found = grind (arith, nat_tests)
 table_there : (all : Result (List SectionHeader) RefusalAt) (index : ℕ)
     → (all >>= λ items. Ok (table_at items index))
     ≡ table_converted index (item_at (each_converted section_converted all) index)
-table_there (Ok items) index =
-    let here = slice_get-map section_converted items index in
-    ap Ok (converted_table index (slice_get items index) ∙ ap (section_if_table index) (sym here))
-table_there (Err refusal) index = refl
+table_there all index = grind (arith, converted_table, slice_get-map)
 
 pub tables_by_index : TablesByIndex
 tables_by_index bytes h index = table_there (sections_expected bytes h) index
@@ -148,11 +129,7 @@ in_first : (all : Result (List SectionHeader) RefusalAt) (first : GoblinSection)
     → item_at (each_converted section_converted all) 0 ≡ Ok (Some first)
     → (all >>= λ items. Ok (table_at items (link_of (slice_get items 0))))
     ≡ (all >>= λ items. Ok (table_at items first.sh_link))
-in_first (Ok []) first is = absurd (cc)
-in_first (Ok (s ∷ items)) first is =
-    let link : link_of (Some s) ≡ first.sh_link = cc in
-    ap (λ (index : ℕ). Ok (table_at (s ∷ items) index)) link
-in_first (Err refusal) first is = absurd (cc)
+in_first all first is = grind (arith, slice_get-map)
 
 pub names_by_index : NamesByIndex
 names_by_index bytes h = (

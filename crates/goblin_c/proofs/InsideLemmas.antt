@@ -4,8 +4,7 @@
 -- The item with an index is then read from its own bytes (`listed_item`).
 use Rattle.std.proofs.Math.Nat.{le-div_iff_mul-le, mul-div_left}
 use Rattle.std.proofs.lemmas.List.{take-take}
-use Rattle.goblin_base.specs.Eager.{records_from, records_in, room_of_each}
-use Rattle.goblin_base.specs.declared.scroll.Error.{Error as Misplaced}
+use Rattle.goblin_base.specs.Eager.{records_from, records_in}
 use Rattle.goblin_base.proofs.Eager.{all_fit}
 use Rattle.goblin_headers.specs.ProgramHeaderLaws.{program_header_laws}
 use Rattle.goblin_headers.specs.SectionHeaderLaws.{section_header_laws}
@@ -15,25 +14,22 @@ use Rattle.goblin.specs.SectionHeaders.{count_asked, section_headers_from, secti
 use Rattle.goblin.specs.Symtab.{symbols_at, symtab_of}
 use Rattle.goblin_c.specs.Expected.{section_expected}
 use Rattle.goblin_c.specs.Write.{reloc_ctx}
-use Rattle.goblin_c.proofs.Common.{◌≡◌, ◌≤◌, ◌<◌, ◌+◌, ◌-◌, ◌*◌, ◌/◌, ◌^◌, ◌==◌, ℕ, Bool, false, nat_lt}
-use Rattle.goblin_c.proofs.Common.{List, [], length, take, drop, max, codes, Option, Some, Result, Ok}
-use Rattle.goblin_c.proofs.Common.{if◌then◌else◌, refl, sym, ap, subst, ◌∙◌, arith, div-mul-le_self, mul-le-mul_right}
-use Rattle.goblin_c.proofs.Common.{nat_tests, drop-drop, slice_get-map, option_map, Ctx}
-use Rattle.goblin_c.proofs.Common.{unless_fault, room_of_fits, buffer_too_short, misplaced, refusal_of, room_of, ◌>>=◌}
-use Rattle.goblin_c.proofs.Common.{refuse_as, refuse_if, records, records-agree, get_records, ProgramHeader, Reloc}
+use Rattle.goblin_c.proofs.Common.{◌≡◌, ◌≤◌, ◌<◌, ◌+◌, ◌-◌, ◌*◌, ◌/◌, ◌^◌, ◌==◌, ℕ, Bool, false, nat_lt, List, length}
+use Rattle.goblin_c.proofs.Common.{take, drop, max, Option, Some, Result, Ok, refl, ap, arith, div-mul-le_self}
+use Rattle.goblin_c.proofs.Common.{mul-le-mul_right, nat_tests, drop-drop, slice_get-map, Ctx, room_of_fits, refusal_of}
+use Rattle.goblin_c.proofs.Common.{◌>>=◌, refuse_as, records, records-agree, get_records, ProgramHeader, Reloc}
 use Rattle.goblin_c.proofs.Common.{SectionHeader, Sym, program_header_of, program_header_size, program_headers_from}
 use Rattle.goblin_c.proofs.Common.{reloc_in, reloc_size, relocs_of, section_header_of, section_header_size}
-use Rattle.goblin_c.proofs.Common.{section_headers_of, sym_of, sym_size, segment_count, ctx_of, each_converted}
-use Rattle.goblin_c.proofs.Common.{is_mips64el, item_at, reloc_expected, relocs_expected, sections_expected}
-use Rattle.goblin_c.proofs.Common.{segment_expected, segments_expected, symbol_expected, symbols_expected, RefusalAt}
-use Rattle.goblin_c.proofs.Common.{refused_at, Stores, reloc_converted, section_converted, segment_converted}
-use Rattle.goblin_c.proofs.Common.{symbol_converted, GoblinHeader, GoblinRange, GoblinRefusal}
+use Rattle.goblin_c.proofs.Common.{section_headers_of, sym_of, sym_size, ctx_of, each_converted, is_mips64el, item_at}
+use Rattle.goblin_c.proofs.Common.{reloc_expected, relocs_expected, sections_expected, segment_expected}
+use Rattle.goblin_c.proofs.Common.{segments_expected, symbol_expected, symbols_expected, RefusalAt, refused_at, Stores}
+use Rattle.goblin_c.proofs.Common.{reloc_converted, section_converted, segment_converted, symbol_converted}
+use Rattle.goblin_c.proofs.Common.{GoblinHeader, GoblinRange, GoblinRefusal}
 
 -- an item that is expected is stored
 pub stored : {X : Type 0} (expected : Result (Option X) RefusalAt) (old x : X) (why : GoblinRefusal)
     → expected ≡ Ok (Some x) → Stores expected old why 0 x why
-stored {X = X} expected old x why is =
-    subst (λ (r : Result (Option X) RefusalAt). Stores r old why 0 x why) (sym is) (refl, refl, refl)
+stored expected old x why is = rw is (refl, refl, refl)
 
 -- the item with an index of a list that is read from the bytes of its records
 listed_item : {R Y : Type 0} (convert : R → Y) (size : ℕ) (read : List ℕ → R) (bytes : List ℕ) (start count index : ℕ)
@@ -41,13 +37,15 @@ listed_item : {R Y : Type 0} (convert : R → Y) (size : ℕ) (read : List ℕ �
     → all ≡ Ok (records size read count (drop start bytes)) → index < count
     → x ≡ read (take size (drop (start + index * size) bytes))
     → item_at (each_converted convert all) index ≡ Ok (Some (convert x))
-listed_item {R = R} {Y = Y} convert size read bytes start count index all x are inside is =
+listed_item convert size read bytes start count index all x are inside is =
     let items = records size read count (drop start bytes) in
-    ap (λ (list : Result (List R) RefusalAt). item_at (each_converted convert list) index) are
-    ∙ ap (λ (y : Option Y). Ok y) (slice_get-map convert items index)
-    ∙ ap (λ (y : Option R). Ok (option_map convert y)) (get_records size read count (drop start bytes) index inside)
-    ∙ ap (λ (own : List ℕ). Ok (Some (convert (read (take size own))))) (drop-drop (index * size) start bytes)
-    ∙ ap (λ (y : R). Ok (Some (convert y))) (sym is)
+    rw (
+      are,
+      slice_get-map convert items index,
+      get_records size read count (drop start bytes) index inside,
+      drop-drop (index * size) start bytes,
+      is,
+    ) refl
 
 -- the symbols of a range in the file
 symbols_inside : (bytes : List ℕ) (start count : ℕ) (ctx : Ctx)
@@ -86,10 +84,6 @@ symbol_is bytes h range index x bound file ends is =
     (symbols_expected bytes h range) x
     (ap (λ r. refused_at range.offset (refuse_as refusal_of r) >>= λ table. Ok table.symbols) table) inside is
 
--- a test that passes
-passes : {A B E : Type 0} (test : Result A E) (rest : A → Result B E) (x : A) → test ≡ Ok x → (test >>= rest) ≡ rest x
-passes {A = A} {E = E} test rest x is = ap (λ (r : Result A E). r >>= rest) is
-
 -- records that lie in the bytes are read at once
 records_inside : {R : Type 0} (size : ℕ) (read : List ℕ → R) (bytes : List ℕ) (start count : ℕ)
     → 0 < size → start + count * size ≤ length bytes
@@ -97,9 +91,7 @@ records_inside : {R : Type 0} (size : ℕ) (read : List ℕ → R) (bytes : List
 unfolding records_in
 records_inside size read bytes start count some fits =
     let few : count ≤ (length bytes - start) / size = (le-div_iff_mul-le some).1 (omega (arith, fits)) in
-    passes (refuse_as misplaced (room_of_each (length bytes) start size count))
-    (λ _. Ok (records size read count (drop start bytes))) tt
-    (ap (refuse_as misplaced) (all_fit (length bytes) start size count some (omega (arith, fits)) few))
+    rw (all_fit (length bytes) start size count some (omega (arith, fits)) few) refl
 
 -- the section headers, whose number the header states
 module _ (bytes : List ℕ) (start count : ℕ) (ctx : Ctx) where
@@ -113,16 +105,9 @@ module _ (bytes : List ℕ) (start count : ℕ) (ctx : Ctx) where
       let own = section_header_size ctx.container in
       let positive = (section_header_laws ctx.container ctx.le).size_positive in
       let one : 1 * own ≤ count * own = mul-le-mul_right own (omega (arith, some)) in
-      let room : room_of (length bytes) start own ≡ Ok tt =
-      room_of_fits (length bytes) start own (omega (arith, one, fits)) in
       let within : count ≤ length bytes / own = (le-div_iff_mul-le positive).1 (omega (arith, fits)) in
       let few : nat_lt (length bytes / own) count ≡ false = grind (arith, nat_tests) in
-      let name = codes "section headers" in
-      let refuse = λ (n : ℕ). refuse_if (nat_lt (length bytes / own) n) (buffer_too_short n name) in
-      passes (refuse_as misplaced (room_of (length bytes) start own))
-      (λ _. refuse (count_asked bytes start count ctx)) tt (ap (refuse_as misplaced) room)
-      ∙ ap refuse (asked_is some)
-      ∙ ap (λ (b : Bool). refuse_if b (buffer_too_short count name)) few
+      rw (room_of_fits (length bytes) start own (omega (arith, one, fits)), asked_is some, few) refl
 
   sections_inside : (start ≡ 0 → ⊥) → 0 < count → start + count * section_header_size ctx.container ≤ length bytes
       → section_headers_of bytes start count ctx
@@ -130,17 +115,11 @@ module _ (bytes : List ℕ) (start count : ℕ) (ctx : Ctx) where
       (drop start bytes))
   unfolding section_headers_from
   sections_inside there some fits =
-      let own = section_header_size ctx.container in
-      let read = section_header_of ctx.container ctx.le in
-      let asked = count_asked bytes start count ctx in
       let at_start : (start == 0) ≡ false = grind (arith, nat_tests) in
       let most : max 1 count ≡ count = omega (arith, some) in
-      ap (λ (b : Bool). if b then Ok [] else section_headers_from bytes start count ctx) at_start
-      ∙ passes (section_headers_from_tested bytes start count ctx)
-      (λ _. records_in own read bytes start (max 1 asked)) tt (sections_tested some fits)
-      ∙ ap (λ (n : ℕ). records_in own read bytes start (max 1 n)) (asked_is some)
-      ∙ ap (λ (n : ℕ). records_in own read bytes start n) most
-      ∙ records_inside own read bytes start count (section_header_laws ctx.container ctx.le).size_positive fits
+      rw (at_start, sections_tested some fits, asked_is some, most)
+      (records_inside (section_header_size ctx.container) (section_header_of ctx.container ctx.le) bytes start count
+      (section_header_laws ctx.container ctx.le).size_positive fits)
 
 pub section_is : (bytes : List ℕ) (h : GoblinHeader) (index : ℕ) (x : SectionHeader)
     → (h.e_shoff ≡ 0 → ⊥) → h.e_shoff + h.e_shnum * section_header_size (ctx_of h).container ≤ length bytes
@@ -168,16 +147,10 @@ unfolding records_from
 segments_inside bytes start count ctx fits =
     let own = program_header_size ctx.container in
     let positive = (program_header_laws ctx.container ctx.le).size_positive in
-    let all = records own (program_header_of ctx.container ctx.le) count (drop start bytes) in
-    let name = codes "program headers" in
-    let each = refuse_as misplaced (room_of_each (length bytes) start own count) in
     let within : count ≤ length bytes / own = (le-div_iff_mul-le positive).1 (omega (arith, fits)) in
     let left : count ≤ (length bytes - start) / own = (le-div_iff_mul-le positive).1 (omega (arith, fits)) in
     let few : nat_lt (length bytes / own) count ≡ false = grind (arith, nat_tests) in
-    passes (refuse_if (nat_lt (length bytes / own) count) (buffer_too_short count name)) (λ _. each >>= λ _. Ok all) tt
-    (ap (λ (b : Bool). refuse_if b (buffer_too_short count name)) few)
-    ∙ passes each (λ _. Ok all) tt
-    (ap (refuse_as misplaced) (all_fit (length bytes) start own count positive (omega (arith, fits)) left))
+    rw (few, all_fit (length bytes) start own count positive (omega (arith, fits)) left) refl
 
 pub segment_is : (bytes : List ℕ) (h : GoblinHeader) (index : ℕ) (x : ProgramHeader)
     → (h.e_phnum ≡ 0xffff → ⊥) → h.e_phoff + h.e_phnum * program_header_size (ctx_of h).container ≤ length bytes
@@ -191,14 +164,10 @@ segment_is bytes h index x plain file ends is =
     let some = (program_header_laws (ctx_of h).container (ctx_of h).le).size_positive in
     let same : h.e_phnum * own / own ≡ h.e_phnum = mul-div_left h.e_phnum some in
     let inside : index < h.e_phnum = omega (arith, index_inside (h.e_phnum * own) own index some ends, same) in
-    let list = λ (n : ℕ). refused_at h.e_phoff (program_headers_from bytes h.e_phoff n (ctx_of h)) in
     let test : (h.e_phnum == 0xffff) ≡ false = grind (arith, nat_tests) in
-    let counted : segment_count bytes h.e_phnum h.e_shoff (ctx_of h) ≡ Ok h.e_phnum = rw test refl in
-    let count = refused_at h.e_shoff (refuse_as refusal_of (segment_count bytes h.e_phnum h.e_shoff (ctx_of h))) in
-    let all = passes count list h.e_phnum (ap (λ r. refused_at h.e_shoff (refuse_as refusal_of r)) counted)
-    ∙ ap (refused_at h.e_phoff) (segments_inside bytes h.e_phoff h.e_phnum (ctx_of h) file) in
     listed_item segment_converted own (program_header_of (ctx_of h).container (ctx_of h).le) bytes h.e_phoff h.e_phnum
-    index (segments_expected bytes h) x all inside is
+    index (segments_expected bytes h) x
+    (rw (test, segments_inside bytes h.e_phoff h.e_phnum (ctx_of h) file) refl) inside is
 
 -- the relocations of a range in the file
 relocs_inside : (bytes : List ℕ) (start size : ℕ) (is_rela : Bool) (ctx : Ctx) (is_mips64el : Bool)
@@ -211,15 +180,10 @@ relocs_inside bytes start size is_rela ctx is_mips64el some fits =
     let own = reloc_size is_rela ctx.container in
     let count = size / own in
     let read = reloc_in (record { is_rela = is_rela; ctx = ctx; is_mips64el = is_mips64el }) in
-    let part = take size (drop start bytes) in
     let not_empty : (size == 0) ≡ false = grind (arith, nat_tests) in
-    let room : room_of (length bytes) start size ≡ Ok tt = room_of_fits (length bytes) start size fits in
-    let same : take (count * own) part ≡ take (count * own) (drop start bytes) =
-    take-take (count * own) size (drop start bytes) (div-mul-le_self size own) in
-    ap (λ (b : Bool).
-    if b then Ok [] else unless_fault (room_of (length bytes) start size) (records own read count part)) not_empty
-    ∙ ap (λ (r : Result (Unit {0}) Misplaced). unless_fault r (records own read count part)) room
-    ∙ ap (λ (items : List Reloc). Ok items) (records-agree own read count part (drop start bytes) same)
+    let same = records-agree own read count (take size (drop start bytes)) (drop start bytes)
+    (take-take (count * own) size (drop start bytes) (div-mul-le_self size own)) in
+    rw (not_empty, room_of_fits (length bytes) start size fits, same) refl
 
 reloc_is : (bytes : List ℕ) (h : GoblinHeader) (range : GoblinRange) (is_rela : Bool) (index : ℕ) (x : Reloc)
     → range.offset + range.size ≤ length bytes
@@ -240,7 +204,7 @@ reloc_is bytes h range is_rela index x file ends is =
 
 -- files of other machines than MIPS are not of MIPS64
 not_mips64el : (h : GoblinHeader) → (h.e_machine ≡ 8 → ⊥) → is_mips64el h ≡ false
-not_mips64el h other = let test : (h.e_machine == 8) ≡ false = grind (arith, nat_tests) in rw test refl
+not_mips64el h other = grind (arith, nat_tests)
 
 pub plain_reloc_is : (bytes : List ℕ) (h : GoblinHeader) (range : GoblinRange) (is_rela : Bool) (index : ℕ) (x : Reloc)
     → (h.e_machine ≡ 8 → ⊥) → range.offset + range.size ≤ length bytes
@@ -250,8 +214,4 @@ pub plain_reloc_is : (bytes : List ℕ) (h : GoblinHeader) (range : GoblinRange)
     (drop (range.offset + index * reloc_size is_rela (ctx_of h).container) bytes))
     → reloc_expected bytes h range is_rela index ≡ Ok (Some (reloc_converted x))
 plain_reloc_is bytes h range is_rela index x other file ends is =
-    let own = reloc_size is_rela (ctx_of h).container in
-    let part = take own (drop (range.offset + index * own) bytes) in
-    reloc_is bytes h range is_rela index x file ends
-    (is ∙ ap (λ (m : Bool). reloc_in (record { is_rela = is_rela; ctx = ctx_of h; is_mips64el = m }) part)
-    (sym (not_mips64el h other)))
+    reloc_is bytes h range is_rela index x file ends (rw (not_mips64el h other) is)

@@ -4,7 +4,7 @@
 -- The record with an index is then the one that its own bytes are read as (`listed_at`).
 use Rattle.goblin_c.proofs.Common.{found_within, ◌≡◌, ◌≤◌, ◌<◌, ◌+◌, ◌-◌, ◌*◌, ◌/◌, ◌^◌, ◌==◌, ℕ, zero, suc, Bool, true}
 use Rattle.goblin_c.proofs.Common.{false, nat_le, nat_lt, List, [], length, take, drop, max, slice_get, Some, None}
-use Rattle.goblin_c.proofs.Common.{Result, Ok, Err, if◌then◌else◌, codes, refl, sym, ap, ◌∙◌, arith, mul-le-mul_right}
+use Rattle.goblin_c.proofs.Common.{Result, Ok, Err, if◌then◌else◌, codes, refl, arith, mul-le-mul_right}
 use Rattle.goblin_c.proofs.Common.{nat_tests, drop-drop, Ctx, fits-room_of, Refusal, buffer_too_short, misplaced}
 use Rattle.goblin_c.proofs.Common.{refusal_of, refused_at, room_of, ◌>>=◌, refuse_as, refuse_if, records, no_records}
 use Rattle.goblin_c.proofs.Common.{get_records, past_records, section_header_of, section_header_size}
@@ -26,9 +26,7 @@ refused_at_ok offset answer y is = grind (arith, nat_tests)
 pub each_fits : (len start size count : ℕ) (u : Unit {0})
     → room_of_each len start size count ≡ Ok u → 0 < count → start + count * size ≤ len
 each_fits len start size zero u is some = absurd (omega arith)
-each_fits len start size (suc zero) u is some =
-    let first = bind_ok (room_of len start size) (λ _. Ok tt) u is in
-    omega (arith, fits-room_of len start size first.0 first.1)
+each_fits len start size (suc zero) u is some = grind (arith, fits-room_of len start size)
 each_fits len start size (suc (suc count)) u is some =
     let first = bind_ok (room_of len start size) (λ _. room_of_each len (start + size) size (suc count)) u is in
     let rest = each_fits len (start + size) size (suc count) u first.2 (omega arith) in
@@ -55,18 +53,13 @@ module _ {R : Type 0} {size : ℕ} {read : List ℕ → R} {bytes : List ℕ} {s
       × (start + index * size + size ≤ length bytes)
   listed_at index listed inside =
       let there = listed.fit (omega (arith, inside)) in
-      let before : (index + 1) * size ≤ count * size = mul-le-mul_right size (omega (arith, inside)) in (
-        ap (λ (all : List R). slice_get all index) listed.are
-            ∙ get_records size read count (drop start bytes) index inside
-            ∙ ap (λ (own : List ℕ). Some (read (take size own))) (drop-drop (index * size) start bytes),
-        omega (arith, there, before),
-      )
+      let before : (index + 1) * size ≤ count * size = mul-le-mul_right size (omega (arith, inside)) in
+      let item = get_records size read count (drop start bytes) index inside in
+      (rw (listed.are, item, drop-drop (index * size) start bytes) refl, omega (arith, there, before))
 
   -- and there is none from the number of them on
   pub none_at : (index : ℕ) → IsListed size read bytes start count items → count ≤ index → slice_get items index ≡ None
-  none_at index listed past =
-      ap (λ (all : List R). slice_get all index) listed.are
-      ∙ past_records size read count (drop start bytes) index past
+  none_at index listed past = rw listed.are (past_records size read count (drop start bytes) index past)
 
 -- the lists of the library
 pub listed_in : {R : Type 0} (size : ℕ) (read : List ℕ → R) (bytes : List ℕ) (start count : ℕ) (items : List R)
@@ -77,10 +70,7 @@ listed_in size read bytes start count items is =
     let all = records size read count (drop start bytes) in
     let parts = bind_ok room (λ _. Ok all) items is in
     let each = found_within misplaced (room_of_each (length bytes) start size count) parts.0 parts.1 in
-    record {
-      are = (let same = parts.2 in cc);
-      fit = each_fits (length bytes) start size count parts.0 each;
-    }
+    record { are = cc parts.2; fit = each_fits (length bytes) start size count parts.0 each }
 
 pub listed_from : {R : Type 0} (size : ℕ) (read : List ℕ → R) (bytes : List ℕ) (start count : ℕ) (name : List ℕ)
     (items : List R)
@@ -101,8 +91,7 @@ module _ (bytes : List ℕ) (start count : ℕ) (ctx : Ctx) where
   listed_by true items is =
       let empty = no_records (section_header_size ctx.container) (section_header_of ctx.container ctx.le) 0
       (drop start bytes) refl in
-      let same : items ≡ [] = cc in
-      (0, record { are = same ∙ sym empty; fit = λ some. absurd (omega arith) })
+      (0, record { are = cc; fit = λ some. absurd (omega arith) })
   listed_by false items is =
       let size = section_header_size ctx.container in
       let read = section_header_of ctx.container ctx.le in
@@ -131,7 +120,4 @@ module _ (bytes : List ℕ) (start count : ℕ) (ctx : Ctx) where
       (refused_at_ok start read parts.0 parts.1) in
       let tests = accepted (nat_le (length bytes) start) (nat_le (2 ^ 64) (count * sym_size ctx.container))
       (nat_lt (length bytes - start) (count * sym_size ctx.container)) _ _ _ _ parts.0 table in
-      record {
-        are = (let same = parts.2 in cc);
-        fit = λ some. grind (arith, nat_tests);
-      }
+      record { are = cc parts.2; fit = λ some. grind (arith, nat_tests) }

@@ -3,14 +3,13 @@
 -- What a call stores is one step of the definition of a range's items: the note at the offset, and the items from the
 -- next offset on (`items_there`). So several calls, each at the offset that the last one stored, store as many items
 -- (`in_a_row`). The parts of a note lie in the file because its places do (`notes_lie_in_file`).
-use Rattle.goblin_c.proofs.Common.{◌≡◌, ◌+◌, ◌-◌, ◌<◌, ◌≤◌, ℕ, zero, suc, Bool, false, nat_le, if◌then◌else◌}
-use Rattle.goblin_c.proofs.Common.{List, [], ◌∷◌, length, take, drop, Option, Some, None, Result, Ok, Err, refl, sym}
-use Rattle.goblin_c.proofs.Common.{ap, subst, ◌∙◌, arith, leb-false, drop-take, take-nil, Ctx, Refusal}
-use Rattle.goblin_c.proofs.Common.{◌>>=◌, RefusalAt, refused_at, GoblinHeader, GoblinRange, ctx_of}
-use Rattle.goblin_c.proofs.Common.{note_converted, Endian, nat_tests, ◌==◌}
+use Rattle.goblin_c.proofs.Common.{◌≡◌, ◌+◌, ◌-◌, ◌<◌, ◌≤◌, ℕ, zero, suc, Bool, false, nat_le, if◌then◌else◌, List, []}
+use Rattle.goblin_c.proofs.Common.{length, take, drop, Option, Some, None, Result, Ok, refl, sym, ap, ◌∙◌, arith}
+use Rattle.goblin_c.proofs.Common.{leb-false, drop-take, take-nil, Ctx, Refusal, ◌>>=◌, RefusalAt, refused_at}
+use Rattle.goblin_c.proofs.Common.{GoblinHeader, GoblinRange, ctx_of, note_converted, nat_tests, ◌==◌}
 use Rattle.std.proofs.Math.Seq.{drop-drop}
 use Rattle.goblin.specs.declared.elf.note.NotePlaces.{NotePlaces}
-use Rattle.goblin.specs.Nhdr.{nhdr32_of, nhdr32_size}
+use Rattle.goblin.specs.Nhdr.{nhdr32_of}
 use Rattle.goblin.specs.Note.{NoteParts, note_there, places_at, note_at, note_items, item_and_rest, read_places}
 use Rattle.goblin.proofs.NoteLemmas.{places_at-before}
 use Rattle.goblin_base.specs.declared.container.Endian.TheVariants as endian
@@ -18,7 +17,7 @@ use Rattle.std.proofs.lemmas.Bool.{lt-leb}
 use Rattle.goblin.specs.NoteLaws.{at_ok, note_by_note, places_lie_within, whole_is_note}
 use Rattle.goblin_c.specs.declared.types.GoblinNote.{GoblinNote}
 use Rattle.goblin_c.specs.Notes.{bytes_from, note_expected}
-use Rattle.goblin_c.specs.Laws.{LiesIn, NotesAreItems, NotesInARow, NotesLieInFile, items_reported, note_in}
+use Rattle.goblin_c.specs.Laws.{NotesAreItems, NotesInARow, NotesLieInFile, items_reported, note_in}
 use Rattle.goblin_c.specs.Laws.{WholeNotesAreNotes, notes_reported}
 use Rattle.goblin_c.proofs.StepLemmas.{one_converted}
 
@@ -48,10 +47,9 @@ items_there : (bytes : List ℕ) (h : GoblinHeader) (range : GoblinRange) (align
     (λ next. note_items bytes (range.offset + range.size) next (alignment, ctx_of h))
 unfolding note_at
 items_there bytes h range alignment offset =
-    let ctx : ℕ × Ctx = (alignment, ctx_of h) in
     let end = range.offset + range.size in
-    note_by_note bytes end offset ctx
-    ∙ items_of (nat_le end offset) bytes (places_at bytes offset ctx) offset (λ next. note_items bytes end next ctx)
+    note_by_note bytes end offset (alignment, ctx_of h)
+    ∙ items_of (nat_le end offset) bytes (places_at bytes offset (alignment, ctx_of h)) offset _
 
 pub notes_are_items : NotesAreItems
 notes_are_items notes h range alignment over =
@@ -62,19 +60,15 @@ one_more : (bytes : List ℕ) (answer : Result (Option GoblinNote) RefusalAt) (c
     (f g : ℕ → List (Result NoteParts Refusal))
     → ((next : ℕ) → f next ≡ take calls (g next))
     → items_reported bytes answer f ≡ take (suc calls) (items_reported bytes answer g)
-one_more bytes (Ok None) calls f g same = refl
-one_more bytes (Ok (Some note)) calls f g same = ap (λ rest. Ok (note_in bytes note) ∷ rest) (same note.next)
-one_more bytes (Err why) calls f g same = ap (λ rest. Err why.refusal ∷ rest) (sym (take-nil calls))
+one_more bytes answer calls f g same = grind (arith, take-nil, same)
 
 in_a_row : (calls : ℕ) (bytes : List ℕ) (h : GoblinHeader) (range : GoblinRange) (alignment offset : ℕ)
     → notes_reported calls bytes h range alignment offset
     ≡ take calls (note_items bytes (range.offset + range.size) offset (alignment, ctx_of h))
 in_a_row zero bytes h range alignment offset = refl
 in_a_row (suc calls) bytes h range alignment offset =
-    one_more bytes (note_expected bytes h range alignment offset) calls (notes_reported calls bytes h range alignment)
-    (λ next. note_items bytes (range.offset + range.size) next (alignment, ctx_of h))
-    (in_a_row calls bytes h range alignment)
-    ∙ ap (take (suc calls)) (sym (items_there bytes h range alignment offset))
+    rw (items_there bytes h range alignment offset)
+    (one_more bytes (note_expected bytes h range alignment offset) calls _ _ (in_a_row calls bytes h range alignment))
 
 pub notes_in_a_row : NotesInARow
 notes_in_a_row calls notes h range alignment over =
@@ -86,9 +80,7 @@ notes_lie_in_file bytes h range alignment offset note is =
     let steps = one_converted (nat_le (range.offset + range.size) offset) offset (places_at bytes offset ctx)
     (note_converted offset) note is in
     let within = at_ok (places_at bytes offset ctx) steps.0 _ steps.2 (places_lie_within bytes offset ctx) in
-    subst (λ (n : GoblinNote). LiesIn bytes n.name × LiesIn bytes n.desc × (offset + nhdr32_size ≤ n.next))
-    (sym steps.3)
-    (within.name, within.desc, omega (arith, within.least))
+    rw steps.3 (within.name, within.desc, omega (arith, within.least))
 
 -- a note that is read at an offset is read from there on
 read_at : (bytes : List ℕ) (offset : ℕ) (ctx : ℕ × Ctx) (places : NotePlaces)
@@ -124,13 +116,8 @@ pub usual_note_is : (bytes : List ℕ) (h : GoblinHeader) (range : GoblinRange) 
     → read_places alignment endian.Little (take (length bytes - offset) (drop offset bytes)) ≡ Ok places
     → note_expected bytes h range alignment offset ≡ Ok (Some (note_converted offset places))
 usual_note_is bytes h range alignment offset places other there before is =
-    let part = take (length bytes - offset) (drop offset bytes) in
     let test : (h.ei_data == 2) ≡ false = grind (arith, nat_tests) in
-    let order : (ctx_of h).le ≡ endian.Little = rw test refl in
-    let read : places_at bytes offset (alignment, ctx_of h) ≡ Ok places =
-    places_at-before bytes offset (alignment, ctx_of h) there
-    ∙ ap (λ (o : Endian). read_places alignment o part) order ∙ is in
-    let past : nat_le (range.offset + range.size) offset ≡ false = lt-leb (range.offset + range.size) offset before in
-    rw (past, read) refl
+    let past = lt-leb (range.offset + range.size) offset before in
+    rw (past, places_at-before bytes offset (alignment, ctx_of h) there, test, is) refl
 
 pub ruleset note_laws = (notes_are_items, notes_in_a_row, notes_lie_in_file, whole_notes_are_notes)

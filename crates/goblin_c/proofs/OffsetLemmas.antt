@@ -1,32 +1,27 @@
 -- Offsets of addresses, numbers in ranges, and ranges that are cut to the file.
 --
 -- Cutting a range to the file keeps its bytes, because no range has bytes past the file's end (`same_bytes`). A number
--- is read only after the tests of room for its range and for itself (`number_by`). The library's search stops at the
--- first segment that passes its test (`first_loads`, `none_loads`), and the test is the one that is stated for C
--- (`loads-Decides`).
-use Rattle.goblin_c.proofs.Common.{get_or_from_slice_get, position_or_len, slice_get_within, found_within, ◌≡◌, ◌≤◌}
-use Rattle.goblin_c.proofs.Common.{◌<◌, ◌+◌, ◌-◌, ◌^◌, ◌==◌, ◌&&◌, ℕ, Bool, true, false, true≢false, nat_le}
-use Rattle.goblin_c.proofs.Common.{nat_lt, min, List, [], length, take, drop, find, slice_get, Option, Some, None}
-use Rattle.goblin_c.proofs.Common.{Result, Ok, Err, inl, inr, if◌then◌else◌, refl, sym, ap, subst, ◌∙◌, arith}
-use Rattle.goblin_c.proofs.Common.{and_parts, leb-false, leb-true, nat_tests, drop_all, length-drop, take_min}
+-- is read only after the tests of room for its range and for itself (`numbers_lie_in_range`). The library's search
+-- stops at the first segment that passes its test (`first_loads`, `none_loads`), and the test is the one that is stated
+-- for C (`loads-Decides`).
+use Rattle.goblin_c.proofs.Common.{get_or_from_slice_get, position_or_len, slice_get_within, ◌≡◌, ◌≤◌, ◌<◌, ◌+◌, ◌-◌, ℕ}
+use Rattle.goblin_c.proofs.Common.{Bool, true, false, true≢false, nat_le, min, List, [], length, drop, find, slice_get}
+use Rattle.goblin_c.proofs.Common.{Option, Some, None, Result, Ok, Err, inl, inr, refl, sym, ap, subst, ◌∙◌, arith}
+use Rattle.goblin_c.proofs.Common.{leb-false, leb-true, nat_tests, drop_all, length-drop, take-nil, take_min}
 use Rattle.goblin_c.proofs.Common.{slice_get-map, Decides, option_map, misplaced, RefusalAt, refused_at, fits-room_of}
 use Rattle.goblin_c.proofs.Common.{room_of_fits, room_of, ◌>>=◌, refuse_as, loaded_from, loads, offset_in}
 use Rattle.goblin_c.proofs.Common.{ProgramHeader, GoblinHeader, GoblinRange, segment_expected, segments_expected}
-use Rattle.goblin_c.proofs.Common.{segment_converted, is_width, number_expected, range_expected}
+use Rattle.goblin_c.proofs.Common.{segment_converted}
 use Rattle.goblin_base.specs.declared.scroll.Error.{Error as Misplaced}
 use Rattle.goblin_c.specs.declared.types.GoblinSegment.{GoblinSegment}
-use Rattle.goblin_c.specs.Laws.{LiesIn, bytes_in}
+use Rattle.goblin_c.specs.Laws.{bytes_in}
 use Rattle.goblin_c.specs.PlaceLaws.{AddressesAreLoaded, IsOffsetOf, IsSlice, LoadsByte, LoadsFirst, NumbersLieInRange}
 use Rattle.goblin_c.specs.PlaceLaws.{PartsLieInFile}
 use Rattle.goblin_c.specs.Places.{cut_range, in_file}
-use Rattle.goblin_c.proofs.ListedLemmas.{bind_ok, refused_at_ok}
 use Rattle.goblin_c.proofs.FilledBufferLemmas.{ends-before}
 use Rattle.goblin_c.proofs.SearchLemmas.{converted_one, fails_at}
 use Rattle.std.proofs.lemmas.List.Folds.{find_at}
 use Rattle.std.proofs.lemmas.List.Sums.{fails_before_first, passes_at_first}
-
-take_none : (n : ℕ) → ◌≡◌ {A = List ℕ} (take n []) []
-take_none n = grind (arith, nat_tests)
 
 -- the part of a range has the same bytes of the file
 same_bytes : (bytes : List ℕ) (range : GoblinRange) (inside : Bool)
@@ -35,18 +30,13 @@ same_bytes : (bytes : List ℕ) (range : GoblinRange) (inside : Bool)
 same_bytes bytes range true is =
     let within : range.offset ≤ length bytes = leb-true range.offset (length bytes) is in
     let start : min range.offset (length bytes) ≡ range.offset = omega (arith, within) in
-    ap (λ (k : ℕ). take (min range.size (length bytes - k)) (drop k bytes)) start
-    ∙ ap (λ (n : ℕ). take (min range.size n) (drop range.offset bytes)) (sym (length-drop range.offset bytes))
-    ∙ take_min range.size (drop range.offset bytes)
+    rw (start, ← length-drop range.offset bytes) (take_min range.size (drop range.offset bytes))
 same_bytes bytes range false is =
     let past : length bytes < range.offset = leb-false range.offset (length bytes) is in
     let start : min range.offset (length bytes) ≡ length bytes = omega (arith, past) in
     let none : drop (min range.offset (length bytes)) bytes ≡ [] =
     drop_all (min range.offset (length bytes)) bytes (omega (arith, start)) in
-    let nothing : drop range.offset bytes ≡ [] = drop_all range.offset bytes (omega (arith, past)) in
-    ap (take (min range.size (length bytes - min range.offset (length bytes)))) none
-    ∙ take_none (min range.size (length bytes - min range.offset (length bytes)))
-    ∙ sym (ap (take range.size) nothing ∙ take_none range.size)
+    rw (none, drop_all range.offset bytes (omega (arith, past)), take-nil) (sym (take-nil range.size))
 
 pub parts_lie_in_file : PartsLieInFile
 parts_lie_in_file bytes range = record {
@@ -58,38 +48,13 @@ parts_lie_in_file bytes range = record {
       λ j. record { offset = start j; size = size j };
 }
 
--- a number in a range, from the test of its width
-number_by : (bytes : List ℕ) (h : GoblinHeader) (range : GoblinRange) (offset width value : ℕ) (wide : Bool)
-    → (if wide then (range_expected bytes range >>= λ _.
-    refused_at (min (range.offset + offset) (2 ^ 64 - 1))
-    (refuse_as misplaced (room_of range.size offset width)) >>= λ _.
-    number_expected bytes h (range.offset + offset) width)
-    else Ok None)
-    ≡ Ok (Some value)
-    → LiesIn bytes range × (offset + width ≤ range.size)
-    × (number_expected bytes h (range.offset + offset) width ≡ Ok (Some value))
-number_by bytes h range offset width value true is =
-    let place = min (range.offset + offset) (2 ^ 64 - 1) in
-    let number = number_expected bytes h (range.offset + offset) width in
-    let whole = refuse_as misplaced (room_of (length bytes) range.offset range.size) in
-    let part = refuse_as misplaced (room_of range.size offset width) in
-    let within = range_expected bytes range in
-    let first = bind_ok within (λ _. refused_at place part >>= λ _. number) (Some value) is in
-    let room = bind_ok (refused_at range.offset whole) (λ _. Ok (Some range)) first.0 first.1 in
-    let second = bind_ok (refused_at place part) (λ _. number) (Some value) first.2 in (
-      fits-room_of (length bytes) range.offset range.size room.0
-          (found_within misplaced (room_of (length bytes) range.offset range.size) room.0
-          (refused_at_ok range.offset whole room.0 room.1)),
-      fits-room_of range.size offset width second.0
-          (found_within misplaced (room_of range.size offset width) second.0
-          (refused_at_ok place part second.0 second.1)),
-      second.2,
-    )
-number_by bytes h range offset width value false is = absurd (cc)
-
+-- a number in a range was read after the tests of room for both
 pub numbers_lie_in_range : NumbersLieInRange
-numbers_lie_in_range bytes h range offset width value is =
-    number_by bytes h range offset width value (is_width width) is
+numbers_lie_in_range bytes h range offset width value is = (
+  grind (arith, nat_tests, fits-room_of (length bytes) range.offset range.size),
+  grind (arith, nat_tests, fits-room_of range.size offset width),
+  grind (arith, nat_tests),
+)
 
 -- the first segment that loads an address stands at some index, and none before it does
 abbrev FirstLoads : ℕ → List ProgramHeader → ProgramHeader → Type 0
@@ -127,11 +92,8 @@ none_loads address items none k y found =
 loads-Decides : (address : ℕ) (x : ProgramHeader)
     → Decides (loads address x) (LoadsByte address (segment_converted x))
 loads-Decides address x = (
-  λ is.
-      let parts = and_parts (x.p_type == 1) (nat_le x.p_vaddr address && nat_lt address (x.p_vaddr + x.p_filesz)) is in
-      let both = and_parts (nat_le x.p_vaddr address) (nat_lt address (x.p_vaddr + x.p_filesz)) parts.1 in
-      (grind (arith, nat_tests, parts.0), grind (arith, nat_tests, both.0), grind (arith, nat_tests, both.1)),
-  λ is. let type = is.0 in let above = is.1 in let below = is.2 in grind (arith, nat_tests),
+  λ is. (grind (arith, nat_tests), grind (arith, nat_tests), grind (arith, nat_tests)),
+  λ is. grind (arith, nat_tests, is),
 )
 
 module _ (bytes : List ℕ) (h : GoblinHeader) (address : ℕ) (short : IsSlice bytes) (items : List ProgramHeader)
@@ -154,36 +116,17 @@ module _ (bytes : List ℕ) (h : GoblinHeader) (address : ℕ) (short : IsSlice 
   )
 
   -- the file has no byte at an offset without room
-  no_byte_by : (s : ProgramHeader) (e : Misplaced)
-      → room_of (length bytes) (offset_in address s) 1 ≡ Err e → (past : Bool)
-      → nat_le (length bytes) (s.p_offset + (address - s.p_vaddr)) ≡ past
-      → length bytes ≤ s.p_offset + (address - s.p_vaddr)
-  no_byte_by s e there true past = leb-true (length bytes) (s.p_offset + (address - s.p_vaddr)) past
-  no_byte_by s e there false past =
-      let inside = leb-false (length bytes) (s.p_offset + (address - s.p_vaddr)) past in
-      let room = room_of_fits (length bytes) (offset_in address s) 1 (omega (arith, inside)) in
-      absurd (cc)
-
   no_byte : (s : ProgramHeader) (e : Misplaced)
       → room_of (length bytes) (offset_in address s) 1 ≡ Err e → length bytes ≤ s.p_offset + (address - s.p_vaddr)
-  no_byte s e there =
-      let place = s.p_offset + (address - s.p_vaddr) in
-      no_byte_by s e there (nat_le (length bytes) place) refl
+  no_byte s e there = grind (arith, nat_tests, room_of_fits (length bytes) (offset_in address s) 1)
 
   by_room : (s : ProgramHeader) (first : FirstLoads address items s) (room : Result (Unit {0}) Misplaced)
       → room_of (length bytes) (offset_in address s) 1 ≡ room
       → IsOffsetOf bytes h address
       (refused_at (offset_in address s) (refuse_as misplaced room) >>= λ _. Ok (Some (offset_in address s)))
   by_room s first (Ok u) there =
-      let fits = fits-room_of (length bytes) (offset_in address s) 1 u there in (
-        first.0,
-        (
-          segment_converted s,
-          loads_first s first,
-          omega (arith, fits, short),
-          omega (arith, fits),
-        ),
-      )
+      let fits = fits-room_of (length bytes) (offset_in address s) 1 u there in
+      (first.0, (segment_converted s, loads_first s first, omega (arith, fits, short), omega (arith, fits)))
   by_room s first (Err e) there = inr (first.0, (segment_converted s, loads_first s first, no_byte s e there, refl))
 
   by_found : (found : Option ProgramHeader)

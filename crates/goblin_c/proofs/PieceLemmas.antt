@@ -2,11 +2,9 @@
 --
 -- A piece ends among its first bytes (`piece_ends`), or is as long as they are and goes on after them
 -- (`piece_goes_on`). So a search of the first bytes, and then of the others, finds its length.
-use Rattle.goblin_c.proofs.Common.{◌≡◌, ◌+◌, ◌-◌, ◌<◌, ◌≤◌, ◌==◌, ℕ, Bool, List, length, take, drop, Some, None, Ok}
-use Rattle.goblin_c.proofs.Common.{Err, refl, sym, ap, ◌∙◌, arith, nat_tests, length-drop, length-take-le}
-use Rattle.goblin_c.proofs.Common.{position_or_len, piece, RefusalAt, GoblinRange, strings_expected, ◌++◌, drop-drop}
-use Rattle.goblin_c.proofs.Common.{take-append-drop}
-use Rattle.std.proofs.lemmas.Bool.{cond-false, cond-true, eq-eqb, ne_eqb}
+use Rattle.goblin_c.proofs.Common.{◌≡◌, ◌+◌, ◌<◌, ◌≤◌, ◌==◌, ℕ, Bool, List, length, take, drop, Some, None, Ok, Err}
+use Rattle.goblin_c.proofs.Common.{refl, ap, ◌∙◌, arith, nat_tests, length-drop, length-take-le, position_or_len, piece}
+use Rattle.goblin_c.proofs.Common.{RefusalAt, GoblinRange, strings_expected, ◌++◌, drop-drop, take-append-drop}
 use Rattle.std.proofs.lemmas.List.Folds.{prefix_len-append}
 use Rattle.std.proofs.lemmas.List.Sums.{prefix_len-le-length}
 use Rattle.std.specs.List.{prefix_len}
@@ -30,9 +28,7 @@ module _ (strings : List ℕ) (start n : ℕ) (room : start + n ≤ length strin
   goes_on b = not (b == 0)
 
   first_is : first ≡ take n (drop start strings)
-  first_is =
-      let size : start + n - start ≡ n = omega arith in
-      ap (λ (k : ℕ). take k (drop start strings)) size
+  first_is = ap (λ (k : ℕ). take k (drop start strings)) (omega arith)
 
   first_size : length (piece first 0 0) ≡ prefix_len goes_on first
   first_size = piece_size first 0
@@ -46,28 +42,26 @@ module _ (strings : List ℕ) (start n : ℕ) (room : start + n ≤ length strin
       (length first + prefix_len goes_on (drop (start + n) strings))
       (prefix_len goes_on first)
   joined =
-      let split : drop start strings ≡ take n (drop start strings) ++ drop (start + n) strings =
-      sym (take-append-drop n (drop start strings))
-      ∙ ap (λ (xs : List ℕ). take n (drop start strings) ++ xs) (drop-drop n start strings) in
-      piece_size strings start
-      ∙ ap (prefix_len goes_on) split
-      ∙ ap (λ (xs : List ℕ). prefix_len goes_on (xs ++ drop (start + n) strings)) (sym first_is)
-      ∙ prefix_len-append goes_on first (drop (start + n) strings)
+      let split : first ++ drop (start + n) strings ≡ drop start strings =
+      rw (first_is, ← drop-drop n start strings) (take-append-drop n (drop start strings)) in
+      piece_size strings start ∙ rw split at (prefix_len-append goes_on first (drop (start + n) strings))
 
   pub piece_ends : length (piece first 0 0) < n → length (piece first 0 0) ≡ length (piece strings 0 start)
   piece_ends short =
-      let other : ¬ (prefix_len goes_on first ≡ length first) =
-      λ e. absurd (omega (arith, e, short, first_size, first_length)) in
-      first_size ∙ sym (joined ∙ cond-false _ _ _ (ne_eqb _ _ other))
+      grind (arith, nat_tests, joined, first_size, first_length)
 
   pub piece_goes_on : n ≤ length (piece first 0 0)
       → n + length (piece strings 0 (start + n)) ≡ length (piece strings 0 start)
   piece_goes_on long =
-      let all : prefix_len goes_on first ≡ length first =
-      omega (arith, long, first_size, first_length, prefix_len-le-length goes_on first) in
-      let whole : length (piece strings 0 start) ≡ length first + prefix_len goes_on (drop (start + n) strings) =
-      joined ∙ cond-true _ _ _ (eq-eqb _ _ all) in
-      omega (arith, whole, first_length, piece_size strings (start + n))
+      grind (
+        arith,
+        nat_tests,
+        joined,
+        first_size,
+        first_length,
+        prefix_len-le-length goes_on first,
+        piece_size strings (start + n),
+      )
 
 pub ruleset pieces = (piece_ends, piece_goes_on, piece_short)
 

@@ -4,7 +4,7 @@
 -- stores was read from its own bytes, which lie in the file (`found_at`).
 use Rattle.goblin_c.proofs.Common.{found_within, ◌≡◌, ◌≤◌, ◌+◌, ◌*◌, ◌/◌, ◌==◌, ℕ, Bool, true, false, nat_le, List, []}
 use Rattle.goblin_c.proofs.Common.{length, take, drop, map, slice_get, Some, Result, Ok, Err, if◌then◌else◌, refl, sym}
-use Rattle.goblin_c.proofs.Common.{ap, ◌∙◌, arith, leb-false, leb-true, slice_get-map, option_map, refusal_of}
+use Rattle.goblin_c.proofs.Common.{◌∙◌, arith, leb-false, leb-true, slice_get-map, refusal_of}
 use Rattle.goblin_c.proofs.Common.{refuse_as, program_header_of, program_header_size, program_headers_from}
 use Rattle.goblin_c.proofs.Common.{section_header_of, section_header_size, section_headers_of, sym_of, sym_size}
 use Rattle.goblin_c.proofs.Common.{segment_count, reloc_in, reloc_size, relocs_of, unless_fault, fits-room_of}
@@ -33,19 +33,15 @@ module _ {R Y : Type 0} (convert : R → Y) (size : ℕ) (read : List ℕ → R)
       → nat_le count index ≡ past → IsListed size read bytes start count items
       → slice_get (map convert items) index ≡ Some y → ReadAt y
   found_in items count true y is listed found =
-      let none = slice_get-map convert items index
-      ∙ ap (option_map convert) (none_at index listed (leb-true count index is)) in absurd (cc)
+      let none = none_at index listed (leb-true count index is) in grind (arith, slice_get-map)
   found_in items count false y is listed found =
       let item = listed_at index listed (leb-false count index is) in
-      let there = slice_get-map convert items index ∙ ap (option_map convert) item.0 in
-      let same : y ≡ convert (read (take size (drop (start + index * size) bytes))) = cc in (item.1, same)
+      (item.1, grind (arith, slice_get-map, item.0))
 
   pub found_at : (all : Result (List R) RefusalAt) (y : Y)
       → Lists size read bytes start all → item_at (each_converted convert all) index ≡ Ok (Some y) → ReadAt y
   found_at (Ok items) y lists is =
-      let listed = lists items refl in
-      let found : slice_get (map convert items) index ≡ Some y = cc in
-      found_in items listed.0 (nat_le listed.0 index) y refl listed.1 found
+      let listed = lists items refl in found_in items listed.0 (nat_le listed.0 index) y refl listed.1 (cc)
   found_at (Err e) y lists is = absurd (cc)
 
 -- a list for C that was made of what a call of the library returned
@@ -74,10 +70,8 @@ pub lists_segments : (bytes : List ℕ) (h : GoblinHeader)
 lists_segments bytes h items is =
     let count = refused_at h.e_shoff (refuse_as refusal_of (segment_count bytes h.e_phnum h.e_shoff (ctx_of h))) in
     let read = λ (n : ℕ). program_headers_from bytes h.e_phoff n (ctx_of h) in
-    let parts = bind_ok count (λ n. refused_at h.e_phoff (read n)) items is in (
-      parts.0,
-      listed_from _ _ bytes h.e_phoff parts.0 _ items (refused_at_ok h.e_phoff (read parts.0) items parts.2),
-    )
+    let parts = bind_ok count (λ n. refused_at h.e_phoff (read n)) items is in
+    (parts.0, listed_from _ _ bytes h.e_phoff parts.0 _ items (refused_at_ok h.e_phoff (read parts.0) items parts.2))
 
 pub lists_symbols : (bytes : List ℕ) (h : GoblinHeader) (table : GoblinRange)
     → Lists (sym_size (ctx_of h).container) (sym_of (ctx_of h).container (ctx_of h).le) bytes table.offset
@@ -93,22 +87,17 @@ in_range : {R : Type 0} (size : ℕ) (read : List ℕ → R) (bytes : List ℕ) 
     (records size read (filesz / size) (take filesz (drop start bytes)))) ≡ Ok items
     → (count : ℕ) × IsListed size read bytes start count items
 in_range size read bytes start filesz items true is =
-    let same : items ≡ [] = cc in
     let none = no_records size read 0 (drop start bytes) refl in
-    (0, record { are = same ∙ sym none; fit = λ some. absurd (omega arith) })
+    (0, record { are = cc; fit = λ some. absurd (omega arith) })
 in_range size read bytes start filesz items false is =
     let count = filesz / size in
     let all = records size read count (take filesz (drop start bytes)) in
     let parts = unless_fault-is (room_of (length bytes) start filesz) items all (sym is) in
     let inside : count * size ≤ filesz = div-mul-le_self filesz size in
     let own = records-agree size read count (take filesz (drop start bytes)) (drop start bytes)
-    (take-take (count * size) filesz (drop start bytes) inside) in (
-      count,
-      record {
-        are = parts.1 ∙ own;
-        fit = λ some. omega (arith, inside, fits-room_of (length bytes) start filesz tt parts.0);
-      },
-    )
+    (take-take (count * size) filesz (drop start bytes) inside) in
+    let room = fits-room_of (length bytes) start filesz tt parts.0 in
+    (count, record { are = parts.1 ∙ own; fit = λ some. omega (arith, inside, room) })
 
 pub lists_relocs : (bytes : List ℕ) (h : GoblinHeader) (table : GoblinRange) (is_rela : Bool)
     → Lists (reloc_size is_rela (ctx_of h).container) (reloc_in (reloc_ctx h is_rela)) bytes table.offset

@@ -4,11 +4,12 @@
 -- (`converted_one`), and the library's search stops at the first of these that passes its test: so none for C before it
 -- is so, and none at all if the search finds none (`finds`).
 use Rattle.goblin_c.proofs.Common.{◌≡◌, ◌≤◌, ◌<◌, ◌+◌, ◌-◌, ◌==◌, ℕ, zero, suc, Bool, true, false, true≢false, List, []}
-use Rattle.goblin_c.proofs.Common.{◌∷◌, length, map, drop, get_or, slice_get, Option, Some, None, Result, Ok, Err}
+use Rattle.goblin_c.proofs.Common.{◌∷◌, map, drop, get_or, slice_get, Option, Some, None, Result, Ok, Err}
 use Rattle.goblin_c.proofs.Common.{position, refl, sym, ap, subst, ◌∙◌, arith, nat_tests, get_or_from_slice_get}
 use Rattle.goblin_c.proofs.Common.{slice_get-get_or, slice_get-map, slice_get_within, Decides, option_map, ◌>>=◌}
 use Rattle.goblin_c.proofs.Common.{RefusalAt, GoblinSection, each_converted, first_item, found_item, item_at}
 use Rattle.goblin_c.proofs.Common.{sections_expected, section_converted}
+use Rattle.std.proofs.lemmas.Bool.Decides.{Decides-eqb}
 use Rattle.std.proofs.lemmas.List.Quantifiers.{position-Some}
 use Rattle.std.proofs.lemmas.List.Sums.{fails_before_first}
 use Rattle.goblin_c.specs.Laws.{FindsFrom, FindsItemFrom, RefusesAll, SectionsByType}
@@ -34,8 +35,7 @@ earlier_fail test items i k x is before found =
 all_fail : {X : Type 0} (test : X → Bool) (items : List X) (k : ℕ) (x : X)
     → position test items ≡ None → slice_get items k ≡ Some x → test x ≡ false
 all_fail test items k x none found =
-    let inside : k < length items = slice_get_within items k x found in
-    fails_at test items k x found (fails_before_first test items k x (grind (arith, nat_tests)))
+    fails_at test items k x found (fails_before_first test items k x (grind (arith, nat_tests, slice_get_within)))
 
 -- the item that an item for C was converted from
 pub converted_one : {X Y : Type 0} (convert : X → Y) (items : List X) (k : ℕ) (y : Y)
@@ -49,8 +49,8 @@ converted_one convert (x ∷ items) (suc k) y is = converted_one convert items k
 there : {X : Type 0} (items : List X) (first i : ℕ) (x : X)
     → first ≤ i → slice_get items i ≡ Some x → slice_get (drop first items) (i - first) ≡ Some x
 there items first i x after found =
-    let place : i ≡ first + (i - first) = omega (arith, after) in
-    sym (get_drop items first (i - first)) ∙ ap (slice_get items) (sym place) ∙ found
+    let place : first + (i - first) ≡ i = omega (arith, after) in
+    rw (← get_drop items first (i - first), place) found
 
 -- the items for C from an index on that pass a test
 module _ {X Y : Type 0} (convert : X → Y) (IsSo : Y → Type 0) (test : X → Bool)
@@ -92,8 +92,7 @@ pub with_item : {X Y : Type 0} (convert : X → Y) (IsSo : Y → Type 0) (Refuse
 with_item convert IsSo Refuses items first None is = is
 with_item convert IsSo Refuses items first (Some i) is =
     let one = converted_one convert items i is.1.0 is.1.1 in
-    rw one.1
-    (is, ap Ok (slice_get-map convert items i ∙ ap (option_map convert) one.1))
+    rw one.1 (is, ap Ok (slice_get-map convert items i ∙ ap (option_map convert) one.1))
 
 -- the first of all items that passes a test
 module _ {X Y : Type 0} (convert : X → Y) (IsSo : Y → Type 0) (test : X → Bool)
@@ -113,12 +112,8 @@ module _ {X Y : Type 0} (convert : X → Y) (IsSo : Y → Type 0) (test : X → 
       first_found (RefusesAll (item_at (each_converted convert (Ok items)))) items first
   first_of_list (Err e) first = λ index. refl
 
--- a number equals another, or not, by its test
-equal-Decides : (a b : ℕ) → Decides (a == b) (a ≡ b)
-equal-Decides a b = (λ is. grind (arith, nat_tests), λ is. grind (arith, nat_tests))
-
 pub sections_by_type : SectionsByType
 sections_by_type bytes h sh_type first =
     first_of_list section_converted (λ (section : GoblinSection). section.sh_type ≡ sh_type)
     (λ section. section.sh_type == sh_type)
-    (λ section. equal-Decides section.sh_type sh_type) (sections_expected bytes h) first
+    (λ section. Decides-eqb section.sh_type sh_type) (sections_expected bytes h) first

@@ -4,16 +4,15 @@
 -- of its range (`in_range`): so the string stands in the file at both offsets together (`piece_there`). The library's
 -- look-up passes a name exactly if a call stores a string with its bytes (`named-Decides`), so the first item that it
 -- finds is the first with that name (`by_name`).
-use Rattle.goblin_c.proofs.Common.{◌≡◌, ◌+◌, ◌-◌, ◌<◌, ◌≤◌, ◌==◌, ℕ, Bool, true, nat_le, nat_lt, List, length, take}
-use Rattle.goblin_c.proofs.Common.{drop, min, Some, Result, Ok, Err, inl, inr, refl}
-use Rattle.goblin_c.proofs.Common.{sym, ap, subst, ◌∙◌, arith, and_parts, nat_tests, drop-take, length-take, take_min}
-use Rattle.goblin_c.proofs.Common.{take-take, Decides, before_first, position_or_len, piece, ◌>>=◌, RefusalAt}
-use Rattle.goblin_c.proofs.Common.{refused_at, GoblinRange, each_converted, first_item, is_named, item_at}
-use Rattle.goblin_c.proofs.Common.{sections_expected, string_expected, strings_expected, symbols_expected}
-use Rattle.goblin_c.proofs.Common.{section_converted, symbol_converted}
+use Rattle.goblin_c.proofs.Common.{◌≡◌, ◌+◌, ◌-◌, ◌<◌, ◌≤◌, ◌==◌, ℕ, Bool, true, nat_le, List, length, take, drop, min}
+use Rattle.goblin_c.proofs.Common.{Some, Result, Ok, Err, inl, inr, refl, sym, ap, subst, ◌∙◌, arith, nat_tests}
+use Rattle.goblin_c.proofs.Common.{drop-take, length-take, take_min, take-take, Decides, before_first, position_or_len}
+use Rattle.goblin_c.proofs.Common.{piece, ◌>>=◌, RefusalAt, refused_at, GoblinRange, each_converted, first_item}
+use Rattle.goblin_c.proofs.Common.{is_named, item_at, sections_expected, string_expected, strings_expected}
+use Rattle.goblin_c.proofs.Common.{symbols_expected, section_converted, symbol_converted}
 use Rattle.std.proofs.lemmas.Slice.Eq.{bytes_eq-Decides}
 use Rattle.std.proofs.Math.Seq.{drop-drop}
-use Rattle.goblin_base.specs.Strtab.{has_name, is_text_of, plain, range_in}
+use Rattle.goblin_base.specs.Strtab.{has_name, plain, range_in}
 use Rattle.goblin_c.specs.Laws.{IsNameAt, RefusesAll, RefusesEither, SectionsByName, FindsItemFrom}
 use Rattle.goblin_c.specs.Laws.{StringsAreThere, SymbolsByName, bytes_in}
 use Rattle.goblin_c.proofs.SearchLemmas.{first_found}
@@ -34,7 +33,7 @@ in_front test n all =
     let end = position_or_len test part in
     let long : length (take end part) ≡ min end (length part) = length-take end part in
     let few : length (take end part) ≤ n = omega (arith, long, length-take n all) in
-    sym (take-take (length (take end part)) n all few) ∙ ap (λ (k : ℕ). take k part) long ∙ take_min end part
+    rw (← take-take (length (take end part)) n all few, long) (take_min end part)
 
 -- so does the piece at an offset of a range, at its offset in the file
 pub piece_there : (bytes : List ℕ) (range : GoblinRange) (offset : ℕ)
@@ -65,9 +64,8 @@ text_there : (bytes : List ℕ) (range : GoblinRange) (offset : ℕ) (strings te
     → bytes_in bytes (place_of range offset text) ≡ text
 text_there bytes range offset strings text found before is =
     let of_range = (in_range bytes range strings found).0 in
-    let same_text : text ≡ piece (bytes_in bytes range) 0 offset =
-    plain_is strings offset text is ∙ ap (λ xs. piece xs 0 offset) of_range in
-    rw same_text (piece_there bytes range offset (subst (λ (xs : List ℕ). offset < length xs) of_range before))
+    rw (plain_is strings offset text is, of_range)
+    (piece_there bytes range offset (subst (λ (xs : List ℕ). offset < length xs) of_range before))
 
 -- a string whose range is stored was read in the string table, and lies at that range
 string_is : (bytes : List ℕ) (range : GoblinRange) (offset : ℕ) (strings : List ℕ) (place : GoblinRange)
@@ -90,8 +88,7 @@ strings_there : (bytes : List ℕ) (range : GoblinRange) (offset : ℕ) (place :
     → strings_expected bytes range ≡ answer → string_expected bytes range offset ≡ Ok (Some place)
     → (answer >>= λ strings. refused_at (range.offset + offset) (plain strings 0 offset)) ≡ Ok (bytes_in bytes place)
 strings_there bytes range offset place (Ok strings) found is =
-    let there = string_is bytes range offset strings place found is in
-    ap (refused_at (range.offset + offset)) there.2 ∙ ap Ok (sym there.3)
+    let there = string_is bytes range offset strings place found is in rw (there.2, there.3) refl
 strings_there bytes range offset place (Err e) found is = let refused = rw found at is in absurd (cc)
 
 pub strings_are_there : StringsAreThere
@@ -103,8 +100,7 @@ named_is : (strings name : List ℕ) (offset : ℕ)
     → is_named strings name offset ≡ true → (offset < length strings) × (plain strings 0 offset ≡ Ok name)
 unfolding has_name
 named_is strings name offset is =
-    let parts = and_parts (nat_lt offset (length strings)) (is_text_of name (plain strings 0 offset)) is in
-    (grind (arith, nat_tests), grind (arith, parts.1, bytes_eq-Decides))
+    (grind (arith, nat_tests), grind (arith, nat_tests, bytes_eq-Decides))
 
 is_named-from : (strings name : List ℕ) (offset : ℕ)
     → offset < length strings → plain strings 0 offset ≡ Ok name → is_named strings name offset ≡ true

@@ -1,9 +1,8 @@
 -- Texts that are written part by part, and those of refusals of whole notes.
 use Rattle.goblin_c.proofs.Common.{◌≡◌, ◌+◌, ◌<◌, ◌≤◌, ℕ, zero, suc, IsTrue, nat_le, List, [], ◌∷◌, ◌++◌, length}
-use Rattle.goblin_c.proofs.Common.{get_or, take, drop, sym, ap, ◌∙◌, length-append, arith, and_parts, leb-true}
-use Rattle.goblin_c.proofs.Common.{are_short, each_short, is_short, laid}
-use Rattle.goblin_c.proofs.Common.{Endian, Err, Ok, Refusal, Result}
-use Rattle.goblin_c.proofs.Common.{buffer_too_short, ctx_of, misplaced, refuse_as, room_of}
+use Rattle.goblin_c.proofs.Common.{get_or, take, drop, ap, length-append, arith, and_parts, leb-true, are_short}
+use Rattle.goblin_c.proofs.Common.{each_short, is_short, laid, Endian, Err, Ok, Refusal, Result, buffer_too_short}
+use Rattle.goblin_c.proofs.Common.{ctx_of, misplaced, refuse_as, room_of}
 use Rattle.goblin_base.specs.declared.texts.Part.{Part}
 use Rattle.goblin_base.specs.Record.{read_within}
 use Rattle.goblin_base.specs.Refusal.{bad_input}
@@ -34,10 +33,7 @@ pub laid-part : (text more part old now new : List ℕ) (len : ℕ)
     → more ≡ text ++ part → now ≡ laid text old → len ≡ length text → new ≡ take len now ++ laid part (drop len now)
     → new ≡ laid more old
 laid-part text more part old now new len is was long step =
-    step
-    ∙ (λ j. take (long j) (was j) ++ laid part (drop (long j) (was j)))
-    ∙ laid-appended text part old
-    ∙ ap (λ xs. laid xs old) (sym is)
+    rw (step, long, was, is) (laid-appended text part old)
 
 pub long-part : (text more part : List ℕ) (n len : ℕ)
     → more ≡ text ++ part → len ≡ length text → n ≡ len + length part → n ≡ length more

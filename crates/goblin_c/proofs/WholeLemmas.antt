@@ -1,8 +1,7 @@
 -- With the header that counts only what lies whole in the file, no list of headers is refused, and a list that isn't
 -- refused with the plain header is the same: so are the calls that read them.
-use Rattle.goblin_c.proofs.Common.{arith, ℕ, List, Result, Ok, Err, Refusal, refusal_of, ◌>>=◌}
-use Rattle.goblin_c.proofs.Common.{refuse_as, ProgramHeader, program_headers_from, section_headers_of, segment_count}
-use Rattle.goblin_c.proofs.Common.{GoblinHeader, ctx_of, sections_expected}
+use Rattle.goblin_c.proofs.Common.{arith, ℕ, List, Result, Refusal, refusal_of, ◌>>=◌, refuse_as, ProgramHeader}
+use Rattle.goblin_c.proofs.Common.{program_headers_from, segment_count, GoblinHeader, ctx_of, sections_expected}
 use Rattle.goblin_c.proofs.Common.{segments_expected, whole_header, refused_at}
 use Rattle.goblin.specs.WholePart.{IsListOfWhole}
 use Rattle.goblin_headers.proofs.WholeParts.{sections_of_whole, segments_of_whole}
@@ -16,10 +15,7 @@ keeps_at place other_place list part is = grind arith
 sections_kept : (bytes : List ℕ) (h : GoblinHeader)
     → KeepsWhatIsRead (sections_expected bytes h) (sections_expected bytes (whole_header bytes h))
 sections_kept bytes h =
-    let whole = whole_header bytes h in
-    keeps_at h.e_shoff whole.e_shoff (section_headers_of bytes h.e_shoff h.e_shnum (ctx_of h))
-    (section_headers_of bytes whole.e_shoff whole.e_shnum (ctx_of h))
-    (sections_of_whole bytes h.e_shoff h.e_shnum (ctx_of h))
+    grind (arith, keeps_at, sections_of_whole bytes h.e_shoff h.e_shnum (ctx_of h))
 
 -- the program headers, with the two offsets of their refusals
 segments_by : (count other_count : Result ℕ Refusal) (list : ℕ → Result (List ProgramHeader) Refusal)
@@ -27,11 +23,7 @@ segments_by : (count other_count : Result ℕ Refusal) (list : ℕ → Result (L
     → IsListOfWhole (count >>= list) (other_count >>= list)
     → KeepsWhatIsRead (refused_at first count >>= λ n. refused_at place (list n))
     (refused_at other_first other_count >>= λ n. refused_at other_place (list n))
-segments_by (Ok n) (Ok m) list first place other_first other_place is =
-    keeps_at place other_place (list n) (list m) is
-segments_by (Err e) (Ok m) list first place other_first other_place is =
-    keeps_at first other_place (Err e) (list m) is
-segments_by count (Err e) list first place other_first other_place is = let bad = is.0 in absurd (cc)
+segments_by count other_count list first place other_first other_place is = grind (arith, is)
 
 segments_kept : (bytes : List ℕ) (h : GoblinHeader)
     → KeepsWhatIsRead (segments_expected bytes h) (segments_expected bytes (whole_header bytes h))

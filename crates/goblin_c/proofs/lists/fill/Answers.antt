@@ -1,7 +1,6 @@
 -- After i turns the buffer holds the first i items from `first` on (`laid-item`). Where the list has no item for the
 -- next place, these were all, so the buffer stays as it is (`laid-ended`).
-use Rattle.goblin_c.proofs.Common.{◌≡◌, ◌<◌, ◌+◌, length, slice_get, Some, sym, ◌∙◌, arith, set-get_or}
-use Rattle.goblin_c.proofs.Common.{slice_get_within}
+use Rattle.goblin_c.proofs.Common.{◌≡◌, ◌+◌, slice_get, Some, sym, ◌∙◌, arith, set-get_or, slice_get_within}
 use Rattle.goblin_c.proofs.FilledBufferLemmas.{laid-item, laid-ended}
 use Rattle.goblin_c.proofs.lists.fill.Goals as goal
 
@@ -10,10 +9,8 @@ loop-i-preserved g c =
     let all = g.L.Listed.listed c.args.all.now in
     let found : slice_get all (c.args.first + c.loop-i.i) ≡ Some c.in-Some.item =
     sym c.converted.ensures ∙ c.in-Some.is in
-    let inside : c.args.first + c.loop-i.i < length all =
-    slice_get_within all (c.args.first + c.loop-i.i) c.in-Some.item found in
     record {
-      within = omega (arith, inside);
+      within = omega (arith, slice_get_within all (c.args.first + c.loop-i.i) c.in-Some.item found);
       filled = laid-item all c.args.first c.loop-i.i c.args.buffer.now c.loop-i.buffer c.in-Some.item found
           c.loop-i.invariant.filled c.loop-i-test.true;
     }

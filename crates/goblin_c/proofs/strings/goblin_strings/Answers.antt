@@ -23,8 +23,8 @@ loop-i-preserved c =
     let found : slice_get results l.i ≡ Some (Ok (Some string)) =
     result_at f (length c.args.ranges.now) c.args.offsets.now l.i offset 0 refl (omega arith) ∙ ap Some is in
     record {
-      are = each-step (λ x. Ok (Some x)) results l.ranges l.i l.i string refl l.invariant.are found (omega arith);
-      rest = rest-step c.args.ranges.now l.ranges l.i l.i string refl l.invariant.rest;
+      are = each-step (λ x. Ok (Some x)) results l.ranges l.i string l.invariant.are found (omega arith);
+      rest = rest-step c.args.ranges.now l.ranges l.i string l.invariant.rest;
     }
 
 pub returns-then-start-table : goal.returns-then-start-table
@@ -34,7 +34,7 @@ returns-then-start-table c =
     let past = bytes_past c.args.bytes.now c.args.strings.now offset c.in-Ok.table.now c.in-Ok.ensures.given
     c.if-start-table.true in
     fills_before (string_bytes_expected c.args.bytes.now c.args.strings.now) (length c.args.ranges.now)
-    c.args.offsets.now c.args.ranges.now c.args.why.now 1 l.ranges l.i c.args.why.now l.i 0 (Ok None) refl
+    c.args.offsets.now c.args.ranges.now c.args.why.now 1 l.ranges l.i c.args.why.now 0 (Ok None)
     (omega arith) past l.invariant.are l.invariant.rest (refl, refl)
 
 pub returns-in-Err : goal.returns-in-Err
@@ -43,8 +43,8 @@ returns-in-Err c =
     let refused = bytes_refused c.args.bytes.now c.args.strings.now (get_or c.args.offsets.now 0 0) refusal
     c.in-Err.ensures.given in
     fills_before (string_bytes_expected c.args.bytes.now c.args.strings.now) (length c.args.ranges.now)
-    c.args.offsets.now c.args.ranges.now c.args.why.now c.refuse.result c.args.ranges.now 0 c.refuse.new.why 0 0
-    (Err refusal) refl (omega arith) refused refl refl (c.refuse.ensures.value, c.refuse.ensures.written)
+    c.args.offsets.now c.args.ranges.now c.args.why.now c.refuse.result c.args.ranges.now 0 c.refuse.new.why 0
+    (Err refusal) (omega arith) refused refl refl (c.refuse.ensures.value, c.refuse.ensures.written)
 
 pub returns : goal.returns
 returns c =
