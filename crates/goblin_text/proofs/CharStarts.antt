@@ -14,6 +14,7 @@ use Rattle.goblin_text.proofs.Common.{[], ◌∷◌, ◌++◌, length, get_or, t
 use Rattle.goblin_text.proofs.Common.{length-append, slice_range, take-append_seam, drop-append_seam, cases_lt}
 use Rattle.goblin_text.proofs.Common.{nat_tests, take-take, IsCharBoundary-start, IsUtf8-drop, IsUtf8-take, IsUtf8}
 use Rattle.goblin_text.proofs.Common.{IsCharBoundary, LacksText, char_start, after_continuation, up_to_zero}
+use Rattle.std.proofs.lemmas.Bool.{and_parts}
 use Rattle.std.proofs.lemmas.Str.{IsCharBoundary-at_seam, IsCharBoundary-from_rest, len_utf8_bounds, length-encode}
 use lib.Utf8.{encode, encodes, scalar, scalars}
 use Rattle.goblin_text.proofs.ByteRanges.{rest_of_range}
@@ -39,10 +40,8 @@ after_continuation_is bytes p = tested (leb 128 (get_or bytes p 0)) (ltb (get_or
     tested : (a b : Bool) → leb 128 (get_or bytes p 0) ≡ a → ltb (get_or bytes p 0) 192 ≡ b
         → after_continuation bytes p ≡ cond (a && b) (p + 1) p → Passed bytes p
     tested true true e f is = over is (record { from = grind (arith, nat_tests); below = grind (arith, nat_tests) })
-    tested true false e f is =
-        stays is (λ h. let x : 192 ≤ get_or bytes p 0 = grind (arith, nat_tests) in omega (arith, h.below))
-    tested false b e f is =
-        stays is (λ h. let x : get_or bytes p 0 < 128 = grind (arith, nat_tests) in omega (arith, h.from))
+    tested true false e f is = stays is (λ h. grind (arith, nat_tests, h.below))
+    tested false b e f is = stays is (λ h. grind (arith, nat_tests, h.from))
 
 after_continuation_bounds : (bytes : List ℕ) (p : ℕ)
     → (p ≤ after_continuation bytes p) × (after_continuation bytes p ≤ p + 1)
@@ -97,9 +96,7 @@ four_go_on bytes p h =
       there,
       λ j l m. ⊎_elim
           (λ (s : j < char_start bytes p). passed_to_start bytes p j l s)
-          (λ (s : char_start bytes p ≤ j).
-          let same : char_start bytes p ≡ j = omega arith in
-          subst (λ k. IsContinuation (get_or bytes k 0)) same h)
+          (λ (s : char_start bytes p ≤ j). subst (λ k. IsContinuation (get_or bytes k 0)) (omega arith) h)
           (cases_lt j (char_start bytes p)),
     )
 
@@ -123,7 +120,7 @@ cut_of_chars (c ∷ cs) i s l =
     let bounds = len_utf8_bounds c in
     let size = length-encode c in
     let all = length-append (encode c) (encodes cs) in
-    let rest : scalars cs ≡ true = rest_of (scalar c) s in
+    let rest : scalars cs ≡ true = (and_parts (scalar c) (scalars cs) s).1 in
     let text : IsUtf8 (encodes cs) = (cs, (rest, refl)) in
     ⊎_elim
     (λ (z : i < 1). record {
@@ -142,7 +139,7 @@ cut_of_chars (c ∷ cs) i s l =
     (λ (x : n ≤ i).
     let cut = cut_of_chars cs (i - n) rest (omega arith) in
     let there : IsCharBoundary (drop n (encode c ++ encodes cs)) cut.place =
-    subst (λ t. IsCharBoundary t cut.place) (sym (drop-append_seam (encode c) (encodes cs))) cut.boundary in
+    rw (drop-append_seam (encode c) (encodes cs)) cut.boundary in
     record {
       place = n + cut.place;
       from = omega (arith, cut.from);
@@ -151,9 +148,6 @@ cut_of_chars (c ∷ cs) i s l =
     })
     (cases_lt i n))
     (cases_lt i 1)
-  where
-    rest_of : (b : Bool) → (b && scalars cs) ≡ true → scalars cs ≡ true
-    rest_of b e = grind (arith, nat_tests)
 
 cut_near : (text : List ℕ) (i : ℕ) → IsUtf8 text → i ≤ length text → Cut text i
 cut_near text i u l = subst (λ x. Cut x i) u.1.1 (cut_of_chars u.0 i u.1.0 (omega (arith, ap length u.1.1)))
@@ -215,8 +209,7 @@ lacks-on bytes i p e l m h lacks = λ u.
     let long : length string ≡ length a + length (up_to_zero r) = ap length joined ∙ length-append a (up_to_zero r) in
     let boundary = char_start-boundary bytes string i p l (omega arith) u (get_up bytes i e) in
     let front : take (char_start bytes p - i) string ≡ up_to_zero a =
-    ap (λ n. take n string) (sym size) ∙ ap (take (length a)) joined ∙ take-append_seam a (up_to_zero r)
-    ∙ sym (whole a all) in
+    ap (λ n. take n string) (sym size) ∙ rw joined (take-append_seam a (up_to_zero r)) ∙ sym (whole a all) in
     lacks (subst IsUtf8 front (IsUtf8-take string (char_start bytes p - i) u boundary)))
     (cases_lt (length (up_to_zero a)) (length a))
 

@@ -68,7 +68,7 @@ module _ (bytes : List ℕ) where
       let len : e ≡ o + (e - o) = omega (arith, from) in
       let is : drop o (take e bytes) ≡ piece bytes 0 o =
       ap (λ n. drop o (take n bytes)) len ∙ drop-take o (e - o) bytes ∙ sym (piece_is_range bytes 0 o) in
-      is_utf8-from_IsUtf8 _ (subst IsUtf8 is rest)
+      is_utf8-from_IsUtf8 _ (rw is at rest)
 
   no_bad_start : (p k : ℕ)
       → p ≤ length bytes → IsUtf8 (take p bytes) → piece_end bytes 0 k ≤ p → is_bad_start bytes 0 k ≡ false
@@ -88,10 +88,7 @@ module _ (bytes : List ℕ) where
   zero_is_text : (p : ℕ) → p < length bytes → get_or bytes p 0 ≡ 0 → IsUtf8 (slice_range bytes p (p + 1))
   unfolding encode
   zero_is_text p l z =
-      let one : p + 1 - p ≡ 1 = omega arith in
-      let is : slice_range bytes p (p + 1) ≡ 0 ∷ [] =
-      ap (λ n. take n (drop p bytes)) one ∙ ap (take 1) (drop_more bytes p 0 l) ∙ ap (λ b. b ∷ []) z in
-      subst IsUtf8 (sym is) (0 ∷ [], (refl, refl))
+      let one : p + 1 - p ≡ 1 = omega arith in rw (one, drop_more bytes p 0 l, z) (0 ∷ [], (refl, refl))
 
   -- the fault stands before the end of the piece that it lies in
   fault_inside : (p : ℕ) → IsValidUpTo bytes p → p < piece_end bytes 0 (piece_start bytes 0 p)
@@ -168,5 +165,4 @@ module _ (bytes : List ℕ) where
 pub front_of_range : (bytes : List ℕ) (i j p : ℕ)
     → p ≤ j - i → slice_range bytes i (i + p) ≡ take p (slice_range bytes i j)
 front_of_range bytes i j p l =
-    let size : i + p - i ≡ p = omega arith in
-    ap (λ n. take n (drop i bytes)) size ∙ sym (take-take p (j - i) (drop i bytes) l)
+    rw (take-take p (j - i) (drop i bytes) l) (ap (λ n. take n (drop i bytes)) (omega arith))

@@ -1,10 +1,8 @@
 -- The names that look-ups find.
-use Rattle.goblin_text.proofs.Common.{◌≡◌, ◌∙◌, ℕ, ◌+◌, ◌-◌, ◌<◌, ◌≤◌, if◌then◌else◌, Bool, false, List, []}
-use Rattle.goblin_text.proofs.Common.{length, drop, refl, sym, ap, arith, slice_range, get_or, lit<, Ok, Err}
+use Rattle.goblin_text.proofs.Common.{◌≡◌, ◌∙◌, ℕ, ◌+◌, ◌-◌, ◌<◌, ◌≤◌, if◌then◌else◌, List, []}
+use Rattle.goblin_text.proofs.Common.{length, drop, refl, sym, ap, arith, slice_range, get_or, lit<}
 use Rattle.goblin_text.proofs.Common.{false_from_ne_true, IsUtf8-from_is_utf8, is_utf8-from_IsUtf8, IsUtf8, is_utf8}
-use Rattle.goblin_text.proofs.Common.{invalid_utf8, text_table, LacksText, after_continuation, up_to_zero, name_at}
-use Rattle.std.specs.Option.{unwrap_or}
-use Rattle.std.specs.Result.{result_ok}
+use Rattle.goblin_text.proofs.Common.{text_table, LacksText, after_continuation, up_to_zero, name_at}
 use Rattle.goblin.specs.Pieces.{piece}
 use Rattle.goblin.specs.TextLaws.{name-later, name-past, names_are_plain}
 use Rattle.goblin_text.proofs.CharStarts.{after_continuation_is}
@@ -23,12 +21,7 @@ text_or_nothing bytes = if is_utf8 bytes then bytes else []
 pub name_here : (bytes : List ℕ) (o : ℕ)
     → o < length bytes → text_or_nothing (up_to_zero (drop o bytes)) ≡ name_at (text_table bytes) o
 unfolding piece up_to_zero
-name_here bytes o l = sym (names_are_plain (text_table bytes) o refl l ∙ by (is_utf8 (up_to_zero (drop o bytes))))
-  where
-    by : (b : Bool)
-        → unwrap_or (result_ok (if b then Ok (up_to_zero (drop o bytes)) else Err (invalid_utf8 (length bytes - o)))) []
-        ≡ (if b then up_to_zero (drop o bytes) else [])
-    by b = grind arith
+name_here bytes o l = sym (names_are_plain (text_table bytes) o refl l ∙ grind arith)
 
 -- a name in a range of a file
 pub name_in_range : (bytes : List ℕ) (i j o : ℕ)
@@ -36,8 +29,7 @@ pub name_in_range : (bytes : List ℕ) (i j o : ℕ)
     → text_or_nothing (up_to_zero (slice_range bytes (i + o) j)) ≡ name_at (text_table (slice_range bytes i j)) o
 name_in_range bytes i j o l m h =
     let size : length (slice_range bytes i j) ≡ j - i = length_of_range bytes i j m in
-    ap (λ r. text_or_nothing (up_to_zero r)) (sym (rest_of_range bytes i j o (omega arith)))
-    ∙ name_here (slice_range bytes i j) o (omega arith)
+    rw (← rest_of_range bytes i j o (omega arith)) (name_here (slice_range bytes i j) o (omega arith))
 
 -- a byte that goes on with a character begins no name
 pub name_later : (bytes : List ℕ) (i j o : ℕ)
@@ -60,6 +52,4 @@ text_length bytes text u e = ap length e ∙ ap (λ b. length (if b then bytes e
 -- where a text is lacking there is no name
 pub nothing : (bytes : List ℕ) → LacksText bytes → [] ≡ text_or_nothing (up_to_zero bytes)
 nothing bytes lacks =
-    let is : is_utf8 (up_to_zero bytes) ≡ false =
-    false_from_ne_true (is_utf8 (up_to_zero bytes)) (λ t. lacks (IsUtf8-from_is_utf8 (up_to_zero bytes) t)) in
-    sym (ap (λ b. if b then up_to_zero bytes else []) is)
+    rw (false_from_ne_true _ (λ t. lacks (IsUtf8-from_is_utf8 (up_to_zero bytes) t))) refl

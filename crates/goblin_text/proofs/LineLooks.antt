@@ -2,19 +2,17 @@
 use Rattle.goblin_text.proofs.Common.{◌≡◌, ◌∙◌, ℕ, ◌+◌, ◌*◌, ◌≤◌, List, [], ◌∷◌, ◌++◌, ap}
 use Rattle.goblin_text.proofs.Common.{arith, nat_tests, length, length-append, subst, sym, length-map, CountsAtLeast}
 use Rattle.goblin_text.proofs.Common.{StringTable, vec_items, Header, SectionHeader, parts_text, relocs_text}
-use Rattle.goblin_text.proofs.Common.{symbols_text, strings_in, name_at, section_lines, printable, printed}
+use Rattle.goblin_text.proofs.Common.{symbols_text, strings_in, name_at, section_lines}
 use Rattle.goblin.specs.Texts.{◌&◌}
 use Rattle.goblin_text.specs.declared.accept.Parts.{Parts}
 use Rattle.goblin_text.specs.declared.accept.SymbolPart.{SymbolPart}
-use Rattle.goblin_text.specs.ShownLines.{header_line, named_line, newline, section_head, section_line}
+use Rattle.goblin_text.specs.ShownLines.{header_line, named_line, section_head}
 use Rattle.goblin_text.specs.Looks.{IsShort, LooksAtMost, NamesView, ReadsNames, line_looks, lines_in, name_looks}
 use Rattle.goblin_text.specs.Looks.{names_looks, table_looks}
 
 pub lines-append : (a b : List ℕ) → lines_in (a ++ b) ≡ lines_in a + lines_in b
 lines-append [] b = omega arith
-lines-append (x ∷ a) b =
-    let rest = lines-append a b in
-    grind (arith, nat_tests)
+lines-append (x ∷ a) b = grind (arith, nat_tests, lines-append a b)
 
 pub looks-append : (a b : List ℕ) → names_looks (a ++ b) ≡ names_looks a + names_looks b
 unfolding names_looks
@@ -24,10 +22,7 @@ looks-append a b = omega (arith, length-append a b, lines-append a b)
 pub named_line_looks : (head name : List ℕ) → name_looks + length name ≤ names_looks (named_line head name)
 unfolding names_looks
 named_line_looks head name =
-    let tail = printed name ++ newline in
-    let size : length (printed name) ≡ length name = length-map name printable in
-    let ends = lines-append (printed name) newline in
-    omega (arith, size, length-append head tail, length-append (printed name) newline, lines-append head tail, ends)
+    grind (arith, length-map, length-append {A = ℕ}, lines-append)
 
 -- names are read, and then more names
 pub more_names : (old mid new : NamesView) (a b most : ℕ)
@@ -98,13 +93,7 @@ pub names_in_parts : (old mid new : NamesView) (header : Header) (sections : Lis
     → symbols ≡ vec_items parts.symbols → ReadsNames mid new 0 (names_looks (symbols_text mid.bytes symbols))
     → ReadsNames old new 0 (names_looks (parts_text old.bytes header sections parts))
 names_in_parts old mid new header sections parts symbols s are t =
-    let text : symbols_text mid.bytes symbols ≡ symbols_text old.bytes (vec_items parts.symbols) =
-    ap (λ b. symbols_text b symbols) s.unchanged ∙ ap (symbols_text old.bytes) are in
-    let most : names_looks (section_lines (strings_in old.bytes parts.strings) 0 sections)
-    + names_looks (symbols_text mid.bytes symbols)
-    ≤ names_looks (parts_text old.bytes header sections parts) =
-    omega (arith, ap names_looks text, parts_looks old.bytes header sections parts) in
-    more_names old mid new _ _ _ most s t
+    more_names old mid new _ _ _ (rw (s.unchanged, are) (parts_looks old.bytes header sections parts)) s t
 
 -- ---- lines
 header-line : (h : Header) → 1 ≤ lines_in (header_line h)
@@ -118,10 +107,8 @@ section-count : (names : StringTable) (number : ℕ) (sections : List SectionHea
     → length sections ≤ lines_in (section_lines names number sections)
 section-count names number [] = omega arith
 section-count names number (s ∷ sections) =
-    let line = section_line number s (name_at names s.sh_name) in
     let one = named-line (section_head number s) (name_at names s.sh_name) in
-    let others = section-count names (number + 1) sections in
-    omega (arith, one, others, lines-append line (section_lines names (number + 1) sections))
+    simp lines-append (omega (arith, one, section-count names (number + 1) sections))
 
 lines_most : (bytes : List ℕ) (header : Header) (sections : List SectionHeader) (parts : Parts)
     → length sections + 1 ≤ lines_in (parts_text bytes header sections parts)

@@ -1,6 +1,6 @@
 -- The ends of runs that are stored of a file's blocks.
-use Rattle.goblin_text.proofs.Common.{◌≡◌, ◌∙◌, ℕ, zero, suc, eqb, [], ◌∷◌, refl, ◌+◌, ◌<◌, ◌≤◌, ◌≢◌, set, replicate}
-use Rattle.goblin_text.proofs.Common.{length-set, get_or-set_other, get_or-set_same, true, false, List, length}
+use Rattle.goblin_text.proofs.Common.{◌≡◌, ◌∙◌, ℕ, zero, suc, [], ◌∷◌, refl, ◌+◌, ◌<◌, ◌≤◌, ◌≢◌, set, replicate}
+use Rattle.goblin_text.proofs.Common.{length-set, get_or-set_other, get_or-set_same, List, length}
 use Rattle.goblin_text.proofs.Common.{get_or, sym, ap, subst, ⊎_elim, arith, cases_eq, cases_lt, nat_tests}
 use Rattle.goblin_text.proofs.Common.{get_or-replicate, length-replicate, Kind, AreRunEnds, IsRunEnd, IsRun, unknown}
 
@@ -8,19 +8,14 @@ use Rattle.goblin_text.proofs.Common.{get_or-replicate, length-replicate, Kind, 
 pub none_known : (kind : Kind) (bytes : List ℕ) (n : ℕ) → AreRunEnds kind bytes (replicate n 0)
 unfolding AreRunEnds
 none_known kind bytes n = λ k l some.
-    let z : ℕ = 0 in
-    let size : length (replicate n z) ≡ n = length-replicate n z in
-    let e : get_or (replicate n z) k z ≡ z = get_or-replicate n k z z (omega (arith, l, size)) in
-    absurd (omega (arith, e, some))
+    let z : ℕ = 0 in absurd (grind (arith, length-replicate n z, get_or-replicate n k z z, l, some))
 
 -- of so many blocks no more than all are unknown
 pub unknown_most : (n : ℕ) (ends : List ℕ) → unknown n ends ≤ n
 unfolding unknown
 unknown_most zero ends = omega arith
 unknown_most (suc n) [] = omega arith
-unknown_most (suc n) (end ∷ ends) =
-    let rest = unknown_most n ends in
-    grind (arith, nat_tests)
+unknown_most (suc n) (end ∷ ends) = grind (arith, nat_tests, unknown_most n ends)
 
 -- an end that is stored
 pub end_known : (kind : Kind) (bytes ends : List ℕ) (k : ℕ)
@@ -47,13 +42,9 @@ pub unknown_less : (n : ℕ) (ends : List ℕ) (i v : ℕ)
 unfolding unknown
 unknown_less zero ends i v l m z p = absurd (omega arith)
 unknown_less (suc n) [] i v l m z p = absurd (omega arith)
-unknown_less (suc n) (end ∷ ends) zero v l m z p =
-    let now : eqb v 0 ≡ false = grind (arith, nat_tests) in
-    let before : eqb end 0 ≡ true = grind (arith, nat_tests) in
-    rw (now, before) (omega arith)
+unknown_less (suc n) (end ∷ ends) zero v l m z p = grind (arith, nat_tests)
 unknown_less (suc n) (end ∷ ends) (suc i) v l m z p =
-    let rest = unknown_less n ends i v (omega arith) (omega arith) z p in
-    grind (arith, nat_tests)
+    grind (arith, nat_tests, unknown_less n ends i v (omega arith) (omega arith) z p)
 
 -- a run goes on to where the run ends that goes on from it
 pub end_after : (kind : Kind) (bytes : List ℕ) (first k end : ℕ)

@@ -1,7 +1,7 @@
 -- Strings: the bytes before the first zero byte.
-use Rattle.goblin_text.proofs.Common.{◌≡◌, ◌≢◌, ◌∙◌, ℕ, ◌+◌, ◌-◌, ◌<◌, ◌≤◌, ◌==◌, Bool, false, cond, not, eqb, List}
+use Rattle.goblin_text.proofs.Common.{◌≡◌, ◌≢◌, ◌∙◌, ℕ, ◌+◌, ◌-◌, ◌<◌, ◌≤◌, ◌==◌, Bool, not, List}
 use Rattle.goblin_text.proofs.Common.{◌++◌, length, get_or, take, drop, sym, ap, ⊎_elim, arith, slice_range}
-use Rattle.goblin_text.proofs.Common.{take-append-add, both_ways, cases_lt, eq-eqb, nat_tests, get_or-take, length-take}
+use Rattle.goblin_text.proofs.Common.{take-append-add, cases_lt, nat_tests, get_or-take, length-take}
 use Rattle.goblin_text.proofs.Common.{length-take-le, take-append-le, take-take, take_all, position_or_len, up_to_zero}
 use Rattle.std.proofs.lemmas.List.Folds.{prefix_len-append}
 use Rattle.std.proofs.lemmas.List.Sums.{fails_before_first, passes_at_first, prefix_len-le-length}
@@ -22,28 +22,21 @@ length-up : (a : List ℕ) → length (up_to_zero a) ≡ first_zero a
 unfolding up_to_zero
 length-up a = length-take-le (first_zero a) a (within a)
 
-first_zero-append : (a b : List ℕ)
-    → first_zero (a ++ b) ≡ cond (eqb (first_zero a) (length a)) (length a + first_zero b) (first_zero a)
-first_zero-append a b = prefix_len-append no_zero a b
-
 -- a zero byte ends the string, whatever follows
 pub stops : (a b : List ℕ) → length (up_to_zero a) < length a → up_to_zero (a ++ b) ≡ up_to_zero a
 unfolding up_to_zero
 stops a b h =
     let short : first_zero a < length a = omega (arith, length-up a) in
-    let differs : eqb (first_zero a) (length a) ≡ false = grind (arith, nat_tests) in
-    let len : first_zero (a ++ b) ≡ first_zero a =
-    first_zero-append a b ∙ ap (λ t. cond t (length a + first_zero b) (first_zero a)) differs in
-    ap (λ n. take n (a ++ b)) len ∙ take-append-le (first_zero a) a b (within a)
+    let len : first_zero (a ++ b) ≡ first_zero a = grind (arith, nat_tests, prefix_len-append no_zero a b) in
+    rw len (take-append-le (first_zero a) a b (within a))
 
 -- with no zero byte it goes on
 pub goes_on : (a b : List ℕ) → length a ≤ length (up_to_zero a) → up_to_zero (a ++ b) ≡ a ++ up_to_zero b
 unfolding up_to_zero
 goes_on a b h =
     let same : first_zero a ≡ length a = omega (arith, length-up a, within a) in
-    let len : first_zero (a ++ b) ≡ length a + first_zero b =
-    first_zero-append a b ∙ ap (λ t. cond t (length a + first_zero b) (first_zero a)) (eq-eqb _ _ same) in
-    ap (λ n. take n (a ++ b)) len ∙ take-append-add a b (first_zero b)
+    let len : first_zero (a ++ b) ≡ length a + first_zero b = grind (arith, nat_tests, prefix_len-append no_zero a b) in
+    rw len (take-append-add a b (first_zero b))
 
 pub whole : (a : List ℕ) → length a ≤ length (up_to_zero a) → up_to_zero a ≡ a
 unfolding up_to_zero
@@ -61,8 +54,7 @@ no_zero_whole a none = ⊎_elim
 pub whole_no_zero : (a : List ℕ) (m : ℕ) → up_to_zero a ≡ a → m < length a → get_or a m 0 ≢ 0
 whole_no_zero a m is l = λ z.
     let before : m < first_zero a = omega (arith, ap length is, length-up a) in
-    let f : eqb (get_or a m 0) 0 ≡ false = fails_before_first (λ b. b == 0) a m 0 before in
-    absurd (both_ways _ f (eq-eqb _ _ z))
+    grind (arith, nat_tests, fails_before_first (λ b. b == 0) a m 0 before)
 
 -- ---- strings in a range
 -- a byte of a string
@@ -85,8 +77,7 @@ string_found bytes i j s l m e =
     let n = first_zero range in
     let size : length range ≡ j - i = length_of_range bytes i j m in
     let short : n ≤ j - i = omega (arith, within range, size) in
-    let len : s - i ≡ n = omega (arith, e) in
-    ap (λ x. take x (drop i bytes)) len ∙ sym (take-take n (j - i) (drop i bytes) short)
+    rw (take-take n (j - i) (drop i bytes) short) (ap (λ x. take x (drop i bytes)) (omega (arith, e)))
 
 -- a string goes on after bytes with no zero byte
 pub string-after : (bytes : List ℕ) (i j s k : ℕ) → i ≤ j → j ≤ s → s ≤ k
@@ -95,9 +86,8 @@ pub string-after : (bytes : List ℕ) (i j s k : ℕ) → i ≤ j → j ≤ s �
     → slice_range bytes i s ≡ up_to_zero (slice_range bytes i k)
 string-after bytes i j s k l m n front rest =
     let a = slice_range bytes i j in
-    ranges-join bytes i j s l m ∙ ap (λ r. a ++ r) rest
-    ∙ sym (ap up_to_zero (ranges-join bytes i j k l (omega arith))
-    ∙ goes_on a (slice_range bytes j k) (omega (arith, ap length front)))
+    rw (ranges-join bytes i j s l m, rest, ranges-join bytes i j k l (omega arith))
+    (sym (goes_on a (slice_range bytes j k) (omega (arith, ap length front))))
 
 -- a string that ends in a range ends there in a longer one
 pub string-within : (bytes : List ℕ) (i s j k : ℕ) → i ≤ s → s < j → j ≤ k → j ≤ length bytes

@@ -1,7 +1,7 @@
 -- What of a text was put into a target, and what is left of it.
-use Rattle.goblin_text.proofs.Common.{◌≡◌, ◌∙◌, ◌++◌, ◌∷◌, ◌≤◌, ℕ, List, [], Option, ap, append_assoc}
-use Rattle.goblin_text.proofs.Common.{get_or, set, append-nil, arith, length, min, refl, subst, sym, take, ⊎_elim, ◌<◌}
-use Rattle.goblin_text.proofs.Common.{Appends-trans, append_known-grown, append_known-moved, cases_lt, take_all}
+use Rattle.goblin_text.proofs.Common.{◌≡◌, ◌∙◌, ◌++◌, ◌∷◌, ℕ, List, [], Option, ap, append_assoc}
+use Rattle.goblin_text.proofs.Common.{get_or, set, append-nil, arith, length, min, refl, subst, sym, take}
+use Rattle.goblin_text.proofs.Common.{Appends-trans, append_known-grown, append_known-moved, take_all}
 use Rattle.goblin_text.proofs.Common.{Appends, Keeps, append_known, State, held}
 
 -- of a text the lines so far were put, and the rest is left
@@ -28,12 +28,7 @@ held-none known = grind (arith, append-nil)
 
 -- as many bytes of a list as it has
 pub take-most : (xs : List ℕ) (n m : ℕ) → length xs ≡ m → take (min n m) xs ≡ take n xs
-take-most xs n m e = ⊎_elim
-    (λ (l : n < m). ap (λ k. take k xs) (let s : min n m ≡ n = omega arith in s))
-    (λ (l : m ≤ n). ap (λ k. take k xs) (let s : min n m ≡ m = omega arith in s)
-    ∙ take_all m xs (omega arith)
-    ∙ sym (take_all n xs (omega arith)))
-    (cases_lt n m)
+take-most xs n m e = grind (arith, take_all)
 
 pub appends_kept : (a b c : Option (List ℕ)) (text : List ℕ) → Keeps a b → Appends b c text → Appends a c text
 appends_kept a b c text p q = grind arith
@@ -50,7 +45,7 @@ passed_on a b room filled m e p =
 -- nothing fills the room
 pub emptied : (b : Option (List ℕ)) (room : List ℕ) (filled : ℕ) → filled ≡ 0 → held b room filled ≡ b
 unfolding held
-emptied b room filled e = ap (λ n. append_known b (take n room)) e ∙ held-none b
+emptied b room filled e = rw e (held-none b)
 
 -- a text fills more of the room
 pub added : (a b : Option (List ℕ)) (old new : List ℕ) (filled more : ℕ) (text : List ℕ)

@@ -1,6 +1,6 @@
 -- Each end that the loop stores is that of the run from its block on: the run from the first block ends there, and no
 -- block that was read lies past that end. None had an end before, so each makes one block fewer unknown.
-use Rattle.goblin_text.proofs.Common.{◌∙◌, ◌<◌, ◌≢◌, arith, get_or-set_other, length, refl, common_steps, blocks}
+use Rattle.goblin_text.proofs.Common.{◌<◌, arith, length, common_steps, blocks}
 use Rattle.goblin_text.proofs.RunEnds.{end_later, end_more, unknown_less}
 use Rattle.goblin_text.proofs.block_runs.run_end.Goals as goal
 
@@ -23,7 +23,5 @@ loop-block-preserved c =
       from = omega (arith, c.loop-block.invariant.from);
       known = end_more c.args.kind bytes ends k found.result.end c.loop-block.invariant.known there is;
       fewer = omega (arith, less, c.loop-block.invariant.fewer, c.loop-block.invariant.from);
-      rest = λ j from to.
-          let other : j ≢ k = λ e. absurd (omega (arith, e, from)) in
-          (rw get_or-set_other refl) ∙ c.loop-block.invariant.rest j (omega (arith, from)) to;
+      rest = λ j from to. grind (arith, common_steps, c.loop-block.invariant.rest j (omega (arith, from)) to);
     }

@@ -1,6 +1,6 @@
 -- The refused piece is the first one that is not UTF-8: the bytes up to the first fault are UTF-8, so it is the last
 -- string before the fault, which is searched for backwards from there.
-use Rattle.goblin_text.proofs.Common.{◌≡◌, ◌∙◌, ◌+◌, ◌-◌, ap, arith, length, slice_range, take, Err, common_steps}
+use Rattle.goblin_text.proofs.Common.{◌≡◌, ◌∙◌, ◌+◌, ◌-◌, ap, arith, length, refl, slice_range, take, Err, common_steps}
 use Rattle.goblin_text.proofs.Common.{length-take-le, IsUtf8, IsValidUpTo, invalid_utf8}
 use Rattle.std.proofs.lemmas.Str.{utf8_valid_len-IsValidUpTo}
 use Rattle.std.specs.Str.Lossy.{utf8_valid_len}
@@ -42,8 +42,7 @@ fault c =
     record {
       is = is;
       size = size;
-      start = found ∙ ap (λ r. c.args.from + piece_start r 0 (c.args.from + p - c.args.from)) front
-          ∙ ap (λ n. c.args.from + piece_start (take p table) 0 n) len;
+      start = found ∙ rw (front, len) refl;
     }
 
 pub returns-in-Err-clause-given : goal.returns-in-Err-clause-given

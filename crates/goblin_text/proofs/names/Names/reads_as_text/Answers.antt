@@ -17,10 +17,9 @@ returns-then-not-is_text-clause-value c = (
   λ u.
       let bytes = c.args.self.now.bytes in
       let parts = text_has_parts bytes c.args.start c.args.end (omega arith) c.requires.within u in
-      let is : slice_range bytes c.args.start (block_start bytes (next_block c.args.start))
-      ≡ slice_range c.char_start-begin.new.view.bytes c.args.start c.char_start-begin.result =
-      grind (arith, common_steps) in
-      absurd (both_ways _ c.if-not-is_text.true (c.is_text-2.ensures.value.1 (subst IsUtf8 is parts.head))),
+      let head : IsUtf8 (slice_range c.char_start-begin.new.view.bytes c.args.start c.char_start-begin.result) =
+      grind (arith, common_steps, parts.head) in
+      absurd (both_ways _ c.if-not-is_text.true (c.is_text-2.ensures.value.1 head)),
 )
 
 pub returns-then-run_end-last-clause-value : goal.returns-then-run_end-last-clause-value

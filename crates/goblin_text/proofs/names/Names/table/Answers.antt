@@ -1,7 +1,7 @@
 -- The table is the one that the library finds, because it is that of the range's bytes. A mode that isn't permissive is
 -- strict, and in strict mode these bytes are tested.
-use Rattle.goblin_text.proofs.Common.{◌≡◌, ◌∙◌, ap, arith, length, slice_range, subst, sym, both_ways, common_steps}
-use Rattle.goblin_text.proofs.Common.{Returns, IsRange, strtab_of, table_of, walked, strings_in}
+use Rattle.goblin_text.proofs.Common.{◌≡◌, ◌∙◌, ap, arith, length, slice_range, sym, both_ways, common_steps}
+use Rattle.goblin_text.proofs.Common.{IsRange, strtab_of, table_of, walked}
 use Rattle.goblin_text.proofs.StringTables.{is_strict, table_is}
 use Rattle.goblin_text.proofs.names.Names.table.Goals.{then-not-is_permissive+in_ok-refuse_unless_text}
 use Rattle.goblin_text.proofs.names.Names.table.Goals.{else-not-is_permissive}
@@ -22,8 +22,7 @@ returns-in_err-refuse_unless_text-clause-given c =
     grind (arith, common_steps, c.in_ok-start.ensures.ok bytes size) in
     let is = table_is _ _ _ _ _ _ stands in
     let strict = is_strict _ (λ p. both_ways _ c.if-not-is_permissive.true (c.is_permissive.ensures.1 p)) in
-    subst (Returns (strings_in bytes) c.from_residual-in_err-refuse_unless_text.result)
-    (sym (is ∙ ap (λ m. table_of m table 0) strict)) (grind (arith, common_steps))
+    rw (is, strict) (grind (arith, common_steps))
 
 pub returns-clause-given : goal.returns-clause-given
 unfolding walked

@@ -1,6 +1,6 @@
 -- The bytes come after those that the buffer had: these are written first, which empties the buffer, and then the bytes
 -- are written, or fill it.
-use Rattle.goblin_text.proofs.Common.{sym, subst, Appends, Keeps, held}
+use Rattle.goblin_text.proofs.Common.{Keeps, held}
 use Rattle.goblin_text.proofs.TargetLemmas.{added, appends_kept, emptied}
 use Rattle.goblin_text.proofs.targets.Buffered.put_after_writing.Goals as goal
 
@@ -11,10 +11,8 @@ returns-then-bytes-gt-ROOM-clause-bytes g c =
     let after = g.W.Sink.contents c.write_all.new.self in
     let room = c.pass_on.new.self.room in
     let filled = c.pass_on.new.self.filled in
-    let appends : Appends before after c.args.bytes.now =
-    appends_kept before between after c.args.bytes.now c.in_ok-pass_on.ensures.bytes c.in_ok-write_all.ensures.bytes in
-    subst (λ k. Appends before k c.args.bytes.now)
-    (sym (emptied after room filled c.in_ok-pass_on.ensures.ok)) appends
+    rw (emptied after room filled c.in_ok-pass_on.ensures.ok)
+    (appends_kept before between after c.args.bytes.now c.in_ok-pass_on.ensures.bytes c.in_ok-write_all.ensures.bytes)
 
 pub returns-clause-bytes : goal.returns-clause-bytes
 returns-clause-bytes g c =
@@ -23,9 +21,7 @@ returns-clause-bytes g c =
     let filled = c.pass_on.new.self.filled in
     let between = g.W.Sink.contents c.pass_on.new.self.writer.now in
     let after = g.W.Sink.contents c.add.new.self.writer.now in
-    let emptied_first : Keeps before (held between room filled) =
-    subst (Keeps before)
-    (sym (emptied between room filled c.in_ok-pass_on.ensures.ok)) c.in_ok-pass_on.ensures.bytes in
     let kept : Keeps before (held after room filled) =
-    subst (λ w. Keeps before (held (g.W.Sink.contents w) room filled)) (sym c.add.ensures.unchanged) emptied_first in
+    rw (c.add.ensures.unchanged, emptied between room filled c.in_ok-pass_on.ensures.ok)
+    c.in_ok-pass_on.ensures.bytes in
     added before after room c.add.new.self.room filled c.add.new.self.filled c.args.bytes.now kept c.add.ensures.written
