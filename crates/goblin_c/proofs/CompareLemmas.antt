@@ -2,13 +2,13 @@
 --
 -- The bytes at the range of a string are the piece at its offset (`piece_is_there`). So comparing the piece is
 -- comparing these bytes (`strings_are_compared`).
-use Rattle.goblin_c.proofs.Common.{◌≡◌, ◌+◌, ◌<◌, ◌≤◌, ◌&&◌, ◌>>=◌, ℕ, Bool, true, false, if◌then◌else◌, nat_le}
-use Rattle.goblin_c.proofs.Common.{nat_lt, List, length, Option, Some, None, Result, Ok, Err, refl, ap, subst, arith}
-use Rattle.goblin_c.proofs.Common.{nat_tests, piece, Refusal, RefusalAt, GoblinRange, strings_expected}
+use Rattle.goblin_c.proofs.Common.{◌≡◌, ◌+◌, ◌<◌, ◌≤◌, ◌>>=◌, ℕ, true, if◌then◌else◌, nat_le}
+use Rattle.goblin_c.proofs.Common.{List, length, Option, Some, None, Result, Ok, refl, subst, arith}
+use Rattle.goblin_c.proofs.Common.{nat_tests, piece, RefusalAt, GoblinRange, strings_expected}
 use Rattle.std.proofs.lemmas.Slice.Eq.{bytes_eq-Decides}
 use Rattle.std.specs.Prelude.{IsErr, slice_range}
-use Rattle.std.specs.Str.{bytes_eq, is_utf8}
-use Rattle.goblin_base.specs.Strtab.{has_name, is_text_of, range_in}
+use Rattle.std.specs.Str.{is_utf8}
+use Rattle.goblin_base.specs.Strtab.{has_name, range_in}
 use Rattle.goblin_base.specs.Wanted.{is_piece, starts_piece}
 use Rattle.goblin_c.specs.Expected.{is_named}
 use Rattle.goblin_c.specs.Laws.{StringsAreCompared, bytes_in, range_is, range_starts}
@@ -46,18 +46,11 @@ module _ (bytes : List ℕ) (range : GoblinRange) (offset : ℕ) where
   start-compared start answer found = grind (arith, nat_tests, piece_is_there bytes range offset)
 
 -- whether a piece is a name that is UTF-8: it has the same bytes, and so is UTF-8, too
-text_is : (u : Bool) (p name : List ℕ) (fault : Refusal)
-    → is_utf8 p ≡ u → is_utf8 name ≡ true
-    → bytes_eq p name ≡ is_text_of name (if u then Ok p else Err fault)
-text_is true p name fault is is_text = refl
-text_is false p name fault is is_text = grind (arith, bytes_eq-Decides p name)
-
 name_compared : (strings : List ℕ) (offset : ℕ) (name : List ℕ)
     → is_utf8 name ≡ true → is_piece strings 0 offset name ≡ has_name strings 0 offset name
 unfolding is_piece has_name
 name_compared strings offset name is =
-    let p = piece strings 0 offset in
-    ap (λ (b : Bool). nat_lt offset (length strings) && b) (text_is (is_utf8 p) p name _ refl is)
+    grind (arith, nat_tests, bytes_eq-Decides (piece strings 0 offset) name)
 
 named : (offset : ℕ) (name : List ℕ) (answer : Result (List ℕ) RefusalAt)
     → is_utf8 name ≡ true

@@ -67,16 +67,10 @@ first_loads : (address : ℕ) (items : List ProgramHeader) (s : ProgramHeader)
 first_loads address items s is =
     let index = position_or_len (loads address) items in
     let there : slice_get items index ≡ Some s = sym (find_at (loads address) items) ∙ is in
-    let inside = slice_get_within items index s there in (
-      index,
-      (
-        there,
-        ap (loads address) (sym (get_or_from_slice_get items index s s there))
-            ∙ passes_at_first (loads address) items s inside,
-        λ k x before found.
-            fails_at (loads address) items k x found (fails_before_first (loads address) items k x before),
-      ),
-    )
+    let passes = passes_at_first (loads address) items s (slice_get_within items index s there) in
+    let earlier = λ (k : ℕ) (x : ProgramHeader) (before : k < index) (found : slice_get items k ≡ Some x).
+    fails_at (loads address) items k x found (fails_before_first (loads address) items k x before) in
+    (index, (there, rw (get_or_from_slice_get items index s s there) at passes, earlier))
 
 none_loads : (address : ℕ) (items : List ProgramHeader)
     → find (loads address) items ≡ None

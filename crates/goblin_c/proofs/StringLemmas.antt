@@ -4,7 +4,7 @@
 -- of its range (`in_range`): so the string stands in the file at both offsets together (`piece_there`). The library's
 -- look-up passes a name exactly if a call stores a string with its bytes (`named-Decides`), so the first item that it
 -- finds is the first with that name (`by_name`).
-use Rattle.goblin_c.proofs.Common.{◌≡◌, ◌+◌, ◌-◌, ◌<◌, ◌≤◌, ◌==◌, ℕ, Bool, true, nat_le, List, length, take, drop, min}
+use Rattle.goblin_c.proofs.Common.{◌≡◌, ◌+◌, ◌-◌, ◌<◌, ◌≤◌, ◌==◌, ℕ, Bool, nat_le, List, length, take, drop, min}
 use Rattle.goblin_c.proofs.Common.{Some, Result, Ok, Err, inl, inr, refl, sym, ap, subst, ◌∙◌, arith, nat_tests}
 use Rattle.goblin_c.proofs.Common.{drop-take, length-take, take_min, take-take, Decides, before_first, position_or_len}
 use Rattle.goblin_c.proofs.Common.{piece, ◌>>=◌, RefusalAt, refused_at, GoblinRange, each_converted, first_item}
@@ -13,7 +13,7 @@ use Rattle.goblin_c.proofs.Common.{symbols_expected, section_converted, symbol_c
 use Rattle.std.proofs.lemmas.Slice.Eq.{bytes_eq-Decides}
 use Rattle.std.proofs.Math.Seq.{drop-drop}
 use Rattle.goblin_base.specs.Strtab.{has_name, plain, range_in}
-use Rattle.goblin_c.specs.Laws.{IsNameAt, RefusesAll, RefusesEither, SectionsByName, FindsItemFrom}
+use Rattle.goblin_c.specs.Laws.{IsNameAt, RefusesEither, SectionsByName, FindsItemFrom}
 use Rattle.goblin_c.specs.Laws.{StringsAreThere, SymbolsByName, bytes_in}
 use Rattle.goblin_c.proofs.SearchLemmas.{first_found}
 use Rattle.goblin_c.proofs.StepLemmas.{one_converted}
@@ -75,12 +75,9 @@ string_is bytes range offset strings place found is =
     let steps = one_converted (nat_le (length strings) offset) (range.offset + offset) (plain strings 0 offset)
     (place_of range offset) place
     (rw found at is) in
-    let before : offset < length strings = (let test = steps.1 in grind (arith, nat_tests)) in (
-      steps.0,
-      before,
-      steps.2,
-      ap (bytes_in bytes) steps.3 ∙ text_there bytes range offset strings steps.0 found before steps.2,
-    )
+    let before : offset < length strings = grind (arith, nat_tests, steps.1) in
+    let there = text_there bytes range offset strings steps.0 found before steps.2 in
+    (steps.0, before, steps.2, ap (bytes_in bytes) steps.3 ∙ there)
 
 -- there is a string table if there is one of its strings
 strings_there : (bytes : List ℕ) (range : GoblinRange) (offset : ℕ) (place : GoblinRange)
@@ -95,41 +92,23 @@ pub strings_are_there : StringsAreThere
 strings_are_there bytes range offset place is =
     strings_there bytes range offset place (strings_expected bytes range) refl is
 
--- a string has a name where the library's look-up says so: its test, taken apart
-named_is : (strings name : List ℕ) (offset : ℕ)
-    → is_named strings name offset ≡ true → (offset < length strings) × (plain strings 0 offset ≡ Ok name)
-unfolding has_name
-named_is strings name offset is =
-    (grind (arith, nat_tests), grind (arith, nat_tests, bytes_eq-Decides))
-
-is_named-from : (strings name : List ℕ) (offset : ℕ)
-    → offset < length strings → plain strings 0 offset ≡ Ok name → is_named strings name offset ≡ true
-unfolding has_name
-is_named-from strings name offset before is = grind (arith, nat_tests, bytes_eq-Decides name name)
-
--- and if a call stores the range of a string with these bytes
-string_from : (bytes : List ℕ) (range : GoblinRange) (offset : ℕ) (strings text : List ℕ)
-    → strings_expected bytes range ≡ Ok strings → offset < length strings → plain strings 0 offset ≡ Ok text
-    → string_expected bytes range offset ≡ Ok (Some (place_of range offset text))
-string_from bytes range offset strings text found before is = grind (arith, nat_tests)
-
+-- a string has a name where the library's look-up says so, which is if a call stores the range of a string with these
+-- bytes
 named-Decides : (bytes : List ℕ) (names : GoblinRange) (name strings : List ℕ) (offset : ℕ)
     → strings_expected bytes names ≡ Ok strings
     → Decides (is_named strings name offset) (IsNameAt bytes names offset name)
+unfolding has_name
 named-Decides bytes names name strings offset found = (
-  λ is. let read = named_is strings name offset is in (
-    place_of names offset name,
-    string_from bytes names offset strings name found read.0 read.1,
-    text_there bytes names offset strings name found read.0 read.1,
-  ),
-  λ place. let there = string_is bytes names offset strings place.0 found place.1 in
-      is_named-from strings name offset there.1 (there.2 ∙ ap Ok (sym there.3 ∙ place.2)),
+  λ is.
+      let before : offset < length strings = grind (arith, nat_tests) in
+      let read : plain strings 0 offset ≡ Ok name = grind (arith, nat_tests, bytes_eq-Decides) in
+      let there = text_there bytes names offset strings name found before read in
+      (place_of names offset name, grind (arith, nat_tests), there),
+  λ place.
+      let there = string_is bytes names offset strings place.0 found place.1 in
+      let read : plain strings 0 offset ≡ Ok name = there.2 ∙ ap Ok (sym there.3 ∙ place.2) in
+      grind (arith, nat_tests, there.1, bytes_eq-Decides name name),
 )
-
--- without a string table no string has a range
-no_strings : (bytes : List ℕ) (range : GoblinRange) (e : RefusalAt)
-    → strings_expected bytes range ≡ Err e → RefusesAll (string_expected bytes range) e
-no_strings bytes range e refused offset = rw refused refl
 
 -- the first item with a name, from an index on
 module _ {X Y : Type 0} (convert : X → Y) (bytes : List ℕ) (names : GoblinRange) (HasTheName : Y → Type 0)
@@ -144,7 +123,7 @@ module _ {X Y : Type 0} (convert : X → Y) (bytes : List ℕ) (names : GoblinRa
   by_name first (Ok items) (Ok read) found decides =
       first_found convert HasTheName (test read) (decides read found)
       (RefusesEither (item_at (each_converted convert (Ok items))) (string_expected bytes names)) items first
-  by_name first (Ok items) (Err e) found decides = inr (no_strings bytes names e found)
+  by_name first (Ok items) (Err e) found decides = inr (λ offset. rw found refl)
   by_name first (Err e) strings found decides = inl (λ index. refl)
 
 pub sections_by_name : SectionsByName
