@@ -4,9 +4,8 @@ use Rattle.std.specs.Prelude.{slice_index, flat_map, Result, Ok}
 use Rattle.goblin_base.specs.declared.container.Ctx.{Ctx}
 use Rattle.goblin_base.specs.declared.error.Error.{Error}
 use Rattle.goblin_base.specs.Number.{IsBytes}
-use Rattle.goblin_base.specs.Record.{unless_fault}
+use Rattle.goblin_base.specs.Record.{unless_fault, records}
 use Rattle.goblin_base.specs.Room.{room_of}
-use Rattle.goblin_base.specs.Record.{records}
 use Rattle.goblin_headers.specs.declared.header.Header.{Header}
 use Rattle.goblin_headers.specs.Header.{class_byte, data_byte}
 use Rattle.goblin_records.specs.declared.reloc.Reloc.{Reloc}

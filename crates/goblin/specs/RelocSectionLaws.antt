@@ -9,10 +9,9 @@ use Rattle.std.proofs.lemmas.Bool.Decides.{nat_tests}
 use Rattle.std.proofs.lemmas.List.{get_or-drop, length-drop, length-take-le, take-append-drop, take-take}
 use Rattle.goblin_base.specs.Layout.{IsRecord, Layout}
 use Rattle.goblin_base.specs.Number.{IsBytes}
-use Rattle.goblin_base.specs.Record.{unless_fault}
+use Rattle.goblin_base.specs.Record.{unless_fault, records}
 use Rattle.goblin_base.specs.RecordLaws.{unless_fault-is, fits-room_of}
 use Rattle.goblin_base.specs.Room.{room_of}
-use Rattle.goblin_base.specs.Record.{records}
 use Rattle.goblin_base.specs.TableLaws.{no_records, first_record, records-agree}
 use Rattle.goblin_records.specs.declared.reloc.Reloc.{Reloc}
 use Rattle.goblin_records.specs.declared.reloc.RelocCtx.{RelocCtx}

@@ -29,13 +29,11 @@ pub use Rattle.goblin_c.specs.Common.{refusal_of, refuse_as, relocs_of, section_
 pub use Rattle.goblin_c.specs.Common.{◌>>=◌}
 unfoldable pub use Rattle.goblin_c.specs.Common.{room_of}
 pub use Rattle.goblin_c.specs.Expected.{count_of, ctx_of, each_converted, first_item, found_item, header_expected}
-pub use Rattle.goblin_c.specs.Expected.{is_mips64el}
-pub use Rattle.goblin_c.specs.Expected.{is_named, item_at, items_from, reloc_count_expected, reloc_expected}
-pub use Rattle.goblin_c.specs.Expected.{relocs_converted, relocs_expected, sections_converted}
+pub use Rattle.goblin_c.specs.Expected.{is_mips64el, is_named, item_at, items_from, reloc_count_expected}
+pub use Rattle.goblin_c.specs.Expected.{reloc_expected, relocs_converted, relocs_expected, sections_converted}
 pub use Rattle.goblin_c.specs.Expected.{sections_expected, segment_expected, segments_converted, segments_expected}
-pub use Rattle.goblin_c.specs.Expected.{string_expected}
-pub use Rattle.goblin_c.specs.Expected.{strings_expected, symbol_count_expected, symbol_expected, symbols_converted}
-pub use Rattle.goblin_c.specs.Expected.{symbols_expected, table_at, whole_header}
+pub use Rattle.goblin_c.specs.Expected.{string_expected, strings_expected, symbol_count_expected, symbol_expected}
+pub use Rattle.goblin_c.specs.Expected.{symbols_converted, symbols_expected, table_at, whole_header}
 pub use Rattle.goblin_c.specs.FilledBuffer.{laid}
 pub use Rattle.goblin_c.specs.Refused.{RefusalAt, Returns, refusal_at, refused_at}
 pub use Rattle.goblin_c.specs.Status.{FillsEach, StopsAt, Stores, converted_list}
@@ -52,10 +50,9 @@ pub use Rattle.std.proofs.Math.Nat.{div-mul-le_self, mod-eq_of_lt, mul-le-mul_ri
 pub use Rattle.std.proofs.Math.Seq.{take-append_seam, take-nil, take-take}
 pub use Rattle.std.proofs.lemmas.Bool.{and_parts, cases_lt, leb-false, leb-true}
 pub use Rattle.std.proofs.lemmas.Bool.Decides.{nat_tests}
-pub use Rattle.std.proofs.lemmas.List.{drop-drop, drop-set-lt, drop-take, drop_all, drop_at, get_or-drop}
-pub use Rattle.std.proofs.lemmas.List.{get_or-take, length-drop, length-map, length-take}
-pub use Rattle.std.proofs.lemmas.List.{length-take-le, map-append, set-get_or, take-append-drop, take_all, take_min}
-pub use Rattle.std.proofs.lemmas.List.{take_more, take_more_set, take_rest}
+pub use Rattle.std.proofs.lemmas.List.{drop-drop, drop-set-lt, drop-take, drop_all, drop_at, get_or-drop, get_or-take}
+pub use Rattle.std.proofs.lemmas.List.{length-drop, length-map, length-take, length-take-le, map-append, set-get_or}
+pub use Rattle.std.proofs.lemmas.List.{take-append-drop, take_all, take_min, take_more, take_more_set, take_rest}
 pub use Rattle.std.proofs.lemmas.Option.{get_or_from_slice_get, slice_get-get_or, slice_get-map, slice_get_past}
 pub use Rattle.std.proofs.lemmas.Option.{slice_get_within}
 pub use Rattle.std.specs.Bool.{Decides}

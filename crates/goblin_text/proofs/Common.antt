@@ -1,5 +1,5 @@
 -- What the proofs of this crate cite most, passed on from one place. Declares nothing.
-pub use Rattle.goblin.specs.Refusal.{Returns, malformed}
+pub use Rattle.goblin.specs.Refusal.{malformed}
 pub use Rattle.goblin.specs.Strtab.{IsRange, table_of}
 unfoldable pub use Rattle.goblin.specs.Strtab.{walked}
 pub use Rattle.goblin.specs.TextLaws.{texts-join}
@@ -22,11 +22,10 @@ unfoldable pub use Rattle.goblin_text.specs.TargetState.{held}
 pub use Rattle.goblin_text.specs.declared.block_runs.Kind.{Kind}
 pub use Rattle.goblin_text.specs.declared.block_runs.Kind.TheVariants.{Text, ZeroFree}
 pub use Rattle.std.proofs.Common.{Bool, Err, List, None, Ok, Option, Result, Some, [], ap, append-nil, append_assoc}
-pub use Rattle.std.proofs.Common.{arith, cond, drop, eqb, false, get_or, get_or-set_other, get_or-set_same}
-pub use Rattle.std.proofs.Common.{if◌then◌else◌, inl, inr, leb, length, length-append, length-set, lit<, ltb, map, min}
-pub use Rattle.std.proofs.Common.{not, refl, replicate, set, slice_get, slice_range, subst, suc, sym, take, true}
-pub use Rattle.std.proofs.Common.{vec_len, zero, ℕ, ⊎_elim, ◌&&◌, ◌*◌, ◌++◌, ◌+◌, ◌-◌, ◌/◌, ◌<◌, ◌==◌, ◌^◌, ◌∙◌, ◌∷◌}
-pub use Rattle.std.proofs.Common.{◌≡◌, ◌≢◌, ◌≤◌}
+pub use Rattle.std.proofs.Common.{arith, cond, drop, false, get_or, get_or-set_other, get_or-set_same, if◌then◌else◌}
+pub use Rattle.std.proofs.Common.{inl, inr, leb, length, length-append, length-set, lit<, ltb, map, min, not, refl}
+pub use Rattle.std.proofs.Common.{replicate, set, slice_get, slice_range, subst, suc, sym, take, true, vec_len, zero, ℕ}
+pub use Rattle.std.proofs.Common.{⊎_elim, ◌&&◌, ◌*◌, ◌++◌, ◌+◌, ◌-◌, ◌/◌, ◌<◌, ◌==◌, ◌^◌, ◌∙◌, ◌∷◌, ◌≡◌, ◌≢◌, ◌≤◌}
 pub use Rattle.std.proofs.KnownBytes.{Appends-trans, Consumes-kept, Consumes-trans, Keeps-refl, append_known-grown}
 pub use Rattle.std.proofs.KnownBytes.{append_known-moved}
 pub use Rattle.std.proofs.Math.Seq.{drop-append_seam, take-add, take-append-add, take-append_seam}

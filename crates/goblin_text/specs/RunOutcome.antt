@@ -1,8 +1,7 @@
 -- How a run ends: what it reads and writes.
 use Rattle.std.specs.Prelude.{◌≡◌, ◌≢◌, ℕ, ◌+◌, ◌-◌, ◌^◌, ◌<◌, ◌≤◌, ◌⊎◌, min, IfErr, IsTrue, List, length}
 use Rattle.std.specs.Prelude.{Option, Ok, Err, codes, decimal, false, vec_items}
-use Rattle.goblin_text.specs.Common.{Appends, Consumes, IsAtEnd, Refusal, ◌&◌, refusal_text}
-use Rattle.goblin_text.specs.Common.{ParseMode}
+use Rattle.goblin_text.specs.Common.{Appends, Consumes, IsAtEnd, Refusal, ◌&◌, refusal_text, ParseMode}
 use Rattle.goblin_text.specs.ShownLines.{newline}
 use Rattle.goblin_text.specs.StreamMarks.{StreamMarks}
 use Rattle.goblin_text.specs.Shown.{shown, tested}
