@@ -19,9 +19,9 @@ use Rattle.goblin_c.specs.PlaceLaws.{AddressesAreLoaded, IsOffsetOf, IsSlice, Lo
 use Rattle.goblin_c.specs.PlaceLaws.{PartsLieInFile}
 use Rattle.goblin_c.specs.Places.{cut_range, in_file}
 use Rattle.goblin_c.proofs.FilledBufferLemmas.{ends-before}
-use Rattle.goblin_c.proofs.SearchLemmas.{converted_one, fails_at}
+use Rattle.goblin_c.proofs.SearchLemmas.{converted_one, fails_before}
 use Rattle.std.proofs.lemmas.List.Folds.{find_at}
-use Rattle.std.proofs.lemmas.List.Sums.{fails_before_first, passes_at_first}
+use Rattle.std.proofs.lemmas.List.Sums.{passes_at_first}
 
 -- the part of a range has the same bytes of the file
 same_bytes : (bytes : List ℕ) (range : GoblinRange) (inside : Bool)
@@ -68,9 +68,8 @@ first_loads address items s is =
     let index = position_or_len (loads address) items in
     let there : slice_get items index ≡ Some s = sym (find_at (loads address) items) ∙ is in
     let passes = passes_at_first (loads address) items s (slice_get_within items index s there) in
-    let earlier = λ (k : ℕ) (x : ProgramHeader) (before : k < index) (found : slice_get items k ≡ Some x).
-    fails_at (loads address) items k x found (fails_before_first (loads address) items k x before) in
-    (index, (there, rw (get_or_from_slice_get items index s s there) at passes, earlier))
+    let passed = rw (get_or_from_slice_get items index s s there) at passes in
+    (index, (there, passed, λ k x before found. fails_before (loads address) items k x found before))
 
 none_loads : (address : ℕ) (items : List ProgramHeader)
     → find (loads address) items ≡ None
@@ -79,8 +78,7 @@ none_loads address items none k y found =
     let index = position_or_len (loads address) items in
     let past = ends-before items index (sym (find_at (loads address) items) ∙ none) in
     let inside = slice_get_within items k y found in
-    fails_at (loads address) items k y found
-    (fails_before_first (loads address) items k y (omega (arith, past, inside)))
+    fails_before (loads address) items k y found (omega (arith, past, inside))
 
 -- the library's test is the one for C
 loads-Decides : (address : ℕ) (x : ProgramHeader)

@@ -4,8 +4,8 @@
 -- (`converted_one`), and the library's search stops at the first of these that passes its test: so none for C before it
 -- is so, and none at all if the search finds none (`finds`).
 use Rattle.goblin_c.proofs.Common.{◌≡◌, ◌≤◌, ◌<◌, ◌+◌, ◌-◌, ◌==◌, ℕ, zero, suc, Bool, true, false, true≢false, List, []}
-use Rattle.goblin_c.proofs.Common.{◌∷◌, map, drop, get_or, slice_get, Option, Some, None, Result, Ok, Err}
-use Rattle.goblin_c.proofs.Common.{position, refl, sym, ap, subst, ◌∙◌, arith, nat_tests, get_or_from_slice_get}
+use Rattle.goblin_c.proofs.Common.{◌∷◌, map, drop, get_or, slice_get, Option, Some, None, Result, Ok, Err, position}
+use Rattle.goblin_c.proofs.Common.{position_or_len, refl, sym, ap, subst, ◌∙◌, arith, nat_tests, get_or_from_slice_get}
 use Rattle.goblin_c.proofs.Common.{slice_get-get_or, slice_get-map, slice_get_within, Decides, option_map, ◌>>=◌}
 use Rattle.goblin_c.proofs.Common.{RefusalAt, GoblinSection, each_converted, first_item, found_item, item_at}
 use Rattle.goblin_c.proofs.Common.{sections_expected, section_converted}
@@ -23,19 +23,10 @@ first_passes test (x ∷ items) i is =
     let found = position-Some test (x ∷ items) i x is in
     (get_or (x ∷ items) i x, slice_get-get_or (x ∷ items) i x found.0, found.1)
 
-pub fails_at : {X : Type 0} (test : X → Bool) (items : List X) (k : ℕ) (x : X)
-    → slice_get items k ≡ Some x → test (get_or items k x) ≡ false → test x ≡ false
-fails_at test items k x found fails = ap test (sym (get_or_from_slice_get items k x x found)) ∙ fails
-
-earlier_fail : {X : Type 0} (test : X → Bool) (items : List X) (i k : ℕ) (x : X)
-    → position test items ≡ Some i → k < i → slice_get items k ≡ Some x → test x ≡ false
-earlier_fail test items i k x is before found =
-    fails_at test items k x found ((position-Some test items i x is).2 k before)
-
-all_fail : {X : Type 0} (test : X → Bool) (items : List X) (k : ℕ) (x : X)
-    → position test items ≡ None → slice_get items k ≡ Some x → test x ≡ false
-all_fail test items k x none found =
-    fails_at test items k x found (fails_before_first test items k x (grind (arith, nat_tests, slice_get_within)))
+pub fails_before : {X : Type 0} (test : X → Bool) (items : List X) (k : ℕ) (x : X)
+    → slice_get items k ≡ Some x → k < position_or_len test items → test x ≡ false
+fails_before test items k x found before =
+    rw (get_or_from_slice_get items k x x found) at (fails_before_first test items k x before)
 
 -- the item that an item for C was converted from
 pub converted_one : {X Y : Type 0} (convert : X → Y) (items : List X) (k : ℕ) (y : Y)
@@ -77,11 +68,12 @@ module _ {X Y : Type 0} (convert : X → Y) (IsSo : Y → Type 0) (test : X → 
         ),
         λ k y after before stored.
             not_so items first k y after stored
-            (λ x found. earlier_fail test (drop first items) i (k - first) x is (omega (arith, after, before)) found),
+            (λ x found. fails_before test (drop first items) (k - first) x found (grind (arith, nat_tests))),
       )
   finds Refuses items first None is =
       λ k y after stored.
-      not_so items first k y after stored (λ x found. all_fail test (drop first items) (k - first) x is found)
+      not_so items first k y after stored (λ x found. fails_before test (drop first items) (k - first) x found
+      (grind (arith, nat_tests, slice_get_within (drop first items) (k - first) x found)))
 
 -- the item that is found is the one that a call stores at its index
 pub with_item : {X Y : Type 0} (convert : X → Y) (IsSo : Y → Type 0) (Refuses : RefusalAt → Type 0) (items : List X)

@@ -11,9 +11,9 @@ use Rattle.goblin.specs.TextLaws.{ranges-join}
 -- what follows a text in a text is text
 rest_is_text : (a b : List ℕ) → IsUtf8 a → IsUtf8 (a ++ b) → IsUtf8 b
 rest_is_text a b u v =
-    let front : IsUtf8 (take (length a) (a ++ b)) = subst IsUtf8 (sym (take-append_seam a b)) u in
+    let front : IsUtf8 (take (length a) (a ++ b)) = rw (take-append_seam a b) u in
     let at = IsCharBoundary-from_take (a ++ b) (length a) v (omega (arith, length-append a b)) front in
-    subst IsUtf8 (drop-append_seam a b) (IsUtf8-drop (a ++ b) (length a) v at)
+    rw (drop-append_seam a b) at (IsUtf8-drop (a ++ b) (length a) v at)
 
 -- a string that is not UTF-8 is not after zero-free UTF-8 either
 pub lacks-after : (bytes : List ℕ) (i j k : ℕ) → i ≤ j → j ≤ k → IsZeroFree (slice_range bytes i j)

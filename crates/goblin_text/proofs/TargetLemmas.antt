@@ -1,6 +1,6 @@
 -- What of a text was put into a target, and what is left of it.
 use Rattle.goblin_text.proofs.Common.{◌≡◌, ◌∙◌, ◌++◌, ◌∷◌, ℕ, List, [], Option, ap, append_assoc}
-use Rattle.goblin_text.proofs.Common.{get_or, set, append-nil, arith, length, min, refl, subst, sym, take}
+use Rattle.goblin_text.proofs.Common.{get_or, set, append-nil, arith, length, min, refl, sym, take}
 use Rattle.goblin_text.proofs.Common.{Appends-trans, append_known-grown, append_known-moved, take_all}
 use Rattle.goblin_text.proofs.Common.{Appends, Keeps, append_known, State, held}
 
@@ -38,8 +38,7 @@ pub passed_on : (a b : Option (List ℕ)) (room : List ℕ) (filled m : ℕ)
     → length room ≡ m → Appends a b (take (min filled m) room) → Keeps (held a room filled) b
 unfolding held
 passed_on a b room filled m e p =
-    subst (Keeps (append_known a (take filled room))) (held-none b)
-    (append_known-moved a b (take (min filled m) room) [] (take filled room) p
+    rw (held-none b) at (append_known-moved a b (take (min filled m) room) [] (take filled room) p
     (sym (take-most room filled m e) ∙ sym (append-nil (take (min filled m) room))))
 
 -- nothing fills the room

@@ -1,7 +1,7 @@
 -- The refused piece is the first one that is not UTF-8: the bytes up to the first fault are UTF-8, so it is the last
 -- string before the fault, which is searched for backwards from there.
 use Rattle.goblin_text.proofs.Common.{◌≡◌, ◌∙◌, ◌+◌, ◌-◌, ap, arith, length, refl, slice_range, take, Err, common_steps}
-use Rattle.goblin_text.proofs.Common.{length-take-le, IsUtf8, IsValidUpTo, invalid_utf8}
+use Rattle.goblin_text.proofs.Common.{length-take-le, IsValidUpTo, invalid_utf8}
 use Rattle.std.proofs.lemmas.Str.{utf8_valid_len-IsValidUpTo}
 use Rattle.std.specs.Str.Lossy.{utf8_valid_len}
 use Rattle.goblin.specs.Pieces.{first_bad, piece_start}
@@ -12,8 +12,7 @@ use Rattle.goblin_base.proofs.FirstLemmas.{length_of_range}
 
 pub returns-in-Ok-clause-given : goal.returns-in-Ok-clause-given
 returns-in-Ok-clause-given c =
-    let text : IsUtf8 (slice_range c.args.view.now.bytes c.args.from c.args.to) = grind (arith, common_steps) in
-    table_taken _ text
+    table_taken (slice_range c.args.view.now.bytes c.args.from c.args.to) (grind (arith, common_steps))
 
 -- where the fault is, and the last string before it
 record Fault (c : After-start_of_last_string-start) : Type 0 where

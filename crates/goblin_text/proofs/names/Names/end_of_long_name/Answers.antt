@@ -1,7 +1,7 @@
 -- A long name ends in the first block that isn't text with no zero byte, or after the last block: up to there it is
 -- text with no zero byte, so its end is the one that is found from there on.
-use Rattle.goblin_text.proofs.Common.{◌≡◌, ◌+◌, ◌*◌, ◌<◌, ◌≤◌, arith, slice_range, subst, both_ways, common_steps}
-use Rattle.goblin_text.proofs.Common.{IsUtf8, ZeroFree, BLOCK, EndsAt, IsBlock, IsRunEnd, IsZeroFree, IsTextUpTo}
+use Rattle.goblin_text.proofs.Common.{◌≡◌, ◌+◌, ◌*◌, ◌<◌, ◌≤◌, arith, slice_range, both_ways, common_steps}
+use Rattle.goblin_text.proofs.Common.{ZeroFree, BLOCK, EndsAt, IsBlock, IsRunEnd, IsZeroFree, IsTextUpTo}
 use Rattle.goblin_text.proofs.Common.{block_start, last_block, next_block}
 use Rattle.goblin_text.proofs.CharStarts.{char_start_bounds}
 use Rattle.goblin_text.proofs.LongNames.{RunsTo, ends_after, ends_in_block, lacks_at_head, zero_free_to_run, text_after}
@@ -15,14 +15,12 @@ returns-then-not-is_text-clause-end c =
     ≡ slice_range c.char_start-begin.new.view.bytes c.args.place c.char_start-begin.result =
     grind (arith, common_steps) in
     lacks_at_head bytes c.args.place c.args.end c.requires
-    (λ u. both_ways _ c.if-not-is_text.true (c.is_text.ensures.value.1 (subst IsUtf8 head u)))
+    (λ u. both_ways _ c.if-not-is_text.true (c.is_text.ensures.value.1 (rw head at u)))
 
 -- where the run of blocks ends
 run_is_end : (c : After-end_of_text)
     → IsRunEnd ZeroFree c.args.self.now.bytes (next_block c.args.place) c.run_end.result
-run_is_end c =
-    let same : c.is_text.new.view.bytes ≡ c.args.self.now.bytes = grind (arith, common_steps) in
-    subst (λ b. IsRunEnd ZeroFree b (next_block c.args.place) c.run_end.result) same c.run_end.ensures.end
+run_is_end c = grind (arith, common_steps, c.run_end.ensures.end)
 
 -- text with no zero byte goes on up to the block that is searched
 record Before (c : After-end_of_text) : Type 0 where
@@ -62,7 +60,7 @@ returns-clause-end c =
           run_is_end (goal.at.returns-clause-end c).After-end_of_text in
           let ends : c.run_end.result ≡ run = grind (arith, common_steps) in
           let other : ¬ (IsBlock ZeroFree bytes run) =
-          subst (λ k. ¬ (IsBlock ZeroFree bytes k)) ends (e.stops (omega (arith, early, ends, c.requires.within))) in
+          rw (← ends) (e.stops (omega (arith, early, ends, c.requires.within))) in
           let there : EndsAt bytes from (block_start bytes (run + 1)) c.end_of_text.result =
           grind (arith, common_steps) in
           let text : IsTextUpTo bytes from c.end_of_text.result = grind (arith, common_steps) in

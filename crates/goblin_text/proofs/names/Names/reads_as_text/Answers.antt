@@ -7,9 +7,7 @@ use Rattle.goblin_text.proofs.names.Names.reads_as_text.Goals as goal
 
 -- where the run of blocks ends that are text
 run_is_end : (c : After-run_end) → IsRunEnd Text c.args.self.now.bytes (next_block c.args.start) c.run_end.result
-run_is_end c =
-    let same : c.is_text-2.new.view.bytes ≡ c.args.self.now.bytes = grind (arith, common_steps) in
-    subst (λ b. IsRunEnd Text b (next_block c.args.start) c.run_end.result) same c.run_end.ensures.end
+run_is_end c = grind (arith, common_steps, c.run_end.ensures.end)
 
 pub returns-then-not-is_text-clause-value : goal.returns-then-not-is_text-clause-value
 returns-then-not-is_text-clause-value c = (
