@@ -31,16 +31,18 @@ fn range_shown((status, found, why): (u32, GoblinRange, GoblinRefusal)) -> (u32,
     (status, found.offset, found.size)
 }
 
-fn dynamic(len: usize, segments: u16) -> (u32, u64, u64) {
+fn dynamic(bytes: &[u8], segments: u16) -> (u32, u64, u64) {
     let header = with_segments(segments);
-    range_shown(called!(goblin_dynamic(&BYTES[..len], &header), range(9, 9)))
+    range_shown(called!(goblin_dynamic(bytes, &header), range(9, 9)))
 }
 
 #[test]
 fn finds_the_dynamic_section(rt: HostRuntime) {
-    assert!(rt; dynamic(112, 2) == (0, 72, 40) && dynamic(112, 1) == (1, 9, 9));
-    assert!(rt; dynamic(111, 2) == (3, 40, 72) && dynamic(72, 2) == (4, 72, 72));
-    assert!(rt; dynamic(63, 2) == (6, 2, 0));
+    assert!(rt; dynamic(BYTES, 2) == (0, 72, 40) && dynamic(BYTES, 1) == (1, 9, 9));
+    assert!(rt;
+        dynamic(&BYTES[..111], 2) == (3, 40, 72) && dynamic(&BYTES[..72], 2) == (4, 72, 72)
+    );
+    assert!(rt; dynamic(&BYTES[..63], 2) == (6, 2, 0));
 }
 
 fn strings(dynamic: GoblinRange, segments: u16) -> (u32, u64, u64) {
@@ -81,7 +83,7 @@ fn entries(first: u64, capacity: usize) -> (u32, u64, [u64; 3]) {
         &header,
         &DYNAMIC,
         first,
-        &mut all[..capacity],
+        &mut all[..capacity.min(3)],
         &mut filled,
         &mut why,
     );

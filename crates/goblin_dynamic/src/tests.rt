@@ -202,7 +202,10 @@ fn strings_of(bytes: &[u8], first: usize, count: usize) -> (usize, usize) {
         Ok(Some(dynamic)) => match dynamic.strings(bytes, &segments) {
             Ok(Some(found)) => (found.offset, found.size),
             Ok(None) => (200, dynamic.entries.len()),
-            Err(Error::Scroll(scroll::Error::TooBig { size, len })) => (size, 500 + len),
+            Err(Error::Scroll(scroll::Error::TooBig { size, len })) => (
+                size,
+                len.saturating_add(500),
+            ),
             Err(_) => (600, 0),
         },
         Ok(None) => (300, 0),
