@@ -273,6 +273,46 @@ static void sections(void) {
     }
 }
 
+/* Finds the dynamic section. In a file without program headers it is a section, which is then found, too. */
+static uint32_t find_dynamic(goblin_range_t *range, goblin_section_t *section) {
+    uint64_t count, index;
+    uint32_t status = goblin_dynamic(bytes, len, &h, range, &why);
+    section->sh_type = SHT_NULL;
+    if (status != GOBLIN_END || goblin_segment_count(bytes, len, &h, &count, &why) != GOBLIN_OK || count > 0)
+        return status;
+    status = goblin_section_by_type(bytes, len, &h, SHT_DYNAMIC, 0, &index, section, &why);
+    return status == GOBLIN_OK ? goblin_section_bytes(bytes, len, section, range, &why) : status;
+}
+
+/* Prints the entries of the dynamic section, its strings, and the values of some tags with the strings there. */
+static void dynamic(void) {
+    static const uint64_t tags[] = {DT_NULL, DT_NEEDED, DT_STRTAB, DT_SONAME, DT_FLAGS_1};
+    goblin_section_t section, linked;
+    goblin_range_t range, strings = {0, 0};
+    goblin_dyn_t entry;
+    uint64_t filled, value;
+    uint32_t found = find_dynamic(&range, &section), status = found;
+    if (found > GOBLIN_END) { put_status("goblin_dynamic_entries", found); return; }
+    printf("goblin_dynamic_entries");
+    for (uint64_t i = 0; status == GOBLIN_OK; i++) {
+        status = goblin_dynamic_entries(bytes, len, &h, &range, i, &entry, 1, &filled, &why);
+        if (status == GOBLIN_OK) put_dyn(&entry);
+    }
+    putchar('\n');
+    if (section.sh_type != SHT_NULL) {
+        status = goblin_linked_section(bytes, len, &h, section.sh_link, &linked, &why);
+        if (!put_strings("goblin_dynamic_strings", status, &linked, &strings)) return;
+    } else {
+        status = found == GOBLIN_OK ? goblin_dynamic_strings(bytes, len, &h, &range, &strings, &why) : found;
+        if (status > GOBLIN_END) { put_status("goblin_dynamic_strings", status); return; }
+        printf("goblin_dynamic_strings"), PUT(range, strings);
+    }
+    for (size_t i = 0; i < sizeof tags / sizeof *tags; i++) {
+        status = found == GOBLIN_OK ? goblin_dynamic_value(bytes, len, &h, &range, tags[i], &value, &why) : found;
+        if (put_status("goblin_dynamic_value", status)) PUT(number, value), string(strings, value);
+    }
+}
+
 /* Prints the header that counts what is whole, the headers that it counts, and then the result for the first one that
    it does not. */
 static void whole(void) {
@@ -335,7 +375,7 @@ int main(int argc, char **argv) {
         TEXT(goblin_machine_to_str, h.e_machine);
         putchar('\n');
         memcpy(saved, bytes, len);
-        segments(), sections(), whole(), writing(), numbers();
+        segments(), sections(), dynamic(), whole(), writing(), numbers();
     }
     return argc > 1 ? EXIT_SUCCESS : EXIT_FAILURE;
 }

@@ -7,7 +7,7 @@ import { existsSync, readdirSync, readFileSync } from 'node:fs';
 import { join, resolve } from 'node:path';
 import { fileURLToPath, pathToFileURL } from 'node:url';
 import { runInNewContext } from 'node:vm';
-import { elf_file, note, symbol } from './elves.mjs';
+import { elf_file, note, packed, symbol } from './elves.mjs';
 import { import_goblin } from './tested.mjs';
 
 const [, , web, ...paths] = process.argv;
@@ -525,7 +525,7 @@ function some_items() {
         Header: elf.header, SectionHeader: sections.at(1), ProgramHeader: elf.program_headers().at(0),
         Sym: elf.syms().at(-1), Reloc: relocs.at(0), Note: Elf.parse(noted).iter_note_headers()[0],
         NoteBytes: Elf.parse(noted).notes_bytes(Elf.parse(noted).program_header(0))[0],
-        Range: elf.range(sections.at(1)),
+        Range: elf.range(sections.at(1)), Dyn: elf.dynamic()[0],
     };
 }
 
@@ -688,6 +688,47 @@ function check_strings() {
         assert.throws(() => names.is(1, wrong), { name: 'TypeError', message: /^bytes must be / });
 }
 
+// The dynamic section is that of a segment, or without program headers a section. Its entries, of which several are
+// read at a time, end before DT_NULL.
+function check_dynamic() {
+    const { DT_NULL, DT_NEEDED, DT_STRTAB, DT_SONAME, DT_STRSZ } = goblin, text = Buffer.from('\0liba\0libb\0');
+    const bytes_of = (entries) => packed(...entries.flat().map((number) => [number, 8]));
+    const with_segment = (entries) => elf_file({ type: 3,
+        segments: [{ vaddr: 0x1000, bytes: text }, { type: 2, bytes: bytes_of(entries) }] });
+    const pairs = (elf, most) => elf.dynamic(most).map(({ d_tag, d_val }) => [d_tag, d_val]);
+    for (const count of [1, 63, 64, 65, 128, 200]) {
+        const all = Array.from({ length: count }, (_, i) => [DT_NEEDED, BigInt(i)]);
+        for (const end of [[], [[DT_NULL, 7n], [DT_SONAME, 1n]]]) {
+            const elf = Elf.parse(with_segment([...all, ...end]));
+            for (const most of [undefined, 0, 1, 64, 100]) assert.deepEqual(pairs(elf, most), all.slice(0, most));
+        }
+    }
+    const entries = [[DT_NEEDED, 6n], [DT_NEEDED, 1n], [DT_STRTAB, 0x1000n], [DT_STRSZ, 11n]],
+        bytes = bytes_of([...entries, [DT_NULL, 0n], [DT_SONAME, 1n]]);
+    const sections = [{ name: '.dynamic', type: 6, link: 2, bytes }, { name: '.dynstr', type: 3, bytes: text }];
+    const whole = with_segment([...entries, [DT_NULL, 0n], [DT_SONAME, 1n]]), of_section = elf_file({ sections });
+    for (const elf of [whole, of_section].map(Elf.parse)) {
+        assert.deepEqual(pairs(elf), entries);
+        assert.deepEqual(elf.dynamic().slice(0, 2).map(({ d_val }) => elf.dynamic_strings().get(d_val)),
+            ['libb', 'liba']);
+        assert.deepEqual([1, DT_STRSZ, DT_SONAME, DT_NULL, 2n ** 64n - 1n].map((tag) => elf.dynamic_value(tag)),
+            [6n, 11n, undefined, undefined, undefined]);
+        assert.throws(() => elf.dynamic_value(-1), RangeError);
+    }
+    const without = [elf_file({ segments: [{ bytes: text }], sections }), with_segment([[DT_NULL, 0n]]), noted];
+    for (const elf of without.map(Elf.parse))
+        assert.deepEqual([elf.dynamic(), elf.dynamic_value(1)], [[], undefined]);
+    for (const content of [...without, with_segment(entries.slice(0, 3)), with_segment(entries.slice(1, 2))])
+        assert.equal(Elf.parse(content).dynamic_strings().range.size, 0n);
+    const long = new Uint8Array(of_section), writer = Elf.parse(long).writer(long);
+    writer.put_section_header(1, { ...Elf.parse(long).section_header(1), sh_size: 1n << 40n });
+    for (const elf of [whole.subarray(0, -1), long].map(Elf.parse))
+        for (const read of ['dynamic', 'dynamic_value', 'dynamic_strings'])
+            assert.throws(() => elf[read](1), is_refusal(Kind.TOO_BIG));
+    assert.throws(() => Elf.parse(with_segment([[DT_STRTAB, 0x1000n], [DT_STRSZ, 999n]])).dynamic_strings(),
+        is_refusal(Kind.TOO_BIG));
+}
+
 // Where errors begin in the file, and where their numbers count from, as the comments of `offset` and `Kind` say.
 function check_offsets_of_errors() {
     const why = (read) => (({ kind, numbers, offset }) => [kind, ...numbers.slice(0, 2), offset])(error_of(read));
@@ -808,7 +849,7 @@ function check_segments() {
 // with its module.
 function constants_of_library() {
     const all = new Map(), of = (module, name) => all.get(`${module}.${name}`) ?? all.get(name);
-    const folders = ['goblin_headers', 'goblin_records']
+    const folders = ['goblin_headers', 'goblin_records', 'goblin_dynamic']
         .map((crate) => fileURLToPath(new URL(`../../crates/${crate}/src`, import.meta.url)));
     const sources = folders.flatMap((folder) => readdirSync(folder).filter((name) => name.endsWith('.rt'))
         .map((name) => join(folder, name)));
@@ -843,7 +884,7 @@ async function check_constants() {
             Object.entries(value).forEach(([field, number]) => found.set(`${name}.${field}`, BigInt(number)));
         else found.set(name, BigInt(value));
         // its type must be that of the field that holds it
-        const is_big = /^SH[FN]_/.test(name) && name !== 'SHF_NUM_REGULAR_FLAGS';
+        const is_big = /^(SH[FN]|D[TF])_/.test(name) && name !== 'SHF_NUM_REGULAR_FLAGS';
         if (typeof value !== 'object') assert.equal(typeof value, is_big ? 'bigint' : 'number', name);
     }
     const wanted = constants_of_library();
@@ -923,6 +964,6 @@ const tested = [
     check_linked_sections(), check_types_of_sections(), check_notes(), check_json(), await check_constants(),
     check_address_map(), check_declarations(), check_arguments(), check_header(), check_readable_data(),
     check_numbers_in(), check_addresses(), check_names(), check_offsets_of_errors(), check_number_of_segments(),
-    check_notes_as_bytes(), check_segments(), check_strings(), check_package(),
+    check_notes_as_bytes(), check_segments(), check_strings(), check_dynamic(), check_package(),
 ];
 console.log(`goblin.js does what its comments say: ${tested.filter((said) => said).join(', ')}`);

@@ -16,9 +16,9 @@
  *
  * Numbers, items and errors:
  * - A number that has 64 bits in `goblin.h` is always a BigInt, whatever its value. Every other number is a Number.
- *   Bytes are copies of the file's. The flags SHF_ and the indices SHN_ are BigInts, as `sh_flags` and `st_shndx` are.
- *   Other numbers among the constants are Numbers, so `e_shstrndx === SHN_XINDEX` is always false: write
- *   `e_shstrndx === Number(SHN_XINDEX)`.
+ *   Bytes are copies of the file's. The flags SHF_ and the indices SHN_ are BigInts, as `sh_flags` and `st_shndx` are,
+ *   and so are the tags DT_ and the flags DF_. Other numbers among the constants are Numbers, so
+ *   `e_shstrndx === SHN_XINDEX` is always false: write `e_shstrndx === Number(SHN_XINDEX)`.
  * - An index, an offset or an address that a call takes is a Number or a BigInt. It must be a whole number from 0 to
  *   2^64 - 1, or the call throws a `RangeError`. Only `at` of a list takes other Numbers, as that of an array does. The
  *   sum of two numbers of a file may be too large: `BigInt.asUintN(64, sum)` wraps it around, as a sum of two
@@ -38,8 +38,8 @@
  */
 import {
     ET_DYN, ET_REL, PT_DYNAMIC, PT_GNU_EH_FRAME, PT_GNU_RELRO, PT_GNU_STACK, PT_LOAD, PT_NOTE, PT_PHDR, PT_TLS,
-    SHF_ALLOC, SHF_TLS, SHN_LORESERVE, SHN_UNDEF, SHN_XINDEX, SHT_DYNSYM, SHT_NOBITS, SHT_NOTE, SHT_REL, SHT_RELA,
-    SHT_SYMTAB, STT_FUNC, STT_GNU_IFUNC, STT_NOTYPE, STT_OBJECT,
+    SHF_ALLOC, SHF_TLS, SHN_LORESERVE, SHN_UNDEF, SHN_XINDEX, SHT_DYNAMIC, SHT_DYNSYM, SHT_NOBITS, SHT_NOTE, SHT_REL,
+    SHT_RELA, SHT_SYMTAB, STT_FUNC, STT_GNU_IFUNC, STT_NOTYPE, STT_OBJECT,
     VERSION,
 } from './constants.js';
 
@@ -190,6 +190,13 @@ export const Item = Object.freeze({
  */
 
 /**
+ * An entry of the dynamic section.
+ * @typedef {object} Dyn
+ * @property {bigint} d_tag what it says, a DT_ number
+ * @property {bigint} d_val a number, an address, or an offset in the strings, which depends on the tag
+ */
+
+/**
  * Some bytes of the file.
  * @typedef {object} Range
  * @property {bigint} offset where the bytes start in the file
@@ -220,6 +227,7 @@ const records = {
     symbol: record('st_name 8 st_value 8 st_size 8 st_shndx 8 st_info 1 st_other 1'),
     reloc: record('r_offset 8 r_sym 8 r_addend s r_type 4 has_addend 4'),
     note: record('name_offset 8 name_size 8 desc_offset 8 desc_size 8 next 8 n_type 4'),
+    dyn: record('d_tag 8 d_val 8'),
     number: record('value 8'),
 };
 
@@ -328,7 +336,7 @@ const EXPORTS = ['memory', '__heap_base', ...`
     section_by_type section_bytes segment_count segment segments segment_bytes address_to_offset
     symbol_count symbol symbols symbol_by_name symbol_by_address
     reloc_count reloc relocs note note_bytes string string_bytes string_closed strings string_is string_starts
-    number number_in range_in_file
+    number number_in range_in_file dynamic dynamic_entries dynamic_value dynamic_strings
     put_header put_section put_segment put_symbol put_reloc put_number put_number_in
     class_to_str et_to_str machine_to_str pt_to_str sht_to_str shf_to_str bind_to_str type_to_str visibility_to_str
     note_type_to_str refusal_to_str
@@ -820,12 +828,13 @@ export class Elf {
     shdr_strtab() { return new Strtab(this.#memory, range_of(this.#call('goblin_section_names', 'section'))); }
 
     /**
-     * Returns a section as a string table. It is empty if there is no section, if its type is SHT_NOBITS, or if its
-     * size is 0. Of the header only `sh_type`, `sh_offset` and `sh_size` are read.
-     * @param {SectionHeader | undefined} section
+     * Returns a section, or a segment's bytes in the file, as a string table. It is empty if there is none, if the
+     * section's type is SHT_NOBITS, or if the size is 0. Of a section header only `sh_type`, `sh_offset` and `sh_size`
+     * are read, and of a program header only `p_offset` and `p_filesz`.
+     * @param {SectionHeader | ProgramHeader | undefined} part
      * @returns {Strtab}
      */
-    strtab(section) { return new Strtab(this.#memory, range_of(section)); }
+    strtab(part) { return new Strtab(this.#memory, range_of(part)); }
 
     /**
      * Returns the section that a section links to by its `sh_link`, such as the string table of a symbol table. Returns
@@ -885,6 +894,66 @@ export class Elf {
      */
     shdr_relocs() {
         return this.section_headers().filter(holds_relocs).map((section) => [section, this.relocs(section)]);
+    }
+
+    /**
+     * Returns the entries of the dynamic section up to the first DT_NULL or the section's end, at most `most`. There
+     * are none if the file has no dynamic section. The section is the first segment of type PT_DYNAMIC, as a loader
+     * sees it. In a file without program headers it is the first section of type SHT_DYNAMIC. Throws if it is not
+     * inside the file.
+     *
+     * ```js
+     * for (const { d_tag, d_val } of elf.dynamic())
+     *     if (d_tag === DT_NEEDED) console.log(elf.dynamic_strings().get(d_val));
+     * ```
+     * @param {number} [most]
+     * @returns {Dyn[]}
+     */
+    dynamic(most = Infinity) {
+        const { range } = this.#dynamic_section(), all = [];
+        while (range && all.length < most) {
+            const argument = this.#memory.pass(ARGUMENT, 'range', range), left = most - all.length;
+            const entries = this.#memory.call_many('goblin_dynamic_entries', 'dyn', left, BigInt(all.length),
+                this.#memory.header, argument);
+            all.push(...entries);
+            if (entries.length < BATCH) break;
+        }
+        return all;
+    }
+
+    /**
+     * Returns the value of the first entry of the dynamic section with a tag, a DT_ number, or `undefined` if no entry
+     * before the first DT_NULL has it. Throws if `dynamic` does.
+     * @param {number | bigint} tag
+     * @returns {bigint | undefined}
+     */
+    dynamic_value(tag) {
+        const wanted = unsigned(tag, 64), { range } = this.#dynamic_section();
+        const argument = range && this.#memory.pass(ARGUMENT, 'range', range);
+        return range && this.#call('goblin_dynamic_value', 'number', argument, wanted)?.value;
+    }
+
+    /**
+     * Returns the strings of the dynamic section: DT_STRTAB is their address, and DT_STRSZ their size. In a file
+     * without program headers they are the section that the dynamic section links to. The string table is empty if
+     * there is no dynamic section, one of these entries or the linked section is missing, or no segment loads the
+     * address. Throws if `dynamic` does, or if strings of an address are not inside the file.
+     * @returns {Strtab}
+     */
+    dynamic_strings() {
+        const { range, section } = this.#dynamic_section();
+        if (section) return this.strtab(this.linked_section(section));
+        const strings = range
+            && this.#call('goblin_dynamic_strings', 'range', this.#memory.pass(ARGUMENT, 'range', range));
+        return new Strtab(this.#memory, strings ?? range_of(undefined));
+    }
+
+    // Returns the range of the dynamic section, if it has bytes, and its section header if that is how it is found.
+    #dynamic_section() {
+        const range = this.#call('goblin_dynamic', 'range');
+        if (range || this.program_headers().length > 0) return { range };
+        const section = this.section_by_type(SHT_DYNAMIC)?.section;
+        return { range: section && this.range(section), section };
     }
 
     /**
@@ -1752,7 +1821,7 @@ export const st_visibility = (other) => other & 0x7;
 export function layout() {
     const { calls, base, view } = ready(shared);
     calls.goblin_layout(shared.address(BUFFER));
-    const kinds = ['refusal', 'range', 'header', 'section', 'segment', 'symbol', 'reloc', 'note'];
+    const kinds = ['refusal', 'range', 'header', 'section', 'segment', 'symbol', 'reloc', 'note', 'dyn'];
     const start = base + BUFFER;
     let offset = start + 8 * kinds.length;
     return Object.fromEntries(kinds.map((kind, i) => {

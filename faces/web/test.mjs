@@ -17,7 +17,8 @@ const header = readFileSync(new URL('../c/goblin.h', import.meta.url), 'utf8');
 
 // Each byte of a struct's first field must be 1, of its second 2, and so on, as goblin_layout fills them.
 function check_layout() {
-    const fields = { refusal: 7, range: 2, header: 18, section: 10, segment: 8, symbol: 6, reloc: 5, note: 6 };
+    const fields = { refusal: 7, range: 2, header: 18, section: 10, segment: 8, symbol: 6, reloc: 5, note: 6,
+        dyn: 2 };
     const layout = goblin.layout();
     assert.deepEqual(Object.keys(layout), Object.keys(fields));
     for (const [kind, { item, size, library_size }] of Object.entries(layout)) {
@@ -262,6 +263,17 @@ class Dump {
         this.ask('goblin_section', () => list.get(list.length));
     }
 
+    dynamic(elf) {
+        const put = (entries) => entries.map(fields).join('');
+        if (!this.ask('goblin_dynamic_entries', () => elf.dynamic(), put)) return;
+        const strings = this.ask('goblin_dynamic_strings', () => elf.dynamic_strings(), ({ range }) => fields(range));
+        if (!strings) return;
+        for (const tag of ['NULL', 'NEEDED', 'STRTAB', 'SONAME', 'FLAGS_1'].map((name) => goblin[`DT_${name}`])) {
+            const value = this.ask('goblin_dynamic_value', () => elf.dynamic_value(tag));
+            if (value !== undefined) this.string(strings, value);
+        }
+    }
+
     whole(elf) {
         const whole = elf.whole(), far = (1n << 64n) - 1n;
         this.lines.push(`goblin_whole_header${fields(whole.header)}`);
@@ -306,6 +318,7 @@ class Dump {
         this.content = content;
         this.segments(elf);
         this.sections(elf);
+        this.dynamic(elf);
         this.whole(elf);
         this.writing(elf, content.length);
         this.numbers(elf, content.length);

@@ -1,7 +1,7 @@
 // A program in TypeScript over goblin.d.ts. checks/faces/webassembly.sh compiles it if there is tsc, and does not run
 // it. A line that must be an error has a comment before it, at which the compiler fails if there is none.
-import init, { AddressMap, Elf, GoblinError, Kind, List, Range, SectionHeader, SHF_ALLOC, SHT_SYMTAB, Symtab, Writer,
-    json, machine_to_str } from 'goblin_c';
+import init, { AddressMap, DT_NEEDED, DT_SONAME, Dyn, Elf, GoblinError, Kind, List, Range, SectionHeader, SHF_ALLOC,
+    SHT_SYMTAB, Symtab, Writer, json, machine_to_str } from 'goblin_c';
 
 export async function main(bytes: ArrayBuffer, view: Uint16Array): Promise<string[]> {
     await init();
@@ -32,6 +32,9 @@ export async function main(bytes: ArrayBuffer, view: Uint16Array): Promise<strin
         lines.push(`${section.sh_info} ${relocs.at(-1)?.r_addend ?? 0n}`);
     for (const { name, desc } of elf.iter_note_headers()) lines.push(`${name} ${desc.length}`);
     for (const section of sections) lines.push(`${elf.strtab(elf.linked_section(section)).get(1)}`);
+    const needed: Dyn[] = elf.dynamic().filter(({ d_tag }) => d_tag === DT_NEEDED),
+        soname: bigint | undefined = elf.dynamic_value(DT_SONAME);
+    lines.push(`${elf.dynamic_strings().get(soname ?? 0n)} ${needed[0]?.d_val ?? 0n}`);
     const strtab = elf.shdr_strtab(), texts: (Uint8Array | undefined)[] = strtab.get_all_bytes([0, 1n]),
         is_same: boolean = strtab.is(1, '.text') || strtab.starts_with(1, new Uint8Array(bytes));
     lines.push(`${is_same} ${strtab.get_closed_bytes(1) ?? texts[0]}`);
