@@ -1,124 +1,115 @@
 // A summary in words: what a person asks first of a file. Each row is { name, value, links, is_own }. With `is_own` it
-// rests on what the page reads itself, by numbers, such as the dynamic section, and is not proved. The others rest on
-// fields that proved calls return.
+// rests on what the page reads itself, by numbers, such as versions and the contents of notes, and is not proved. The
+// others rest on fields, entries and strings that proved calls return.
 import * as goblin from './goblin.js';
 import { mapped_files, process_of, registers_of, signal_of } from './core.js';
-import { DT, dynamic, texts_of, value_of, versions } from './dynamic.js';
-import { called, digits_of, file, is_debug, name_at, read_or, sections, segment_of, symbol_tables } from './file.js';
+import { value_of, versions } from './dynamic.js';
+import { facts } from './facts.js';
+import { called, file, is_debug, name_at, read_or, sections, segment_of, symbol_tables } from './file.js';
 import { largest } from './inside.js';
 import * as labels from './labels.js';
 import { notes_of } from './notes.js';
 import { has_addresses, symtab_at, to_address, to_section, to_symbol } from './resolve.js';
-import { count, hex, name_of } from './text.js';
+import { count, hex, once } from './text.js';
 
-const { ET_CORE, ET_DYN, ET_EXEC, ET_REL } = goblin, LARGEST = 10, MOST_ROWS = 200;
-const DF_TEXTREL = 4n, DF_BIND_NOW = 8n, DF_1_NOW = 1n, DF_1_PIE = 0x8000000n;
+const { ET_CORE, SHT_NOBITS, SHT_SYMTAB } = goblin, LARGEST = 10, MOST_ROWS = 200;
 const MACHINES = { 3: 'x86', 8: 'MIPS', 20: 'PowerPC', 21: '64-bit PowerPC', 22: 's390', 40: 'ARM', 62: 'x86-64',
     183: 'AArch64', 243: 'RISC-V' };
 
 const row = (name, value, ...links) => ({ name, value: `${value}`, links: links.filter((link) => link) });
 const own = (...given) => ({ ...row(...given), is_own: true });
 const bytes = (size) => `${count(size)} bytes`;
-const to_segment = ({ index }) => ({ text: `segment ${index}`, to: `segments/${index}` });
+const to_segment = (type) => {
+    const found = segment_of(type);
+    return found && { text: `segment ${found.index}`, to: `segments/${found.index}` };
+};
 const section_called = (name) => sections().find(({ index, section }) => called(index, section) === name);
-const has_flag = (tag, bit) => (value_of(tag) & bit) !== 0n;
-// Returns the text of bytes up to a zero byte.
-const text_of = (data) => name_of(data.subarray(0, data.indexOf(0) < 0 ? data.length : data.indexOf(0)));
+/** Returns the facts of the file. */
+export const all_facts = once(() => facts(file.elf, file.content));
 
-function interpreter() {
-    const found = segment_of(goblin.PT_INTERP),
-        data = found && read_or(undefined, () => file.elf.segment_data(found.segment));
-    return data && row('interpreter', text_of(data), to_segment(found));
+// Returns the row of a fact in words, or that it is unknown, or nothing if there is nothing to say of it.
+function said(name, fact, words = String, ...links) {
+    const value = all_facts()[fact];
+    if (all_facts().unknown.includes(fact)) return row(name, 'unknown, the file does not hold it');
+    return value === null ? undefined : row(name, words(value), ...links);
 }
+// Returns the words for a fact that is so and one that is not.
+const either = (yes, no = 'no') => (is_so) => (is_so ? yes : no);
 
+const KINDS = { object: 'object file', core: 'core file', library: 'shared library',
+    'debug file': 'separate debug file', 'program or library': 'program or shared library' };
 /** Returns what kind of file it is, in words. */
 export function kind_in_words() {
-    const { e_type, e_machine } = file.elf.header,
-        is_program = has_flag(DT.FLAGS_1, DF_1_PIE) || (interpreter() && !dynamic().has(DT.SONAME));
-    const words = { [ET_REL]: 'object file', [ET_EXEC]: 'program at fixed addresses', [ET_CORE]: 'core file',
-        [ET_DYN]: is_program ? 'position-independent program' : 'shared library' }[e_type]
-        ?? `file of type ${labels.file_type(e_type)}`;
+    const { e_type, e_machine } = file.elf.header, { kind, pie } = all_facts();
+    const words = kind === 'program' ? either('position-independent program', 'program at fixed addresses')(pie)
+        : KINDS[kind] ?? `file of type ${labels.file_type(e_type)}`;
     return `${words} for ${MACHINES[e_machine] ?? labels.machine(e_machine)}`;
 }
 
 function what_it_is() {
-    const { e_type, e_entry } = file.elf.header, kind = kind_in_words();
-    return [
-        { ...row('kind', kind[0].toUpperCase() + kind.slice(1)),
-            is_own: e_type === ET_DYN }, // (the dynamic section says if it is a program)
-        ...(e_entry ? [row('starts at', '', has_addresses() ? to_address(e_entry) : undefined)] : []),
-    ];
+    const { e_entry } = file.elf.header, kind = kind_in_words();
+    return [row('kind', kind[0].toUpperCase() + kind.slice(1)),
+        e_entry && row('starts at', '', has_addresses() ? to_address(e_entry) : undefined),
+        said('cut', 'cut', either('yes: headers, or what they describe, lie past its end'))];
 }
 
-const TEXTS = [[DT.SONAME, 'own name'], [DT.RPATH, 'search path (RPATH)'], [DT.RUNPATH, 'search path (RUNPATH)']];
 function what_it_needs() {
-    const needed = texts_of(DT.NEEDED).slice(0, MOST_ROWS), by_library = versions();
-    const rows = [interpreter(),
-        ...needed.map((name) => own('needs', [name, ...(by_library.get(name) ?? [])].join(', '))),
-        ...TEXTS.flatMap(([tag, name]) => texts_of(tag).map((text) => own(name, text)))];
-    if (needed.length === 0 && [ET_EXEC, ET_DYN].includes(file.elf.header.e_type))
-        rows.push(own('needs', 'no library'));
-    return rows.filter((item) => item);
+    const { needed, kind } = all_facts(), by_library = versions();
+    const rows = needed?.slice(0, MOST_ROWS).map((name) => (by_library.has(name)
+        ? own('needs', [name, ...by_library.get(name)].join(', ')) : row('needs', name))) ?? [said('needs', 'needed')];
+    if (needed?.length === 0 && ['program', 'library'].includes(kind)) rows.push(row('needs', 'no library'));
+    return [said('interpreter', 'interpreter', String, to_segment(goblin.PT_INTERP)), ...rows,
+        said('own name', 'soname'), said('search path (RPATH)', 'rpath'), said('search path (RUNPATH)', 'runpath')];
 }
 
-function build_id() {
-    for (const by of ['sections', 'segments']) {
-        const { items } = notes_of(by), index = items.findIndex(({ note }) => note.name === 'GNU' && note.n_type === 3);
-        if (index < 0) continue;
-        return row('build ID', digits_of(items[index].note.desc_range), { text: 'note', to: `notes/${by}/${index}` });
-    }
-    return row('build ID', 'none');
+function to_build_id() {
+    const found = ['sections', 'segments']
+        .flatMap((by) => notes_of(by).items.map(({ note }, index) => ({ by, note, index })))
+        .find(({ note }) => note.name === 'GNU' && note.n_type === 3);
+    return found && { text: 'note', to: `notes/${found.by}/${found.index}` };
 }
 
 function how_it_was_built() {
-    const all = sections(), symbols = all.find(({ section }) => section.sh_type === goblin.SHT_SYMTAB);
-    const without = () => (file.elf.section_headers(), 'of all section headers');
-    if (file.elf.header.e_type === ET_CORE) return [];
-    if (all.length === 0)
-        return [build_id(), row('stripped', read_or('unknown, the section headers are refused', without))];
-    const debug = all.filter(({ section }) => is_debug(section) && section.sh_type !== goblin.SHT_NOBITS),
-        link = section_called('.gnu_debuglink');
-    const data = link && read_or(undefined, () => file.elf.section_data(link.section)),
-        comment = section_called('.comment');
-    return [
-        build_id(),
-        symbols ? row('stripped', 'no', { ...to_section(symbols.index), to: `symbols/${symbols.index}` })
-            : row('stripped', 'yes, it has no SHT_SYMTAB'),
-        debug.length
-            ? row('debug information', bytes(debug.reduce((sum, { section }) => sum + section.sh_size, 0n)),
-                to_section(debug[0].index))
-            : row('debug information', 'none in the file'),
-        ...(data ? [own('debug file', text_of(data), to_section(link.index))] : []),
-        ...(comment ? [row('compiler', name_at(file.elf.strtab({ ...comment.section, sh_type: goblin.SHT_STRTAB }), 0),
-            to_section(comment.index))] : []),
+    const all = sections(), symbols = all.find(({ section }) => section.sh_type === SHT_SYMTAB),
+        debug = all.filter(({ section }) => is_debug(section) && section.sh_type !== SHT_NOBITS),
+        size = debug.reduce((sum, { section }) => sum + section.sh_size, 0n);
+    const [link, comment] = ['.gnu_debuglink', '.comment'].map(section_called),
+        name = link && name_at(file.elf.strtab(link.section), 0);
+    return file.elf.header.e_type === ET_CORE ? [] : [
+        said('build ID', 'build_id', String, to_build_id()) ?? row('build ID', 'none'),
+        said('stripped', 'stripped', either(all.length ? 'yes, it has no SHT_SYMTAB' : 'yes, of all section headers'),
+            symbols && { ...to_section(symbols.index), to: `symbols/${symbols.index}` }),
+        all.length > 0 && row('debug information', debug.length ? bytes(size) : 'none in the file',
+            debug.length > 0 && to_section(debug[0].index)),
+        name && own('debug file', name, to_section(link.index)),
+        all_facts().compilers?.length !== 0 && said('compiler', 'compilers', (names) => names.join(', '),
+            comment && to_section(comment.index)),
     ];
 }
 
+// Returns the first symbol of a canary without a version.
 const CANARIES = ['__stack_chk_fail', '__stack_chk_fail_local', '__stack_chk_guard'];
-function canary() {
-    const found = symbol_tables().flatMap((table) => CANARIES.map((name) =>
-        ({ table, name, index: read_or(undefined, () => symtab_at(table).by_name(name)) })))
-        .find(({ index }) => index !== undefined);
-    if (found) return row('stack canary', 'yes', to_symbol(found));
-    return row('stack canary', symbol_tables().length ? 'no symbol of one' : 'unknown, it has no symbols');
-}
+const to_canary = () => symbol_tables().flatMap((table) => CANARIES.map((name) =>
+    ({ table, name, index: read_or(undefined, () => symtab_at(table).by_name(name)) })))
+    .filter(({ index }) => index !== undefined).map(to_symbol)[0];
+
+const changes_code = () => value_of(goblin.DT_TEXTREL) !== undefined
+    || ((value_of(goblin.DT_FLAGS) ?? 0n) & goblin.DF_TEXTREL) !== 0n;
 
 function how_it_is_protected() {
-    const { e_type } = file.elf.header, relro = segment_of(goblin.PT_GNU_RELRO),
-        stack = segment_of(goblin.PT_GNU_STACK);
-    if (![ET_EXEC, ET_DYN].includes(e_type)) return [];
-    const is_now = dynamic().has(DT.BIND_NOW) || has_flag(DT.FLAGS, DF_BIND_NOW) || has_flag(DT.FLAGS_1, DF_1_NOW);
+    const has_stack = segment_of(goblin.PT_GNU_STACK), { kind } = all_facts();
+    const flow = said('control-flow marks', 'control_flow', (names) => names.join(', ') || 'none');
     return [
-        row('position-independent', e_type === ET_DYN ? 'yes' : 'no'),
-        relro
-            ? own('read-only relocations', is_now ? 'full: bound at the start' : 'partial: functions are bound later',
-                to_segment(relro))
-            : row('read-only relocations', 'no PT_GNU_RELRO'),
-        stack ? row('stack', stack.segment.p_flags & 1 ? 'executable' : 'not executable', to_segment(stack))
-            : row('stack', 'not said, it has no PT_GNU_STACK'),
-        canary(),
-        ...(dynamic().has(DT.TEXTREL) || has_flag(DT.FLAGS, DF_TEXTREL)
-            ? [own('relocations of code', 'yes (DT_TEXTREL)')] : []),
+        kind !== 'library' && said('position-independent', 'pie', either('yes')),
+        said('read-only relocations', 'relro', (word) => (word === 'no' ? 'no PT_GNU_RELRO' : word),
+            to_segment(goblin.PT_GNU_RELRO)),
+        said('functions are bound', 'bind_now', either('at the start', 'when they are first called')),
+        said('stack', 'nx', either('not executable', has_stack ? 'executable' : 'not said, it has no PT_GNU_STACK'),
+            to_segment(goblin.PT_GNU_STACK)),
+        said('writable code', 'writable_code', either('yes, a PT_LOAD has PF_W and PF_X')),
+        said('stack canary', 'canary', either('yes', 'no symbol of one'), to_canary()),
+        flow && { ...flow, is_own: true },
+        ['program', 'library'].includes(kind) && changes_code() && row('relocations of code', 'yes (DT_TEXTREL)'),
     ];
 }
 
@@ -141,6 +132,11 @@ function what_was_running() {
         .slice(0, MOST_ROWS);
 }
 
+const WORDS = { code: 'code', data: 'data', read_only: 'read-only data', zeros: 'zeros, not in the file',
+    not_loaded: 'not loaded' };
+const sizes = () => Object.entries(all_facts().sizes ?? {}).filter(([, size]) => size > 0n)
+    .map(([name, size]) => row(WORDS[name], bytes(size)));
+
 function largest_sections() {
     const share = ({ sh_type, sh_size }) => (sh_type === goblin.SHT_NOBITS ? 'in memory only'
         : `${(100 * Number(sh_size) / file.content.length).toFixed(1)} %`);
@@ -158,7 +154,7 @@ export async function summary() {
     return Object.entries({
         'What it is': what_it_is(), 'What was running': what_was_running(), 'What it runs with': what_it_needs(),
         'How it was built': how_it_was_built(), 'How it is protected': how_it_is_protected(),
-        'Largest sections': largest_sections(),
+        'Sections by what they are for': sizes(), 'Largest sections': largest_sections(),
         'Largest functions': await largest_functions(),
-    }).filter(([, rows]) => rows.length > 0);
+    }).map(([title, rows]) => [title, rows.filter((item) => item)]).filter(([, rows]) => rows.length > 0);
 }

@@ -100,8 +100,8 @@ async function summary_panel() {
     const group = ([title, rows]) => make('section', {}, make('h3', {}, title),
         make('table', { class: 'fields', 'aria-label': title }, make('tbody', {}, ...rows.map(line))));
     const said = make('p', { class: 'others' }, 'Facts rest on fields that proved calls return. Those marked ', mark(),
-        ' rest on the dynamic section or on the contents of notes, which this page reads itself, by numbers,'
-            + ' or are names of C++.');
+        ' rest on symbol versions or on the contents of notes, which this page reads itself, by numbers, or are names'
+            + ' of C++.');
     return [make('div', { class: 'scroll', tabindex: '0' },
         make('div', { class: 'summary' }, ...(await ask('summary')).map(group)), said)];
 }
@@ -155,8 +155,8 @@ const NONE = {
 // What is said of tables that are not wholly read by proved calls.
 const OWN = {
     packed: 'Packed relocations are read by this page itself, by numbers. They are outside of what is proved.',
-    own: 'This page found this table by the numbers of the dynamic section, which is outside of what is proved. Proved'
-        + ' calls read its entries.',
+    own: 'This page found this table by the entries of the dynamic section, whose meaning is outside of what is proved.'
+        + ' Proved calls read the table.',
 };
 
 async function list_panel(mine, wanted) {

@@ -7,6 +7,7 @@ import { mkdtempSync, readFileSync, rmSync, writeFileSync } from 'node:fs';
 import { tmpdir } from 'node:os';
 import { join } from 'node:path';
 import { csv_line } from './csv.js';
+import { elf_file, note, packed, symbols_file } from './elves.mjs';
 import { import_goblin } from './tested.mjs';
 
 const COPIES = 150, FEW = 3, WHOLE = 20, FIRST = 16;
@@ -64,6 +65,58 @@ function check_arguments() {
     assert.deepEqual(parts, [all.slice(1), all.slice(2, 5)]);
     assert.equal(Buffer.from(names.get_start(1, 4)).toString(), names.get(1).slice(0, 4));
     assert.equal(names.get_start(names.range.size, 4), undefined);
+}
+
+// The facts that the page shows are those of the table of stored files, by which the Python package is tested, too.
+async function check_facts() {
+    const [{ default: init, Elf }, { facts }] = await Promise.all([import('./goblin.js'), import('./facts.js')]);
+    await init(readFileSync(join(web, 'goblin_c.wasm')));
+    const number = (_, value) => (typeof value === 'bigint' ? Number(value) : value);
+    const of = (content) => JSON.parse(JSON.stringify(facts(Elf.parse(content), content), number));
+    const read = (name) => readFileSync(new URL(`../../checks/files/${name}`, import.meta.url));
+    const table = Object.entries(JSON.parse(read('facts.json')));
+    for (const [name, wanted] of table) assert.deepEqual(of(read(name)), wanted, name);
+    assert.ok(table.length > 40);
+    check_made_facts(of);
+    console.log(`facts.js says of ${table.length} stored files what facts.json says`);
+}
+
+// What each entry, flag, name and note says alone, by the numbers of the standard.
+function check_made_facts(of) {
+    const with_entry = (...entry) => of(elf_file({ type: 3, segments: [{ type: 3, bytes: Buffer.from('/ld\0') },
+        { type: 2, bytes: packed(...entry.map((number) => [number, 8])) }] }));
+    for (const [tag, value, kind, is_now] of [[21, 0, 'program', false], [0x6ffffffb, 0x8000000, 'program', false],
+        [24, 0, 'library', true], [30, 8, 'library', true], [0x6ffffffb, 1, 'library', true],
+        [30, 0xfff7, 'library', false], [0x6ffffffb, 0xf7fffffe, 'library', false]]) {
+        const found = with_entry(tag, value);
+        assert.deepEqual([found.kind, found.pie, found.bind_now], [kind, kind === 'program', is_now]);
+    }
+    const canaries = ['fail', 'fail_local', 'guard', 'fail@GLIBC_2.4', 'guard@@X'],
+        others = ['failed', 'fail_', 'x@fail'];
+    const with_name = (end) => symbols_file([{ text: 'main' }, { text: `__stack_chk_${end}` }]);
+    assert.deepEqual([...canaries, ...others].map((end) => of(with_name(end)).canary),
+        [...canaries.map(() => true), ...others.map(() => false)]);
+    const cut = with_name('fail_');
+    cut.writeBigUInt64LE(1n << 40n, Number(cut.readBigUInt64LE(0x28)) + 2 * 64 + 0x20); // (the size of its names)
+    assert.deepEqual([of(cut).canary, of(cut).unknown, of(cut).cut], [null, ['canary'], true]);
+    const stacks = (...all) => all.map((flags) => ({ type: 0x6474e551, flags, bytes: Buffer.alloc(0) }));
+    assert.deepEqual([[6], [7, 6], [6, 7], []].map((flags) => of(elf_file({ type: 2, segments: stacks(...flags) })).nx),
+        [true, false, false, false]);
+    const [whole, part] = [undefined, -1].map((end) =>
+        of(elf_file({ type: 2, segments: [{ type: 2, bytes: packed([1, 8], [2, 8]) }] }).subarray(0, end)));
+    assert.deepEqual([whole.kind, whole.unknown[0], part.kind, part.needed, part.unknown.includes('needed')],
+        ['program', 'needed', 'program', null, true]);
+    const { kind, nx, pie, bind_now } = of(elf_file({ type: 0xfe00, segments: stacks(6) }));
+    assert.deepEqual([kind, nx, pie, bind_now], ['other', null, null, null]);
+    const marks = packed([0xc0008002, 4], [4, 4], [1, 8], [0xc0000002, 4], [4, 4], [2, 8]);
+    const notes = [note('GNX', 3, marks), note('x'.repeat(1 << 20), 3, marks), note('GNU', 3, Buffer.from('id..')),
+        note('GNU', 5, marks)];
+    const noted = of(elf_file({ type: 2, segments: [{ type: 4, bytes: Buffer.concat(notes) }] }));
+    assert.deepEqual([noted.build_id, noted.control_flow], ['69642e2e', ['SHSTK']]);
+    const debug = elf_file({ type: 2, sections: [{ name: '.text', type: 8, flags: 6, bytes: marks }],
+        segments: [{ bytes: marks }] });
+    debug.writeBigUInt64LE(1n << 40n, 64 + 0x20); // (the size of its segment)
+    assert.deepEqual([of(debug).kind, of(debug).cut], ['debug file', false]);
 }
 
 // Cells that a spreadsheet would run as formulas if it splits lines at commas or at semicolons, and characters that
@@ -366,6 +419,7 @@ check_layout();
 check_kinds();
 check_arguments();
 check_csv();
+await check_facts();
 const folder = mkdtempSync(join(tmpdir(), 'goblin-'));
 try {
     let lines = compare(files).length, refusals = 0, copies = 0;

@@ -17,7 +17,7 @@ import { notes_of } from './notes.js';
 import { CLASSES, inside, sizes, under } from './inside.js';
 import { KINDS, parts, titled } from './pieces.js';
 import { symtab_at } from './resolve.js';
-import { kind_in_words, summary } from './summary.js';
+import { all_facts, kind_in_words, summary } from './summary.js';
 import { hex } from './text.js';
 
 // How many bytes are read before the progress is sent.
@@ -78,7 +78,8 @@ function overview() {
     const { elf } = file, { header } = elf;
     const counted = (name, list, offset, number) =>
         part(() => ({ length: list().length }), (error) => list_refusal(error, `the ${name} headers`, offset, number));
-    find_own_sections();
+    // (the segments of a debug file are those of another file)
+    if (all_facts().kind !== 'debug file') find_own_sections();
     const headers = {
         sections: counted('section', () => elf.section_headers(), 'e_shoff', 'e_shnum'),
         segments: counted('program', () => elf.program_headers(), 'e_phoff', 'e_phnum'),

@@ -1,0 +1,182 @@
+// What a person asks first of a file, as plain data. The rules are those of checks/files/facts.py, whose table it is
+// tested against, as the Python package is. The fields, entries and strings are those of proved calls. What they mean,
+// and what the bytes of a note say, is not proved.
+import * as goblin from './goblin.js';
+import { read_or } from './file.js';
+import { name_of, NAME, once } from './text.js';
+
+const { DT_BIND_NOW, DT_DEBUG, DT_FLAGS, DT_FLAGS_1, ET_CORE, ET_DYN, ET_EXEC, ET_REL, PF_W, PF_X, PT_INTERP,
+    SHT_NOBITS, SHT_NOTE, SHT_SYMTAB } = goblin;
+// The most that is read: entries, notes, bytes of a build ID, of .comment and of strings, and names of canaries.
+const MOST_ENTRIES = 10000, MOST_NOTES = 100000, MOST_ID = 64, MOST_COMMENT = 1 << 16, MOST_TEXT = 1 << 28,
+    MOST_NAMES = 64;
+const BUILD_ID = 3, PROPERTY = 5, LINKER = /^(Linker:|LLD|GNU ld|GNU gold|mold)/;
+const CANARY = /__stack_chk_(?:fail_local|fail|guard)(?:@[^\0]*)?(?=\0|$)/g;
+// The property that marks control-flow enforcement, and the names of its bits.
+const X86 = [0xc0000002n, ['IBT', 'SHSTK']], AARCH64 = [0xc0000000n, ['BTI', 'PAC']];
+const MARKS = { [goblin.EM_386]: X86, [goblin.EM_X86_64]: X86, [goblin.EM_AARCH64]: AARCH64 };
+// What some kinds of files do not have.
+const LOADED = ['interpreter', 'pie', 'nx', 'relro', 'bind_now', 'writable_code'];
+const LACKS = { object: LOADED, other: LOADED, core: [...LOADED, 'canary', 'control_flow', 'compilers', 'stripped'],
+    'debug file': [...LOADED, 'soname', 'rpath', 'runpath', 'needed', 'canary', 'control_flow'] };
+
+const known = (read) => read_or(undefined, read);
+const of_type = (file, type) => file.segments().filter(({ p_type }) => p_type === type);
+const is_static = (file) => file.kind === 'program' && of_type(file, PT_INTERP).length === 0;
+const bytes_of = ({ bytes }, { offset, size }, most) =>
+    bytes.subarray(Number(offset), Number(offset + size)).subarray(0, most);
+
+// Returns the entries of the dynamic section, unless its bytes are in another file.
+function entries_of({ elf, segments }) {
+    const segment = segments().find(({ p_type }) => p_type === goblin.PT_DYNAMIC);
+    return segment?.p_filesz === 0n ? undefined : elf.dynamic(MOST_ENTRIES);
+}
+const values_of = (entries, tag) => entries.filter(({ d_tag }) => d_tag === tag).map(({ d_val }) => d_val);
+const has_flag = (entries, tag, flag) => ((values_of(entries, tag)[0] ?? 0n) & flag) !== 0n;
+
+function kind_of({ elf: { header: { e_type } }, sections, entries }) {
+    if (![ET_EXEC, ET_DYN].includes(e_type)) return { [ET_REL]: 'object', [ET_CORE]: 'core' }[e_type] ?? 'other';
+    const loaded = (known(sections) ?? []).filter(({ sh_flags }) => sh_flags & goblin.SHF_ALLOC)
+        .map(({ sh_type }) => sh_type);
+    if (loaded.includes(SHT_NOBITS) && loaded.every((type) => type === SHT_NOBITS || type === SHT_NOTE))
+        return 'debug file';
+    const all = e_type === ET_EXEC ? [] : known(entries);
+    if (!all) return 'program or library';
+    return e_type === ET_EXEC || values_of(all, DT_DEBUG).length > 0 || has_flag(all, DT_FLAGS_1, goblin.DF_1_PIE)
+        ? 'program' : 'library';
+}
+
+// Yields the segments of notes, and then the sections of notes.
+function *holders_of(file) {
+    yield* of_type(file, goblin.PT_NOTE);
+    yield* file.sections().filter(({ sh_type }) => sh_type === SHT_NOTE);
+}
+
+// Returns the range of the first note GNU of a type.
+function note_of(file, type) {
+    let left = MOST_NOTES;
+    for (const holder of holders_of(file)) {
+        const { notes, refusal } = file.elf.readable_notes_bytes(holder, left);
+        const found = notes.find((note) => note.n_type === type && note.name_range.size === 4n
+            && String.fromCharCode(...note.name) === 'GNU\0');
+        if (found) return found.desc_range;
+        if (refusal) throw refusal;
+        left -= notes.length;
+    }
+    return null;
+}
+
+function build_id(file) {
+    const range = note_of(file, BUILD_ID);
+    return range && Array.from(bytes_of(file, range, MOST_ID), (byte) => byte.toString(16).padStart(2, '0')).join('');
+}
+
+function control_flow(file) {
+    const { elf } = file, [wanted, names] = MARKS[elf.header.e_machine] ?? [], width = elf.is_64() ? 8n : 4n;
+    const { offset, size } = (names && note_of(file, PROPERTY)) ?? { size: 0n };
+    for (let at = 0n, length; at + 12n <= size; at += 8n + (length + width - 1n) / width * width) {
+        const [type, bits] = [at, at + 8n].map((place) => elf.number(offset + place, 4));
+        length = elf.number(offset + at + 4n, 4);
+        if (type === wanted && length >= 4n) return names.filter((_, bit) => bits >> BigInt(bit) & 1n);
+    }
+    return names ? [] : null;
+}
+
+// Returns the text at an offset of a string table, or nothing past its end.
+function text_at(strtab, offset) {
+    const bytes = strtab.get_start(offset, NAME + 1);
+    return bytes && name_of(bytes);
+}
+
+function interpreter(file) {
+    const [segment] = of_type(file, PT_INTERP);
+    return segment ? text_at(file.elf.strtab(segment), 0) : null;
+}
+
+// Returns the texts of the entries with a tag, at most a number, and the text of the first one.
+function texts(file, tag, most) {
+    const found = file.entries() && values_of(file.entries(), tag).slice(0, most)
+        .map((offset) => text_at(file.strings(), offset));
+    return found?.includes(undefined) ? undefined : found;
+}
+function text(file, tag) {
+    const found = texts(file, tag, 1);
+    return found && (found[0] ?? null);
+}
+
+function bind_now(file) {
+    const all = is_static(file) ? [] : file.entries();
+    return all && (all.length === 0 ? null : values_of(all, DT_BIND_NOW).length > 0
+        || has_flag(all, DT_FLAGS, goblin.DF_BIND_NOW) || has_flag(all, DT_FLAGS_1, goblin.DF_1_NOW));
+}
+
+function relro(file) {
+    const is_now = of_type(file, goblin.PT_GNU_RELRO).length > 0 ? bind_now(file) : 'no';
+    return is_now === undefined || is_now === 'no' ? is_now : is_now === false ? 'partial' : 'full';
+}
+
+// Reports whether a symbol is one of a canary, with or without a version.
+function has_canary(file, symtab) {
+    symtab.strtab.get_start(0, 0); // (throws if the strings are not all in the file)
+    const strings = new TextDecoder('latin1').decode(bytes_of(file, symtab.strtab.range, MOST_TEXT)), names = new Set();
+    for (const [name] of strings.matchAll(CANARY)) if (names.add(name).size === MOST_NAMES) break;
+    return [...names].some((name) => symtab.by_name(name) !== undefined);
+}
+
+function canary(file) {
+    const tables = [file.elf.syms(), file.elf.dynsyms()];
+    if (tables.some((table) => table && has_canary(file, table))) return true;
+    return tables[0] || (tables[1] && !is_static(file)) ? false : undefined;
+}
+
+function compilers(file) {
+    const strtab = file.elf.strtab(file.elf.section('.comment')), found = new Set();
+    for (let at = 0, bytes; at < MOST_COMMENT && (bytes = strtab.get_start(at, MOST_COMMENT)); at += bytes.length + 1)
+        found.add(name_of(bytes));
+    return [...found].filter((string) => string && !LINKER.test(string));
+}
+
+function is_cut(file) {
+    const parts = known(() => [file.sections(), file.segments()]);
+    return !parts || parts[0].concat(file.kind === 'debug file' ? [] : parts[1])
+        .some((part) => known(() => [file.elf.range(part)]) === undefined);
+}
+
+function sizes({ sections }) {
+    const found = { code: 0n, data: 0n, read_only: 0n, zeros: 0n, not_loaded: 0n };
+    for (const { sh_type, sh_flags, sh_size } of sections().slice(1)) {
+        const loaded = sh_flags & goblin.SHF_EXECINSTR ? 'code' : sh_flags & goblin.SHF_WRITE ? 'data' : 'read_only';
+        found[sh_type === SHT_NOBITS ? 'zeros' : sh_flags & goblin.SHF_ALLOC ? loaded : 'not_loaded'] += sh_size;
+    }
+    return found;
+}
+
+// What reads each fact. It returns `undefined` for what is unknown, or throws a refusal.
+const RULES = {
+    kind: (file) => file.kind, build_id, interpreter, soname: (file) => text(file, goblin.DT_SONAME),
+    rpath: (file) => text(file, goblin.DT_RPATH), runpath: (file) => text(file, goblin.DT_RUNPATH),
+    needed: (file) => texts(file, goblin.DT_NEEDED),
+    pie: (file) => (file.kind === 'program or library' ? undefined : file.kind === 'program' && file.elf.is_lib()),
+    nx: (file) => of_type(file, goblin.PT_GNU_STACK).length > 0
+        && of_type(file, goblin.PT_GNU_STACK).every(({ p_flags }) => !(p_flags & PF_X)),
+    relro, bind_now,
+    writable_code: (file) => of_type(file, goblin.PT_LOAD).some(({ p_flags }) => p_flags & PF_W && p_flags & PF_X),
+    canary, control_flow, compilers, stripped: ({ elf }) => !elf.section_by_type(SHT_SYMTAB), cut: is_cut,
+    sections: ({ sections }) => sections().length, segments: ({ segments }) => segments().length,
+    symbols: ({ elf }) => elf.syms()?.length ?? 0, dynamic_symbols: ({ elf }) => elf.dynsyms()?.length ?? 0, sizes,
+};
+
+/**
+ * Returns the facts of a file and its bytes. Those in `unknown` can't be read, since the file does not hold what says
+ * them, and are null. So are those that such a file does not have.
+ */
+export function facts(elf, bytes) {
+    const file = { elf, bytes, sections: once(() => [...elf.section_headers()]),
+        segments: once(() => [...elf.program_headers()]), strings: once(() => elf.dynamic_strings()) };
+    file.entries = once(() => entries_of(file));
+    file.kind = kind_of(file);
+    const values = Object.entries(RULES).map(([name, rule]) =>
+        [name, LACKS[file.kind]?.includes(name) ? null : known(() => rule(file))]);
+    return { ...Object.fromEntries(values.map(([name, value]) => [name, value ?? null])),
+        unknown: values.filter(([, value]) => value === undefined).map(([name]) => name) };
+}
