@@ -11,7 +11,7 @@ const { DT_BIND_NOW, DT_DEBUG, DT_FLAGS, DT_FLAGS_1, ET_CORE, ET_DYN, ET_EXEC, E
 const MOST_ENTRIES = 10000, MOST_NOTES = 100000, MOST_ID = 64, MOST_COMMENT = 1 << 16, MOST_TEXT = 1 << 28,
     MOST_NAMES = 64;
 const BUILD_ID = 3, PROPERTY = 5, LINKER = /^(Linker:|LLD|GNU ld|GNU gold|mold)/;
-const CANARY = /__stack_chk_(?:fail_local|fail|guard)(?:@[^\0]*)?(?=\0|$)/g;
+const CANARY = /__stack_chk_(?:fail_local|fail|guard)(?:@[^\0]{0,255})?/g;
 // The property that marks control-flow enforcement, and the names of its bits.
 const X86 = [0xc0000002n, ['IBT', 'SHSTK']], AARCH64 = [0xc0000000n, ['BTI', 'PAC']];
 const MARKS = { [goblin.EM_386]: X86, [goblin.EM_X86_64]: X86, [goblin.EM_AARCH64]: AARCH64 };
