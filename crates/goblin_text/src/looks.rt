@@ -50,6 +50,7 @@ pub fn char_start(view: &mut CountedBytes<'_>, place: usize) -> usize
 
 /// Returns where the string from one place on ends, up to another: at a zero byte, or there. It is a look at each byte
 /// up to the zero byte.
+#[tactic(auto, using(crate::proofs::Strings::string_found))]
 pub fn end_of_string(view: &mut CountedBytes<'_>, from: usize, to: usize) -> usize
     requires ordered { from ≤ to }
     requires within { to ≤ length view.old.bytes }

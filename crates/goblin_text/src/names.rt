@@ -117,6 +117,7 @@ impl<'a> Names<'a> {
 
     // Refuses the string table of a range, unless it is text. It is read, unless it is the one that was last found to
     // be text.
+    #[tactic(auto, using(crate::proofs::Faults::table_taken))]
     fn refuse_unless_text(&mut self, start: usize, end: usize) -> Result<()>
         requires ordered { start ≤ end }
         requires within { end ≤ length self.old.bytes }
