@@ -283,19 +283,17 @@ first_passes : (test : Sym → Bool) (symbols : List Sym) (i : ℕ) (s : Sym)
     → position test symbols ≡ Some i
 first_passes test symbols i s got passes before =
     let within = slice_get_within symbols i s got in
-    let there = get_or_from_slice_get symbols i s s got in
     let at = position_or_len_is test symbols i s (omega (arith, within))
     (λ k l. before k (get_or symbols k s) l (slice_get-get_or symbols k s (omega (arith, l, within))))
-    (λ l. ap test there ∙ passes) in
-    rw (at, lt-ltb i (length symbols) within) refl
+    (λ l. rw (get_or_from_slice_get symbols i s s got) passes) in
+    grind (arith, nat_tests)
 
 none_passes : (test : Sym → Bool) (symbols : List Sym)
     → ((k : ℕ) (s : Sym) → slice_get symbols k ≡ Some s → test s ≡ false)
     → position_or_len test symbols ≡ length symbols
 none_passes test [] none = refl
 none_passes test (s ∷ symbols) none =
-    let rest = none_passes test symbols (λ k x g. none (suc k) x g) in
-    rw (none 0 s refl) (omega (arith, rest))
+    rw (none 0 s refl) (omega (arith, none_passes test symbols (λ k x g. none (suc k) x g)))
 
 no_position : (test : Sym → Bool) (symbols : List Sym)
     → ((k : ℕ) (s : Sym) → slice_get symbols k ≡ Some s → test s ≡ false) → position test symbols ≡ None
