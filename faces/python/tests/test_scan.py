@@ -518,18 +518,26 @@ class Scheduler(Folder):
         with open(self.out('r.csv'), 'w') as file:
             file.write('old')
         scheduler, address = self.start_scheduler()
-        with unittest.mock.patch.object(workers, 'PATIENCE', 1):
-            self.check_stopped(address, 'has no workers')
-            scheduler.kill()
-            scheduler.wait()
-            self.check_stopped(address, 'does not answer')
-            self.check_stopped('127.0.0.1', 'does not answer')
-            self.assertEqual(read(self.out('r.csv')), b'old')
+        # (on a busy machine a scheduler may take long to answer)
+        for patience in (1, 8, 64):
+            said = self.stopped(address, patience)
+            if 'does not answer' not in said:
+                break
+        self.check_reason(said, address, 'has no workers')
+        scheduler.kill()
+        scheduler.wait()
+        for gone in (address, '127.0.0.1'):
+            self.check_reason(self.stopped(gone, 1), gone, 'does not answer')
+        self.assertEqual(read(self.out('r.csv')), b'old')
 
-    def check_stopped(self, address, why):
-        with contextlib.redirect_stderr(io.StringIO()) as said:
+    def stopped(self, address, patience):
+        patched = unittest.mock.patch.object(workers, 'PATIENCE', patience)
+        with patched, contextlib.redirect_stderr(io.StringIO()) as said:
             self.assertEqual(module.main([self.files, '-o', self.out('r.csv'), '--scheduler', address]), 2)
-        self.assertRegex(said.getvalue(), f'(?m)^goblin-scan: the scheduler {address} {why}[^\n]*\n$')
+        return said.getvalue()
+
+    def check_reason(self, said, address, why):
+        self.assertRegex(said, f'(?m)^goblin-scan: the scheduler {address} {why}[^\n]*\n$')
 
 
 def end_or_echo(batch):
