@@ -25,6 +25,8 @@ use Rattle.goblin_c.specs.Expected.{symbols_from_expected, symbols_expected}
 use Rattle.goblin_c.specs.Expected.{table_expected}
 use Rattle.goblin_c.specs.Bytes.{number_expected, section_bytes_expected, segment_bytes_expected, string_bytes_expected}
 use Rattle.goblin_c.specs.Bytes.{string_closed_expected}
+use Rattle.goblin_c.specs.Dynamic.{dynamic_expected, dynamic_strings_expected, dynamic_value_expected}
+use Rattle.goblin_c.specs.Dynamic.{entries_from_expected}
 use Rattle.goblin_c.specs.Notes.{note_bytes_expected, note_expected, part_converted}
 use Rattle.goblin_c.specs.Places.{address_to_offset_expected, number_in_expected}
 use Rattle.goblin_c.specs.Types.{refusal_converted}
@@ -172,6 +174,10 @@ pub record HaveSameText
   pub number : HasSameText (number_expected bytes h offset width)
   pub number_in : HasSameText (number_in_expected bytes h range offset width)
   pub address_to_offset : HasSameText (address_to_offset_expected bytes h address)
+  pub dynamic : HasSameText (dynamic_expected bytes h)
+  pub dynamic_entries : HasSameText (entries_from_expected bytes h range index)
+  pub dynamic_value : HasSameText (dynamic_value_expected bytes h range value)
+  pub dynamic_strings : HasSameText (dynamic_strings_expected bytes h range)
   pub put_header : PutHasSameText (header_put_expected bytes h misfit)
   pub put_section : PutHasSameText (section_put_expected bytes h index s misfit)
   pub put_segment : PutHasSameText (segment_put_expected bytes h index p misfit)
@@ -233,6 +239,10 @@ refusals_have_same_text bytes h range names name is_rela index offset address al
       number_in = same_text (number_in_expected bytes h range offset width) (grind (arith, known_room));
       address_to_offset = same_text (address_to_offset_expected bytes h address)
           (grind (arith, segments, known_room));
+      dynamic = same_text (dynamic_expected bytes h) (grind (arith, segments, known_room));
+      dynamic_entries = same_text (entries_from_expected bytes h range index) (grind (arith, known_room));
+      dynamic_value = same_text (dynamic_value_expected bytes h range value) (grind (arith, known_room));
+      dynamic_strings = same_text (dynamic_strings_expected bytes h range) (grind (arith, segments, known_room));
       put_header = known_header_put (refused_at 0 (refuse_as refusal_of (named_ctx bytes h))) misfit _
           (grind (arith, known_room));
       put_section = known_put (section_expected bytes h index) misfit _ _ (grind (arith, sections));
