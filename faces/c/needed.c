@@ -1,6 +1,6 @@
 /* Lists what an ELF file needs of the dynamic linker: needed FILE
    These are its interpreter and, from its dynamic section, the libraries that it needs, its soname and its search
-   paths. It finds them by the program headers, as a loader does. */
+   paths. It finds them by the program headers. */
 #include "goblin.h"
 #include <stdio.h>
 #include <stdlib.h>

@@ -898,9 +898,8 @@ export class Elf {
 
     /**
      * Returns the entries of the dynamic section up to the first DT_NULL or the section's end, at most `most`. There
-     * are none if the file has no dynamic section. The section is the first segment of type PT_DYNAMIC, as a loader
-     * sees it. In a file without program headers it is the first section of type SHT_DYNAMIC. Throws if it is not
-     * inside the file.
+     * are none if the file has no dynamic section. The section is the first segment of type PT_DYNAMIC. In a file
+     * without program headers it is the first section of type SHT_DYNAMIC. Throws if it is not inside the file.
      *
      * ```js
      * for (const { d_tag, d_val } of elf.dynamic())

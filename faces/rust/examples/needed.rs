@@ -1,5 +1,5 @@
 //! Lists what an ELF file needs of the dynamic linker: its interpreter and, from its dynamic section, the libraries
-//! that it needs, its soname and its search paths. It finds them by the program headers, as a loader does.
+//! that it needs, its soname and its search paths. It finds them by the program headers.
 use goblin_rs::dynamic::{DT_NEEDED, DT_RPATH, DT_RUNPATH, DT_SONAME};
 use goblin_rs::error::Result;
 use goblin_rs::program_header::PT_INTERP;
