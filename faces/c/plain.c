@@ -699,7 +699,7 @@ static bool has_entry(const uint8_t *bytes, const goblin_header_t *h, const gobl
                       goblin_dyn_t *entry) {
     uint64_t width = is_64(h) ? 8 : 4;
     if (index >= dynamic->size / (2 * width)) return false;
-    cursor_t c = reader(bytes + dynamic->offset + index * 2 * width, h);
+    cursor_t c = cursor(bytes + dynamic->offset + index * 2 * width, h);
     entry->d_tag = wide(&c, 0), entry->d_val = wide(&c, 0);
     return entry->d_tag != GOBLIN_DT_NULL;
 }
