@@ -102,7 +102,7 @@ static void begins(uint64_t first, uint64_t second) {
 static bool check(const char *what, uint32_t status, const void *item, size_t size) {
     bool is_there = why.offset == places[0] || why.offset == places[1];
     /* (which field doesn't fit is compared with the plain reading) */
-    if (status == GOBLIN_INTEGER_FIT) is_there = why.offset - places[0] < 64;
+    if (status == GOBLIN_INTEGER_FIT) is_there = is_there || why.offset - places[0] < 64;
     if (status > GOBLIN_END && !is_there) wrong("where it is refused", status);
     statuses[status > GOBLIN_END ? 2 : status]++;
     if (status != GOBLIN_OK && !is_blank(item, size)) wrong(what, status);
@@ -657,7 +657,8 @@ static void put_records(const goblin_header_t *h, goblin_range_t range) {
          fits_reloc(&changed, is_rela, is_64), false, range.offset + at * size, size, h, &range, is_rela, at);
     uint64_t offset = any(2) ? any_offset(len) : odd();
     put_number(h, offset, any(10));
-    put_number_in(h, range, any(2) ? any(range.size % 0x1000 + 9) : odd(), any(10));
+    offset = any(2) ? any(range.size % 0x1000 + 9) : odd();
+    put_number_in(h, range, offset, any(10));
 }
 
 /* Cuts a range to the file, and reads a number in it. The number must be the one at its offset in the file. */

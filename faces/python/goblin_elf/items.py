@@ -68,7 +68,8 @@ class Held(Entry):
     @property
     def notes(self: Any) -> 'Notes':
         """Its notes. Refused at the first damaged note."""
-        return Notes(self.table.elf, *self._place, self[5])
+        offset, size = self._place
+        return Notes(self.table.elf, offset, size, self[5])
 
     @property
     def strings(self: Any) -> 'Strings':
