@@ -11,6 +11,6 @@ invariant-loop-width l =
     record {
       widths : All (λ f. IsTrue (is_width f.0)) left;
       value : misfit_from l.start (map (λ f. field f.0 f.1) l.fields)
-        ≡ misfit_from l.offset (map (λ f. field f.0 f.1) left);
+          ≡ misfit_from l.offset (map (λ f. field f.0 f.1) left);
       bound : l.offset ≤ l.start + 8 * l.width-index;
     }
