@@ -4,6 +4,7 @@
 -- stands there and doesn't contain it (`piece-stands`, `piece-apart`). So comparing bytes decides whether the piece is
 -- the text, without a search for the piece's end, and the UTF-8 of the name is that of the piece (`stands_Decides`).
 use Rattle.goblin_base.proofs.Common.{◌≡◌, ℕ, ◌<◌, ◌≤◌, Bool, true, false, if◌then◌else◌, not, ◌&&◌, eqb, leb, ltb}
+use Rattle.goblin_base.proofs.Common.{◌||◌}
 use Rattle.goblin_base.proofs.Common.{List, length, get_or, take, drop, refl, sym, ap, subst, ◌∙◌, ⊎_elim, arith, Ok}
 use Rattle.goblin_base.proofs.Common.{Err, cases_lt, le-leb, leb-true, and_parts, and_from, or_cases, or_left, or_right}
 use Rattle.goblin_base.proofs.Common.{not-true, not_from_false, false_from_ne_true, both_ways, false≢true}
@@ -14,7 +15,7 @@ use Rattle.std.proofs.lemmas.Slice.Eq.{bytes_eq-Decides}
 use Rattle.std.proofs.Math.Seq.{take-take}
 use Rattle.std.specs.Bool.{Decides}
 use Rattle.goblin_base.specs.Strtab.{has_name, is_text_of}
-use Rattle.goblin_base.specs.Wanted.{begins_at, can_be_string, is_apart, is_piece, stands_at, starts_piece}
+use Rattle.goblin_base.specs.Wanted.{can_be_string, is_apart, is_piece, stands_at, starts_piece}
 
 module _ (bytes : List ℕ) (d o : ℕ) where
   abbrev ends : ℕ → Bool
@@ -61,18 +62,28 @@ module _ (bytes : List ℕ) (d o : ℕ) where
       (λ k e l. ap ends (get_or-take n rest k e (omega (arith, size)))
       ∙ fails_before_first ends rest k e (omega (arith, size)))
 
-  -- a text stands at an offset without the delimiter in it exactly if it is the piece there
-  piece_Decides : (text : List ℕ)
-      → Decides (bytes_eq (piece bytes d o) text) ((stands_at bytes d o text && is_apart d text) ≡ true)
-  unfolding is_apart
+  -- the bytes at an offset begin with a text that doesn't contain the delimiter
+  abbrev begins : List ℕ → Bool
+  begins text = bytes_eq (take (length text) rest) text && is_apart d text
+
+  -- the delimiter, or the end, comes after it
+  abbrev closed : List ℕ → Bool
+  closed text = leb (length rest) (length text) || eqb (get_or rest (length text) 0) d
+
+  -- both are so exactly if the text is the piece there
+  piece_Decides : (text : List ℕ) → Decides (bytes_eq (piece bytes d o) text) ((closed text && begins text) ≡ true)
+  unfolding is_apart stands_at
   piece_Decides text = (
     (λ t.
         let is = (bytes_eq-Decides (piece bytes d o) text).0 t in
-        subst (λ x. (stands_at bytes d o x && is_apart d x) ≡ true) is
-        (and_from _ _ piece-stands (not_from_false _ piece-apart))),
+        let stands = and_parts _ _ (subst (λ x. stands_at bytes d o x ≡ true) is piece-stands) in
+        let apart = subst (λ x. is_apart d x ≡ true) is (not_from_false _ piece-apart) in
+        and_from _ _ stands.1 (and_from _ _ stands.0 apart)),
     (λ h.
         let parts = and_parts _ _ h in
-        (bytes_eq-Decides (piece bytes d o) text).1 (piece-name text parts.0 (not-true _ parts.1))),
+        let begun = and_parts _ _ parts.1 in
+        (bytes_eq-Decides (piece bytes d o) text).1
+        (piece-name text (and_from _ _ begun.0 parts.0) (not-true _ begun.1))),
   )
 
   -- a text without the delimiter with which the bytes at an offset begin begins the piece there
@@ -114,9 +125,8 @@ module _ (bytes : List ℕ) (d o : ℕ) where
       )
 
   begins_Decides : (text : List ℕ)
-      → Decides (bytes_eq (take (length text) (piece bytes d o)) text)
-      ((begins_at bytes o text && is_apart d text) ≡ true)
-  unfolding is_apart begins_at
+      → Decides (bytes_eq (take (length text) (piece bytes d o)) text) (begins text ≡ true)
+  unfolding is_apart
   begins_Decides text = (
     (λ t.
         let is = starts-text text ((bytes_eq-Decides _ text).0 t) in
@@ -162,24 +172,13 @@ bool_Decides : (b : Bool) → Decides b (b ≡ true)
 bool_Decides b = ((λ t. t), (λ t. t))
 
 pub piece_is_standing : (bytes : List ℕ) (d o : ℕ) (text : List ℕ)
-    → is_piece bytes d o text ≡ (ltb o (length bytes) && (stands_at bytes d o text && is_apart d text))
+    → is_piece bytes d o text ≡ (ltb o (length bytes) && (closed bytes d o text && begins bytes d o text))
 unfolding is_piece
 piece_is_standing bytes d o text =
-    ap (λ b. ltb o (length bytes) && b)
-    (same_from_decides _ _ (piece_Decides bytes d o text) (bool_Decides (stands_at bytes d o text && is_apart d text)))
+    ap (λ b. ltb o (length bytes) && b) (same_from_decides _ _ (piece_Decides bytes d o text) (bool_Decides _))
 
 pub piece_begins : (bytes : List ℕ) (d o : ℕ) (text : List ℕ)
-    → starts_piece bytes d o text ≡ (ltb o (length bytes) && (begins_at bytes o text && is_apart d text))
+    → starts_piece bytes d o text ≡ (ltb o (length bytes) && begins bytes d o text)
 unfolding starts_piece
 piece_begins bytes d o text =
-    ap (λ b. ltb o (length bytes) && b)
-    (same_from_decides _ _ (begins_Decides bytes d o text) (bool_Decides (begins_at bytes o text && is_apart d text)))
-
--- bytes that are fewer than those of a text don't begin with it
-pub too_few : (rest text : List ℕ) → length rest < length text → bytes_eq (take (length text) rest) text ≡ false
-too_few rest text few =
-    false_from_ne_true _ (λ t.
-    let same = ap length ((bytes_eq-Decides (take (length text) rest) text).0 t) in
-    absurd (omega (arith, few, length-take (length text) rest, same)))
-
-pub ruleset begins = (too_few)
+    ap (λ b. ltb o (length bytes) && b) (same_from_decides _ _ (begins_Decides bytes d o text) (bool_Decides _))

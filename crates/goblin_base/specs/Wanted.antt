@@ -1,5 +1,6 @@
 -- A name that is searched for among the strings of a table.
-use Rattle.std.specs.Prelude.{ℕ, Bool, not, ◌&&◌, ◌||◌, ◌==◌, List, length, take, drop, slice_index, nat_le, nat_lt}
+use Rattle.std.specs.Prelude.{ℕ, Bool, false, ◌≡◌, ◌≤◌, ◌<◌, not, ◌&&◌, ◌||◌, ◌==◌, List, length, take, drop}
+use Rattle.std.specs.Prelude.{slice_index, nat_le, nat_lt}
 use Rattle.std.specs.List.{list_any}
 use Rattle.std.specs.Str.{bytes_eq, is_utf8}
 use Rattle.goblin_base.specs.Pieces.{piece}
@@ -19,16 +20,17 @@ pub record Search : Type 0 where
 unfoldable pub is_apart : ℕ → List ℕ → Bool
 is_apart delim text = not (list_any (λ b. b == delim) text)
 
--- the bytes at o begin with a text
-unfoldable pub begins_at : List ℕ → ℕ → List ℕ → Bool
-begins_at bytes o text = bytes_eq (take (length text) (drop o bytes)) text
-
 -- the piece at o is this text, and the piece at o begins with it; past the bytes there is no piece
 unfoldable pub is_piece : List ℕ → ℕ → ℕ → List ℕ → Bool
 is_piece bytes delim o text = nat_lt o (length bytes) && bytes_eq (piece bytes delim o) text
 
 unfoldable pub starts_piece : List ℕ → ℕ → ℕ → List ℕ → Bool
 starts_piece bytes delim o text = nat_lt o (length bytes) && bytes_eq (take (length text) (piece bytes delim o)) text
+
+-- from i up to j the bytes are those of a text, and none is the delimiter
+unfoldable pub IsAlike : ℕ → List ℕ → List ℕ → ℕ → ℕ → Type 0
+IsAlike delim bytes text i j = (k : ℕ) → i ≤ k → k < j
+    → (slice_index bytes k ≡ slice_index text k) × ((slice_index text k == delim) ≡ false)
 
 -- a string can have these bytes: they are UTF-8, and don't contain the delimiter
 unfoldable pub can_be_string : ℕ → List ℕ → Bool

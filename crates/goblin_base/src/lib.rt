@@ -2,6 +2,7 @@
 //! lie in a slice, numbers in bytes, records and tables of records, and string tables.
 #![tactic(auto)]
 
+mod alike;
 mod ascii;
 pub mod container;
 mod count;

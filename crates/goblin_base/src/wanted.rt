@@ -1,8 +1,9 @@
 //! Names and texts that are searched for among strings, which are compared where they stand.
-ghost use Rattle.std.specs.Prelude.{◌≡◌, ◌≤◌, length};
+ghost use Rattle.std.specs.Prelude.{◌≡◌, ◌≤◌, ◌||◌, ◌==◌, length, nat_le, slice_index};
 ghost use Rattle.goblin_base.specs.Strtab.{has_name};
-ghost use Rattle.goblin_base.specs.Wanted.{begins_at, can_be_string, is_apart, is_piece, stands_at, starts_piece};
+ghost use Rattle.goblin_base.specs.Wanted.{can_be_string, is_piece, stands_at, starts_piece};
 
+use crate::alike::begins_apart;
 use std::marker::Model;
 
 /// A name to search for, given as bytes. It is tested once: no string is equal to a name that isn't UTF-8 or
@@ -76,23 +77,14 @@ pub(crate) fn stands_at(bytes: &[u8], delim: u8, offset: usize, name: &[u8]) -> 
     }
 }
 
-// Reports whether a text doesn't contain the delimiter.
-#[tactic(auto, unfolding(crate::specs::Wanted::is_apart))]
-fn is_apart(delim: u8, text: &[u8]) -> bool
-    ensures { result ≡ is_apart delim text.now }
+// Reports whether the delimiter, or the end of the bytes, comes after that many of them.
+#[inline(always)]
+fn is_closed_after(bytes: &[u8], delim: u8, len: usize) -> bool
+    ensures { result ≡ (nat_le (length bytes.now) len || (slice_index bytes.now len == delim)) }
 {
-    !text.contains(&delim)
-}
-
-// Reports whether the bytes at an offset begin with a text.
-#[tactic(auto, using(crate::proofs::WantedLemmas::begins), unfolding(crate::specs::Wanted::begins_at))]
-fn begins_at(bytes: &[u8], offset: usize, text: &[u8]) -> bool
-    requires { offset ≤ length bytes.now }
-    ensures { result ≡ begins_at bytes.now offset text.now }
-{
-    match bytes[offset..].get(..text.len()) {
-        Some(start) => start == text,
-        None => false,
+    match bytes.get(len) {
+        Some(end) => *end == delim,
+        None => true,
     }
 }
 
@@ -100,20 +92,22 @@ fn begins_at(bytes: &[u8], offset: usize, text: &[u8]) -> bool
 /// is not if the text contains the delimiter, or if the offset is not below the number of bytes.
 ///
 /// It reads at most one byte more of the piece than the text has.
-#[tactic(auto, using(crate::proofs::WantedLemmas::piece_is_standing))]
+#[tactic(auto, using(crate::proofs::WantedLemmas::piece_is_standing, crate::proofs::Common::take_rest))]
 pub fn is_piece(bytes: &[u8], delim: u8, offset: usize, text: &[u8]) -> bool
     ensures { result ≡ is_piece bytes.now delim offset text.now }
 {
-    offset < bytes.len() && stands_at(bytes, delim, offset, text) && is_apart(delim, text)
+    offset < bytes.len()
+        && is_closed_after(&bytes[offset..], delim, text.len())
+        && begins_apart(&bytes[offset..], delim, text)
 }
 
 /// Reports whether the piece at an offset of bytes that a delimiter cuts into strings begins with this text, UTF-8 or
 /// not. It does not if the text contains the delimiter, or if the offset is not below the number of bytes.
 ///
 /// It reads no more of the piece than the text has.
-#[tactic(auto, using(crate::proofs::WantedLemmas::piece_begins))]
+#[tactic(auto, using(crate::proofs::WantedLemmas::piece_begins, crate::proofs::Common::take_rest))]
 pub fn starts_piece(bytes: &[u8], delim: u8, offset: usize, text: &[u8]) -> bool
     ensures { result ≡ starts_piece bytes.now delim offset text.now }
 {
-    offset < bytes.len() && begins_at(bytes, offset, text) && is_apart(delim, text)
+    offset < bytes.len() && begins_apart(&bytes[offset..], delim, text)
 }

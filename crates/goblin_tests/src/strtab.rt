@@ -1,4 +1,6 @@
 //! Cases of string tables with their results.
+ghost use Rattle.std.specs.Prelude.{◌≤◌};
+
 use crate::compare::{differs, holds, is, reports, returns, returns_list, rows};
 use goblin_base::error::Result;
 use goblin_base::options::{ParseMode, ParseOptions};
@@ -215,6 +217,40 @@ fn compares_pieces_with_texts(rt: HostRuntime) {
     assert!(rt; is(rt, tests_piece(1, b".te"), (false, true)));
     assert!(rt; is(rt, tests_piece(1, b".text\0"), (false, false)));
     assert!(rt; is(rt, tests_piece(13, b""), (false, false)));
+}
+
+// A string of 130 letters, with another first and last one, and a zero byte after it.
+fn letters(first: u8, last: u8) -> [u8; 131] {
+    let mut bytes = [b'a'; 131];
+    bytes[0] = first;
+    bytes[129] = last;
+    bytes[130] = 0;
+    bytes
+}
+
+// Whether the last letters of a string, so many of them, are a piece of its own: not with another first or last letter,
+// and not if they are zero bytes.
+fn is_itself_alone(len: usize) -> bool
+    requires { len ≤ 130 }
+{
+    let (own, at, zeros) = (letters(b'a', b'a'), 130 - len, [0; 131]);
+    let tests = |bytes: &[u8], text: &[u8]| {
+        (
+            is_piece(bytes, 0, at, text),
+            starts_piece(bytes, 0, at, text),
+        )
+    };
+    tests(&own, &own[..len]) == (true, true)
+        && tests(&own, &letters(b'b', b'a')[..len]) == (false, false)
+        && tests(&own, &letters(b'a', b'b')[at..130]) == (false, false)
+        && tests(&zeros, &zeros[..len]) == (false, false)
+}
+
+#[test]
+fn compares_texts_of_each_length(rt: HostRuntime) {
+    for len in 1..131 {
+        assert!(rt; is_itself_alone(len));
+    }
 }
 
 // Whether these bytes are refused as a table with this line.
