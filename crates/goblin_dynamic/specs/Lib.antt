@@ -1,3 +1,2 @@
 pub mod Dyn
-pub mod DynLaws
 pub mod Dynamic

@@ -1,10 +1,10 @@
 //! Entries of the dynamic section: System V gABI, "Dynamic Section" (`Elf32_Dyn` and `Elf64_Dyn`).
-ghost use Rattle.std.specs.Prelude.{◌≡◌, ◌≤◌, ◌++◌, [], ◌∷◌, drop, length};
-ghost use Rattle.goblin_base.specs.Common.{ComparesAndClones, HasPlaces, IsSameInEachClass, shaped, zero};
+ghost use Rattle.std.specs.Prelude.{◌≡◌, [], ◌∷◌};
+ghost use Rattle.goblin_base.specs.Common.{ComparesAndClones, HasPlaces, IsSameInEachClass, zero};
 ghost use Rattle.goblin_base.specs.declared.container.Container.TheVariants as class;
-ghost use Rattle.goblin_dynamic.specs.Dyn.{entry, entry_layout};
+ghost use Rattle.goblin_dynamic.specs.Dyn.{entry, entry_laws, entry_layout};
 
-use goblin_base::container::{Container, Ctx, Endian};
+use goblin_base::container::{Container, Ctx};
 use goblin_base::laid_out::LaidOut;
 use goblin_base::number::{get_u32, get_u64, put_u32, put_u64};
 
@@ -23,30 +23,8 @@ pub const SIZEOF_DYN32: usize = 4 + 4;
 /// The size of an entry of the 64-bit class in bytes.
 pub const SIZEOF_DYN64: usize = 8 + 8;
 
-impl Dyn {
-    // Writes the low four bytes of each field.
-    fn put32(self, bytes: &mut [u8], order: Endian)
-        requires { 8 ≤ length bytes.old }
-        ensures { bytes.new ≡ (shaped (entry 4) order).image self ++ drop 8 bytes.old }
-    {
-        put_u32(bytes, 0, (self.d_tag % 0x1_0000_0000) as u32, order);
-        put_u32(bytes, 4, (self.d_val % 0x1_0000_0000) as u32, order);
-    }
-
-    // Writes each field in eight bytes.
-    fn put64(self, bytes: &mut [u8], order: Endian)
-        requires { 16 ≤ length bytes.old }
-        ensures { bytes.new ≡ (shaped (entry 8) order).image self ++ drop 16 bytes.old }
-    {
-        put_u64(bytes, 0, self.d_tag, order);
-        put_u64(bytes, 8, self.d_val, order);
-    }
-}
-
 /// The fields of the 32-bit class are widened, and are written by their low four bytes.
 impl LaidOut<Ctx> for Dyn {
-    ghost use Rattle.goblin_dynamic.specs.DynLaws.{entry_laws};
-
     ghost layout = { λ ctx. entry_layout ctx.container ctx.le };
 
     fn size_in(ctx: Ctx) -> usize {
@@ -72,8 +50,14 @@ impl LaidOut<Ctx> for Dyn {
 
     fn put(self, bytes: &mut [u8], ctx: Ctx) {
         match ctx.container {
-            Container::Little => self.put32(bytes, ctx.le),
-            Container::Big => self.put64(bytes, ctx.le),
+            Container::Little => {
+                put_u32(bytes, 0, (self.d_tag % 0x1_0000_0000) as u32, ctx.le);
+                put_u32(bytes, 4, (self.d_val % 0x1_0000_0000) as u32, ctx.le);
+            }
+            Container::Big => {
+                put_u64(bytes, 0, self.d_tag, ctx.le);
+                put_u64(bytes, 8, self.d_val, ctx.le);
+            }
         }
     }
 
@@ -83,7 +67,7 @@ impl LaidOut<Ctx> for Dyn {
 /// Laws of entries: their sizes. A list of entries that fit both classes is read back the same in each class and byte
 /// order. Where each field lies in each class. Both fields of the default entry are 0. `==` is true exactly if both
 /// fields are equal. `clone` returns the entry, and never fails.
-#[tactic(auto, using(crate::specs::DynLaws::same_entries))]
+#[tactic(auto, using(crate::specs::Dyn::same_entries))]
 pub fn laws()
     ensures sizes { (SIZEOF_DYN32 ≡ 8) × (SIZEOF_DYN64 ≡ 16) }
     ensures same { IsSameInEachClass entry_layout }
