@@ -176,6 +176,7 @@ impl<'a> Dynamic<'a> {
     }
 
     /// Returns an iterator over the values of the entries with a tag.
+    #[tactic(auto, using(crate::proofs::FirstEntries::lengths))]
     pub fn values(&self, tag: u64) -> Values<'a>
         ensures value { result ≡ values_with tag self.now }
         ensures bound { length (values_with tag self.now) < 2 ^ 64 }
@@ -206,6 +207,7 @@ fn linked_range(sections: &Sections<'_>) -> Option<FileRange>
 }
 
 // Returns the table of the entries before the first `DT_NULL` of some bytes.
+#[tactic(auto, using(crate::proofs::FirstEntries::first_entries), unfolding(goblin_base::specs::Record::records))]
 fn up_to_null<'a>(part: &'a [u8], ctx: Ctx) -> Entries<'a>
     ensures { result ≡ entries_up_to_null (whole_entries part.now ctx) }
 {
@@ -251,9 +253,7 @@ fn dynamic_segment(segments: &Segments<'_>) -> Option<ProgramHeader>
 fn dynamic_section(sections: &Sections<'_>) -> Option<SectionHeader>
     ensures { result ≡ dynamic_section sections.now }
 {
-    sections
-        .iter()
-        .find(|section| section.sh_type == SHT_DYNAMIC)
+    sections.iter().find(|s| s.sh_type == SHT_DYNAMIC)
 }
 
 // Returns the range of a section.

@@ -1,9 +1,7 @@
-use Rattle.std.proofs.Common.{◌==◌}
 use Rattle.goblin_dynamic.proofs.Common.{rules, sym, ◌∙◌, YieldsList-from_first, find_from_yields_List, option_map_id}
 use Rattle.goblin_dynamic.proofs.dynamic.dynamic_segment.Goals as goal
 
 pub returns : goal.returns
 returns c =
-    sym (option_map_id c.find.result)
-    ∙ find_from_yields_List (λ s. s.p_type == 2) _ _ c.find.result c.find.ensures.ran
-    (YieldsList-from_first (λ x. x) (λ left. left) c.args.segments.now c.iter.ensures.value) (λ x b q k. search rules)
+    sym (option_map_id c.find.result) ∙ find_from_yields_List _ _ _ _ c.find.ensures.ran
+    (YieldsList-from_first (λ x. x) (λ left. left) _ c.iter.ensures.value) (λ x b q k. search rules)
