@@ -264,6 +264,7 @@ impl<'a> Symtab<'a> {
     /// Only symbols of a section of the file are considered, and of these only those without a type,
     /// objects, functions and indirect functions. The call reads all symbols once, and for each at most
     /// one section header.
+    #[tactic(auto, using(crate::proofs::AddressLemmas::searched))]
     pub fn at(
         &self,
         address: u64,
