@@ -16,7 +16,8 @@ use Rattle.goblin.specs.declared.elf.note.NotePlaces.{NotePlaces}
 use Rattle.goblin.specs.Note.{NoteParts, parts_of, note_there, read_places, places_at, note_at, item_and_rest}
 use Rattle.goblin.specs.Note.{note_items}
 use Rattle.goblin.specs.Notes.{LieWithin, items_left, most_left}
-use Rattle.goblin.specs.NoteLaws.{note_by_note, places_lie_within, few_notes}
+use Rattle.goblin.specs.NoteLaws.{at_ok, few_notes, note_by_note, notes_advance, places_lie_within}
+use Rattle.std.proofs.Math.Nat.{min_comm}
 
 -- before the end of the bytes, places are read from the rest
 pub places_at-before : (bytes : List ℕ) (offset : ℕ) (ctx : ℕ × Ctx)
@@ -100,3 +101,9 @@ few_left it = few_notes it.bytes.now it.size it.offset it.ctx
 -- and at least one, before its end
 pub some_left : (it : NoteDataIterator) → min 1 (most_left it) ≤ length (items_left it)
 some_left it = grind (arith, note_items-some it.bytes.now it.size it.offset it.ctx)
+
+pub ruleset no_notes = (places_at-past, note_at-past)
+
+pub ruleset next_items = (note_items-past, note_items-refusal, at_ok, notes_advance)
+
+pub ruleset items_bounds = (few_left, some_left, min_comm)

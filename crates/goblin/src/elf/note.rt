@@ -46,6 +46,7 @@ impl<'a> NoteDataIterator<'a> {
     ghost use Rattle.goblin.specs.Notes.{after_next, item_of, items_left, most_left};
 
     // Returns what `next` returns, and moves the fields as it does.
+    #[tactic(auto, using(crate::proofs::NoteLemmas::next_items))]
     fn advance(&mut self) -> Option<Result<Note<'a>>>
         ensures steps { YieldsFirstBy item_of items_left self.old result self.new }
         ensures goes { MakesProgress (λ _. ⊤) (λ it. at_most (most_left it)) self.old result self.new }
@@ -86,6 +87,7 @@ impl<'a> Iterator for NoteDataIterator<'a> {
         self.advance()
     }
 
+    #[tactic(auto, using(crate::proofs::NoteLemmas::items_bounds))]
     fn size_hint(&self) -> (usize, Option<usize>)
         ensures lower { IsWithinCount result.0 (at_most (most_left self.now)) }
         ensures upper { IfSome result.1 (UpTo (at_most (most_left self.now))) }
@@ -284,6 +286,7 @@ impl<'a> Note<'a> {
     ///
     /// `BadOffset` if the offset is at the end of the bytes or past it, else the errors of reading
     /// a note from the offset on.
+    #[tactic(auto, using(crate::proofs::NoteLemmas::no_notes))]
     pub fn at(bytes: &'a [u8], offset: usize, ctx: (usize, Ctx)) -> Result<(Self, NotePlaces)>
         ensures given { Returns (λ found. (parts_of found.0, found.1.next)) result
             (note_at bytes.now offset ctx) }

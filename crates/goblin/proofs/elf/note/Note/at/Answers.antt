@@ -1,15 +1,8 @@
--- From the end of the bytes on the definitions have no note and no places (`note_at-past`, `places_at-past`). Before it
--- they read the rest of the bytes, as the function does (`places_at-before`, `note_at-read`). That the places lie
--- inside the bytes is a law of the definition (`read-within`).
+-- Before the end of the bytes the definitions read the rest of the bytes, as the function does (`places_at-before`,
+-- `note_at-read`). That the places lie inside the bytes is a law of the definition (`read-within`).
 use Rattle.std.proofs.Common.{arith}
-use Rattle.goblin.proofs.NoteLemmas.{places_at-before, places_at-past, note_at-past, note_at-read, read-within}
+use Rattle.goblin.proofs.NoteLemmas.{places_at-before, note_at-read, read-within}
 use Rattle.goblin.proofs.elf.note.Note.at.Goals as goal
-
-pub returns-then-offset-bytes-clause-given : goal.returns-then-offset-bytes-clause-given
-returns-then-offset-bytes-clause-given c = note_at-past c.args.bytes.now c.args.offset c.args.ctx (omega arith)
-
-pub returns-then-offset-bytes-clause-places : goal.returns-then-offset-bytes-clause-places
-returns-then-offset-bytes-clause-places c = places_at-past c.args.bytes.now c.args.offset c.args.ctx (omega arith)
 
 pub returns-clause-places : goal.returns-clause-places
 returns-clause-places c =

@@ -2,7 +2,6 @@ use Rattle.std.proofs.Common.{rules, ◌∙◌}
 use Rattle.std.proofs.lemmas.Iterator.Adapters.{YieldsList-from_skip}
 use Rattle.std.proofs.lemmas.Iterator.Consumers.{YieldsList-from_first}
 use Rattle.std.proofs.lemmas.Iterator.Search.{position_from_yields_List}
-use Rattle.goblin_base.specs.Strtab.{has_name}
 use Rattle.goblin.proofs.elf.sym.Symtab.position_from.Goals as goal
 
 pub returns-clause-value : goal.returns-clause-value
@@ -11,6 +10,4 @@ returns-clause-value c =
     (YieldsList-from_first (λ x. x) (λ left. left) c.args.self.now.symbols
     (c.skip.ensures.source ∙ c.iter.ensures.value))
     c.skip.ensures.count in
-    position_from_yields_List
-    (λ symbol. has_name c.args.strings.now c.args.delim symbol.st_name c.args.name.now) _ _
-    c.position.result c.position.ensures.ran rest (λ x b q k. search rules)
+    position_from_yields_List _ _ _ c.position.result c.position.ensures.ran rest (λ x b q k. search rules)
