@@ -1,6 +1,6 @@
 -- Ranges of bytes.
 use Rattle.goblin_text.proofs.Common.{◌≡◌, ◌∙◌, ℕ, ◌+◌, ◌-◌, ◌≤◌, List, take, drop, ap, arith, slice_range, drop-drop}
-use Rattle.goblin_text.proofs.Common.{drop-take}
+use Rattle.goblin_text.proofs.Common.{drop-take, get_or_past}
 use Rattle.std.proofs.lemmas.Option.{unwrap_or-slice_get}
 
 -- the rest of a range
@@ -12,4 +12,4 @@ rest_of_range bytes i j o l =
     ∙ ap (take (j - (i + o))) (drop-drop o i bytes)
 
 -- a byte that may be missing
-pub ruleset reads = (unwrap_or-slice_get)
+pub ruleset reads = (unwrap_or-slice_get, get_or_past)

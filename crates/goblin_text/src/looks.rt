@@ -25,7 +25,7 @@ pub fn after_continuation(view: &mut CountedBytes<'_>, from: usize) -> usize
     ensures reading { Reads view.old view.new 1 1 }
 {
     let b = view.get(from).unwrap_or(0);
-    if from < view.len() && b >= 0x80 && b < 0xC0 {
+    if from < view.len() && (0x80..0xC0).contains(&b) {
         from + 1
     } else {
         from
