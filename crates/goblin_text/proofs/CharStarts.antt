@@ -9,7 +9,7 @@
 --
 -- In bytes that are not UTF-8 more than three may go on. Then the edge is p + 3, and no UTF-8 contains the four bytes
 -- from p on.
-use Rattle.goblin_text.proofs.Common.{◌≡◌, ◌∙◌, ℕ, ◌+◌, ◌-◌, ◌<◌, ◌≤◌, ◌&&◌, Bool, true, false, cond, ltb, leb, List}
+use Rattle.goblin_text.proofs.Common.{◌≡◌, ◌∙◌, ℕ, ◌+◌, ◌-◌, ◌<◌, ◌≤◌, true, List}
 use Rattle.goblin_text.proofs.Common.{[], ◌∷◌, ◌++◌, length, get_or, take, drop, refl, sym, ap, subst, ⊎_elim, arith}
 use Rattle.goblin_text.proofs.Common.{length-append, slice_range, take-append_seam, drop-append_seam, cases_lt}
 use Rattle.goblin_text.proofs.Common.{nat_tests, take-take, IsCharBoundary-start, IsUtf8-drop, IsUtf8-take, IsUtf8}
@@ -22,130 +22,51 @@ use Rattle.goblin_text.proofs.Strings.{get_up, goes_on, no_zero_whole, stops, wh
 use Rattle.goblin_base.proofs.FirstLemmas.{length_of_range, get_in_range}
 use Rattle.goblin.specs.TextLaws.{ranges-join}
 
--- ---- the place after a byte that goes on with a character
 -- a byte that goes on with a character
-pub record IsContinuation (b : ℕ) : Type 0 where
-  pub from : 128 ≤ b
-  pub below : b < 192
-
--- a byte that goes on with a character is passed over, and another one isn't
-pub data Passed (bytes : List ℕ) (p : ℕ) : Type 0 where
-  over : after_continuation bytes p ≡ p + 1 → IsContinuation (get_or bytes p 0) → Passed bytes p
-  stays : after_continuation bytes p ≡ p → ¬ (IsContinuation (get_or bytes p 0)) → Passed bytes p
-
-pub after_continuation_is : (bytes : List ℕ) (p : ℕ) → Passed bytes p
-unfolding after_continuation
-after_continuation_is bytes p = tested (leb 128 (get_or bytes p 0)) (ltb (get_or bytes p 0) 192) refl refl refl
-  where
-    tested : (a b : Bool) → leb 128 (get_or bytes p 0) ≡ a → ltb (get_or bytes p 0) 192 ≡ b
-        → after_continuation bytes p ≡ cond (a && b) (p + 1) p → Passed bytes p
-    tested true true e f is = over is (record { from = grind (arith, nat_tests); below = grind (arith, nat_tests) })
-    tested true false e f is = stays is (λ h. grind (arith, nat_tests, h.below))
-    tested false b e f is = stays is (λ h. grind (arith, nat_tests, h.from))
-
-after_continuation_bounds : (bytes : List ℕ) (p : ℕ)
-    → (p ≤ after_continuation bytes p) × (after_continuation bytes p ≤ p + 1)
-unfolding after_continuation
-after_continuation_bounds bytes p = grind (arith, nat_tests)
-
--- what is passed over goes on with a character
-passed : (bytes : List ℕ) (p q : ℕ) → p ≤ q → q < after_continuation bytes p → IsContinuation (get_or bytes q 0)
-passed bytes p q l h = elim (after_continuation_is bytes p) [
-  | over e on ↦ (let same : p ≡ q = omega (arith, e) in subst (λ k. IsContinuation (get_or bytes k 0)) same on)
-  | stays e off ↦ absurd (omega (arith, e))
-]
-
--- where the byte after a place goes on with a character, the byte there does
-passed_before : (bytes : List ℕ) (p : ℕ) → IsContinuation (get_or bytes (after_continuation bytes p) 0)
-    → (after_continuation bytes p ≡ p + 1) × IsContinuation (get_or bytes p 0)
-passed_before bytes p h = elim (after_continuation_is bytes p) [
-  | over e on ↦ (e, on)
-  | stays e off ↦ absurd (off (subst (λ k. IsContinuation (get_or bytes k 0)) e h))
-]
+abbrev IsContinuation : ℕ → Type 0
+IsContinuation b = (128 ≤ b) × (b < 192)
 
 -- ---- the edge
 pub char_start_bounds : (bytes : List ℕ) (place : ℕ)
     → (place ≤ char_start bytes place) × (char_start bytes place ≤ place + 3)
-unfolding char_start
-char_start_bounds bytes place =
-    let p = after_continuation_bounds bytes place in
-    let q = after_continuation_bounds bytes (after_continuation bytes place) in
-    let r = after_continuation_bounds bytes (after_continuation bytes (after_continuation bytes place)) in
-    (omega arith, omega arith)
+unfolding char_start after_continuation
+char_start_bounds bytes place = (grind (arith, nat_tests), grind (arith, nat_tests))
 
 -- what stands between a place and its edge goes on with a character
 passed_to_start : (bytes : List ℕ) (p q : ℕ) → p ≤ q → q < char_start bytes p → IsContinuation (get_or bytes q 0)
-unfolding char_start
-passed_to_start bytes p q l h =
-    let a = after_continuation bytes p in
-    let b = after_continuation bytes a in
-    ⊎_elim
-    (λ (s : q < a). passed bytes p q l s)
-    (λ (s : a ≤ q). ⊎_elim (λ (t : q < b). passed bytes a q s t) (λ (t : b ≤ q). passed bytes b q t h) (cases_lt q b))
-    (cases_lt q a)
+unfolding char_start after_continuation
+passed_to_start bytes p q l h = (grind (arith, nat_tests), grind (arith, nat_tests))
 
 -- if the byte at the edge goes on with a character, the three before it do too
 four_go_on : (bytes : List ℕ) (p : ℕ) → IsContinuation (get_or bytes (char_start bytes p) 0)
     → (char_start bytes p ≡ p + 3) × ((j : ℕ) → p ≤ j → j ≤ p + 3 → IsContinuation (get_or bytes j 0))
-unfolding char_start
+unfolding char_start after_continuation
 four_go_on bytes p h =
-    let z = passed_before bytes (after_continuation bytes (after_continuation bytes p)) h in
-    let y = passed_before bytes (after_continuation bytes p) z.1 in
-    let x = passed_before bytes p y.1 in
-    let there : char_start bytes p ≡ p + 3 = omega (arith, x.0, y.0, z.0) in (
-      there,
-      λ j l m. ⊎_elim
-          (λ (s : j < char_start bytes p). passed_to_start bytes p j l s)
-          (λ (s : char_start bytes p ≤ j). subst (λ k. IsContinuation (get_or bytes k 0)) (omega arith) h)
-          (cases_lt j (char_start bytes p)),
-    )
+    (grind (arith, nat_tests), λ j l m. (grind (arith, nat_tests, h.0, h.1), grind (arith, nat_tests, h.0, h.1)))
 
 -- ---- text is cut at an edge
 -- a place where a text may be cut, among four from a place on
-record Cut (text : List ℕ) (i : ℕ) : Type 0 where
-  place : ℕ
-  from : i ≤ place
-  to : place ≤ i + 3
-  boundary : IsCharBoundary text place
+abbrev Cut : List ℕ → ℕ → Type 0
+Cut text i = (place : ℕ) × (i ≤ place) × (place ≤ i + 3) × IsCharBoundary text place
 
 cut_of_chars : (cs : List ℕ) (i : ℕ) → scalars cs ≡ true → i ≤ length (encodes cs) → Cut (encodes cs) i
-cut_of_chars [] i s l = record {
-  place = 0;
-  from = omega arith;
-  to = omega arith;
-  boundary = (omega arith, λ m. absurd (omega arith));
-}
+cut_of_chars [] i s l = (0, omega arith, omega arith, (omega arith, λ m. absurd (omega arith)))
 cut_of_chars (c ∷ cs) i s l =
     let n = length (encode c) in
+    let text = encode c ++ encodes cs in
     let bounds = len_utf8_bounds c in
     let size = length-encode c in
     let all = length-append (encode c) (encodes cs) in
     let rest : scalars cs ≡ true = (and_parts (scalar c) (scalars cs) s).1 in
-    let text : IsUtf8 (encodes cs) = (cs, (rest, refl)) in
     ⊎_elim
-    (λ (z : i < 1). record {
-      place = 0;
-      from = omega arith;
-      to = omega arith;
-      boundary = IsCharBoundary-start (encode c ++ encodes cs) (c ∷ cs, (s, refl));
-    })
+    (λ (z : i < 1). (0, omega arith, omega arith, IsCharBoundary-start text (c ∷ cs, (s, refl))))
     (λ (z : 1 ≤ i). ⊎_elim
-    (λ (x : i < n). record {
-      place = n;
-      from = omega arith;
-      to = omega arith;
-      boundary = IsCharBoundary-at_seam (encode c ++ encodes cs) (encode c) (encodes cs) refl text;
-    })
+    (λ (x : i < n).
+    (n, omega arith, omega arith, IsCharBoundary-at_seam text (encode c) (encodes cs) refl (cs, (rest, refl))))
     (λ (x : n ≤ i).
     let cut = cut_of_chars cs (i - n) rest (omega arith) in
-    let there : IsCharBoundary (drop n (encode c ++ encodes cs)) cut.place =
-    rw (drop-append_seam (encode c) (encodes cs)) cut.boundary in
-    record {
-      place = n + cut.place;
-      from = omega (arith, cut.from);
-      to = omega (arith, cut.to);
-      boundary = IsCharBoundary-from_rest (encode c ++ encodes cs) n cut.place (omega arith) there;
-    })
+    let there : IsCharBoundary (drop n text) cut.0 = rw (drop-append_seam (encode c) (encodes cs)) cut.3 in
+    (n + cut.0, omega (arith, cut.1), omega (arith, cut.2), IsCharBoundary-from_rest text n cut.0 (omega arith) there))
     (cases_lt i n))
     (cases_lt i 1)
 
@@ -165,12 +86,12 @@ char_start-boundary bytes text i p l size u holds =
           let there : i + n ≡ char_start bytes p = omega arith in
           let byte : get_or text n 0 ≡ get_or bytes (char_start bytes p) 0 =
           holds n some ∙ ap (λ q. get_or bytes q 0) there in
-          let four = four_go_on bytes p (record { from = omega arith; below = omega arith }) in
+          let four = four_go_on bytes p (omega arith, omega arith) in
           let cut = cut_near text (n - 3) u (omega arith) in
-          let short : cut.place < length text = omega (arith, cut.to, four.0) in
-          let same : get_or text cut.place 0 ≡ get_or bytes (i + cut.place) 0 = holds cut.place short in
-          let on = four.1 (i + cut.place) (omega (arith, cut.from, four.0)) (omega (arith, cut.to, four.0)) in
-          absurd (omega (arith, cut.boundary.1 short (omega (arith, on.from)), on.below)))
+          let short : cut.0 < length text = omega (arith, cut.2, four.0) in
+          let same : get_or text cut.0 0 ≡ get_or bytes (i + cut.0) 0 = holds cut.0 short in
+          let on = four.1 (i + cut.0) (omega (arith, cut.1, four.0)) (omega (arith, cut.2, four.0)) in
+          absurd (omega (arith, cut.3.1 short (omega (arith, on.0)), on.1)))
           (λ (high : 192 ≤ get_or text n 0). high)
           (cases_lt (get_or text n 0) 192),
     )
@@ -231,5 +152,5 @@ whole_to_start bytes i p k l m h short is =
     whole_no_zero (slice_range bytes i k) q is (omega (arith, size)) (get_in_range bytes i k q (omega arith) ∙ byte))
     (λ (s : k ≤ i + q).
     let on = passed_to_start bytes p (i + q) (omega arith) (omega (arith, n, length-front)) in
-    absurd (omega (arith, on.from, byte)))
+    absurd (omega (arith, on.0, byte)))
     (cases_lt (i + q) k))

@@ -1,12 +1,10 @@
 -- The names that look-ups find.
 use Rattle.goblin_text.proofs.Common.{◌≡◌, ◌∙◌, ℕ, ◌+◌, ◌-◌, ◌<◌, ◌≤◌, if◌then◌else◌, List, []}
-use Rattle.goblin_text.proofs.Common.{length, drop, refl, sym, ap, arith, slice_range, get_or, lit<}
+use Rattle.goblin_text.proofs.Common.{length, drop, refl, sym, ap, arith, nat_tests, slice_range, get_or, lit<}
 use Rattle.goblin_text.proofs.Common.{false_from_ne_true, IsUtf8-from_is_utf8, is_utf8-from_IsUtf8, IsUtf8, is_utf8}
 use Rattle.goblin_text.proofs.Common.{text_table, LacksText, after_continuation, up_to_zero, name_at}
 use Rattle.goblin.specs.Pieces.{piece}
 use Rattle.goblin.specs.TextLaws.{name-later, name-past, names_are_plain}
-use Rattle.goblin_text.proofs.CharStarts.{after_continuation_is}
-use Rattle.goblin_text.proofs.CharStarts.Passed.{over, stays}
 use Rattle.goblin_text.proofs.ByteRanges.{rest_of_range}
 use Rattle.goblin_base.proofs.FirstLemmas.{length_of_range, get_in_range}
 
@@ -35,15 +33,12 @@ name_in_range bytes i j o l m h =
 pub name_later : (bytes : List ℕ) (i j o : ℕ)
     → i ≤ j → j ≤ length bytes → o < j - i → i + o < after_continuation bytes (i + o)
     → [] ≡ name_at (text_table (slice_range bytes i j)) o
+unfolding after_continuation
 name_later bytes i j o l m h on =
     let size : length (slice_range bytes i j) ≡ j - i = length_of_range bytes i j m in
     let byte : get_or (slice_range bytes i j) o 0 ≡ get_or bytes (i + o) 0 = get_in_range bytes i j o h in
-    elim (after_continuation_is bytes (i + o)) [
-      | over e g ↦ sym
-          (name-later (slice_range bytes i j) 0 o (lit< tt) (omega arith) (omega (arith, byte, g.from))
-          (omega (arith, byte, g.below)))
-      | stays e none ↦ absurd (omega (arith, on, e))
-    ]
+    sym (name-later (slice_range bytes i j) 0 o (lit< tt) (omega arith) (grind (arith, nat_tests))
+    (grind (arith, nat_tests)))
 
 -- bytes that are text are all of it
 pub text_length : (bytes text : List ℕ) → IsUtf8 bytes → text ≡ text_or_nothing bytes → length text ≡ length bytes
