@@ -2,7 +2,7 @@
 use Rattle.goblin_text.proofs.Common.{◌≡◌, ℕ, ◌+◌, ◌*◌, ◌<◌, ◌≤◌, List, length, sym, subst, ⊎_elim, arith, slice_range}
 use Rattle.goblin_text.proofs.Common.{Option, None, Some, cases_lt, IsUtf8, texts-join, ZeroFree, BLOCK, EndsAt}
 use Rattle.goblin_text.proofs.Common.{IsBlock, IsLong, IsZeroFree, IsRun, IsTextUpTo, LacksText, block_start}
-use Rattle.goblin_text.proofs.Common.{next_block, up_to_zero}
+use Rattle.goblin_text.proofs.Common.{both_ways, next_block, up_to_zero}
 use Rattle.goblin_text.proofs.CharStarts.{char_start_bounds, lacks-on, whole_to_start}
 use Rattle.goblin_text.proofs.JoinedRanges.{lacks-after, of_up_to}
 use Rattle.goblin_text.proofs.Strings.{string-after, string-within}
@@ -78,3 +78,5 @@ pub text_after : (bytes : List ℕ) (place from end : ℕ) (found : Option ℕ) 
 text_after bytes place from end None l zero_free e t = tt
 text_after bytes place from end (Some stop) l zero_free e t =
     texts-join bytes place from stop l e.order zero_free.text t
+
+pub ruleset refused_heads = (both_ways, lacks_at_head)

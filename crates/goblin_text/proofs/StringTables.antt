@@ -1,6 +1,6 @@
 -- The string tables of a file, of which no entries are made.
 use Rattle.goblin_text.proofs.Common.{◌≡◌, ℕ, List, ap, slice_range, Strict, Permissive, malformed, ◌>>=◌}
-use Rattle.goblin_text.proofs.Common.{arith, refuse_as, IsRange, strtab_of, table_of}
+use Rattle.goblin_text.proofs.Common.{arith, both_ways, refuse_as, IsRange, strtab_of, table_of}
 use Rattle.goblin.specs.declared.options.ParseMode.{ParseMode}
 
 -- a table is that of its range's bytes
@@ -12,3 +12,5 @@ table_is mode file o n start end range = ap (λ r. refuse_as malformed r >>= (λ
 -- a mode that isn't permissive is strict
 pub is_strict : (mode : ParseMode) → ¬ (mode ≡ Permissive) → mode ≡ Strict
 is_strict mode other = grind arith
+
+pub ruleset tables = (both_ways, is_strict, table_is)

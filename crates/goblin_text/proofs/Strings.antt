@@ -99,3 +99,5 @@ string-within bytes i s j k l m n h is =
     let short : length (slice_range bytes i s) ≡ s - i = length_of_range bytes i s (omega arith) in
     is ∙ sym (ap up_to_zero (ranges-join bytes i j k (omega arith) n)
     ∙ stops a (slice_range bytes j k) (omega (arith, ap length is)))
+
+pub ruleset string_ends = (string-after)

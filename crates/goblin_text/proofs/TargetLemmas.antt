@@ -3,6 +3,7 @@ use Rattle.goblin_text.proofs.Common.{◌≡◌, ◌∙◌, ◌++◌, ◌∷◌,
 use Rattle.goblin_text.proofs.Common.{get_or, set, append-nil, arith, length, min, refl, sym, take}
 use Rattle.goblin_text.proofs.Common.{Appends-trans, append_known-grown, append_known-moved, take_all}
 use Rattle.goblin_text.proofs.Common.{Appends, Keeps, append_known, State, held}
+use Rattle.goblin_base.proofs.PartsLemmas.{parts_text_more}
 
 -- of a text the lines so far were put, and the rest is left
 pub record PutSoFar (old new : State) (all rest : List ℕ) : Type 0 where
@@ -59,3 +60,7 @@ set_single (x ∷ xs) [] e f = absurd (omega (arith, f))
 set_single (x ∷ []) (y ∷ []) e f = refl
 set_single (x ∷ (z ∷ xs)) (y ∷ ys) e f = absurd (omega (arith, e))
 set_single (x ∷ []) (y ∷ (z ∷ ys)) e f = absurd (omega (arith, f))
+
+pub ruleset put_on = (appends_kept, emptied)
+
+pub ruleset parts_put = (parts_text_more, take_all)

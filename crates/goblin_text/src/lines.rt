@@ -253,6 +253,7 @@ fn put_part<T: Target>(target: &mut T, report: &Report, part: &Part) -> Result<(
 }
 
 /// Puts the text of an error.
+#[tactic(auto, using(crate::proofs::TargetLemmas::parts_put))]
 pub fn put_error<T: Target>(target: &mut T, e: &Error) -> Result<(), T::Error>
     ensures put { Prints (T.state target.old) (T.state target.new) result (refusal_text (refusal_of e.now)) }
     ensures same_writer { T.writer_name target.new ≡ T.writer_name target.old }

@@ -92,6 +92,7 @@ pub fn text<'a>(view: &mut CountedBytes<'a>, from: usize, to: usize) -> &'a str
 
 /// Refuses the string table of the bytes from one place up to another, unless it is UTF-8. The first whole piece that
 /// is not UTF-8 is the one around the first fault: no others are looked for. It is at most two looks at each byte.
+#[tactic(auto, using(crate::proofs::Faults::table_taken))]
 pub fn refuse_unless_text(view: &mut CountedBytes<'_>, from: usize, to: usize) -> Result<()>
     requires ordered { from ≤ to }
     requires within { to ≤ length view.old.bytes }

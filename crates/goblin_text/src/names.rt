@@ -96,6 +96,7 @@ impl<'a> Names<'a> {
     /// # Errors
     ///
     /// Those of `Strtab::parse_with_opts`.
+    #[tactic(auto, using(crate::proofs::StringTables::tables))]
     pub fn table(&mut self, offset: usize, size: usize, opts: &ParseOptions) -> Result<Strings>
         ensures given { let expected = strtab_of opts.now.parse_mode self.old.bytes offset size 0 in
             Returns (strings_in self.old.bytes) result expected }
@@ -181,6 +182,7 @@ impl<'a> Names<'a> {
     }
 
     // Returns the string at an offset of the bytes from one place of the file to another.
+    #[tactic(auto, using(crate::proofs::FoundNames::names_found))]
     fn name_within(&mut self, start: usize, end: usize, offset: usize) -> &'a str
         requires ordered { start ≤ end }
         requires within { end ≤ length self.old.bytes }
@@ -214,6 +216,7 @@ impl<'a> Names<'a> {
     //              first * BLOCK          run * BLOCK
     //
     // from is where the run of blocks ends that are text with no zero byte.
+    #[tactic(auto, using(crate::proofs::Strings::string_ends))]
     fn end_of_name(&mut self, place: usize, end: usize) -> Option<usize>
         requires ordered { place ≤ end }
         requires within { end ≤ length self.old.bytes }
@@ -238,6 +241,7 @@ impl<'a> Names<'a> {
     // Returns where the string from a place on ends, up to another that lies some blocks after it, or `None` if it is
     // not UTF-8. It is nine looks at edges, one at each byte up to the first edge, and two in the block that the string
     // ends in.
+    #[tactic(auto, using(crate::proofs::LongNames::refused_heads))]
     fn end_of_long_name(&mut self, place: usize, end: usize) -> Option<usize>
         requires { IsLong self.old.bytes place end }
         ensures end { EndsAt self.old.bytes place end result }

@@ -94,6 +94,7 @@ fn write_error<W: Sink>(writer: &mut W, e: &Error) -> io::Result<()>
 ///
 /// Bytes looked at for names, from a fresh count: at most 5 times the file, its text, and 4,096 for each line, if the
 /// file is shown; at most 7 times the file, and 1,040 for each section header and one more, if it is refused.
+#[tactic(auto, using(crate::proofs::LineLooks::looks_shown))]
 pub fn show_file<W: Sink>(
     alloc: Global,
     writer: &mut W,

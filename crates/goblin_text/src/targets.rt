@@ -53,6 +53,7 @@ impl<'a, W: Sink> Buffered<'a, W> {
     }
 
     // Writes the buffer's bytes, and empties it.
+    #[tactic(auto, using(crate::proofs::TargetLemmas::passed_on))]
     fn pass_on(&mut self) -> io::Result<()>
         ensures same_writer { self.new.writer.ghost_name ≡ self.old.writer.ghost_name }
         ensures ok { OnOk result (self.new.filled ≡ 0) }
@@ -91,6 +92,7 @@ impl<'a, W: Sink> Buffered<'a, W> {
     // Writes the buffer's bytes, and then puts others.
     #[cold]
     #[inline(never)]
+    #[tactic(auto, using(crate::proofs::TargetLemmas::put_on))]
     fn put_after_writing(&mut self, bytes: &[u8]) -> io::Result<()>
         ensures same_writer { self.new.writer.ghost_name ≡ self.old.writer.ghost_name }
         ensures bytes { OnOk result (Appends

@@ -210,6 +210,7 @@ pub fn text_of(alloc: Global, bytes: &[u8], opts: &ParseOptions) -> error::Resul
 }
 
 /// A law: if strict options show a text, permissive ones show the same.
+#[tactic(auto, using(crate::proofs::StrictAndPermissive::permissive_shows_strict))]
 pub fn laws()
     ensures { PermissiveShowsStrict }
 {

@@ -5,14 +5,10 @@ use Rattle.goblin_text.proofs.Common.{length-take-le, IsValidUpTo, invalid_utf8}
 use Rattle.std.proofs.lemmas.Str.{utf8_valid_len-IsValidUpTo}
 use Rattle.std.specs.Str.Lossy.{utf8_valid_len}
 use Rattle.goblin.specs.Pieces.{first_bad, piece_start}
-use Rattle.goblin_text.proofs.Faults.{first_bad_of_front, front_of_range, table_refused, table_taken}
+use Rattle.goblin_text.proofs.Faults.{first_bad_of_front, front_of_range, table_refused}
 use Rattle.goblin_text.proofs.looks.refuse_unless_text.Goals.{After-start_of_last_string-start}
 use Rattle.goblin_text.proofs.looks.refuse_unless_text.Goals as goal
 use Rattle.goblin_base.proofs.FirstLemmas.{length_of_range}
-
-pub returns-in-Ok-clause-given : goal.returns-in-Ok-clause-given
-returns-in-Ok-clause-given c =
-    table_taken (slice_range c.args.view.now.bytes c.args.from c.args.to) (grind (arith, common_steps))
 
 -- where the fault is, and the last string before it
 record Fault (c : After-start_of_last_string-start) : Type 0 where

@@ -1,6 +1,6 @@
 -- The looks for a text that is shown are those of its string tables and its names: the header and each section have a
 -- line, and the looks of a line are enough for one table and one name.
-use Rattle.goblin_text.proofs.Common.{◌≡◌, ◌+◌, ◌*◌, arith, length, refl, common_steps, parts_text}
+use Rattle.goblin_text.proofs.Common.{◌≡◌, ◌+◌, ◌*◌, arith, length, common_steps, parts_text}
 use Rattle.goblin_text.proofs.LineLooks.{looks_shown}
 use Rattle.goblin_text.specs.Looks.{LooksAtMost, names_looks, table_looks}
 use Rattle.goblin_text.proofs.run.show_file.Goals as goal
@@ -23,13 +23,3 @@ returns-in-Ok-write_text-clause-looks_shown g c = λ short text done is.
 pub returns-in-Ok-write_text-clause-most_shown : goal.returns-in-Ok-write_text-clause-most_shown
 returns-in-Ok-write_text-clause-most_shown g c = λ short unread text done is.
     omega (arith, returns-in-Ok-write_text-clause-looks_shown g c short text done is, unread.none, unread.left)
-
--- a text that could not be written was not shown
-pub returns-in-Ok-clause-shown : goal.returns-in-Ok-clause-shown
-returns-in-Ok-clause-shown g c = λ is. absurd (cc)
-
-pub returns-in-Ok-clause-heeded : goal.returns-in-Ok-clause-heeded
-returns-in-Ok-clause-heeded g c = λ other. absurd (other refl)
-
-pub returns-in-Ok-clause-looks_shown : goal.returns-in-Ok-clause-looks_shown
-returns-in-Ok-clause-looks_shown g c = λ short text is done. absurd (cc)

@@ -1,21 +1,12 @@
 -- A long name ends in the first block that isn't text with no zero byte, or after the last block: up to there it is
 -- text with no zero byte, so its end is the one that is found from there on.
-use Rattle.goblin_text.proofs.Common.{◌≡◌, ◌+◌, ◌*◌, ◌<◌, ◌≤◌, arith, slice_range, both_ways, common_steps}
+use Rattle.goblin_text.proofs.Common.{◌≡◌, ◌+◌, ◌*◌, ◌<◌, ◌≤◌, arith, slice_range, common_steps}
 use Rattle.goblin_text.proofs.Common.{ZeroFree, BLOCK, EndsAt, IsBlock, IsRunEnd, IsZeroFree, IsTextUpTo}
 use Rattle.goblin_text.proofs.Common.{block_start, last_block, next_block}
 use Rattle.goblin_text.proofs.CharStarts.{char_start_bounds}
-use Rattle.goblin_text.proofs.LongNames.{RunsTo, ends_after, ends_in_block, lacks_at_head, zero_free_to_run, text_after}
+use Rattle.goblin_text.proofs.LongNames.{RunsTo, ends_after, ends_in_block, zero_free_to_run, text_after}
 use Rattle.goblin_text.proofs.names.Names.end_of_long_name.Goals.{After-end_of_text, then-run-last, else-run-last}
 use Rattle.goblin_text.proofs.names.Names.end_of_long_name.Goals as goal
-
-pub returns-then-not-is_text-clause-end : goal.returns-then-not-is_text-clause-end
-returns-then-not-is_text-clause-end c =
-    let bytes = c.args.self.now.bytes in
-    let head : slice_range bytes c.args.place (block_start bytes (next_block c.args.place))
-    ≡ slice_range c.char_start-begin.new.view.bytes c.args.place c.char_start-begin.result =
-    grind (arith, common_steps) in
-    lacks_at_head bytes c.args.place c.args.end c.requires
-    (λ u. both_ways _ c.if-not-is_text.true (c.is_text.ensures.value.1 (rw head at u)))
 
 -- where the run of blocks ends
 run_is_end : (c : After-end_of_text)

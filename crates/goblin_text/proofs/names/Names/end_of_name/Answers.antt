@@ -1,7 +1,7 @@
 -- The string ends where the searches find its first zero byte: in the bytes of one block, or else, as these have none,
 -- where the rest of it ends.
 use Rattle.goblin_text.proofs.Common.{◌≡◌, ◌≤◌, arith, length, slice_range, common_steps, up_to_zero}
-use Rattle.goblin_text.proofs.Strings.{string-after, string-within}
+use Rattle.goblin_text.proofs.Strings.{string-within}
 use Rattle.goblin_text.proofs.names.Names.end_of_name.Goals as goal
 
 pub returns-then-stop-near-clause-end : goal.returns-then-stop-near-clause-end
@@ -18,23 +18,4 @@ returns-then-stop-near-clause-end c =
       within = omega (arith, c.if-stop-near.true, to);
       is = string-within bytes c.args.place stop.result near c.args.end stop.ensures.ordered c.if-stop-near.true to
           short is;
-    }
-
-pub returns-then-place-last_block-clause-end : goal.returns-then-place-last_block-clause-end
-returns-then-place-last_block-clause-end c =
-    let bytes = c.args.self.now.bytes in
-    let near = c.min-near.result in
-    let stop = c.end_of_string in
-    let from : c.args.place ≤ near = grind (arith, common_steps) in
-    let whole : c.end_of_string-stop.result ≡ near =
-    omega (arith, c.if-stop-near.false, c.end_of_string-stop.ensures.bound) in
-    let front : up_to_zero (slice_range bytes c.args.place near) ≡ slice_range bytes c.args.place near =
-    grind (arith, common_steps) in
-    let rest : slice_range bytes near stop.result ≡ up_to_zero (slice_range bytes near c.args.end) =
-    grind (arith, common_steps) in
-    record {
-      order = omega (arith, from, stop.ensures.ordered);
-      within = stop.ensures.bound;
-      is = string-after bytes c.args.place near stop.result c.args.end from stop.ensures.ordered stop.ensures.bound
-          front rest;
     }

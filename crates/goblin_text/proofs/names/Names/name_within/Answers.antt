@@ -1,26 +1,9 @@
 -- The name is the string from its place on, if that is text: a place past the end or at a continuation byte has none. A
 -- long name is text and is returned whole, so its length bounds the looks for it.
-use Rattle.goblin_text.proofs.Common.{◌≡◌, ◌∙◌, ◌+◌, ◌-◌, ap, arith, inl, inr, length, slice_range, common_steps}
-use Rattle.goblin_text.proofs.FoundNames.{name_in_range, name_later, nothing, name_past_end, text_length}
-use Rattle.goblin_text.proofs.FoundNames.{text_or_nothing}
+use Rattle.goblin_text.proofs.Common.{◌≡◌, ◌∙◌, ◌+◌, ◌-◌, arith, inl, inr, length, slice_range, common_steps}
+use Rattle.goblin_text.proofs.FoundNames.{name_in_range, nothing, text_length}
 use Rattle.goblin_text.proofs.names.Names.name_within.Goals as goal
 use Rattle.goblin_base.proofs.FirstLemmas.{length_of_range}
-
-pub returns-then-offset-end-clause-value : goal.returns-then-offset-end-clause-value
-returns-then-offset-end-clause-value c =
-    let size = length_of_range c.args.self.now.bytes c.args.start c.args.end c.requires.within in
-    name_past_end (slice_range c.args.self.now.bytes c.args.start c.args.end) c.args.offset (omega arith)
-
-pub returns-then-after_continuation-place-clause-value : goal.returns-then-after_continuation-place-clause-value
-returns-then-after_continuation-place-clause-value c =
-    name_later c.args.self.now.bytes c.args.start c.args.end c.args.offset c.requires.ordered c.requires.within
-    c.if-offset-end.false (grind (arith, common_steps))
-
-pub returns-in-Some-clause-value : goal.returns-in-Some-clause-value
-returns-in-Some-clause-value c =
-    grind (arith, common_steps, ap text_or_nothing c.in-Some.ensures.end.is)
-    ∙ name_in_range c.args.self.now.bytes c.args.start c.args.end c.args.offset c.requires.ordered c.requires.within
-    c.if-offset-end.false
 
 pub returns-in-None-clause-value : goal.returns-in-None-clause-value
 returns-in-None-clause-value c =

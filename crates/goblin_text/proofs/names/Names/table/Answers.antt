@@ -11,19 +11,6 @@ pub returns-in_err-start-clause-given : goal.returns-in_err-start-clause-given
 unfolding strtab_of
 returns-in_err-start-clause-given c = grind (arith, common_steps)
 
-pub returns-in_err-refuse_unless_text-clause-given : goal.returns-in_err-refuse_unless_text-clause-given
-returns-in_err-refuse_unless_text-clause-given c =
-    let bytes = c.args.self.now.bytes in
-    let table = slice_range bytes c.in_ok-start.start c.in_ok-start.end in
-    let size : length bytes ≡ c.len.result =
-    sym (c.len.ensures.value ∙ ap (λ names. length names.bytes) c.self.view_is) in
-    let stands : IsRange c.args.opts.now.parse_mode bytes c.args.offset c.args.size c.in_ok-start.start
-    c.in_ok-start.end =
-    grind (arith, common_steps, c.in_ok-start.ensures.ok bytes size) in
-    let is = table_is _ _ _ _ _ _ stands in
-    let strict = is_strict _ (λ p. both_ways _ c.if-not-is_permissive.true (c.is_permissive.ensures.1 p)) in
-    rw (is, strict) (grind (arith, common_steps))
-
 pub returns-clause-given : goal.returns-clause-given
 unfolding walked
 returns-clause-given c =

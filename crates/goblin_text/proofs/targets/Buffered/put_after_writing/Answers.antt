@@ -1,18 +1,8 @@
 -- The bytes come after those that the buffer had: these are written first, which empties the buffer, and then the bytes
 -- are written, or fill it.
 use Rattle.goblin_text.proofs.Common.{Keeps, held}
-use Rattle.goblin_text.proofs.TargetLemmas.{added, appends_kept, emptied}
+use Rattle.goblin_text.proofs.TargetLemmas.{added, emptied}
 use Rattle.goblin_text.proofs.targets.Buffered.put_after_writing.Goals as goal
-
-pub returns-then-bytes-gt-ROOM-clause-bytes : goal.returns-then-bytes-gt-ROOM-clause-bytes
-returns-then-bytes-gt-ROOM-clause-bytes g c =
-    let before = held (g.W.Sink.contents c.args.self.now.writer.now) c.args.self.now.room c.args.self.now.filled in
-    let between = g.W.Sink.contents c.pass_on.new.self.writer.now in
-    let after = g.W.Sink.contents c.write_all.new.self in
-    let room = c.pass_on.new.self.room in
-    let filled = c.pass_on.new.self.filled in
-    rw (emptied after room filled c.in_ok-pass_on.ensures.ok)
-    (appends_kept before between after c.args.bytes.now c.in_ok-pass_on.ensures.bytes c.in_ok-write_all.ensures.bytes)
 
 pub returns-clause-bytes : goal.returns-clause-bytes
 returns-clause-bytes g c =
