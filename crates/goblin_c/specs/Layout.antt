@@ -1,114 +1,17 @@
 -- One of each struct that calls share with C, with marks by which C can check the place of each field.
 use Rattle.std.specs.Prelude.{ℕ, ◌+◌, ◌-◌, ◌*◌, ◌/◌, ◌^◌, pos}
-use Rattle.goblin_c.specs.Common.{GoblinHeader, GoblinNote, GoblinRange, GoblinRefusal, GoblinReloc, GoblinSection}
-use Rattle.goblin_c.specs.Common.{GoblinSegment, GoblinSymbol}
-use Rattle.goblin_c.specs.declared.types.GoblinDyn.{GoblinDyn}
+use Rattle.goblin_c.specs.Common.{GoblinRange}
 use Rattle.goblin_c.specs.declared.layout.GoblinLayout.{GoblinLayout}
 
 -- the number of so many bytes, each of which is a mark
 abbrev pub each_byte : ℕ → ℕ → ℕ
 each_byte width mark = mark * ((256 ^ width - 1) / 255)
 
--- a refusal whose fields have the marks from 1 on
-abbrev pub refusal_marked : GoblinRefusal
-refusal_marked = record {
-  kind = each_byte 4 1;
-  item = each_byte 4 2;
-  first = each_byte 8 3;
-  second = each_byte 8 4;
-  third = each_byte 8 5;
-  fourth = each_byte 8 6;
-  offset = each_byte 8 7;
-}
-
 -- a range whose fields have a mark and the next one
 abbrev pub range_marked : ℕ → GoblinRange
 range_marked mark = record { offset = each_byte 8 mark; size = each_byte 8 (mark + 1) }
 
--- a header whose fields have the marks from 1 on
-abbrev pub header_marked : GoblinHeader
-header_marked = record {
-  e_entry = each_byte 8 1;
-  e_phoff = each_byte 8 2;
-  e_shoff = each_byte 8 3;
-  e_version = each_byte 4 4;
-  e_flags = each_byte 4 5;
-  e_type = each_byte 2 6;
-  e_machine = each_byte 2 7;
-  e_ehsize = each_byte 2 8;
-  e_phentsize = each_byte 2 9;
-  e_phnum = each_byte 2 10;
-  e_shentsize = each_byte 2 11;
-  e_shnum = each_byte 2 12;
-  e_shstrndx = each_byte 2 13;
-  ei_class = 14;
-  ei_data = 15;
-  ei_version = 16;
-  ei_osabi = 17;
-  ei_abiversion = 18;
-}
-
--- a section header whose fields have the marks from 1 on
-abbrev pub section_marked : GoblinSection
-section_marked = record {
-  file = range_marked 1;
-  sh_name = each_byte 8 3;
-  sh_flags = each_byte 8 4;
-  sh_addr = each_byte 8 5;
-  sh_addralign = each_byte 8 6;
-  sh_entsize = each_byte 8 7;
-  sh_type = each_byte 4 8;
-  sh_link = each_byte 4 9;
-  sh_info = each_byte 4 10;
-}
-
--- a program header whose fields have the marks from 1 on
-abbrev pub segment_marked : GoblinSegment
-segment_marked = record {
-  file = range_marked 1;
-  p_vaddr = each_byte 8 3;
-  p_paddr = each_byte 8 4;
-  p_memsz = each_byte 8 5;
-  p_align = each_byte 8 6;
-  p_type = each_byte 4 7;
-  p_flags = each_byte 4 8;
-}
-
--- a symbol whose fields have the marks from 1 on
-abbrev pub symbol_marked : GoblinSymbol
-symbol_marked = record {
-  st_name = each_byte 8 1;
-  st_value = each_byte 8 2;
-  st_size = each_byte 8 3;
-  st_shndx = each_byte 8 4;
-  st_info = 5;
-  st_other = 6;
-}
-
--- a relocation whose fields have the marks from 1 on
-abbrev pub reloc_marked : GoblinReloc
-reloc_marked = record {
-  r_offset = each_byte 8 1;
-  r_sym = each_byte 8 2;
-  r_addend = pos (each_byte 8 3);
-  r_type = each_byte 4 4;
-  has_addend = each_byte 4 5;
-}
-
--- a note whose fields have the marks from 1 on
-abbrev pub note_marked : GoblinNote
-note_marked = record {
-  name = range_marked 1;
-  desc = range_marked 3;
-  next = each_byte 8 5;
-  n_type = each_byte 4 6;
-}
-
--- an entry of the dynamic section whose fields have the marks 1 and 2
-abbrev pub dyn_marked : GoblinDyn
-dyn_marked = record { d_tag = each_byte 8 1; d_val = each_byte 8 2 }
-
--- the sizes, and one of each struct, whose fields are numbered from 1 on, those of a range in it too
+-- The sizes, and one of each struct, whose fields have the marks from 1 on, those of a range in it too.
 abbrev pub layout : GoblinLayout
 layout = record {
   size_of_refusal = 48;
@@ -120,13 +23,76 @@ layout = record {
   size_of_reloc = 32;
   size_of_note = 48;
   size_of_dyn = 16;
-  refusal = refusal_marked;
+  refusal = record {
+    kind = each_byte 4 1;
+    item = each_byte 4 2;
+    first = each_byte 8 3;
+    second = each_byte 8 4;
+    third = each_byte 8 5;
+    fourth = each_byte 8 6;
+    offset = each_byte 8 7;
+  };
   range = range_marked 1;
-  header = header_marked;
-  section = section_marked;
-  segment = segment_marked;
-  symbol = symbol_marked;
-  reloc = reloc_marked;
-  note = note_marked;
-  entry = dyn_marked;
+  header = record {
+    e_entry = each_byte 8 1;
+    e_phoff = each_byte 8 2;
+    e_shoff = each_byte 8 3;
+    e_version = each_byte 4 4;
+    e_flags = each_byte 4 5;
+    e_type = each_byte 2 6;
+    e_machine = each_byte 2 7;
+    e_ehsize = each_byte 2 8;
+    e_phentsize = each_byte 2 9;
+    e_phnum = each_byte 2 10;
+    e_shentsize = each_byte 2 11;
+    e_shnum = each_byte 2 12;
+    e_shstrndx = each_byte 2 13;
+    ei_class = 14;
+    ei_data = 15;
+    ei_version = 16;
+    ei_osabi = 17;
+    ei_abiversion = 18;
+  };
+  section = record {
+    file = range_marked 1;
+    sh_name = each_byte 8 3;
+    sh_flags = each_byte 8 4;
+    sh_addr = each_byte 8 5;
+    sh_addralign = each_byte 8 6;
+    sh_entsize = each_byte 8 7;
+    sh_type = each_byte 4 8;
+    sh_link = each_byte 4 9;
+    sh_info = each_byte 4 10;
+  };
+  segment = record {
+    file = range_marked 1;
+    p_vaddr = each_byte 8 3;
+    p_paddr = each_byte 8 4;
+    p_memsz = each_byte 8 5;
+    p_align = each_byte 8 6;
+    p_type = each_byte 4 7;
+    p_flags = each_byte 4 8;
+  };
+  symbol = record {
+    st_name = each_byte 8 1;
+    st_value = each_byte 8 2;
+    st_size = each_byte 8 3;
+    st_shndx = each_byte 8 4;
+    st_info = 5;
+    st_other = 6;
+  };
+  reloc = record {
+    r_offset = each_byte 8 1;
+    r_sym = each_byte 8 2;
+    r_addend = pos (each_byte 8 3);
+    r_type = each_byte 4 4;
+    has_addend = each_byte 4 5;
+  };
+  note = record {
+    name = range_marked 1;
+    desc = range_marked 3;
+    next = each_byte 8 5;
+    n_type = each_byte 4 6;
+  };
+  entry = record { d_tag = each_byte 8 1; d_val = each_byte 8 2 };
 }

@@ -1,6 +1,6 @@
 //! One of each struct that calls share with C, with numbers by which C can check the place of each field.
 ghost use Rattle.std.specs.Prelude.{◌≡◌, ◌<◌, ◌^◌};
-ghost use Rattle.goblin_c.specs.Layout.{dyn_marked, each_byte, header_marked, layout, note_marked, range_marked, refusal_marked, reloc_marked, section_marked, segment_marked, symbol_marked};
+ghost use Rattle.goblin_c.specs.Layout.{each_byte, layout, range_marked};
 
 use crate::types::{
     GoblinDyn, GoblinHeader, GoblinNote, GoblinRange, GoblinRefusal, GoblinReloc, GoblinSection,
@@ -46,15 +46,81 @@ pub fn marked_layout() -> GoblinLayout
         size_of_reloc: size_of::<GoblinReloc>() as u64,
         size_of_note: size_of::<GoblinNote>() as u64,
         size_of_dyn: size_of::<GoblinDyn>() as u64,
-        refusal: marked_refusal(),
+        refusal: GoblinRefusal {
+            kind: word(1),
+            item: word(2),
+            first: wide(3),
+            second: wide(4),
+            third: wide(5),
+            fourth: wide(6),
+            offset: wide(7),
+        },
         range: marked_range(1),
-        header: marked_header(),
-        section: marked_section(),
-        segment: marked_segment(),
-        symbol: marked_symbol(),
-        reloc: marked_reloc(),
-        note: marked_note(),
-        entry: marked_dyn(),
+        header: GoblinHeader {
+            e_entry: wide(1),
+            e_phoff: wide(2),
+            e_shoff: wide(3),
+            e_version: word(4),
+            e_flags: word(5),
+            e_type: half(6),
+            e_machine: half(7),
+            e_ehsize: half(8),
+            e_phentsize: half(9),
+            e_phnum: half(10),
+            e_shentsize: half(11),
+            e_shnum: half(12),
+            e_shstrndx: half(13),
+            ei_class: 14,
+            ei_data: 15,
+            ei_version: 16,
+            ei_osabi: 17,
+            ei_abiversion: 18,
+        },
+        section: GoblinSection {
+            file: marked_range(1),
+            sh_name: wide(3),
+            sh_flags: wide(4),
+            sh_addr: wide(5),
+            sh_addralign: wide(6),
+            sh_entsize: wide(7),
+            sh_type: word(8),
+            sh_link: word(9),
+            sh_info: word(10),
+        },
+        segment: GoblinSegment {
+            file: marked_range(1),
+            p_vaddr: wide(3),
+            p_paddr: wide(4),
+            p_memsz: wide(5),
+            p_align: wide(6),
+            p_type: word(7),
+            p_flags: word(8),
+        },
+        symbol: GoblinSymbol {
+            st_name: wide(1),
+            st_value: wide(2),
+            st_size: wide(3),
+            st_shndx: wide(4),
+            st_info: 5,
+            st_other: 6,
+        },
+        reloc: GoblinReloc {
+            r_offset: wide(1),
+            r_sym: wide(2),
+            r_addend: wide(3) as i64,
+            r_type: word(4),
+            has_addend: word(5),
+        },
+        note: GoblinNote {
+            name: marked_range(1),
+            desc: marked_range(3),
+            next: wide(5),
+            n_type: word(6),
+        },
+        entry: GoblinDyn {
+            d_tag: wide(1),
+            d_val: wide(2),
+        },
     }
 }
 
@@ -66,21 +132,6 @@ pub extern "C" fn goblin_layout(marks: &mut GoblinLayout)
     *marks = marked_layout();
 }
 
-// Returns a refusal whose fields have the marks from 1 on.
-fn marked_refusal() -> GoblinRefusal
-    ensures { result ≡ refusal_marked }
-{
-    GoblinRefusal {
-        kind: word(1),
-        item: word(2),
-        first: wide(3),
-        second: wide(4),
-        third: wide(5),
-        fourth: wide(6),
-        offset: wide(7),
-    }
-}
-
 // Returns a range whose fields have a mark and the next one.
 fn marked_range(mark: u8) -> GoblinRange
     requires { mark < 2 ^ 7 }
@@ -89,113 +140,6 @@ fn marked_range(mark: u8) -> GoblinRange
     GoblinRange {
         offset: wide(mark),
         size: wide(mark + 1),
-    }
-}
-
-// Returns a header whose fields have the marks from 1 on.
-fn marked_header() -> GoblinHeader
-    ensures { result ≡ header_marked }
-{
-    GoblinHeader {
-        e_entry: wide(1),
-        e_phoff: wide(2),
-        e_shoff: wide(3),
-        e_version: word(4),
-        e_flags: word(5),
-        e_type: half(6),
-        e_machine: half(7),
-        e_ehsize: half(8),
-        e_phentsize: half(9),
-        e_phnum: half(10),
-        e_shentsize: half(11),
-        e_shnum: half(12),
-        e_shstrndx: half(13),
-        ei_class: 14,
-        ei_data: 15,
-        ei_version: 16,
-        ei_osabi: 17,
-        ei_abiversion: 18,
-    }
-}
-
-// Returns a section header whose fields have the marks from 1 on.
-fn marked_section() -> GoblinSection
-    ensures { result ≡ section_marked }
-{
-    GoblinSection {
-        file: marked_range(1),
-        sh_name: wide(3),
-        sh_flags: wide(4),
-        sh_addr: wide(5),
-        sh_addralign: wide(6),
-        sh_entsize: wide(7),
-        sh_type: word(8),
-        sh_link: word(9),
-        sh_info: word(10),
-    }
-}
-
-// Returns a program header whose fields have the marks from 1 on.
-fn marked_segment() -> GoblinSegment
-    ensures { result ≡ segment_marked }
-{
-    GoblinSegment {
-        file: marked_range(1),
-        p_vaddr: wide(3),
-        p_paddr: wide(4),
-        p_memsz: wide(5),
-        p_align: wide(6),
-        p_type: word(7),
-        p_flags: word(8),
-    }
-}
-
-// Returns a symbol whose fields have the marks from 1 on.
-fn marked_symbol() -> GoblinSymbol
-    ensures { result ≡ symbol_marked }
-{
-    GoblinSymbol {
-        st_name: wide(1),
-        st_value: wide(2),
-        st_size: wide(3),
-        st_shndx: wide(4),
-        st_info: 5,
-        st_other: 6,
-    }
-}
-
-// Returns a relocation whose fields have the marks from 1 on.
-fn marked_reloc() -> GoblinReloc
-    ensures { result ≡ reloc_marked }
-{
-    GoblinReloc {
-        r_offset: wide(1),
-        r_sym: wide(2),
-        r_addend: wide(3) as i64,
-        r_type: word(4),
-        has_addend: word(5),
-    }
-}
-
-// Returns a note whose fields have the marks from 1 on.
-fn marked_note() -> GoblinNote
-    ensures { result ≡ note_marked }
-{
-    GoblinNote {
-        name: marked_range(1),
-        desc: marked_range(3),
-        next: wide(5),
-        n_type: word(6),
-    }
-}
-
-// Returns an entry of the dynamic section whose fields have the marks 1 and 2.
-fn marked_dyn() -> GoblinDyn
-    ensures { result ≡ dyn_marked }
-{
-    GoblinDyn {
-        d_tag: wide(1),
-        d_val: wide(2),
     }
 }
 
