@@ -1,13 +1,12 @@
 //! Which value of a record doesn't fit its field, and where the field lies.
 ghost use Rattle.std.specs.Prelude.{◌≡◌, ◌≤◌, ◌<◌, ◌+◌, ◌*◌, ◌^◌, All, IsTrue, length, map};
 ghost use Rattle.goblin_base.specs.Fields.{field};
-ghost use Rattle.goblin_base.specs.Layout.{word_size};
 ghost use Rattle.goblin_c.specs.Bytes.{is_width};
 ghost use Rattle.goblin_c.specs.Write.{header_misfit, misfit_from, reloc_misfit, section_misfit, segment_misfit, symbol_misfit, unfit};
 
 use crate::types::{GoblinRefusal, GoblinReloc};
 use crate::write::number_fits;
-use goblin::container::Container;
+use goblin::container::{Container, Ctx};
 use goblin::elf::header::Header;
 use goblin::elf::program_header::ProgramHeader;
 use goblin::elf::section_header::SectionHeader;
@@ -60,21 +59,11 @@ fn first_misfit(start: u8, fields: &[(u8, u64)]) -> Misfit
     Misfit { value: 0, offset }
 }
 
-// Returns the size of an address in bytes.
-fn word_size(class: Container) -> u8
-    ensures { result ≡ word_size class }
-{
-    match class {
-        Container::Little => 4,
-        Container::Big => 8,
-    }
-}
-
 /// Returns the first value of a section header that doesn't fit its field in a class.
 pub fn section_misfit(s: &SectionHeader, class: Container) -> Misfit
     ensures { result ≡ section_misfit class s.now }
 {
-    let word = word_size(class);
+    let word = Ctx::from(class).size() as u8;
     first_misfit(
         0,
         &[
@@ -96,35 +85,18 @@ pub fn section_misfit(s: &SectionHeader, class: Container) -> Misfit
 pub fn segment_misfit(s: &ProgramHeader, class: Container) -> Misfit
     ensures { result ≡ segment_misfit class s.now }
 {
+    let word = Ctx::from(class).size() as u8;
     let (kind, flags) = ((4, u64::from(s.p_type)), (4, u64::from(s.p_flags)));
-    let [offset, vaddr, paddr] = [s.p_offset, s.p_vaddr, s.p_paddr];
-    let [filesz, memsz, align] = [s.p_filesz, s.p_memsz, s.p_align];
+    let [offset, vaddr, paddr] = [(word, s.p_offset), (word, s.p_vaddr), (word, s.p_paddr)];
+    let [filesz, memsz, align] = [(word, s.p_filesz), (word, s.p_memsz), (word, s.p_align)];
     match class {
         Container::Little => first_misfit(
             0,
-            &[
-                kind,
-                (4, offset),
-                (4, vaddr),
-                (4, paddr),
-                (4, filesz),
-                (4, memsz),
-                flags,
-                (4, align),
-            ],
+            &[kind, offset, vaddr, paddr, filesz, memsz, flags, align],
         ),
         Container::Big => first_misfit(
             0,
-            &[
-                kind,
-                flags,
-                (8, offset),
-                (8, vaddr),
-                (8, paddr),
-                (8, filesz),
-                (8, memsz),
-                (8, align),
-            ],
+            &[kind, flags, offset, vaddr, paddr, filesz, memsz, align],
         ),
     }
 }
@@ -152,7 +124,7 @@ pub fn symbol_misfit(s: &Sym, class: Container) -> Misfit
 pub fn header_misfit(h: &Header, class: Container) -> Misfit
     ensures { result ≡ header_misfit class h.now }
 {
-    let word = word_size(class);
+    let word = Ctx::from(class).size() as u8;
     first_misfit(
         16,
         &[
