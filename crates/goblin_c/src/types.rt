@@ -128,24 +128,12 @@ pub(crate) fn header_of(bytes: &[u8], own: &GoblinHeader) -> Header
     requires { 16 ≤ length bytes.now }
     ensures { result ≡ header_of bytes.now own.now }
 {
+    let [class, data, version] = [own.ei_class, own.ei_data, own.ei_version];
+    let [osabi, abiversion] = [own.ei_osabi, own.ei_abiversion];
     Header {
         e_ident: [
-            0x7f,
-            b'E',
-            b'L',
-            b'F',
-            own.ei_class,
-            own.ei_data,
-            own.ei_version,
-            own.ei_osabi,
-            own.ei_abiversion,
-            bytes[9],
-            bytes[10],
-            bytes[11],
-            bytes[12],
-            bytes[13],
-            bytes[14],
-            bytes[15],
+            0x7f, b'E', b'L', b'F', class, data, version, osabi, abiversion, bytes[9], bytes[10],
+            bytes[11], bytes[12], bytes[13], bytes[14], bytes[15],
         ],
         e_type: own.e_type,
         e_machine: own.e_machine,
