@@ -5,6 +5,7 @@ ghost use Rattle.goblin_c.specs.WriteLaws.{CountsStay, HeadersAreRead, NumbersAr
 /// what the call that reads stores at this index then, if the list has as many items as before: in a file of the same
 /// length a range has as many symbols and relocations. Only the bytes of the record change. An item that a call stores
 /// changes no byte if it is put at its index, and a section header, a program header and a symbol fit then.
+#[tactic(auto, using(crate::proofs::PutLemmas::put_laws))]
 pub fn puts()
     ensures there { PutsAreRead }
     ensures one { PutsChangeOne }
@@ -15,17 +16,20 @@ pub fn puts()
 /// Laws: a number that `goblin_put_number` puts is what `goblin_number` stores then, and no other byte changes. A
 /// number that `goblin_number` stores fits, and changes no byte where it is put. Where `goblin_number_in` stores a
 /// number of a range, `goblin_put_number_in` puts one as `goblin_put_number` does at its offset in the file.
+#[tactic(auto, using(crate::proofs::NumberLemmas::number_laws))]
 pub fn numbers()
     ensures file { NumbersArePut }
     ensures ranges { NumbersInRangesArePut }
 {}
 
 /// Law: a header that `goblin_put_header` puts is what `goblin_header` stores then.
+#[tactic(auto, using(crate::proofs::HeaderPutLemmas::headers_are_read))]
 pub fn headers()
     ensures { HeadersAreRead }
 {}
 
 /// Law: an item or a number that doesn't fit is refused with the kind 24 at the offset at which it would be put.
+#[tactic(auto, using(crate::proofs::PutLemmas::unfit_are_refused))]
 pub fn refusals()
     ensures { UnfitAreRefused }
 {}
