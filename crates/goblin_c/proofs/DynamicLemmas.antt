@@ -1,19 +1,28 @@
 -- The entries of the dynamic section from an index on, before the one that ends them.
 --
--- The first of them is the entry at the index, if that does not end them (`first_entry`). So an entry that is read at a
--- later index is the one at its place among them, if they do not end before it (`entry_at`).
+-- The first of them is the entry at the index, if that does not end them (`first_entry`). If the entries do not end
+-- before an index, those from there on are what is left of them (`left`). So an entry that is read at a later index is
+-- the one at its place among them (`entry_at`). A range that is found lies in the file, because it is found after the
+-- test of room for it (`lies`).
 use Rattle.goblin_c.proofs.Common.{◌≡◌, ◌≤◌, ◌+◌, ◌-◌, ◌==◌, ℕ, zero, suc, List, [], ◌∷◌, length, drop, slice_get, refl}
-use Rattle.goblin_c.proofs.Common.{sym, ap, ◌∙◌, arith, nat_tests, drop-drop, length-drop, length-map, if◌then◌else◌}
-use Rattle.goblin_c.proofs.Common.{Option, Some, None}
+use Rattle.goblin_c.proofs.Common.{arith, nat_tests, drop-drop, length-drop, length-map, if◌then◌else◌, map, Option}
+use Rattle.goblin_c.proofs.Common.{Some, None, Result, Ok, Error, refusal_of, refused_at, refuse_as, ◌>>=◌, GoblinRange}
+use Rattle.goblin_c.proofs.Common.{slice_get-map}
 use Rattle.std.proofs.Common.{not}
 use Rattle.std.proofs.lemmas.List.Folds.{length-prefix_len}
 use Rattle.std.proofs.lemmas.List.Sums.{prefix_len-le-length, take_while-cons}
-use Rattle.std.specs.List.{take_while}
 use Rattle.std.specs.Option.{option_and_then}
+use Rattle.goblin_dynamic.specs.Dynamic.{entries_up_to_null, whole_entries_in}
+use Rattle.goblin_dynamic.specs.declared.dynamic.FileRange.{FileRange}
 use Rattle.goblin_dynamic.specs.declared.entry.Dyn.{Dyn}
-use Rattle.goblin_c.specs.Dynamic.{entries_from}
+use Rattle.goblin_c.specs.Dynamic.{entries_from, file_range_of, range_in_file, unless_empty}
+use Rattle.goblin_c.specs.DynamicLaws.{DynamicLiesInFile, EntriesAreListed}
+use Rattle.goblin_c.specs.Expected.{ctx_of}
+use Rattle.goblin_c.specs.Laws.{LiesIn}
 use Rattle.goblin_c.specs.Types.{dyn_converted}
 use Rattle.goblin_c.specs.declared.types.GoblinDyn.{GoblinDyn}
+use Rattle.goblin_c.proofs.IndexLemmas.{get_drop}
+use Rattle.goblin_c.proofs.PlaceLemmas.{range_lies}
 
 -- an entry for C, unless it ends the entries
 abbrev pub unless_end : Dyn → Option GoblinDyn
@@ -26,29 +35,49 @@ first_entry (d ∷ rest) zero = grind (arith, nat_tests, take_while-cons (λ (e 
 first_entry [] (suc i) = refl
 first_entry (d ∷ rest) (suc i) = first_entry rest i
 
-up_to : (i : ℕ) (rest : List Dyn)
-    → i ≤ length (entries_from rest 0) → slice_get (entries_from rest i) 0 ≡ slice_get (entries_from rest 0) i
-up_to zero rest h = refl
-up_to (suc i) [] h = absurd (omega arith)
-up_to (suc i) (d ∷ rest) h =
-    grind (arith, nat_tests, take_while-cons (λ (e : Dyn). not (e.d_tag == 0)) d rest, up_to i rest)
+left : (first : ℕ) (all : List Dyn)
+    → first ≤ length (entries_up_to_null all)
+    → entries_up_to_null (drop first all) ≡ drop first (entries_up_to_null all)
+left zero all h = refl
+left (suc i) [] h = refl
+left (suc i) (d ∷ rest) h =
+    grind (arith, nat_tests, take_while-cons (λ (e : Dyn). not (e.d_tag == 0)) d rest, left i rest)
 
 pub entry_at : (all : List Dyn) (first i : ℕ)
     → i ≤ length (entries_from all first)
     → slice_get (entries_from all (first + i)) 0 ≡ slice_get (entries_from all first) i
 entry_at all first i within =
-    ap (λ (rest : List Dyn). slice_get (entries_from rest 0) 0) (sym (drop-drop i first all))
-    ∙ up_to i (drop first all) within
+    let entries = entries_up_to_null (drop first all) in
+    rw (← drop-drop i first all, left i (drop first all) (omega (arith, length-map entries dyn_converted)))
+    (grind (arith, slice_get-map, get_drop entries i 0))
 
 -- they are no more than the list has from there on
 pub few_entries : (all : List Dyn) (first : ℕ) → length (entries_from all first) ≤ length all - first
 few_entries all first =
     let test = λ (d : Dyn). not (d.d_tag == 0) in
     let rest = drop first all in
-    omega (
-      arith,
-      length-map (take_while test rest) dyn_converted,
-      length-prefix_len test rest,
-      prefix_len-le-length test rest,
-      length-drop first all,
-    )
+    rw (length-map (entries_up_to_null rest) dyn_converted, length-prefix_len test rest, ← length-drop first all)
+    (prefix_len-le-length test rest)
+
+listed : (all : Result (List Dyn) Error) (offset first : ℕ) (entries : List Dyn)
+    → refused_at offset (refuse_as refusal_of (all >>= λ whole. Ok (entries_up_to_null whole))) ≡ Ok entries
+    → first ≤ length entries
+    → (refused_at offset (refuse_as refusal_of all) >>= λ whole. Ok (unless_empty (entries_from whole first)))
+    ≡ Ok (unless_empty (map dyn_converted (drop first entries)))
+listed all offset first entries is within = grind (arith, left)
+
+pub entries_are_listed : EntriesAreListed
+entries_are_listed bytes h range first entries is within =
+    listed (whole_entries_in bytes (file_range_of range) (ctx_of h)) range.offset first entries is within
+
+lies : (bytes : List ℕ) (range : Option FileRange) (found : GoblinRange)
+    → range_in_file bytes range ≡ Ok (Some found) → LiesIn bytes found
+lies bytes range found is = grind (arith, range_lies)
+
+pub dynamic_lies_in_file : DynamicLiesInFile
+dynamic_lies_in_file = record {
+  dynamic = λ bytes h found is. grind (arith, lies);
+  strings = λ bytes h range found is. grind (arith, lies);
+}
+
+pub ruleset dynamic_laws = (entries_are_listed, dynamic_lies_in_file)

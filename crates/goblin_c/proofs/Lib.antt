@@ -5,7 +5,6 @@ pub mod NumberLemmas
 pub mod OffsetLemmas
 pub mod ClosedLemmas
 pub mod CompareLemmas
-pub mod DynamicLawLemmas
 pub mod DynamicLemmas
 pub mod EachLemmas
 pub mod HeaderPutLemmas

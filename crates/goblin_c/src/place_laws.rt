@@ -28,6 +28,7 @@ pub fn parts()
 /// Laws: the entries that `goblin_dynamic_entries` stores from an index on are those that are left there of the
 /// library's list, in which `goblin_dynamic_value` searches, if the list does not end before the index. The ranges that
 /// `goblin_dynamic` and `goblin_dynamic_strings` store lie in the file.
+#[tactic(auto, using(crate::proofs::DynamicLemmas::dynamic_laws))]
 pub fn dynamic()
     ensures entries { EntriesAreListed }
     ensures within { DynamicLiesInFile }
