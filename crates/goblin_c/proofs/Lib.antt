@@ -16,9 +16,7 @@ pub mod PlaceLemmas
 pub mod SearchLemmas
 pub mod PutLemmas
 pub mod ReadLemmas
-pub mod StepLemmas
 pub mod StringLemmas
 pub mod TextLemmas
 pub mod WholeLemmas
-pub mod WindowLemmas
 pub mod WriteLemmas

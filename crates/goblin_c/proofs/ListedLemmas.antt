@@ -4,11 +4,11 @@
 -- The record with an index is then the one that its own bytes are read as (`listed_at`).
 use Rattle.goblin_c.proofs.Common.{found_within, ◌≡◌, ◌≤◌, ◌<◌, ◌+◌, ◌-◌, ◌*◌, ◌/◌, ◌^◌, ◌==◌, ℕ, zero, suc, Bool, true}
 use Rattle.goblin_c.proofs.Common.{false, nat_le, nat_lt, List, [], length, take, drop, max, slice_get, Some, None}
-use Rattle.goblin_c.proofs.Common.{Result, Ok, Err, if◌then◌else◌, codes, refl, arith, mul-le-mul_right}
-use Rattle.goblin_c.proofs.Common.{nat_tests, drop-drop, Ctx, fits-room_of, Refusal, buffer_too_short, misplaced}
-use Rattle.goblin_c.proofs.Common.{refusal_of, refused_at, room_of, ◌>>=◌, refuse_as, refuse_if, records, no_records}
-use Rattle.goblin_c.proofs.Common.{get_records, past_records, section_header_of, section_header_size}
-use Rattle.goblin_c.proofs.Common.{section_headers_of, sym_of, sym_size, SectionHeader, Sym}
+use Rattle.goblin_c.proofs.Common.{Result, Ok, Err, if◌then◌else◌, codes, refl, arith, mul-le-mul_right, nat_tests}
+use Rattle.goblin_c.proofs.Common.{drop-drop, Ctx, fits-room_of, Refusal, buffer_too_short, misplaced, refusal_of}
+use Rattle.goblin_c.proofs.Common.{refused_at, room_of, ◌>>=◌, refuse_as, refuse_if, records, no_records, get_records}
+use Rattle.goblin_c.proofs.Common.{past_records, section_header_of, section_header_size, section_headers_of, sym_of}
+use Rattle.goblin_c.proofs.Common.{sym_size, SectionHeader, Sym}
 use Rattle.goblin_base.specs.Eager.{records_from, records_in, room_of_each}
 use Rattle.goblin.specs.SectionHeaders.{count_asked, section_headers_from, section_headers_from_tested}
 use Rattle.goblin.specs.Symtab.{symtab_of}
@@ -21,6 +21,12 @@ bind_ok first next y is = grind (arith, nat_tests)
 pub refused_at_ok : {A : Type 0} (offset : ℕ) (answer : Result A Refusal) (y : A)
     → refused_at offset answer ≡ Ok y → answer ≡ Ok y
 refused_at_ok offset answer y is = grind (arith, nat_tests)
+
+-- an item for C was read, and is this item converted
+pub one_converted : {X Y : Type 0} (past : Bool) (offset : ℕ) (answer : Result X Refusal) (convert : X → Y) (found : Y)
+    → (if past then Ok None else (refused_at offset answer >>= λ x. Ok (Some (convert x)))) ≡ Ok (Some found)
+    → (x : X) × (past ≡ false) × (answer ≡ Ok x) × (found ≡ convert x)
+one_converted past offset answer convert found is = grind arith
 
 -- records that pass the test of room one by one lie in the bytes
 pub each_fits : (len start size count : ℕ) (u : Unit {0})

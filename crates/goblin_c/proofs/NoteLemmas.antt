@@ -6,20 +6,21 @@
 use Rattle.goblin_c.proofs.Common.{◌≡◌, ◌+◌, ◌-◌, ◌<◌, ◌≤◌, ℕ, zero, suc, Bool, false, nat_le, if◌then◌else◌, List, []}
 use Rattle.goblin_c.proofs.Common.{length, take, drop, Option, Some, None, Result, Ok, refl, sym, ap, ◌∙◌, arith}
 use Rattle.goblin_c.proofs.Common.{leb-false, drop-take, take-nil, Ctx, Refusal, ◌>>=◌, RefusalAt, refused_at}
-use Rattle.goblin_c.proofs.Common.{GoblinHeader, GoblinRange, ctx_of, note_converted, nat_tests, ◌==◌}
+use Rattle.goblin_c.proofs.Common.{GoblinHeader, GoblinRange, ctx_of, note_converted, nat_tests, ◌==◌, drop_all}
+use Rattle.goblin_c.proofs.Common.{length-drop, length-take, take_all}
 use Rattle.std.proofs.Math.Seq.{drop-drop}
 use Rattle.goblin.specs.declared.elf.note.NotePlaces.{NotePlaces}
 use Rattle.goblin.specs.Nhdr.{nhdr32_of}
 use Rattle.goblin.specs.Note.{NoteParts, note_there, places_at, note_at, note_items, item_and_rest, read_places}
 use Rattle.goblin.proofs.NoteLemmas.{places_at-before}
-use Rattle.goblin_base.specs.declared.container.Endian.TheVariants as endian
 use Rattle.std.proofs.lemmas.Bool.{lt-leb}
 use Rattle.goblin.specs.NoteLaws.{at_ok, note_by_note, places_lie_within, whole_is_note}
 use Rattle.goblin_c.specs.declared.types.GoblinNote.{GoblinNote}
 use Rattle.goblin_c.specs.Notes.{bytes_from, note_expected}
-use Rattle.goblin_c.specs.Laws.{NotesAreItems, NotesInARow, NotesLieInFile, items_reported, note_in}
-use Rattle.goblin_c.specs.Laws.{WholeNotesAreNotes, notes_reported}
-use Rattle.goblin_c.proofs.StepLemmas.{one_converted}
+use Rattle.goblin_c.specs.Laws.{NotesAreItems, NotesInARow, NotesLieInFile, items_reported, note_in, WholeNotesAreNotes}
+use Rattle.goblin_c.specs.Laws.{notes_reported}
+use Rattle.goblin_c.proofs.ListedLemmas.{one_converted}
+use Rattle.goblin_base.specs.declared.container.Endian.TheVariants as endian
 
 -- the note that a file has at the ranges of a stored one is the one that its bytes from the offset on have at theirs
 note_same : (bytes : List ℕ) (offset : ℕ) (places : NotePlaces)
@@ -121,3 +122,5 @@ usual_note_is bytes h range alignment offset places other there before is =
     rw (past, places_at-before bytes offset (alignment, ctx_of h) there, test, is) refl
 
 pub ruleset note_laws = (notes_are_items, notes_in_a_row, notes_lie_in_file, whole_notes_are_notes)
+
+pub ruleset windows = (drop_all, length-drop, length-take, take_all)

@@ -16,7 +16,7 @@ use Rattle.goblin_base.specs.Strtab.{has_name, plain, range_in}
 use Rattle.goblin_c.specs.Laws.{IsNameAt, RefusesEither, SectionsByName, FindsItemFrom}
 use Rattle.goblin_c.specs.Laws.{StringsAreThere, SymbolsByName, bytes_in}
 use Rattle.goblin_c.proofs.SearchLemmas.{first_found}
-use Rattle.goblin_c.proofs.StepLemmas.{one_converted}
+use Rattle.goblin_c.proofs.ListedLemmas.{one_converted}
 
 -- the strings of a range are its bytes, and lie in the file
 pub in_range : (bytes : List ℕ) (range : GoblinRange) (found : List ℕ)

@@ -65,7 +65,7 @@ fn store_any_note(
 }
 
 // Returns the bytes up to the end of a range.
-#[tactic(auto, using(crate::proofs::WindowLemmas::windows))]
+#[tactic(auto, using(crate::proofs::NoteLemmas::windows))]
 fn bytes_up_to<'a>(bytes: &'a [u8], range: &GoblinRange) -> &'a [u8]
     ensures { result.now ≡ take (range.now.offset + range.now.size) bytes.now }
 {
@@ -76,7 +76,7 @@ fn bytes_up_to<'a>(bytes: &'a [u8], range: &GoblinRange) -> &'a [u8]
 }
 
 // Returns the bytes of a range from an offset of the file on.
-#[tactic(auto, using(crate::proofs::WindowLemmas::windows))]
+#[tactic(auto, using(crate::proofs::NoteLemmas::windows))]
 fn bytes_from<'a>(bytes: &'a [u8], range: &GoblinRange, offset: u64) -> &'a [u8]
     ensures value { result.now ≡ bytes_from bytes.now range.now offset }
     ensures fits { length result.now ≤ length bytes.now - offset }
