@@ -3,45 +3,33 @@
 -- A header names one context, so the context that C hands back is the one that is asked for (`one_context`). The item
 -- for C at an index is the one that the library's item at that index is converted to (`listed`).
 use Rattle.goblin_c.proofs.Common.{◌≡◌, ◌+◌, ◌<◌, ◌≤◌, ◌==◌, ℕ, zero, suc, Bool, true, false, nat_le, if◌then◌else◌}
-use Rattle.goblin_c.proofs.Common.{List, [], ◌∷◌, length, drop, slice_get, slice_index, Option, Some, None, Result, Ok}
-use Rattle.goblin_c.proofs.Common.{Err, refl, ap, ◌∙◌, arith, leb-false, leb-true, nat_tests, length-drop, length-map}
-use Rattle.goblin_c.proofs.Common.{slice_get-map, slice_get_past, option_map, Container, Ctx, Endian, ◌>>=◌, Header}
-use Rattle.goblin_c.proofs.Common.{SectionHeader, RefusalAt, GoblinSection, was_read, count_of, ctx_of, each_converted}
-use Rattle.goblin_c.proofs.Common.{item_at, items_from, relocs_expected, relocs_converted, sections_expected}
-use Rattle.goblin_c.proofs.Common.{sections_converted, segments_expected, symbols_expected, header_converted}
-use Rattle.goblin_c.proofs.Common.{reloc_converted, section_converted, segment_converted, segments_converted}
-use Rattle.goblin_c.proofs.Common.{symbol_converted, symbols_converted, table_at}
-use Rattle.goblin.specs.Header.{class_named, order_named}
+use Rattle.goblin_c.proofs.Common.{List, [], ◌∷◌, length, drop, slice_get, Option, Some, None, Result, Ok, Err, refl}
+use Rattle.goblin_c.proofs.Common.{ap, ◌∙◌, arith, leb-false, leb-true, nat_tests, length-drop, length-map}
+use Rattle.goblin_c.proofs.Common.{slice_get-map, slice_get_past, option_map, Ctx, ◌>>=◌, Header, SectionHeader}
+use Rattle.goblin_c.proofs.Common.{RefusalAt, GoblinSection, was_read, count_of, ctx_of, each_converted, item_at}
+use Rattle.goblin_c.proofs.Common.{items_from, relocs_expected, relocs_converted, sections_expected, sections_converted}
+use Rattle.goblin_c.proofs.Common.{segments_expected, symbols_expected, header_converted, reloc_converted}
+use Rattle.goblin_c.proofs.Common.{section_converted, segment_converted, segments_converted, symbol_converted}
+use Rattle.goblin_c.proofs.Common.{symbols_converted, table_at}
 use Rattle.goblin.specs.SectionHeaders.{link_of, linked, names_index}
 use Rattle.goblin_c.specs.Laws.{ContextIsTheHeaders, FilledByIndex, GivenFrom, HasHeader, NamesByIndex, NamesContext}
 use Rattle.goblin_c.specs.Laws.{RelocsByIndex, SectionsByIndex, SegmentsByIndex, SymbolsByIndex, TablesByIndex}
 use Rattle.goblin_c.specs.Laws.{ReturnsCount, ReturnsEach, table_converted, section_if_table}
 
--- the class and the byte order of a file's header
-named : (bytes : List ℕ) (h : Header)
-    → HasHeader bytes h
-    → (class : Container) × (order : Endian) × (class_named (slice_index h.e_ident 4) ≡ Some class)
-    × (order_named (slice_index h.e_ident 5) ≡ Some order)
-named bytes h has =
-    let was = was_read bytes h has.0 has.1 in
-    (was.class, was.from.order, was.names.named, was.names.names_order.named)
-
 -- the context of what C hands back is the one that the header names
-context : (bytes : List ℕ) (h : Header) → HasHeader bytes h → NamesContext h (ctx_of (header_converted h))
-context bytes h has =
-    let names = named bytes h has in
-    (grind (arith, nat_tests, names.2), grind (arith, nat_tests, names.3))
-
 pub context_is_the_headers : ContextIsTheHeaders
 context_is_the_headers bytes h has =
-    let names = named bytes h has in
-    (context bytes h has, grind (arith, nat_tests, names.2, names.3))
+    let was = was_read bytes h has.0 has.1 in
+    let order_is = was.names.names_order.named in (
+      (grind (arith, nat_tests, was.names.named), grind (arith, nat_tests, order_is)),
+      grind (arith, nat_tests, was.names.named, order_is),
+    )
 
 -- a header names one context
 one_context : (bytes : List ℕ) (h : Header) (ctx : Ctx)
     → HasHeader bytes h → NamesContext h ctx → ctx_of (header_converted h) ≡ ctx
 one_context bytes h ctx has named =
-    let own = context bytes h has in
+    let own = (context_is_the_headers bytes h has).0 in
     let handed = ctx_of (header_converted h) in
     let classes : handed.container ≡ ctx.container = cc in
     let orders : handed.le ≡ ctx.le = cc in
