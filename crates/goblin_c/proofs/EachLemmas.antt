@@ -9,7 +9,7 @@ use Rattle.goblin_c.proofs.Common.{set, drop-drop, drop-set-lt, get_or-take, len
 use Rattle.goblin_c.proofs.Common.{take_more, take_more_set, get_or_from_slice_get, slice_get-get_or, slice_get-map}
 use Rattle.goblin_c.proofs.Common.{slice_get_past, slice_get_within, RefusalAt, FillsEach, StopsAt}
 use Rattle.goblin_c.proofs.Common.{GoblinRefusal, Stores}
-use Rattle.goblin_c.proofs.TextLemmas.{kinds-are-above-one}
+use Rattle.goblin_c.proofs.TextLemmas.{kinds_are_above_one}
 
 -- one item more
 pub each-step : {X Y : Type 0} (wrap : X → Y) (results : List Y) (now : List X) (i : ℕ) (x : X)
@@ -45,7 +45,7 @@ none_left f n xs i past =
 pub stored_item : {X : Type 0} (expected : Result (Option X) RefusalAt) (old x : X) (was why : GoblinRefusal)
     (status : ℕ)
     → Stores expected old was status x why → status ≡ 0 → (expected ≡ Ok (Some x)) × (why ≡ was)
-stored_item expected old x was why status h ok = grind (arith, kinds-are-above-one)
+stored_item expected old x was why status h ok = grind (arith, kinds_are_above_one)
 
 module _ {X Y : Type 0} (f : Y → Result (Option X) RefusalAt) (n : ℕ) (xs : List Y) (old : List X) (was : GoblinRefusal)
     (status : ℕ) (new : List X) (filled : ℕ) (why : GoblinRefusal) where

@@ -39,8 +39,8 @@ pub long-part : (text more part : List ℕ) (n len : ℕ)
     → more ≡ text ++ part → len ≡ length text → n ≡ len + length part → n ≡ length more
 long-part text more part n len is long sum = omega (arith, ap length is, length-append text part)
 
-pub kinds-are-above-one : KindsAreAboveOne
-kinds-are-above-one refusal = grind arith
+pub kinds_are_above_one : KindsAreAboveOne
+kinds_are_above_one refusal = grind arith
 
 -- the text of a refusal has no item: for C the item of a whole note's refusal is the part
 abbrev Itemless : Refusal → Type 0

@@ -1,13 +1,13 @@
 -- Each refusal of each call has the library's text when it is converted for C.
-use Rattle.std.proofs.Common.{◌≡◌, ◌⊎◌, ◌+◌, ℕ, zero, suc, Bool, List, codes, Option, Some, None, Result, Ok}
-use Rattle.std.proofs.Common.{Err, inl, inr, refl, arith}
+use Rattle.std.proofs.Common.{◌≡◌, ◌⊎◌, ◌+◌, ℕ, zero, suc, Bool, List, codes, Option, Some, None, Result, Ok, Err, inl}
+use Rattle.std.proofs.Common.{inr, refl, arith}
 use Rattle.std.specs.Bool.{⊤}
 use Rattle.goblin_base.specs.declared.container.Container.TheVariants.{Little, Big}
 use Rattle.goblin_c.specs.Common.{Ctx, DataType, IntegerFit, Layout, Refusal, buffer_too_short, malformed, misplaced}
-use Rattle.goblin_c.specs.Common.{refusal_of, room_of, ◌>>=◌}
-use Rattle.goblin_c.specs.Common.{refuse_as, with_size, range_in, refusal_text, header_layout, header_size, read_header}
-use Rattle.goblin_c.specs.Common.{read_in_order, section_headers_from, section_headers_from_tested, GoblinHeader}
-use Rattle.goblin_c.specs.Common.{GoblinRange, GoblinSection, GoblinSegment, GoblinReloc, GoblinSymbol}
+use Rattle.goblin_c.specs.Common.{refusal_of, room_of, ◌>>=◌, refuse_as, with_size, range_in, refusal_text}
+use Rattle.goblin_c.specs.Common.{header_layout, header_size, read_header, read_in_order, section_headers_from}
+use Rattle.goblin_c.specs.Common.{section_headers_from_tested, GoblinHeader, GoblinRange, GoblinSection, GoblinSegment}
+use Rattle.goblin_c.specs.Common.{GoblinReloc, GoblinSymbol}
 use Rattle.goblin_base.specs.declared.container.Endian.{Endian}
 use Rattle.goblin_base.specs.Eager.{records_from, records_in, room_of_each}
 use Rattle.goblin_base.specs.Record.{read_within}
@@ -17,12 +17,10 @@ use Rattle.goblin_c.specs.Expected.{ctx_of, header_expected, reloc_count_expecte
 use Rattle.goblin_c.specs.Expected.{relocs_expected, section_by_name_expected, section_by_type_expected}
 use Rattle.goblin_c.specs.Expected.{section_count_expected, section_names_expected, section_expected}
 use Rattle.goblin_c.specs.Expected.{sections_from_expected, sections_expected, segment_count_expected, segment_expected}
-use Rattle.goblin_c.specs.Expected.{segments_from_expected}
-use Rattle.goblin_c.specs.Expected.{segments_expected, string_expected, string_is_expected, string_starts_expected}
-use Rattle.goblin_c.specs.Expected.{strings_expected, symbol_by_address_expected}
+use Rattle.goblin_c.specs.Expected.{segments_from_expected, segments_expected, string_expected, string_is_expected}
+use Rattle.goblin_c.specs.Expected.{string_starts_expected, strings_expected, symbol_by_address_expected}
 use Rattle.goblin_c.specs.Expected.{symbol_by_name_expected, symbol_count_expected, symbol_expected}
-use Rattle.goblin_c.specs.Expected.{symbols_from_expected, symbols_expected}
-use Rattle.goblin_c.specs.Expected.{table_expected}
+use Rattle.goblin_c.specs.Expected.{symbols_from_expected, symbols_expected, table_expected}
 use Rattle.goblin_c.specs.Bytes.{number_expected, section_bytes_expected, segment_bytes_expected, string_bytes_expected}
 use Rattle.goblin_c.specs.Bytes.{string_closed_expected}
 use Rattle.goblin_c.specs.Dynamic.{dynamic_expected, dynamic_strings_expected, dynamic_value_expected}
@@ -36,8 +34,8 @@ use Rattle.goblin_c.specs.Write.{segment_put_expected, symbol_put_expected}
 use Rattle.goblin_c.specs.declared.misfit.Misfit.{Misfit}
 use Rattle.goblin_c.specs.Texts.{NamesKnown, TextIsSame, converted_text}
 
-pub text-same : TextIsSame
-text-same why known = grind arith
+pub text_same : TextIsSame
+text_same why known = grind arith
 
 -- the refusal of a result, converted for C, has the library's text
 abbrev pub HasSameText : {X : Type 0} → Result X RefusalAt → Type 0
@@ -71,7 +69,7 @@ KnownAt (Ok x) = ⊤
 KnownAt (Err why) = NamesKnown why.refusal
 
 same_text : {X : Type 0} (answer : Result X RefusalAt) → KnownAt answer → HasSameText answer
-same_text answer known = grind (arith, text-same)
+same_text answer known = grind (arith, text_same)
 
 -- what the library refuses: a place without room, a header
 known_room : (len offset size : ℕ) → Known (refuse_as misplaced (room_of len offset size))
@@ -131,13 +129,13 @@ known_put : {X : Type 0} (found : Result (Option X) RefusalAt) (misfit : Option 
 known_put (Ok (Some x)) None place put known = tt
 known_put (Ok (Some x)) (Some misfit) place put known = inr (refl, refl)
 known_put (Ok None) misfit place put known = tt
-known_put (Err why) misfit place put known = inl (why, refl, text-same why known)
+known_put (Err why) misfit place put known = inl (why, refl, text_same why known)
 
 known_header_put : (ctx : Result Ctx RefusalAt) (misfit : Option Misfit) (put : Ctx → List ℕ)
     → KnownAt ctx → PutHasSameText (refuse_as refusal_converted ctx >>= λ c. put_unless misfit 0 (put c))
 known_header_put (Ok ctx) None put known = tt
 known_header_put (Ok ctx) (Some misfit) put known = inr (refl, refl)
-known_header_put (Err why) misfit put known = inl (why, refl, text-same why known)
+known_header_put (Err why) misfit put known = inl (why, refl, text_same why known)
 
 -- so does the refusal of each call with these arguments
 pub record HaveSameText
@@ -201,7 +199,9 @@ refusals_have_same_text bytes h range names name is_rela index offset address al
     let segments = known_segments bytes h in
     let symbols = known_symbols bytes h range in
     let relocs = known_relocs bytes h range is_rela in
-    let strings = known_strings bytes names in
+    let strings = known_strings bytes range in
+    let names_known = known_strings bytes names in
+    let note_known = known_note bytes offset (alignment, ctx_of h) in
     record {
       header = same_text (header_expected bytes) (grind (arith, known_header bytes));
       section_count = same_text (section_count_expected bytes h) (grind (arith, sections));
@@ -215,13 +215,12 @@ refusals_have_same_text bytes h range names name is_rela index offset address al
       symbols = same_text (symbols_from_expected bytes h range index) (grind (arith, symbols));
       reloc = same_text (reloc_expected bytes h range is_rela index) (grind (arith, relocs));
       relocs = same_text (relocs_from_expected bytes h range is_rela index) (grind (arith, relocs));
-      string = same_text (string_expected bytes range offset) (grind (arith, known_strings bytes range));
-      note = same_text (note_expected bytes h range alignment offset)
-          (grind (arith, known_note bytes offset (alignment, ctx_of h)));
+      string = same_text (string_expected bytes range offset) (grind (arith, strings));
+      note = same_text (note_expected bytes h range alignment offset) (grind (arith, note_known));
       section_by_name = same_text (section_by_name_expected bytes h names name index)
-          (grind (arith, sections, strings));
+          (grind (arith, sections, names_known));
       symbol_by_name = same_text (symbol_by_name_expected bytes h range names name index)
-          (grind (arith, symbols, strings));
+          (grind (arith, symbols, names_known));
       segment_count = same_text (segment_count_expected bytes h) (grind (arith, segments));
       symbol_count = same_text (symbol_count_expected bytes h range) (grind (arith, symbols));
       reloc_count = same_text (reloc_count_expected bytes h range is_rela) (grind (arith, relocs));
@@ -230,15 +229,13 @@ refusals_have_same_text bytes h range names name is_rela index offset address al
       section_by_type = same_text (section_by_type_expected bytes h sh_type index) (grind (arith, sections));
       section_bytes = same_text (section_bytes_expected bytes s) (grind (arith, known_room));
       segment_bytes = same_text (segment_bytes_expected bytes p) (grind (arith, known_room));
-      string_bytes = same_text (string_bytes_expected bytes range offset) (grind (arith, known_strings bytes range));
-      string_closed = same_text (string_closed_expected bytes range offset) (grind (arith, known_strings bytes range));
-      string_is = same_text (string_is_expected bytes range offset name) (grind (arith, known_strings bytes range));
-      string_starts = same_text (string_starts_expected bytes range offset name)
-          (grind (arith, known_strings bytes range));
+      string_bytes = same_text (string_bytes_expected bytes range offset) (grind (arith, strings));
+      string_closed = same_text (string_closed_expected bytes range offset) (grind (arith, strings));
+      string_is = same_text (string_is_expected bytes range offset name) (grind (arith, strings));
+      string_starts = same_text (string_starts_expected bytes range offset name) (grind (arith, strings));
       number = same_text (number_expected bytes h offset width) (grind (arith, known_room));
       number_in = same_text (number_in_expected bytes h range offset width) (grind (arith, known_room));
-      address_to_offset = same_text (address_to_offset_expected bytes h address)
-          (grind (arith, segments, known_room));
+      address_to_offset = same_text (address_to_offset_expected bytes h address) (grind (arith, segments, known_room));
       dynamic = same_text (dynamic_expected bytes h) (grind (arith, segments, known_room));
       dynamic_entries = same_text (entries_from_expected bytes h range index) (grind (arith, known_room));
       dynamic_value = same_text (dynamic_value_expected bytes h range value) (grind (arith, known_room));

@@ -25,6 +25,7 @@ pub fn texts()
 
 /// Law: the status of a call shows whether it stored an item, is past the end or is refused: the kind of
 /// a refusal is above 1.
+#[tactic(auto, using(crate::proofs::TextLemmas::kinds_are_above_one))]
 pub fn kinds()
     ensures { KindsAreAboveOne }
 {}

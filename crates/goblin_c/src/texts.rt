@@ -118,6 +118,7 @@ pub extern "C" fn goblin_refusal_to_str(why: &GoblinRefusal, text: &mut [u8]) ->
 }
 
 /// Law: a refusal converted for C has the text of the refusal.
+#[tactic(auto, using(crate::specs::TextLaws::text_same))]
 pub fn laws()
     ensures { TextIsSame }
 {}
