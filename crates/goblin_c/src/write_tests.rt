@@ -218,6 +218,7 @@ fn refuses_addends_that_do_not_agree(rt: HostRuntime) {
     assert!(rt; puts_reloc(&little, true, &reloc(2, 1, 0, 0), 0, b"") == ((24, 0, 12 + 8), true));
     assert!(rt; puts_reloc(&little, false, &reloc(2, 1, 0, 1), 0, b"") == ((24, 0, 8 + 8), true));
     assert!(rt; puts_reloc(&little, false, &reloc(2, 1, 5, 0), 0, b"") == ((24, 5, 8 + 8), true));
+    assert!(rt; puts_reloc(&little, true, &reloc(2, 1, 0, 2), 0, b"") == ((24, 0, 12 + 8), true));
     assert!(rt;
         puts_reloc(&big, true, &reloc(2, 1, -1, 2), 0, b"") == ((24, u64::MAX, 24 + 16), true)
     );
