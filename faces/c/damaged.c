@@ -519,6 +519,7 @@ static uint64_t some(void) {
         if (is_read != is_written && !(is_read && why.kind == GOBLIN_INTEGER_FIT)) \
             wrong(#put ": refused", is_written); \
         if (is_read && is_written != (fits)) wrong(#put ": what fits", is_written); \
+        if (why.kind == GOBLIN_INTEGER_FIT && why.offset - place > (size)) wrong(#put ": which field", is_written); \
         if (is_written && !(first_counts) && (get(bytes, len, __VA_ARGS__, &after, &why) != GOBLIN_OK \
                                               || memcmp(&after, &changed, offsetof(type, last) + sizeof after.last))) \
             wrong(#put ": what is read", GOBLIN_OK); \
@@ -615,7 +616,8 @@ static void put_number(const goblin_header_t *h, uint64_t offset, uint64_t width
         wrong("goblin_put_number: what was read", GOBLIN_OK);
     bool is_written = WRITES(goblin_put_number, h, offset, width, value);
     if (is_written != (is_read && fits)) wrong("goblin_put_number", is_written);
-    if (is_read && !fits && why.kind != GOBLIN_INTEGER_FIT) wrong("goblin_put_number: what fits", why.kind);
+    if (is_read && !fits && (why.kind != GOBLIN_INTEGER_FIT || why.first != value || why.offset != offset))
+        wrong("goblin_put_number: what fits", why.kind);
     if (is_written && (goblin_number(bytes, len, h, offset, width, &after, &why) != GOBLIN_OK || after != value))
         wrong("goblin_put_number: what is read", GOBLIN_OK);
     restore("goblin_put_number", is_written, offset, width);
@@ -629,7 +631,9 @@ static void put_number_in(const goblin_header_t *h, goblin_range_t range, uint64
     bool fits = width >= 8 || value >> 8 * width == 0;
     bool is_written = WRITES(goblin_put_number_in, h, &range, offset, width, value);
     if (is_written != (is_read && fits)) wrong("goblin_put_number_in", is_written);
-    if (is_read && !fits && why.kind != GOBLIN_INTEGER_FIT) wrong("goblin_put_number_in: what fits", why.kind);
+    if (is_read && !fits
+        && (why.kind != GOBLIN_INTEGER_FIT || why.first != value || why.offset != range.offset + offset))
+        wrong("goblin_put_number_in: what fits", why.kind);
     if (is_written
         && (goblin_number_in(bytes, len, h, &range, offset, width, &after, &why) != GOBLIN_OK || after != value))
         wrong("goblin_put_number_in: what is read", GOBLIN_OK);
