@@ -970,15 +970,19 @@ fn damaged_dynamic_sections() {
         elf.header = header;
         let strings = elf.dynamic().unwrap().unwrap().strings();
         assert!(matches!(strings.map_err(|e| e.kind()), Err(Kind::TooBig { size: 0x10_0000, .. })));
+        // (the third program header begins where the file ends)
         elf.header.e_phnum = 3;
-        assert!(elf.dynamic().is_err());
+        assert_eq!(why(elf.dynamic()), (Kind::BadOffset(file.len() as u64), header.e_phoff));
         // a size in the file of the second segment that is too great
         let (mut file, header) = with_dynamic(form, &entries(11)[..2]);
         let at = header.e_phoff as usize + if form.is_64 { 56 + 32 } else { 32 + 16 };
         file[at..at + form.wide()].copy_from_slice(&form.numbers(&[(form.wide(), 0x7fff_0000)]));
         let mut elf = Elf::parse(&file).unwrap();
         elf.header = header;
-        assert!(elf.dynamic().is_err());
+        // (the section has the two entries, the one that ends them, and another one)
+        let dynamic = header.e_phoff - 4 * 2 * form.wide() as u64;
+        let too_big = Kind::TooBig { size: 0x7fff_0000, len: file.len() as u64 - dynamic };
+        assert_eq!(why(elf.dynamic()), (too_big, dynamic));
     }
     let (file, header) = with_dynamic(FORMS[0], &entries(11)[..2]);
     let mut elf = Elf::parse(&file).unwrap();
