@@ -143,13 +143,15 @@ class Example(unittest.TestCase):
     def test_lddtree(self):
         """A system in a folder, with libraries of two machines."""
         script = os.path.join(FOLDER, '..', 'examples', 'lddtree.py')
+        # (the example must not search the user's folders, but Python itself may need them)
+        run = "import os, runpy, sys; os.environ.pop('LD_LIBRARY_PATH', None); runpy.run_path(sys.argv.pop(1))"
         with tempfile.TemporaryDirectory() as root:
             for name, source in (('made/runpath/libfirst.so.1', 'branch_targets'), ('lib/libfirst.so.1', 'two_compilers'),
                                  ('made/runpath/libsecond.so.1', 'cut_headers'), ('usr/lib/libsecond.so.1', 'two_compilers')):
                 os.makedirs(os.path.dirname(os.path.join(root, name)), exist_ok=True)
                 shutil.copy(stored(f'facts/{source}'), os.path.join(root, name))
-            said = [subprocess.run([sys.executable, script, stored(f'facts/{name}'), root], stdout=subprocess.PIPE, stderr=subprocess.PIPE,
-                                   encoding='utf-8') for name in ('full', 'cut_dynamic')]
+            said = [subprocess.run([sys.executable, '-c', run, script, stored(f'facts/{name}'), root], stdout=subprocess.PIPE,
+                                   stderr=subprocess.PIPE, encoding='utf-8') for name in ('full', 'cut_dynamic')]
         path = stored('facts/full')
         self.assertEqual(said[0].stdout, f'{path} (interpreter => /lib/ld-made.so.1)\n    libfirst.so.1 => {root}/lib/libfirst.so.1\n'
                                          f'    libsecond.so.1 => {root}/made/runpath/libsecond.so.1\n'
