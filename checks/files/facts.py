@@ -44,7 +44,7 @@ LINKER = re.compile(r'Linker:|LLD|GNU ld|GNU gold|mold')
 def printed(path, *options):
     """Returns what readelf prints of a file."""
     return subprocess.run(['readelf', '-W', *options, path], stdout=subprocess.PIPE, stderr=subprocess.DEVNULL, encoding='utf-8',
-                          errors='surrogateescape').stdout
+                          errors='surrogateescape', env={**os.environ, 'LC_ALL': 'C'}).stdout
 
 
 def first(pattern, text):
