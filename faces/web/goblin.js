@@ -532,7 +532,7 @@ export class GoblinError extends Error {
         /**
          * @type {bigint} where in the file the thing begins that is refused: 0 for the header; the offset of a list of
          *   headers, even if one header in it is refused; the offset of a table, of a string table, or of the string,
-         *   the note or the bytes; or of the record that is written
+         *   the note or the bytes; or of the field of a number that does not fit
          */
         this.offset = offset;
     }

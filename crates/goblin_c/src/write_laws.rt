@@ -28,7 +28,8 @@ pub fn headers()
     ensures { HeadersAreRead }
 {}
 
-/// Law: an item or a number that doesn't fit is refused with the kind 24 at the offset at which it would be put.
+/// Law: an item or a number that doesn't fit is refused with the kind 24, the value that doesn't fit its field, and the
+/// offset of this field.
 #[tactic(auto, using(crate::proofs::PutLemmas::unfit_are_refused))]
 pub fn refusals()
     ensures { UnfitAreRefused }

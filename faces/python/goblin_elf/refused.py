@@ -9,7 +9,7 @@ class Refused(ValueError):
 
     `kind` is the `Kind`, and `numbers` are those that belong to the kind. `item` is what it is about, or `None` if the kind says that.
     `offset` is where in the file the thing begins that is refused, in bytes: 0 for the header, the start of a list of headers, of a table
-    or of a string table, or the offset of the string, the note or the bytes.
+    or of a string table, or the offset of the string, the note, the bytes, or the field of a number that does not fit.
     """
 
     def __init__(self, text: str, kind: int, item: int, numbers: Tuple[int, ...], offset: int) -> None:

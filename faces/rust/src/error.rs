@@ -208,8 +208,8 @@ impl Error {
     }
 
     /// Returns where in the file the thing begins that is refused: 0 for the header, the offset of a list of headers,
-    /// of a table or of a string table, or that of the string, the note, the bytes, or the record that is to be
-    /// written. For a header that is read of a list it is the list's offset.
+    /// of a table or of a string table, or that of the string, the note, the bytes, or the field of a number that does
+    /// not fit. For a header that is read of a list it is the list's offset.
     pub fn offset(&self) -> u64 {
         self.0.offset
     }
