@@ -156,8 +156,9 @@ typedef struct {
     uint64_t fourth;
     uint64_t offset; /* where in the file the thing begins that is refused: 0 for the header; the range's offset for
                         symbols, relocations, entries or strings; the offset of the string, note or bytes; the field of
-                        a number that does not fit (r_info for r_sym and r_type); for a list of headers its start,
-                        e_shoff or e_phoff, though the numbers may be about one header in it */
+                        a number that does not fit (r_info for r_sym and r_type, and the end of a relocation that has no
+                        field for its addend); for a list of headers its start, e_shoff or e_phoff, though the numbers
+                        may be about one header in it */
 } goblin_refusal_t;
 
 /* Some bytes of the file. A range that a call returns lies inside the file, if its struct does not say otherwise. Its
