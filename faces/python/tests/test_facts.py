@@ -155,6 +155,13 @@ class Facts(unittest.TestCase):
             elf = changed('facts/object')
             put(elf, b'__stack_chk_fail@GLIBC_2.4', f'__stack_chk_{name}'.encode().ljust(26, b'\0'))
             self.assertEqual(facts(elf)['canary'], expected)
+        # (the first of these names in the strings may be that of no symbol)
+        whole = changed('facts/object')
+        symbol, strings = whole.symbols.find('__stack_chk_fail@GLIBC_2.4'), whole.section_by_type(SHT_SYMTAB).linked
+        more = Elf(bytearray(whole.bytes) + bytes(strings.bytes) + b'__stack_chk_guard\0')
+        more.sections[strings.index] = strings._replace(sh_offset=len(whole.bytes), sh_size=strings.sh_size + 18)
+        more.symbols[symbol.index] = symbol._replace(st_name=strings.sh_size)
+        self.assertEqual(facts(more)['canary'], True)
         table = elf.section_by_type(SHT_SYMTAB)
         elf.sections[table.index] = table._replace(sh_type=1)
         self.assertEqual((facts(elf)['canary'], facts(elf)['unknown']), (None, ['canary']))
