@@ -299,10 +299,11 @@ impl<'a> Elf<'a> {
         Ok(self.strtab(&names))
     }
 
-    /// Returns a section as a string table. It is empty if the section's type is `SHT_NOBITS`, or its size is 0. Of the
-    /// header only `sh_type`, `sh_offset` and `sh_size` are read, so a program may make it.
-    pub fn strtab(&self, section: &SectionHeader) -> Strtab<'a> {
-        Strtab { file: self.file, range: section.range() }
+    /// Returns a section, or a segment's bytes in the file, as a string table. It is empty if the section's type is
+    /// `SHT_NOBITS`, or if the size is 0. Of a section header only `sh_type`, `sh_offset` and `sh_size` are read, and
+    /// of a program header only `p_offset` and `p_filesz`, so a program may make it.
+    pub fn strtab(&self, part: &impl Part) -> Strtab<'a> {
+        Strtab { file: self.file, range: part.range() }
     }
 
     /// Returns the section that a section links to by its `sh_link`, such as the string table of a symbol table.
