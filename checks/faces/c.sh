@@ -193,7 +193,8 @@ check_programs() {
     "$folder/needed" $program_file > "$folder/wanted"
     head -c -1 $program_file > "$folder/cut"
     prints_wanted "$folder/needed" "$folder/cut"
-    echo "needed.c lists the same by the program headers if the last section header is cut"
+    ends_with 0 'int*needed libf*needed: no zero byte closes a string *1048576*runpath: no zero *60' "$folder/needed" checks/files/facts/open_names
+    echo "needed.c lists the same by the program headers if the last section header is cut, and says which names are not closed"
     echo "nm.c lists $(echo "$symbols_made" | wc -l) symbols in each class and byte order"
 }
 

@@ -48,16 +48,15 @@ prints_wanted() {
     diff "$folder/wanted" "$folder/listed" || fail "it prints what the lines with > show, and should print those with <: $*"
 }
 
-# Fails unless `example`, which runs an example in another language, prints what those in C print of the files that made.c makes, and these
-# examples refuse a short file: try_examples NAME ..
+# Fails unless `example`, which runs an example in another language, prints what that in C prints: as_in_c NAME ARGUMENT ..
+as_in_c() { (name=$1; shift; "$folder/$name" "$@") > "$folder/wanted"; prints_wanted example "$@"; }
+
+# Fails unless some examples print what those in C print of the files that made.c makes and of one with names that no zero byte closes, and
+# all that are named refuse a short file: try_examples NAME ..
 try_examples() {
-    for file in "$files"/*; do
-        "$folder/truncated" "$file" > "$folder/wanted"
-        prints_wanted example truncated "$file"
-        for section in .text .data; do
-            "$folder/flag" "$file" $section > "$folder/wanted"
-            prints_wanted example flag "$file" $section
-        done
+    for file in "$files"/* checks/files/facts/open_names; do
+        for name in truncated needed; do as_in_c $name "$file"; done
+        for section in .text .data; do as_in_c flag "$file" $section; done
         ends_with 1 "flag: $file: there is no section .no" example flag "$file" .no
     done
     for name; do

@@ -135,6 +135,8 @@ BY_HAND = {
     'facts/long_dynamic': lambda rows: without(rows['facts/full'], *DYNAMIC, kind='program or library', cut=True),
     # Its name can't be read: DT_STRTAB is missing.
     'facts/no_strings': lambda rows: without(rows['facts/two_compilers'], 'soname'),
+    # Of one of its needed libraries the name is said to lie past the end of the strings.
+    'facts/open_names': lambda rows: without(rows['facts/open_names'], 'needed'),
     # Its last segment ends at 0x104e6 + 0x1388, and the file at 66,800. Its PT_NOTE has an alignment of 4,096, and notes are aligned to 4 or 8.
     'uses': lambda rows: without(rows['uses'], 'build_id', cut=True),
     # readelf looks for no dynamic section without program headers. Without them there is no PT_INTERP, PT_GNU_STACK or PT_GNU_RELRO.
