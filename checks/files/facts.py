@@ -21,7 +21,7 @@ file of another one. The rules:
 - compilers: the strings of the section .comment that are not empty, each once, but those that begin with `Linker:`, `LLD`, `GNU ld`, `GNU gold`
   or `mold`, which are a linker's.
 - build_id: the descriptor of the first note GNU of type 3. Notes are looked for in all PT_NOTE, and then in all SHT_NOTE. What comes after a
-  damaged one is unknown.
+  damaged one is unknown. Other names need not be UTF-8.
 - stripped: there is no SHT_SYMTAB. sizes: the sums of sh_size by what the sections are for, without section 0.
 - cut: the section headers, the program headers, or the bytes of a section or segment are not all in the file (of a debug file's segments they
   never are).

@@ -106,6 +106,10 @@ for at in range(dynamic[2], dynamic[2] + dynamic[5], 16):
     tag, value = struct.unpack_from('<QQ', full, at)
     struct.pack_into('<Q', opened, at + 8, {10: value - 1, 1: value if value == 31 else 1 << 20}.get(tag, value))
 put('open_names', opened)
+# with a name of a note that is not UTF-8
+odd = full[:]
+odd[odd.index(b'GNU\0')] = 0xff
+put('odd_note', odd)
 # the number of sections in the first section header, as where there are more than 0xfeff
 start, count = struct.unpack_from('<Q', thing, 40)[0], struct.unpack_from('<H', thing, 60)[0]
 struct.pack_into('<Q', thing, start + 32, count)
@@ -120,4 +124,4 @@ put('core', head + heads + note + bytes(16))
 PYTHON
 chmod 644 ./*
 cp static_program writable_code static_pie full two_compilers branch_targets object debug_with_sizes debug cut_debug cut_dynamic cut_headers \
-    long_dynamic no_segments no_strings many_sections core open_names "$to/"
+    long_dynamic no_segments no_strings many_sections core open_names odd_note "$to/"

@@ -9,7 +9,7 @@ from typing import Any, Iterable, Iterator, List, Optional, Union
 from ._library import FUNCTIONS, HEADER, RANGE, RECORDS, File, call, found, unsigned
 from .constants import (DT_NEEDED, DT_RPATH, DT_RUNPATH, DT_SONAME, ELFCLASS64, ELFDATA2MSB, NT_GNU_BUILD_ID, PT_INTERP, PT_NOTE, SHT_DYNAMIC,
                         SHT_DYNSYM, SHT_NOTE, SHT_SYMTAB)
-from .items import Dynamic, Header, Name, Note, Section, Sections, Segment, Segments, Symbol, Symbols, T, Table, named, read_notes
+from .items import Dynamic, Header, Name, Note, Section, Sections, Segment, Segments, Symbol, Symbols, T, Table, named, note_of, read_notes
 from .names import class_to_str, et_to_str, machine_to_str
 
 
@@ -116,19 +116,22 @@ class Elf:
 
     def _notes(self, holders: Iterable[Union[Segment, Section]]) -> Iterator[Note]:
         for holder in holders:
-            yield from (note for _, note in read_notes(self, RANGE.pack(holder[:2]), holder[5], 'strict', holder[0]))
+            yield from (note_of(self, fields) for fields in read_notes(self, 'note', RANGE.pack(holder[:2]), holder[5], holder[0]))
 
     @property
     def build_id(self) -> Optional[memoryview]:
         """The descriptor of the first note GNU of type NT_GNU_BUILD_ID of the segments or, if they have none, of the sections, or `None`.
-        Refused as these are, and then at the first damaged note. It is looked for in the first 65,536 notes of the first 131,072 of them."""
+        Refused as these are, and then at the first damaged note. It is looked for in the first 65,536 notes of the first 131,072 of them. Names
+        of other notes need not be UTF-8."""
         return self._note(self.segments[:1 << 17], NT_GNU_BUILD_ID)
 
     def _note(self, segments: Iterable[Segment], n_type: int) -> Optional[memoryview]:
-        of_segments = (segment for segment in segments if segment.p_type == PT_NOTE)
-        of_sections = itertools.islice(self._note_sections(), 1 << 17)
-        notes = itertools.islice(itertools.chain(self._notes(of_segments), self._notes(of_sections)), 1 << 16)
-        return next((note.desc for note in notes if note.n_type == n_type and note.name == 'GNU'), None)
+        segments = (segment for segment in segments if segment.p_type == PT_NOTE)
+        notes = itertools.chain.from_iterable(
+            read_notes(self, 'note_bytes', RANGE.pack(holder[:2]), holder[5], holder[0])
+            for holder in itertools.chain[Union[Segment, Section]](segments, itertools.islice(self._note_sections(), 1 << 17)))
+        return next((self._file.part(*fields[2:4]) for fields in itertools.islice(notes, 1 << 16)
+                     if fields[5] == n_type and fields[1] == 4 and self._file.part(*fields[:2]) == b'GNU\0'), None)
 
     @property
     def dynamic(self) -> Dynamic:

@@ -425,7 +425,8 @@ class Notes(Table[Note]):
     def __init__(self, elf: 'Elf', offset: int, size: int, alignment: int, errors: str = 'strict') -> None:
         self.elf, self._arguments, self._errors = elf, (RANGE.pack((offset, size)), alignment), errors
         self.one = 'note' if errors == 'strict' else 'note_bytes'
-        self._places = array('Q', (place for place, _ in read_notes(elf, *self._arguments, errors, offset)))
+        # (a note's header, which has 12 bytes, is before its name)
+        self._places = array('Q', (fields[0] - 12 for fields in read_notes(elf, self.one, *self._arguments, offset)))
 
     def _items(self, first: int, end: int) -> Iterator[Note]:
         return map(self.__getitem__, range(first, end))
@@ -439,15 +440,14 @@ def note_with(n_type: int, name: str, desc: bytes) -> Note:
     return Note(n_type, name, memoryview(desc))
 
 
-def read_notes(elf: 'Elf', place: bytes, alignment: int, errors: str, offset: int) -> Iterator[Tuple[int, Note]]:
-    """Yields the notes in a range from an offset of the file on, as they are read, each after its offset."""
-    name = 'note' if errors == 'strict' else 'note_bytes'
+def read_notes(elf: 'Elf', name: str, place: bytes, alignment: int, offset: int) -> Iterator[Fields]:
+    """Yields the fields of the structs of the notes in a range from an offset of the file on, as a call reads them."""
     while fields := found(name, RECORDS['note'], elf._file, elf._image, place, alignment, offset):
-        yield offset, note_of(elf, fields, errors)
+        yield fields
         offset = fields[4]
 
 
-def note_of(elf: 'Elf', fields: Fields, errors: str) -> Note:
+def note_of(elf: 'Elf', fields: Fields, errors: str = 'strict') -> Note:
     """Returns the note of the fields of a struct."""
     name = bytes(elf._file.part(*fields[:2]))
     return Note(fields[5], str(name if errors == 'strict' else name.rstrip(b'\0'), 'utf-8', errors), elf._file.part(*fields[2:4]))
