@@ -139,6 +139,9 @@ BY_HAND = {
     'facts/open_names': lambda rows: without(rows['facts/open_names'], 'needed'),
     # Its last segment ends at 0x104e6 + 0x1388, and the file at 66,800. Its PT_NOTE has an alignment of 4,096, and notes are aligned to 4 or 8.
     'uses': lambda rows: without(rows['uses'], 'build_id', cut=True),
+    # Its program headers are said to lie past the end. A machine without marks of control-flow enforcement has none.
+    'facts/far_segments': lambda rows: without(rows['facts/two_compilers'], 'build_id', 'interpreter', *DYNAMIC, 'nx', 'writable_code', 'segments',
+                                               kind='program or library', control_flow=None, cut=True),
     # readelf looks for no dynamic section without program headers. Without them there is no PT_INTERP, PT_GNU_STACK or PT_GNU_RELRO.
     'facts/no_segments': lambda rows: {**rows['facts/two_compilers'], 'interpreter': None, 'nx': False, 'relro': 'no', 'segments': 0},
 }

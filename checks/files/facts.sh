@@ -110,6 +110,11 @@ put('open_names', opened)
 odd = full[:]
 odd[odd.index(b'GNU\0')] = 0xff
 put('odd_note', odd)
+# with program headers past the end, of a machine without marks of control-flow enforcement
+unmarked = bytearray(open('two_compilers', 'rb').read())
+struct.pack_into('<H', unmarked, 18, 243)
+struct.pack_into('<Q', unmarked, 32, 1 << 20)
+put('far_segments', unmarked)
 # the number of sections in the first section header, as where there are more than 0xfeff
 start, count = struct.unpack_from('<Q', thing, 40)[0], struct.unpack_from('<H', thing, 60)[0]
 struct.pack_into('<Q', thing, start + 32, count)
@@ -124,4 +129,4 @@ put('core', head + heads + note + bytes(16))
 PYTHON
 chmod 644 ./*
 cp static_program writable_code static_pie full two_compilers branch_targets object debug_with_sizes debug cut_debug cut_dynamic cut_headers \
-    long_dynamic no_segments no_strings many_sections core open_names odd_note "$to/"
+    long_dynamic no_segments no_strings many_sections core open_names odd_note far_segments "$to/"

@@ -123,10 +123,10 @@ class Elf:
         """The descriptor of the first note GNU of type NT_GNU_BUILD_ID of the segments or, if they have none, of the sections, or `None`.
         Refused as these are, and then at the first damaged note. It is looked for in the first 65,536 notes of the first 131,072 of them. Names
         of other notes need not be UTF-8."""
-        return self._note(self.segments[:1 << 17], NT_GNU_BUILD_ID)
+        return self._note(NT_GNU_BUILD_ID)
 
-    def _note(self, segments: Iterable[Segment], n_type: int) -> Optional[memoryview]:
-        segments = (segment for segment in segments if segment.p_type == PT_NOTE)
+    def _note(self, n_type: int) -> Optional[memoryview]:
+        segments = (segment for segment in itertools.islice(self.segments, 1 << 17) if segment.p_type == PT_NOTE)
         notes = itertools.chain.from_iterable(
             read_notes(self, 'note_bytes', RANGE.pack(holder[:2]), holder[5], holder[0])
             for holder in itertools.chain[Union[Segment, Section]](segments, itertools.islice(self._note_sections(), 1 << 17)))

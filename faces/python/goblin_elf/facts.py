@@ -4,7 +4,7 @@ import functools
 from typing import Any, Callable, Dict, Iterator, List, NamedTuple, Optional, Set
 
 from .constants import (DF_1_NOW, DF_1_PIE, DF_BIND_NOW, DT_BIND_NOW, DT_DEBUG, DT_FLAGS, DT_FLAGS_1, DT_NEEDED, DT_RPATH, DT_RUNPATH, DT_SONAME,
-                        ET_CORE, ET_DYN, ET_EXEC, ET_REL, NT_GNU_BUILD_ID, PF_W, PF_X, PT_DYNAMIC, PT_GNU_RELRO, PT_GNU_STACK, PT_INTERP, PT_LOAD,
+                        ET_CORE, ET_DYN, ET_EXEC, ET_REL, PF_W, PF_X, PT_DYNAMIC, PT_GNU_RELRO, PT_GNU_STACK, PT_INTERP, PT_LOAD,
                         SHF_ALLOC, SHF_EXECINSTR, SHF_WRITE, SHT_DYNSYM, SHT_NOBITS, SHT_NOTE, SHT_NULL, SHT_SYMTAB)
 from .elf import Elf
 from .items import Dynamic, Segment, Strings
@@ -101,7 +101,7 @@ class Parts:
         return self.dynamic.value(DT_BIND_NOW) is not None or flags != 0
 
     def build_id(self) -> Optional[str]:
-        found = self.elf._note(self.segments, NT_GNU_BUILD_ID)
+        found = self.elf.build_id
         if found and len(found) > ID:
             raise Unknown
         return None if found is None else found.hex()
@@ -135,7 +135,7 @@ FACTS: Dict[str, Callable[[Parts], Any]] = {
     'relro': lambda of: 'no' if not of.of_type(PT_GNU_RELRO) else 'partial' if of.is_bound_now() is False else 'full',
     'bind_now': Parts.is_bound_now,
     'writable_code': lambda of: any(segment.p_flags & PF_W and segment.p_flags & PF_X for segment in of.of_type(PT_LOAD)),
-    'canary': Parts.has_canary, 'control_flow': lambda of: control_flow(of.elf, of.segments), 'compilers': lambda of: compilers(of.elf),
+    'canary': Parts.has_canary, 'control_flow': lambda of: control_flow(of.elf), 'compilers': lambda of: compilers(of.elf),
     'stripped': lambda of: of.elf.section_by_type(SHT_SYMTAB) is None, 'cut': Parts.is_cut, 'sections': lambda of: len(of.elf.sections),
     'segments': lambda of: len(of.elf.segments), 'symbols': lambda of: len(of.elf.symbols),
     'dynamic_symbols': lambda of: len(of.elf.dynamic_symbols), 'sizes': lambda of: of.counted.sizes}

@@ -1,10 +1,9 @@
 """What compilers leave in a file: their names, and marks of their protections. What these mean is said here: that is not proved, but tested."""
 import re
-from typing import Dict, Iterable, List, Optional, Set, Tuple
+from typing import Dict, List, Optional, Set, Tuple
 
 from .constants import EM_386, EM_AARCH64, EM_X86_64, SHT_DYNSYM, SHT_SYMTAB
 from .elf import Elf
-from .items import Segment
 
 # The functions and the variable that a canary uses, with or without a version, of which at most 255 bytes are read.
 CANARY = re.compile(rb'__stack_chk_(?:fail_local|fail|guard)(?:@[^\0]{0,255})?')
@@ -33,12 +32,12 @@ def has_canary(elf: Elf) -> bool:
     return False
 
 
-def control_flow(elf: Elf, segments: Iterable[Segment]) -> Optional[List[str]]:
+def control_flow(elf: Elf) -> Optional[List[str]]:
     """Returns the checks of jumps and returns that the first note of properties marks, or `None` on a machine without marks."""
     if elf.header.e_machine not in CHECKS:
         return None
     wanted, names = CHECKS[elf.header.e_machine]
-    desc = bytes((elf._note(segments, NT_GNU_PROPERTY_TYPE_0) or b'')[:BYTES])
+    desc = bytes((elf._note(NT_GNU_PROPERTY_TYPE_0) or b'')[:BYTES])
     at, step = 0, 8 if elf.is_64 else 4
     while at + 12 <= len(desc):
         kind, size, flags = (int.from_bytes(desc[at + part:at + part + 4], 'little' if elf.little_endian else 'big') for part in (0, 4, 8))
