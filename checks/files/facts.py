@@ -16,7 +16,8 @@ file of another one. The rules:
   (DT_BIND_NOW, DF_BIND_NOW or DF_1_NOW) and relro are said of programs and libraries. bind_now is null if no dynamic section has an entry,
   and of a static program, which is one without PT_INTERP. relro is `no` without PT_GNU_RELRO, else `partial` if bind_now is false, else `full`.
 - canary: a symbol of the first SHT_SYMTAB or SHT_DYNSYM is __stack_chk_fail, __stack_chk_fail_local or __stack_chk_guard, with or without
-  a version from an @ on. It is unknown if none is and there is no SHT_SYMTAB, unless there is SHT_DYNSYM and the file is no static program.
+  a version from an @ on. If none is, it is unknown if one of these can't be read, or if there is no SHT_SYMTAB, unless there is SHT_DYNSYM and
+  the file is no static program.
 - control_flow: what the first note GNU of type 5 marks: IBT and SHSTK for x86, BTI and PAC for AArch64, null for other machines.
 - compilers: the strings of the section .comment that are not empty, each once, but those that begin with `Linker:`, `LLD`, `GNU ld`, `GNU gold`
   or `mold`, which are a linker's.
@@ -142,6 +143,9 @@ BY_HAND = {
     # Its program headers are said to lie past the end. A machine without marks of control-flow enforcement has none.
     'facts/far_segments': lambda rows: without(rows['facts/two_compilers'], 'build_id', 'interpreter', *DYNAMIC, 'nx', 'writable_code', 'segments',
                                                kind='program or library', control_flow=None, cut=True),
+    # Their SHT_SYMTAB is said to lie past the end: it may have a canary, as SHT_DYNSYM of the second one does.
+    'facts/far_symbols': lambda rows: without(rows['facts/far_symbols'], 'canary', 'symbols', cut=True),
+    'facts/far_symbols_canary': lambda rows: without(rows['facts/far_symbols_canary'], 'symbols', cut=True),
     # readelf looks for no dynamic section without program headers. Without them there is no PT_INTERP, PT_GNU_STACK or PT_GNU_RELRO.
     'facts/no_segments': lambda rows: {**rows['facts/two_compilers'], 'interpreter': None, 'nx': False, 'relro': 'no', 'segments': 0},
 }

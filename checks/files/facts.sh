@@ -115,6 +115,16 @@ unmarked = bytearray(open('two_compilers', 'rb').read())
 struct.pack_into('<H', unmarked, 18, 243)
 struct.pack_into('<Q', unmarked, 32, 1 << 20)
 put('far_segments', unmarked)
+# with a SHT_SYMTAB past the end, and without a canary and with one in the other table: that of a section without bytes
+for name, kind in (('two_compilers', 2), ('full', 1)):
+    content = bytearray(open(name, 'rb').read())
+    start, count = struct.unpack_from('<Q', content, 40)[0], struct.unpack_from('<H', content, 60)[0]
+    at = next(at for at in range(start + 64, start + 64 * count, 64) if struct.unpack_from('<I', content, at + 4)[0] == kind
+              and (kind == 2 or struct.unpack_from('<Q', content, at + 32)[0] == 0))
+    struct.pack_into('<I', content, at + 4, 2)
+    struct.pack_into('<QQ', content, at + 24, 1 << 20, 48)
+    struct.pack_into('<Q', content, at + 56, 24)
+    put('far_symbols' if kind == 2 else 'far_symbols_canary', content)
 # the number of sections in the first section header, as where there are more than 0xfeff
 start, count = struct.unpack_from('<Q', thing, 40)[0], struct.unpack_from('<H', thing, 60)[0]
 struct.pack_into('<Q', thing, start + 32, count)
@@ -129,4 +139,4 @@ put('core', head + heads + note + bytes(16))
 PYTHON
 chmod 644 ./*
 cp static_program writable_code static_pie full two_compilers branch_targets object debug_with_sizes debug cut_debug cut_dynamic cut_headers \
-    long_dynamic no_segments no_strings many_sections core open_names odd_note far_segments "$to/"
+    long_dynamic no_segments no_strings many_sections core open_names odd_note far_segments far_symbols far_symbols_canary "$to/"

@@ -115,8 +115,9 @@ function relro(file) {
     return is_now === undefined || is_now === 'no' ? is_now : is_now === false ? 'partial' : 'full';
 }
 
-// Reports whether a symbol is one of a canary, with or without a version.
+// Reports whether a symbol of a table is one of a canary, with or without a version, or null if there is no table.
 function has_canary(file, symtab) {
+    if (!symtab) return null;
     symtab.strtab.get_start(0, 0); // (throws if the strings are not all in the file)
     const strings = new TextDecoder('latin1').decode(bytes_of(file, symtab.strtab.range, MOST_TEXT)), names = new Set();
     for (const [name] of strings.matchAll(CANARY)) if (names.add(name).size === MOST_NAMES) break;
@@ -124,9 +125,10 @@ function has_canary(file, symtab) {
 }
 
 function canary(file) {
-    const tables = [file.elf.syms(), file.elf.dynsyms()];
-    if (tables.some((table) => table && has_canary(file, table))) return true;
-    return tables[0] || (tables[1] && !is_static(file)) ? false : undefined;
+    const found = ['syms', 'dynsyms'].map((table) => known(() => has_canary(file, file.elf[table]())));
+    if (found.includes(true)) return true;
+    if (found.includes(undefined)) return undefined;
+    return found[0] === false || (found[1] === false && !is_static(file)) ? false : undefined;
 }
 
 function compilers(file) {

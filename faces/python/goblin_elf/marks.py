@@ -2,8 +2,10 @@
 import re
 from typing import Dict, List, Optional, Set, Tuple
 
-from .constants import EM_386, EM_AARCH64, EM_X86_64, SHT_DYNSYM, SHT_SYMTAB
+from .constants import EM_386, EM_AARCH64, EM_X86_64
 from .elf import Elf
+from .items import Strings, Symbols
+from .refused import Refused
 
 # The functions and the variable that a canary uses, with or without a version, of which at most 255 bytes are read.
 CANARY = re.compile(rb'__stack_chk_(?:fail_local|fail|guard)(?:@[^\0]{0,255})?')
@@ -18,18 +20,29 @@ CANARIES, BYTES = 64, 1 << 16
 
 
 def has_canary(elf: Elf) -> bool:
-    """Whether a symbol is one of a stack canary."""
-    for table in filter(None, map(elf.section_by_type, (SHT_SYMTAB, SHT_DYNSYM))):
-        strings = table.linked
-        # (few names are looked for, and only those that the strings have)
-        names: Set[bytes] = set()
-        for match in CANARY.finditer(strings.bytes if strings else b''):
-            if match.group() not in names and table.symbols.find(match.group()):
+    """Whether a symbol of a table that can be read is one of a stack canary. Refused if none is, and a table can't be read."""
+    refusals = []
+    for name in ('symbols', 'dynamic_symbols'):
+        try:
+            symbols: Symbols = getattr(elf, name)
+            if any(map(symbols.find, canaries_of(elf, symbols.strings))):
                 return True
-            names.add(match.group())
-            if len(names) == CANARIES:
-                break
+        except Refused as error:
+            refusals.append(error)
+    if refusals:
+        raise refusals[0]
     return False
+
+
+def canaries_of(elf: Elf, strings: Strings) -> Set[bytes]:
+    """Returns the names of canaries that a string table has, the first few. Refused if the table is not inside the file."""
+    strings.get_bytes(strings.size)
+    names: Set[bytes] = set()
+    for match in CANARY.finditer(elf.bytes[strings.offset:strings.offset + strings.size]):
+        names.add(match.group())
+        if len(names) == CANARIES:
+            break
+    return names
 
 
 def control_flow(elf: Elf) -> Optional[List[str]]:
