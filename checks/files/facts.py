@@ -143,6 +143,8 @@ BY_HAND = {
     # Its program headers are said to lie past the end. A machine without marks of control-flow enforcement has none.
     'facts/far_segments': lambda rows: without(rows['facts/two_compilers'], 'build_id', 'interpreter', *DYNAMIC, 'nx', 'writable_code', 'segments',
                                                kind='program or library', control_flow=None, cut=True),
+    # The same of a debug file. (Of its segments it has no bytes, but it has their headers.)
+    'facts/far_segments_debug': lambda rows: without(rows['facts/debug'], 'build_id', 'segments', cut=True),
     # Their SHT_SYMTAB is said to lie past the end: it may have a canary, as SHT_DYNSYM of the second one does.
     'facts/far_symbols': lambda rows: without(rows['facts/far_symbols'], 'canary', 'symbols', cut=True),
     'facts/far_symbols_canary': lambda rows: without(rows['facts/far_symbols_canary'], 'symbols', cut=True),

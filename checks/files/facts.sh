@@ -125,6 +125,10 @@ for name, kind in (('two_compilers', 2), ('full', 1)):
     struct.pack_into('<QQ', content, at + 24, 1 << 20, 48)
     struct.pack_into('<Q', content, at + 56, 24)
     put('far_symbols' if kind == 2 else 'far_symbols_canary', content)
+# a debug file with program headers past the end
+lost = bytearray(open('debug', 'rb').read())
+struct.pack_into('<Q', lost, 32, 1 << 20)
+put('far_segments_debug', lost)
 # the number of sections in the first section header, as where there are more than 0xfeff
 start, count = struct.unpack_from('<Q', thing, 40)[0], struct.unpack_from('<H', thing, 60)[0]
 struct.pack_into('<Q', thing, start + 32, count)
@@ -139,4 +143,5 @@ put('core', head + heads + note + bytes(16))
 PYTHON
 chmod 644 ./*
 cp static_program writable_code static_pie full two_compilers branch_targets object debug_with_sizes debug cut_debug cut_dynamic cut_headers \
-    long_dynamic no_segments no_strings many_sections core open_names odd_note far_segments far_symbols far_symbols_canary "$to/"
+    long_dynamic no_segments no_strings many_sections core open_names odd_note far_segments far_symbols far_symbols_canary \
+    far_segments_debug "$to/"

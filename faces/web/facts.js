@@ -36,7 +36,7 @@ const has_flag = (entries, tag, flag) => ((values_of(entries, tag)[0] ?? 0n) & f
 
 function kind_of({ elf: { header: { e_type } }, sections, entries }) {
     if (![ET_EXEC, ET_DYN].includes(e_type)) return { [ET_REL]: 'object', [ET_CORE]: 'core' }[e_type] ?? 'other';
-    const loaded = (known(sections) ?? []).filter(({ sh_flags }) => sh_flags & goblin.SHF_ALLOC)
+    const loaded = (known(sections) ?? []).slice(1).filter(({ sh_flags }) => sh_flags & goblin.SHF_ALLOC)
         .map(({ sh_type }) => sh_type);
     if (loaded.includes(SHT_NOBITS) && loaded.every((type) => type === SHT_NOBITS || type === SHT_NOTE))
         return 'debug file';
@@ -140,7 +140,7 @@ function compilers(file) {
 
 function is_cut(file) {
     const parts = known(() => [file.sections(), file.segments()]);
-    return !parts || parts[0].concat(file.kind === 'debug file' ? [] : parts[1])
+    return !parts || parts[0].slice(1).concat(file.kind === 'debug file' ? [] : parts[1])
         .some((part) => known(() => [file.elf.range(part)]) === undefined);
 }
 

@@ -4,7 +4,7 @@ import functools
 from typing import Any, Callable, Dict, Iterator, List, NamedTuple, Optional, Set
 
 from .constants import (DF_1_NOW, DF_1_PIE, DF_BIND_NOW, DT_BIND_NOW, DT_DEBUG, DT_FLAGS, DT_FLAGS_1, DT_NEEDED, DT_RPATH, DT_RUNPATH, DT_SONAME,
-                        ET_CORE, ET_DYN, ET_EXEC, ET_REL, PF_W, PF_X, PT_DYNAMIC, PT_GNU_RELRO, PT_GNU_STACK, PT_INTERP, PT_LOAD,
+                        ET_CORE, ET_DYN, ET_EXEC, ET_REL, PF_W, PF_X, PT_DYNAMIC, PT_GNU_RELRO, PT_GNU_STACK, PT_INTERP, PT_LOAD, PT_NULL,
                         SHF_ALLOC, SHF_EXECINSTR, SHF_WRITE, SHT_DYNSYM, SHT_NOBITS, SHT_NOTE, SHT_NULL, SHT_SYMTAB)
 from .elf import Elf
 from .items import Dynamic, Segment, Strings
@@ -115,8 +115,9 @@ class Parts:
 
     def is_cut(self) -> bool:
         try:
-            segments = [] if self.kind == 'debug file' else self.segments
-            return self.counted.is_cut or any(segment.p_filesz and segment.p_offset + segment.p_filesz > self.length for segment in segments)
+            held = (segment for segment in self.segments if segment.p_type != PT_NULL and segment.p_filesz > 0)
+            is_cut = any(segment.p_offset + segment.p_filesz > self.length for segment in held)
+            return self.counted.is_cut or is_cut and self.kind != 'debug file'
         except Refused:
             return True
 

@@ -143,6 +143,11 @@ class Facts(unittest.TestCase):
         elf = changed('facts/full')
         replace(elf, PT_GNU_STACK, p_flags=7, p_offset=1 << 40)
         self.assertEqual([facts(elf)[name] for name in ('nx', 'writable_code', 'cut')], [False, False, False])
+        # (a segment of type PT_NULL has no bytes)
+        replace(elf, PT_GNU_STACK, p_filesz=1)
+        self.assertTrue(facts(elf)['cut'])
+        replace(elf, PT_GNU_STACK, p_type=0)
+        self.assertFalse(facts(elf)['cut'])
 
     def test_canaries(self):
         # the name is that of a symbol, and all of it
