@@ -7,7 +7,7 @@ from .constants import (DF_1_NOW, DF_1_PIE, DF_BIND_NOW, DT_BIND_NOW, DT_DEBUG, 
                         ET_CORE, ET_DYN, ET_EXEC, ET_REL, PF_W, PF_X, PT_DYNAMIC, PT_GNU_RELRO, PT_GNU_STACK, PT_INTERP, PT_LOAD, PT_NULL,
                         SHF_ALLOC, SHF_EXECINSTR, SHF_WRITE, SHT_DYNSYM, SHT_NOBITS, SHT_NOTE, SHT_NULL, SHT_SYMTAB)
 from .elf import Elf
-from .items import Dynamic, Segment, Strings
+from .items import Dynamic, Segment
 from .marks import compilers, control_flow, has_canary
 from .names import class_to_str, et_to_str, machine_to_str
 from .refused import Refused
@@ -87,9 +87,8 @@ class Parts:
     def names(self, tag: int) -> Iterator[str]:
         for entry in self.dynamic:
             if entry.tag == tag:
-                start, strings = entry.value, entry.table.strings
-                # (past the end it is refused)
-                yield short_text(self.elf, strings.offset + start, strings.size - start) if start < strings.size else entry.string
+                start = entry.table.strings.get_start(entry.value, TEXT)
+                yield entry.string if start is None else short(start)
 
     def is_pie(self) -> bool:
         return self.type == ET_DYN and (self.dynamic.value(DT_DEBUG) is not None or bool(self.flags(DT_FLAGS_1) & DF_1_PIE))
@@ -129,7 +128,7 @@ LACKS = {'object': LOADED, 'other': LOADED, 'core': (*LOADED, 'canary', 'control
 # The facts, each with what reads it: it is refused, or raises `Unknown`, if it can't be read.
 FACTS: Dict[str, Callable[[Parts], Any]] = {
     'kind': lambda of: of.kind, 'build_id': Parts.build_id,
-    'interpreter': lambda of: next((short_text(of.elf, *path[:2]) for path in of.of_type(PT_INTERP)), None),
+    'interpreter': lambda of: next((short(path.strings.get_start(0, TEXT)) for path in of.of_type(PT_INTERP)), None),
     'soname': lambda of: next(of.names(DT_SONAME), None), 'rpath': lambda of: next(of.names(DT_RPATH), None),
     'runpath': lambda of: next(of.names(DT_RUNPATH), None), 'needed': lambda of: list(of.names(DT_NEEDED)), 'pie': Parts.is_pie,
     'nx': lambda of: bool(of.of_type(PT_GNU_STACK)) and not any(stack.p_flags & PF_X for stack in of.of_type(PT_GNU_STACK)),
@@ -158,12 +157,11 @@ def facts(elf: Elf) -> Dict[str, Any]:
     return {**found, **(refusal(refusals[0]) if refusals else {})}
 
 
-def short_text(elf: Elf, offset: int, size: int) -> str:
-    """Returns the string at the start of a range. It is unknown if the range has no bytes, or if it is longer than is read."""
-    found = Strings(elf, offset, min(size, TEXT)).get_bytes(0)
-    if found is None or len(found) == TEXT:
+def short(text: Optional[bytes]) -> str:
+    """Returns a string of which at most TEXT bytes were read. It is unknown if it may be longer, or if there is none."""
+    if text is None or len(text) == TEXT:
         raise Unknown
-    return str(found, 'utf-8', 'surrogateescape')
+    return str(text, 'utf-8', 'surrogateescape')
 
 
 def refusal(error: Refused) -> Dict[str, Any]:

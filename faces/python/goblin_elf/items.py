@@ -477,6 +477,14 @@ class Strings:
         place = found('string_closed', RANGE, self._file, self._range, unsigned(offset))
         return bytes(self._file.part(*place)) if place else None
 
+    def get_start(self, offset: int, most: int) -> Optional[bytes]:
+        """Returns the first bytes of the string at an offset, at most `most`, and reads no more of them, as `get_bytes` does."""
+        if unsigned(offset) >= self.size:
+            return self.get_bytes(offset)
+        self.get_bytes(self.size)  # (refused if the table is)
+        start = RANGE.pack((self.offset + offset, min(self.size - offset, most)))
+        return bytes(self._file.part(*found('string_bytes', RANGE, self._file, start, 0) or (0, 0)))
+
     def is_at(self, offset: int, name: Name) -> bool:
         """Whether the string at an offset is a name, which is compared as bytes (a str as its UTF-8). Past the end there is none. Refused if
         the table is not inside the file."""

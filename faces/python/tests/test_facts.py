@@ -114,6 +114,9 @@ class Facts(unittest.TestCase):
             replace(longer, PT_INTERP, p_offset=len(elf.bytes), p_filesz=len(name) + 1)
             self.assertEqual((facts(longer)['interpreter'], facts(longer)['unknown']), (expected, [] if expected else ['interpreter']))
             self.assertEqual(longer.interpreter, name.decode('utf-8', 'surrogateescape'))
+        # (what of it would be read is in the file, and not all of it)
+        replace(longer, PT_INTERP, p_filesz=len(name) + 100)
+        self.assertEqual((facts(longer)['unknown'], facts(longer)['refused']), (['interpreter'], 'STRTAB_RANGE'))
         for size, unknown in ((64, []), (65, ['build_id'])):
             longer = Elf(bytearray(elf.bytes) + struct.pack('<III', 4, size, 3) + b'GNU\0' + b'\xab' * size + bytes(8))
             replace(longer, PT_NOTE, p_offset=len(elf.bytes), p_filesz=16 + size, p_align=4)

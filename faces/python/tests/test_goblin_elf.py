@@ -248,8 +248,11 @@ class Refusals(unittest.TestCase):
         self.assertTrue(names.starts_at(0, 'caf') and names.starts_at(0, b'caf\xe9') and names.starts_at(7, '') and names.starts_at(5, 'e'))
         self.assertFalse(names.starts_at(0, 'af') or names.starts_at(5, 'ends') or names.starts_at(8, '') or names.starts_at(4, '\0'))
         self.assertEqual([names.get_closed(offset) for offset in (0, 4, 5, 8)], [b'caf\xe9', b'', None, None])
+        starts = [names.get_start(*given) for given in ((0, 2), (0, 4), (0, 9), (4, 1), (5, 9), (5, 0), (8, 1))]
+        self.assertEqual(starts, [b'ca', b'caf\xe9', b'caf\xe9', b'', b'end', b'', None])
         past = Strings(Elf(MADE.bytes), 64, 1 << 40)
-        for read in (Strings.get_closed, lambda table, offset: table.is_at(offset, 'a'), lambda table, offset: table.starts_at(offset, '')):
+        for read in (Strings.get_closed, lambda table, offset: table.is_at(offset, 'a'), lambda table, offset: table.starts_at(offset, ''),
+                     lambda table, offset: table.get_start(offset, 1)):
             self.assertEqual(refusal(read, past, 0).kind, Kind.STRTAB_RANGE)
             self.assertRaises(ValueError, read, names, -1)
 
