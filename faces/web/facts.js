@@ -132,7 +132,8 @@ function canary(file) {
 }
 
 function compilers(file) {
-    const strtab = file.elf.strtab(file.elf.section('.comment')), found = new Set();
+    const section = file.elf.section('.comment'), found = new Set();
+    const strtab = file.elf.strtab(section && file.elf.range(section) && section);
     for (let at = 0, bytes; at < MOST_COMMENT && (bytes = strtab.get_start(at, MOST_COMMENT)); at += bytes.length + 1)
         found.add(name_of(bytes));
     return [...found].filter((string) => string && !LINKER.test(string));
