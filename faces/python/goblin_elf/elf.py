@@ -4,7 +4,7 @@ import itertools
 import mmap
 import os
 import stat
-from typing import Any, Iterable, Iterator, List, Optional, Union
+from typing import Any, Iterable, Iterator, List, Optional, Tuple, Union
 
 from ._library import FUNCTIONS, HEADER, RANGE, RECORDS, File, call, found, unsigned
 from .constants import (DT_NEEDED, DT_RPATH, DT_RUNPATH, DT_SONAME, ELFCLASS64, ELFDATA2MSB, NT_GNU_BUILD_ID, PT_INTERP, PT_NOTE, SHT_DYNAMIC,
@@ -137,11 +137,15 @@ class Elf:
     def dynamic(self) -> Dynamic:
         """The dynamic section: that of the first segment of type PT_DYNAMIC, or in a file without program headers of the first section of type
         SHT_DYNAMIC. It has no entries if there is none. Refused if the headers or the section are not inside the file."""
-        place = found('dynamic', RANGE, self._file, self._image)
+        place = self._dynamic_place()
         section = None if place or self.segments else self.section_by_type(SHT_DYNAMIC)
         strings = section.linked.strings if section and section.linked else None
         offset, size = (place or section or (0, 0))[:2]
         return Dynamic(self, offset, size, strings)
+
+    def _dynamic_place(self) -> Optional[Tuple[int, ...]]:
+        """Returns the range of the segment that holds the dynamic section, if there is one."""
+        return found('dynamic', RANGE, self._file, self._image)
 
     def _names(self, tag: int) -> Iterator[str]:
         return (entry.string for entry in self.dynamic if entry.d_tag == tag)

@@ -1,31 +1,26 @@
 """What a person asks first of a file. It is made of the library's results, but what flags and names mean is said here: that is not proved, but
 tested. All of it is bounded, whatever a file holds."""
+import contextlib
 import functools
-from typing import Any, Callable, Dict, Iterator, List, NamedTuple, Optional, Set
+import itertools
+from typing import Any, Callable, Dict, Iterator, List, Optional, Set, Tuple
 
 from .constants import (DF_1_NOW, DF_1_PIE, DF_BIND_NOW, DT_BIND_NOW, DT_DEBUG, DT_FLAGS, DT_FLAGS_1, DT_NEEDED, DT_RPATH, DT_RUNPATH, DT_SONAME,
-                        ET_CORE, ET_DYN, ET_EXEC, ET_REL, PF_W, PF_X, PT_DYNAMIC, PT_GNU_RELRO, PT_GNU_STACK, PT_INTERP, PT_LOAD, PT_NULL,
-                        SHF_ALLOC, SHF_EXECINSTR, SHF_WRITE, SHT_DYNSYM, SHT_NOBITS, SHT_NOTE, SHT_NULL, SHT_SYMTAB)
+                        ET_CORE, ET_DYN, ET_EXEC, ET_REL, PF_W, PF_X, PT_GNU_RELRO, PT_GNU_STACK, PT_INTERP, PT_LOAD, PT_NULL, SHF_ALLOC,
+                        SHF_EXECINSTR, SHF_WRITE, SHT_DYNSYM, SHT_NOBITS, SHT_NOTE, SHT_NULL, SHT_SYMTAB)
 from .elf import Elf
 from .items import Dynamic, Segment
 from .marks import compilers, control_flow, has_canary
 from .names import class_to_str, et_to_str, machine_to_str
 from .refused import Refused
 
-KINDS: Dict[int, str] = {ET_REL: 'object', ET_EXEC: 'program', ET_CORE: 'core'}
+KINDS: Dict[int, str] = {ET_REL: 'object', ET_CORE: 'core'}
 # The most that is read: entries of a dynamic section, bytes of a text and of a build ID, segments, and sections for their sizes.
 ENTRIES, TEXT, ID, SEGMENTS, SECTIONS = 4096, 4096, 64, 1 << 17, 1 << 20
 
 
 class Unknown(Exception):
-    """The file does not hold what says a fact."""
-
-
-class Counted(NamedTuple):
-    """What the sections say: their sizes in bytes by what they are for, whether all that is loaded is in another file, and if one is cut."""
-    sizes: Dict[str, int]
-    is_debug: bool
-    is_cut: bool
+    """The file does not hold what says a fact, or more than is read."""
 
 
 class Parts:
@@ -42,47 +37,46 @@ class Parts:
         return [segment for segment in self.segments if segment.p_type == p_type]
 
     @functools.cached_property
-    def counted(self) -> Counted:
-        sizes = {'code': 0, 'data': 0, 'read_only': 0, 'zeros': 0, 'not_loaded': 0}
+    def counted(self) -> Tuple[Dict[str, int], Set[int], bool]:
+        """The sizes of the sections in bytes by what they are for, the types of those that are loaded, and whether one is cut."""
+        sizes, is_cut = {'code': 0, 'data': 0, 'read_only': 0, 'zeros': 0, 'not_loaded': 0}, False
+        loaded: Set[int] = set()
         # (an operator on plain numbers is much faster than one on flags)
         null, nobits, alloc, execinstr, write = int(SHT_NULL), int(SHT_NOBITS), int(SHF_ALLOC), int(SHF_EXECINSTR), int(SHF_WRITE)
-        sections, is_cut = self.elf.sections, False
-        loaded: Set[int] = set()
         # (the first header is of no section: its size may be the number of sections)
-        for section in sections._items(1, min(len(sections), SECTIONS)):
+        for section in itertools.islice(self.elf.sections, 1, SECTIONS):
             flags, kind, size = section.sh_flags, section.sh_type, section.sh_size
             use = 'code' if flags & execinstr else 'data' if flags & write else 'read_only'
             sizes['zeros' if kind == nobits else use if flags & alloc else 'not_loaded'] += size
             loaded.update((kind,) if flags & alloc else ())
             is_cut = is_cut or kind not in (null, nobits) and size > 0 and section.sh_offset + size > self.length
-        return Counted(sizes, nobits in loaded and loaded <= {nobits, int(SHT_NOTE)}, is_cut)
+        return sizes, loaded, is_cut
 
     @functools.cached_property
     def kind(self) -> str:
-        try:
-            if self.type in (ET_EXEC, ET_DYN) and self.counted.is_debug:
+        if self.type not in (ET_EXEC, ET_DYN):
+            return KINDS.get(self.type, 'other')
+        with contextlib.suppress(Refused):
+            if SHT_NOBITS in self.counted[1] <= {SHT_NOBITS, SHT_NOTE}:
                 return 'debug file'
-        except Refused:
-            pass
-        try:
-            return KINDS.get(self.type, 'other') if self.type != ET_DYN else 'program' if self.is_pie() else 'library'
-        except (Refused, Unknown):
-            return 'program or library'
+        with contextlib.suppress(Refused, Unknown):
+            return 'program' if self.type == ET_EXEC or self.is_pie() else 'library'
+        return 'program or library'
 
-    @functools.cached_property
     def is_static(self) -> bool:
         return self.kind == 'program' and not self.of_type(PT_INTERP)
 
     @functools.cached_property
     def dynamic(self) -> Dynamic:
         """The dynamic section. It is unknown if its bytes are in another file, as those of a debug file, or if it has more than is read."""
-        found = self.elf.dynamic
-        if any(segment.p_filesz == 0 for segment in self.of_type(PT_DYNAMIC)[:1]) or len(found) > ENTRIES:
+        found, place = self.elf.dynamic, self.elf._dynamic_place()
+        if place and place[1] == 0 or len(found) > ENTRIES:
             raise Unknown
         return found
 
-    def flags(self, tag: int) -> int:
-        return self.dynamic.value(tag) or 0
+    def has(self, tag: int, flags: int) -> bool:
+        """Whether the value of the first entry with a tag has one of some flags."""
+        return (self.dynamic.value(tag) or 0) & flags != 0
 
     def names(self, tag: int) -> Iterator[str]:
         for entry in self.dynamic:
@@ -91,13 +85,13 @@ class Parts:
                 yield entry.string if start is None else short(start)
 
     def is_pie(self) -> bool:
-        return self.type == ET_DYN and (self.dynamic.value(DT_DEBUG) is not None or bool(self.flags(DT_FLAGS_1) & DF_1_PIE))
+        return self.type == ET_DYN and (self.dynamic.value(DT_DEBUG) is not None or self.has(DT_FLAGS_1, DF_1_PIE))
 
     def is_bound_now(self) -> Optional[bool]:
-        if self.is_static or not self.dynamic:
+        if self.is_static() or not self.dynamic:
             return None
-        flags = self.flags(DT_FLAGS) & DF_BIND_NOW | self.flags(DT_FLAGS_1) & DF_1_NOW
-        return self.dynamic.value(DT_BIND_NOW) is not None or flags != 0
+        is_tagged = self.dynamic.value(DT_BIND_NOW) is not None
+        return is_tagged or self.has(DT_FLAGS, DF_BIND_NOW) or self.has(DT_FLAGS_1, DF_1_NOW)
 
     def build_id(self) -> Optional[str]:
         found = self.elf.build_id
@@ -106,19 +100,26 @@ class Parts:
         return None if found is None else found.hex()
 
     def has_canary(self) -> bool:
-        is_found = has_canary(self.elf)
-        table = self.elf.section_by_type(SHT_SYMTAB) or (None if self.is_static else self.elf.section_by_type(SHT_DYNSYM))
-        if not is_found and table is None:
+        if has_canary(self.elf):
+            return True
+        if not self.elf.section_by_type(SHT_SYMTAB) and (self.is_static() or not self.elf.section_by_type(SHT_DYNSYM)):
             raise Unknown
-        return is_found
+        return False
 
     def is_cut(self) -> bool:
         try:
             held = (segment for segment in self.segments if segment.p_type != PT_NULL and segment.p_filesz > 0)
             is_cut = any(segment.p_offset + segment.p_filesz > self.length for segment in held)
-            return self.counted.is_cut or is_cut and self.kind != 'debug file'
+            return self.counted[2] or is_cut and self.kind != 'debug file'
         except Refused:
             return True
+
+
+def short(text: Optional[bytes]) -> str:
+    """Returns a string of which at most TEXT bytes were read. It is unknown if it may be longer, or if there is none."""
+    if text is None or len(text) == TEXT:
+        raise Unknown
+    return str(text, 'utf-8', 'surrogateescape')
 
 
 # What only programs and libraries have, and what some kinds of files lack.
@@ -138,7 +139,7 @@ FACTS: Dict[str, Callable[[Parts], Any]] = {
     'canary': Parts.has_canary, 'control_flow': lambda of: control_flow(of.elf), 'compilers': lambda of: compilers(of.elf),
     'stripped': lambda of: of.elf.section_by_type(SHT_SYMTAB) is None, 'cut': Parts.is_cut, 'sections': lambda of: len(of.elf.sections),
     'segments': lambda of: len(of.elf.segments), 'symbols': lambda of: len(of.elf.symbols),
-    'dynamic_symbols': lambda of: len(of.elf.dynamic_symbols), 'sizes': lambda of: of.counted.sizes}
+    'dynamic_symbols': lambda of: len(of.elf.dynamic_symbols), 'sizes': lambda of: of.counted[0]}
 
 
 def facts(elf: Elf) -> Dict[str, Any]:
@@ -147,21 +148,14 @@ def facts(elf: Elf) -> Dict[str, Any]:
     found: Dict[str, Any] = {'kind': None, 'type': et_to_str(header.e_type), 'class': class_to_str(header.ei_class),
                              'order': 'little' if elf.little_endian else 'big', 'machine': machine_to_str(header.e_machine),
                              'entry': header.e_entry, **dict.fromkeys(FACTS), 'unknown': []}
-    refusals: List[Refused] = []
+    refusals: Dict[str, Any] = {}
     for name in (name for name in FACTS if name not in LACKS.get(of.kind, ())):
         try:
             found[name] = FACTS[name](of)
         except (Refused, Unknown) as error:
             found['unknown'].append(name)
-            refusals += [error] if isinstance(error, Refused) else []
-    return {**found, **(refusal(refusals[0]) if refusals else {})}
-
-
-def short(text: Optional[bytes]) -> str:
-    """Returns a string of which at most TEXT bytes were read. It is unknown if it may be longer, or if there is none."""
-    if text is None or len(text) == TEXT:
-        raise Unknown
-    return str(text, 'utf-8', 'surrogateescape')
+            refusals = refusals or (refusal(error) if isinstance(error, Refused) else {})
+    return {**found, **refusals}
 
 
 def refusal(error: Refused) -> Dict[str, Any]:
