@@ -1,41 +1,39 @@
 // What the entries of the dynamic section lead to: versions, tables of symbols and relocations, and packed relocations.
-// The library reads the entries and their strings. The versions, the hash tables that count symbols, and packed
-// relocations are read here by numbers, and what all of these mean is not proved. A file without section headers has
-// them, too.
+// The library reads the entries and their strings. The rest is read here by numbers, and what it means is not proved.
 import * as goblin from './goblin.js';
 import { file, is_wide, name_at, own_sections, read_or, RELR, sections, size_of, SYMBOL_TYPES } from './file.js';
 import { once } from './text.js';
 
-// How many entries, versions, and symbols of a hash table or packed relocations are read at most.
-const MOST_ENTRIES = 10000, MOST_VERSIONS = 4096, MOST_ITEMS = 1 << 20;
+// How many versions, and symbols of a hash table or packed relocations are read at most.
+const MOST_VERSIONS = 4096, MOST_ITEMS = 1 << 20;
 
 const word = () => (is_wide() ? 8n : 4n);
 /** Returns a number at an offset of the file, or 0 if it is not inside. */
 export const number_at = (at, width) => read_or(0n, () => file.elf.number(BigInt.asUintN(64, at), Number(width)));
-const entries = once(() => read_or([], () => file.elf.dynamic(MOST_ENTRIES)));
 /** Returns the first value of a tag, or nothing. */
-export const value_of = (tag) => entries().find(({ d_tag }) => d_tag === tag)?.d_val;
+export const value_of = once((tag) => read_or(undefined, () => file.elf.dynamic_value(tag)));
 // Returns the offset in the file of what is loaded at the address that is the value of a tag.
 const offset_of = (tag) => (value_of(tag) === undefined ? undefined
     : read_or(undefined, () => file.elf.address_to_offset(value_of(tag))));
-const count_of = (tag) => value_of(tag) ?? 0n;
 const strtab = once(() => read_or(file.elf.strtab(), () => file.elf.dynamic_strings()));
 
 /** Returns the versions that are needed of each library, by its name. */
 export function versions() {
     const all = new Map();
-    let at = offset_of(goblin.DT_VERNEED) ?? 0n, left = at ? MOST_VERSIONS : 0;
-    for (let files = count_of(goblin.DT_VERNEEDNUM), next = 1n; files > 0n && next && left > 0;
-        files--, left--, at += next) {
-        const name = name_at(strtab(), number_at(at + 4n, 4)), names = all.get(name) ?? [];
-        let aux = at + number_at(at + 8n, 4);
-        for (let count = number_at(at + 2n, 2); count > 0n && left > 0; count--, left--,
-            aux += number_at(aux + 12n, 4)) {
-            names.push(name_at(strtab(), number_at(aux + 8n, 4)));
+    let left = MOST_VERSIONS;
+    // Calls a function with the offset of each of some records. At 12 each has the distance to the next one.
+    const each = (at, count, read) => {
+        for (let next = 1n; at && count > 0n && next && left > 0; count--, left--, at += next) {
+            read(at);
+            next = number_at(at + 12n, 4);
         }
+    };
+    each(offset_of(goblin.DT_VERNEED), value_of(goblin.DT_VERNEEDNUM), (at) => {
+        const name = name_at(strtab(), number_at(at + 4n, 4)), names = all.get(name) ?? [];
+        each(at + number_at(at + 8n, 4), number_at(at + 2n, 2), (aux) =>
+            names.push(name_at(strtab(), number_at(aux + 8n, 4))));
         all.set(name, names);
-        next = number_at(at + 12n, 4);
-    }
+    });
     return all;
 }
 
@@ -57,21 +55,21 @@ function symbol_count() {
 /** Adds the tables of symbols and relocations that the dynamic section leads to, if no section header does. */
 export function find_own_sections() {
     const lacks = (...types) => !sections().some(({ section }) => types.includes(section.sh_type));
-    const add = (tag, sh_type, size, entsize, given) => {
-        const sh_offset = offset_of(goblin[tag]), sh_size = typeof size === 'string' ? count_of(goblin[size]) : size;
-        if (sh_offset === undefined || sh_size === 0n) return;
-        own_sections.set(tag, { sh_type, sh_flags: 2n, sh_addr: value_of(goblin[tag]), sh_offset, sh_size, sh_info: 0,
-            sh_addralign: word(), sh_entsize: BigInt(entsize), ...given });
+    const add = (tag, sh_type, sh_size, entsize, given = { sh_link: 'DT_SYMTAB' }) => {
+        const sh_addr = value_of(goblin[tag]), sh_offset = offset_of(goblin[tag]);
+        if (sh_offset === undefined || !sh_size) return;
+        own_sections.set(tag, { sh_type, sh_flags: 2n, sh_addr, sh_offset, sh_size, sh_info: 0, sh_addralign: word(),
+            sh_entsize: BigInt(entsize), ...given });
     };
-    const entry = size_of('symbol'), table = { sh_link: 'DT_SYMTAB' }, { SHT_REL, SHT_RELA, SHT_DYNSYM } = goblin;
+    const { SHT_REL, SHT_RELA, SHT_DYNSYM } = goblin, entry = BigInt(size_of('symbol'));
     if (lacks(...SYMBOL_TYPES))
-        add('DT_SYMTAB', SHT_DYNSYM, symbol_count() * BigInt(entry), entry, { sh_link: 0, strtab: strtab() });
-    if (lacks(RELR)) add('DT_RELR', RELR, 'DT_RELRSZ', word(), table);
+        add('DT_SYMTAB', SHT_DYNSYM, symbol_count() * entry, entry, { sh_link: 0, strtab: strtab() });
+    if (lacks(RELR)) add('DT_RELR', RELR, value_of(goblin.DT_RELRSZ), word());
     if (!lacks(SHT_REL, SHT_RELA)) return;
     const [type, kind] = value_of(goblin.DT_PLTREL) === goblin.DT_RELA ? [SHT_RELA, 'rela'] : [SHT_REL, 'rel'];
-    add('DT_RELA', SHT_RELA, 'DT_RELASZ', size_of('rela'), table);
-    add('DT_REL', SHT_REL, 'DT_RELSZ', size_of('rel'), table);
-    add('DT_JMPREL', type, 'DT_PLTRELSZ', size_of(kind), table);
+    add('DT_RELA', SHT_RELA, value_of(goblin.DT_RELASZ), size_of('rela'));
+    add('DT_REL', SHT_REL, value_of(goblin.DT_RELSZ), size_of('rel'));
+    add('DT_JMPREL', type, value_of(goblin.DT_PLTRELSZ), size_of(kind));
 }
 
 /**
