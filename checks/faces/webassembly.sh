@@ -45,7 +45,7 @@ fi
 
 # The page, which headless browsers open as a file.
 size=$(wc -c < "$web/index.html")
-[ "$size" -le 450000 ] || fail "the page is too large: it has $size bytes, and may have at most 450,000"
+[ "$size" -le 400000 ] || fail "the page is too large: it has $size bytes, and may have at most 400,000"
 
 # Each browser opens it by the first of some commands that the machine has.
 for commands in 'chromium chromium-browser google-chrome' 'firefox firefox-esr'; do

@@ -2,14 +2,15 @@
 """Packs the page into one file, which a browser can open from a folder: python3 pack.py MODULE writes it to standard output.
 
 A page that is opened from a folder may not fetch other files. So the page's script is one text, with all files that it imports, each
-in its own scope; and so is its worker's. The module and the worker's script are data in the page. The page's policy allows only its
-own script and style, by their hashes, and no request.
+in its own scope; and so is its worker's. The module, compressed, and the worker's script are data in the page. The page's policy allows
+only its own script and style, by their hashes, and no request.
 """
 import base64
 import hashlib
 import os
 import re
 import sys
+import zlib
 
 HERE = os.path.dirname(os.path.abspath(__file__))
 IMPORT = re.compile(r"^import (?P<what>[^;]+?) from '\./(?P<name>\w+)\.js';\n", re.M)
@@ -82,7 +83,7 @@ def script_of(name):
 
 def main(module):
     with open(module, 'rb') as file:
-        encoded = base64.b64encode(file.read()).decode()
+        encoded = base64.b64encode(zlib.compress(file.read(), 9)).decode()
     style, script, worker = read('page.css'), script_of('page'), script_of('worker')
     for text in (script, worker):
         if '</' in text or '<!--' in text:

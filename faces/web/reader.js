@@ -17,7 +17,8 @@ export class Reader {
 
     constructor() {
         source ??= URL.createObjectURL(new Blob([get('worker').textContent], { type: 'text/javascript' }));
-        module ??= bytes_of('module');
+        module ??= new Response(new Blob([bytes_of('module')]).stream()
+            .pipeThrough(new DecompressionStream('deflate'))).arrayBuffer();
         this.worker = new Worker(source);
         this.worker.onmessage = ({ data }) => this.#receive(data);
         this.worker.onerror = (event) => this.#fail(new Error(event.message || 'the worker ends'));
@@ -43,7 +44,7 @@ export class Reader {
     }
 
     /** Reads a file, and returns what the page shows of it first. */
-    open(file) { return this.ask('open', { module, given: file }); }
+    async open(file) { return this.ask('open', { module: await module, given: file }); }
 
     end() { this.worker.terminate(); }
 }
