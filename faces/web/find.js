@@ -24,8 +24,8 @@ function places_of_number({ value, read }) {
         ({ title: `${kind} ${hex(value)}`, detail: what, to: `${kind}/${hex(value)}`, read });
     const offset = value < BigInt(file.content.length) ? [place('offset', offset_details(Number(value)))] : [];
     const address = is_address(value) ? [place('address', address_details(value))] : [];
-    // (an offset in a gap is hardly ever meant)
-    return offset[0]?.detail === 'in a gap' ? [...address, ...offset] : [...offset, ...address];
+    // (an offset in a gap or in padding is hardly ever meant)
+    return /^in (a gap|padding)$/.test(offset[0]?.detail) ? [...address, ...offset] : [...offset, ...address];
 }
 
 // Collects results by how the text matches their name: the whole name, its start, or a part.

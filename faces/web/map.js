@@ -13,7 +13,7 @@ const BAND = 14, STRIP = 4, STEP = 24, TOP = 8, RIGHT = 10, LEAST = 2, LEAST_NAM
 // Of rows the greatest number, the share of the window, and the fewest bytes of one.
 const MOST_ROWS = 16, SHARE = 1 / 3, LOW = 600, FEWEST = 16;
 const KIND_WORDS = { header: 'ELF header', tables: 'header tables', names: 'symbols and names',
-    debug: 'debug information' };
+    debug: 'debug information', appended: 'appended bytes' };
 const words_of = (kind) => KIND_WORDS[kind] ?? kind;
 export const colour = (kind) => getComputedStyle(document.documentElement).getPropertyValue(`--${kind}`);
 
@@ -138,11 +138,10 @@ async function ask_inside() {
 }
 
 // Draws the parts. Those narrower than a pixel are drawn over the others, as a pixel. (A gap as narrow as that has the
-// colour of what follows.)
+// colour of what follows. Padding is drawn as a gap.)
 function draw_parts(pen, { down, high, fill }) {
-    const shades = map.KINDS.map(colour), gap = colour('gap'), line = colour('raised'),
-        hatch = hatching(pen, 'ink'), narrow = [];
-    const { starts, ends, view, bar } = map;
+    const shades = map.KINDS.map((kind) => (kind === 'padding' ? undefined : colour(kind))), gap = colour('gap'),
+        line = colour('raised'), hatch = hatching(pen, 'ink'), narrow = [], { starts, ends, view, bar } = map;
     for (const i of visible_ranges(starts, ends, view.start, end_of_view(), view.each / bar)) {
         const shade = shades[map.kinds[i]], is_hatched = map.depths[i] > 1 || map.cuts[i],
             is_narrow = ends[i] - starts[i] < view.each / bar;
@@ -213,7 +212,7 @@ function draw_segments(fill) {
 function draw_names(pen, symbols, fill) {
     const drawn = new Set(), put = (item, { x, width, y }, shade) => {
         const text = visible(item.title), wide = pen.measureText(text).width;
-        if (!text || drawn.has(item) || wide > width - 10) return;
+        if (!text || item.kind === 'padding' || drawn.has(item) || wide > width - 10) return;
         drawn.add(item);
         if (item.is_cut)
             fill(colour(item.kind), x + 2, y + 1, wide + 6, BAND - 2); // (so hatching doesn't cross the name)

@@ -1,14 +1,14 @@
 // The pieces of the file, and the parts that the ends of pieces divide it into.
 import * as goblin from './goblin.js';
-import { called, file, is_debug, RELOCATION_TYPES, section_at, sections, segments, size_of, SYMBOL_TYPES,
-    read_or } from './file.js';
+import { called, file, is_debug, name_of_section, RELOCATION_TYPES, section_at, sections, segments, size_of,
+    SYMBOL_TYPES, read_or } from './file.js';
 import { segment_type } from './labels.js';
 import { notes_of, title_of } from './notes.js';
 import { first_after } from './spans.js';
 import { count, hex, once } from './text.js';
 
-export const KINDS = ['header', 'tables', 'code', 'data', 'constants', 'names', 'relocations',
-    'notes', 'debug', 'other'];
+export const KINDS = ['header', 'tables', 'code', 'data', 'constants', 'names', 'relocations', 'notes', 'debug',
+    'other', 'padding', 'appended'];
 
 export function kind_of(section) {
     const { sh_type, sh_flags } = section;
@@ -27,6 +27,8 @@ export function kind_of_segment({ p_type, p_flags }) {
 }
 
 export const title_of_segment = (index, { p_type }) => `segment ${index}, ${segment_type(p_type)}`;
+
+const has_sections = once(() => sections().some(({ section }) => section.sh_type !== goblin.SHT_NULL));
 
 // Collects pieces. Each is cut at the end of the file. Those that are cut are collected apart, and so are those that
 // begin past the end.
@@ -62,12 +64,11 @@ function pieces_of_sections() {
 // Collects the pieces that are drawn elsewhere: segments, and their notes above them. In a file with sections, what a
 // loaded segment has outside of them is mostly padding, and neither code nor data.
 function pieces_of_segments() {
-    const { add, ...collected } = collector(),
-        has_sections = sections().some(({ section }) => section.sh_type !== goblin.SHT_NULL);
+    const { add, ...collected } = collector();
     for (const { index, segment } of segments()) {
-        const { p_type, p_offset, p_filesz } = segment,
-            kind = has_sections && p_type === goblin.PT_LOAD ? 'other' : kind_of_segment(segment);
-        add(p_offset, p_filesz, { title: title_of_segment(index, segment), kind, to: `segments/${index}` });
+        const { p_type, p_offset, p_filesz } = segment, is_rest = has_sections();
+        const kind = is_rest && p_type === goblin.PT_LOAD ? 'other' : kind_of_segment(segment);
+        add(p_offset, p_filesz, { title: title_of_segment(index, segment), kind, is_rest, to: `segments/${index}` });
     }
     notes_of('segments').items.forEach((item, index) => add(item.start, Math.min(item.end, file.content.length)
         - item.start, { title: title_of(item), kind: 'notes', to: `notes/segments/${index}` }));
@@ -95,14 +96,51 @@ class Cover {
 
 const ends_of = (pieces) => pieces.flatMap(({ start, end }) => [start, end]);
 
-// A part ends where a piece of sections ends, and where another piece of segments is drawn.
+// Returns the pieces that overlap another one: if any does, the one so far that ends last does, too.
+function overlapping(pieces) {
+    const found = new Set();
+    pieces.toSorted((a, b) => a.start - b.start).reduce((last, piece) => {
+        if (piece.start < last.end) found.add(last).add(piece);
+        return piece.end > last.end ? piece : last;
+    }, { end: 0 });
+    return [...found];
+}
+
+const unnamed = (title, kind, start, end) => ({ title, kind, start, end, to: `offset/${hex(start)}` });
+
+// Returns the padding that is a whole range, whose bytes are the same, or nothing.
+function padding(start, end) {
+    const { content } = file;
+    let at = start;
+    while (at < end && content[at] === content[start]) at++;
+    return at === end ? unnamed('padding', 'padding', start, end) : undefined;
+}
+
+// Returns the pieces after all that headers describe. A kernel module's signature ends with the sizes of its parts and
+// a text.
+const SIGNED = '~Module signature appended~\n', SIGNED_SIZES = 12;
+function appended(from) {
+    const { content } = file, end = content.length, sizes = end - SIGNED.length - SIGNED_SIZES;
+    const is_signed = sizes >= from && String.fromCharCode(...content.subarray(-SIGNED.length)) === SIGNED;
+    const [name, key] = content.subarray(sizes + 3), of_signature = new DataView(content.buffer);
+    const start = is_signed ? sizes - name - key - of_signature.getUint32(content.byteOffset + sizes + 8) : end;
+    const split = start >= from ? start : end, rest = content[from] === 0 && padding(from, split);
+    return [split > from && (rest || unnamed('appended bytes', 'appended', from, split)),
+        split < end && unnamed('module signature', 'appended', split, end)].filter(Boolean);
+}
+
+// A part ends where a piece of sections ends, and where another piece of segments is drawn. Of a file with sections,
+// what is in none of them is padding if its bytes are the same.
 /**
- * Returns the parts: their starts and ends, the pieces that are drawn, and how many of sections lie there; and the
- * pieces past the end.
+ * Returns the parts: their starts and ends, the pieces that are drawn, and how many of sections lie there; the pieces
+ * past the end, cut there, and over others; and those that are appended.
  */
 export const parts = once(() => {
     const of_sections = pieces_of_sections(), of_segments = pieces_of_segments(), size = file.content.length;
-    const first = of_sections.found, second = [...of_sections.cut, ...of_segments.found, ...of_segments.cut];
+    const past = [...of_sections.past, ...of_segments.past], of_cut = [...of_sections.cut, ...of_segments.cut];
+    const last = [...of_sections.found, ...of_segments.found].reduce((most, { end }) => Math.max(most, end), 0);
+    const added = past.length + of_cut.length > 0 ? [] : appended(last), first = [...of_sections.found, ...added];
+    const second = [...of_sections.cut, ...of_segments.found, ...of_segments.cut];
     const ends = new Set([0, size, ...ends_of(first)]);
     const cuts = [...new Set([...ends, ...ends_of(second)])].sort((a, b) => a - b);
     const over = new Cover(first), under = new Cover(second), starts = [], tops = [], depths = [];
@@ -114,12 +152,21 @@ export const parts = once(() => {
         depths.push(depth);
     }
     starts.push(size);
-    return { starts, ends: starts.slice(1), tops, depths, first, second,
-        past: [...of_sections.past, ...of_segments.past] };
+    tops.forEach((top, i) => {
+        if (!top || (top.is_rest && !top.is_cut)) tops[i] = padding(starts[i], starts[i + 1]) ?? top;
+    });
+    return { starts, ends: starts.slice(1), tops, depths, first, second, past, cut: of_cut, added,
+        over: overlapping(of_sections.found) };
 });
 
+/** Reports whether the bytes of a section are compressed. */
+export const is_compressed = (section) => (section.sh_flags & goblin.SHF_COMPRESSED) !== 0n
+    || (is_debug(section) && name_of_section(section).startsWith('.z'));
+// Returns the title of a section's bytes.
+const of_section = (index, section) => `${called(index, section)}${is_compressed(section) ? ' (compressed)' : ''}`;
+
 /** Returns a piece with its title. That of a piece that is cut says how much of it is in the file. */
-export function titled({ section, title = called(section, section_at(section)), ...piece }) {
+export function titled({ section, title = of_section(section, section_at(section)), ...piece }) {
     const { start, end, size, is_cut } = piece;
     if (is_cut && start >= end) return { ...piece, title: `${title} at ${hex(start)}` };
     return { ...piece,
