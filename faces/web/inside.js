@@ -10,7 +10,8 @@ import { first_after, visible_ranges } from './spans.js';
 import { count, once } from './text.js';
 
 const TYPES = new Set([goblin.STT_OBJECT, goblin.STT_FUNC, goblin.STT_GNU_IFUNC]);
-const found = { table: undefined, symbols: [], starts: [], ends: [], functions: [] };
+const found = { table: undefined, symbols: [], starts: [], ends: [], functions: [], covered: 0 };
+const is_code = (start) => parts().tops[part_at(start)]?.kind === 'code';
 
 // Finds the bytes of functions and variables of the table of symbols. Of those that overlap the first one counts, and
 // the longest of these.
@@ -25,12 +26,15 @@ const find_symbols = once(async () => {
         if (size > 0) all.push({ start, end: start + size, size, index, is_function: type === goblin.STT_FUNC });
     });
     all.sort((a, b) => a.start - b.start || b.end - a.end);
-    let last = 0;
-    const functions = all.filter((item) => item.is_function)
-        .filter(({ start }, i, list) => start !== list[i - 1]?.start); // (without other names)
-    const symbols = all.filter(({ start, end }) => start >= last && (last = end));
-    Object.assign(found,
-        { table, functions, symbols, starts: symbols.map(({ start }) => start), ends: symbols.map(({ end }) => end) });
+    let last = 0, covered = 0;
+    for (const { start, end } of all) {
+        if (is_code(start)) covered += Math.max(end - Math.max(start, last), 0);
+        last = Math.max(last, end);
+    }
+    const apart = (items) => { last = 0; return items.filter(({ start, end }) => start >= last && (last = end)); };
+    const symbols = apart(all), functions = apart(all.filter((item) => item.is_function));
+    Object.assign(found, { table, functions, symbols, covered, starts: symbols.map(({ start }) => start),
+        ends: symbols.map(({ end }) => end) });
 });
 
 const name_of = ({ index }) => name_of_symbol(found.table, index, symtab_at(found.table).get(index))
@@ -46,6 +50,14 @@ function shown(symbol, has_name = true) {
 export async function largest(most) {
     await find_symbols();
     return found.functions.sort((a, b) => b.size - a.size).slice(0, most).map((item) => shown(item));
+}
+
+/** Returns the number of bytes of code in the file, and of those that are in no symbol. */
+export async function code_without_symbol() {
+    await find_symbols();
+    const { starts, ends, tops } = parts();
+    const code = tops.reduce((sum, top, i) => sum + (top?.kind === 'code' ? ends[i] - starts[i] : 0), 0);
+    return { code, rest: code - found.covered };
 }
 
 export const CLASSES = ['zeros', 'text', 'numbers', 'code-like', 'high entropy'];
