@@ -20,8 +20,9 @@ export function make(name, given = {}, ...content) {
     return element;
 }
 
-/** Returns elements with commas between them, which a copied text has, too. */
-export const joined = (parts) => parts.flatMap((part, i) => (i ? [', ', part] : [part]));
+/** Returns elements with commas between them, which a copied text has, too, but none after a colon. */
+export const joined = (parts) => parts.flatMap((part, i) =>
+    (i ? [/:$/.test(parts[i - 1].textContent) ? ' ' : ', ', part] : [part]));
 export const button = (text, onclick, given = {}) => make('button', { type: 'button', onclick, ...given }, text);
 
 function shown(sign) {
