@@ -89,19 +89,24 @@ export async function open_tab(name, of) {
     return open === mine;
 }
 
-// Returns the facts in words. Those that the page reads itself are marked.
+// What the page doesn't name or prove.
+const CLOSING = 'Facts rest on fields that proved calls return. What is below “not proved” rests on symbol versions,'
+    + ' on notes or on texts, which this page reads itself, by numbers, or is a name of C++. Numbers without a name are'
+    + ' the relocations of Alpha and of all machines but x86, ARM, AArch64, MIPS, 64-bit PowerPC, RISC-V and s390, and'
+    + ' SPARC’s symbol type STT_REGISTER.';
+// Returns the facts in words. Those that the page reads itself are below a mark.
 async function summary_panel() {
-    const mark = () => make('span', { class: 'own' }, 'not proved');
-    const line = (fact) => {
+    const line = ({ also = [], ...fact }) => {
         const row = row_of(fact);
-        if (fact.is_own) row.lastChild.append(' ', mark());
+        for (const more of also) row.lastChild.append(' ', make('br'), ...row_of(more).lastChild.childNodes);
         return row;
     };
-    const group = ([title, rows]) => make('section', {}, make('h3', {}, title),
-        make('table', { class: 'fields', 'aria-label': title }, make('tbody', {}, ...rows.map(line))));
-    const said = make('p', { class: 'others' }, 'Facts rest on fields that proved calls return. Those marked ', mark(),
-        ' rest on symbol versions or on the contents of notes, which this page reads itself, by numbers, or are names'
-            + ' of C++.');
+    const table = (title, { mark, rows }) => [...(mark ? [make('span', { class: 'own' }, mark)] : []),
+        make('table', { class: 'fields', 'aria-label': mark ? `${title}, ${mark}` : title },
+            make('tbody', {}, ...rows.map(line)))];
+    const group = ({ title, tables }) => make('section', {}, make('h3', {}, title),
+        ...tables.flatMap((given) => table(title, given)));
+    const said = make('p', { class: 'others' }, CLOSING);
     return [make('div', { class: 'scroll', tabindex: '0' },
         make('div', { class: 'summary' }, ...(await ask('summary')).map(group)), said)];
 }
