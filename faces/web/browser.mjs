@@ -265,47 +265,132 @@ async function check_own_tables() {
     await is_listed(3, '.rela.plt', /R_\w+ +[0-9a-f]+ ([^@ ]+)/g);
 }
 
-// Returns the rows of the summary: the name and value of each, and whether it is marked as not proved.
-async function facts(path) {
-    await pick(path);
+// Returns the rows of the summary, or of some of its blocks: the name and value of each, and the mark above them.
+async function facts(path, title = '') {
+    if (path) await pick(path);
     await click('[role=tab]');
     await until_there('#panel .summary h3');
-    const rows = await each_of('#panel .summary tr', '[...item.children].map(({ textContent }) => textContent)');
-    return rows.map(([name, value]) => [name, value.replace(/ not proved$/, ''), value.endsWith(' not proved')]);
+    return each_of(`#panel .summary [aria-label${title && `^='${title}'`}] tr`, `[...[...item.children].map(
+        ({ textContent }) => textContent), item.closest('table').ariaLabel.split(', ')[1] ?? '']`);
 }
+const value_in = (rows, name) => rows.find(([title]) => title === name)?.[1];
 
-// The first tab says in words what readelf lists of a program. What rests on what the page reads itself is marked. What
-// a cut file lacks is unknown. (test.mjs compares all facts with their table.)
+// The first tab says in words what readelf lists of a program, in the order of what a person asks. What rests on what
+// the page reads itself is below a mark, one a block. What a cut file lacks is unknown. (test.mjs compares all facts
+// with their table.)
 async function check_summary() {
-    const rows = await facts(program_file),
-        of = (name) => rows.filter(([title]) => title === name).map(([, value]) => value);
+    const rows = await facts(program_file), of = (name) => [value_in(rows, name)].filter(Boolean);
+    assert.deepEqual(await each_of('#panel .summary h3', 'item.textContent'), ['What it is', 'What protects it',
+        'What it needs', 'Why it is large', 'Largest sections', 'Largest functions', 'How it was built']);
+    assert.ok((await each_of('#panel .summary section', `item.querySelectorAll('.own').length`)).every((n) => n < 2));
     const output = listed(program_file);
     const needs = output.split('Version needs section')[1].matchAll(/File: (\S+).*\n((?:.* Name: .*\n)*)/g);
     const libraries = Object.fromEntries(Array.from(needs, ([, name, lines]) =>
         [name, [...lines.matchAll(/Name: (\S+)/g)].map(([, version]) => version)]));
-    assert.deepEqual(of('needs'),
-        [...output.matchAll(/\(NEEDED\) .*\[(.*)\]/g)].map(([, name]) => [name, ...libraries[name] ?? []].join(', ')));
+    assert.deepEqual([of('libraries'), of('symbol versions')],
+        [[[...output.matchAll(/\(NEEDED\) .*\[(.*)\]/g)].map(([, name]) => name).join(', ')],
+            [Object.entries(libraries).map(([name, all]) => `${name}: ${all.join(', ')}`).join('; ')]]);
     assert.match(of('interpreter')[0], new RegExp(`^${/program interpreter: (.*)\]/.exec(output)[1]}, segment \\d+$`));
     assert.deepEqual([...of('build ID'), ...of('kind'), ...of('position-independent')],
-        [`${/Build ID: (\w+)/.exec(output)[1]}, note`, 'Position-independent program for x86-64', 'yes']);
+        [`${/Build ID: (\w+)/.exec(output)[1]}, note`, `A position-independent program for x86-64 of ${
+            decimal(readFileSync(program_file).length)} bytes, without debug information`, 'yes']);
     assert.match(await text_of('#file'), /position-independent program for x86-64/);
     assert.deepEqual(['read-only relocations', 'stack', 'stack canary', 'stripped'].map((name) => of(name)[0]),
         ['partial, segment 12', 'not executable, segment 11', 'yes, __stack_chk_fail', 'no, .symtab']);
     const cut = Object.fromEntries(await facts(join(stored, 'facts', 'cut_dynamic'))),
         unknown = 'unknown, the file does not hold it';
-    assert.deepEqual([cut.needs, cut['stack canary'], cut.stack], [unknown, unknown, 'not executable, segment 8']);
-    for (const [name, , is_own] of rows)
-        assert.equal(is_own, /^(needs|control-flow marks|debug file)$/.test(name), name);
+    assert.deepEqual([cut.libraries, cut['stack canary'], cut.stack], [unknown, unknown, 'not executable, segment 8']);
+    for (const [name, , mark] of rows)
+        assert.equal(mark, /^(symbol versions|control-flow marks|debug file)$/.test(name) ? 'not proved' : '', name);
     const [[name, { size: largest }]] = Object.entries(sections_of(program_file))
         .sort(([, a], [, b]) => b.size - a.size);
     assert.ok(rows.some(([size, value]) => size.startsWith(`${decimal(largest)} bytes, `) && value === name));
     const functions = symbols.filter(({ type, size }) => type === 'FUNC' && size > 0)
         .sort((a, b) => b.size - a.size).slice(0, 10);
-    const found = (await facts(program_file)).slice(-functions.length);
+    const [, ...found] = await facts(program_file, 'Largest functions');
     assert.equal(found[0][1], functions[0].name);
     assert.deepEqual(found.map(([size]) => size), functions.map(({ size }) => `${decimal(size)} bytes`));
     const { kind: words, 'debug information': debug } = Object.fromEntries(await facts(made));
-    assert.deepEqual([words, debug], ['Object file for x86-64', '64 bytes, .debug_info']);
+    const of_object = `An object file for x86-64 of ${decimal(content.length)} bytes, with debug information`;
+    assert.deepEqual([words, debug], [of_object, '64 bytes, .debug_info']);
+    await check_needed();
+    await check_functions();
+}
+
+// All libraries are in one row, up to a number. The row says how many there are, and how many are left out.
+async function check_needed() {
+    for (const [all, more] of [[261, ''], [400, ' and 100 more']]) {
+        const names = Array.from({ length: all }, (_, i) => (i < 260 ? `l${i}.so` : `libc.so.${i}`));
+        const strings = Buffer.from(`\0${names.map((name) => `${name}\0`).join('')}`);
+        const entries = [...names.map((name) => [1, strings.indexOf(`\0${name}\0`) + 1]), [5, 0x400000],
+            [10, strings.length], [0, 0]].flat().map((number) => [number, 8]);
+        await pick_written('needed', elf_file({ type: 3, segments: [{ vaddr: 0x400000, bytes: strings },
+            { type: 2, bytes: packed(...entries) }] }));
+        assert.equal(value_in(await facts(), 'libraries'), `${all}: ${names.slice(0, 300).join(', ')}${more}`);
+    }
+}
+
+// A function has one row, whatever its names. What is in no symbol is said, too.
+async function check_functions() {
+    const functions = [['a', 0, 8], ['alias', 0, 8], ['inside', 4, 4], ['b', 8, 16], ['other', 8, 12]].map(
+        ([text, value, size]) => ({ text, info: 2, shndx: 3, value, size }));
+    const text = { name: '.text', type: 1, flags: 6, bytes: Buffer.alloc(64, 1) };
+    await pick_written('functions', symbols_file(functions, text));
+    assert.deepEqual((await facts('', 'Largest functions')).map(([name, value]) => `${name}, ${value}`),
+        ['in no symbol, 40 of 64 bytes of code', '16 bytes, b', '8 bytes, a']);
+}
+
+// What is broken is in one row, each with links to its places.
+async function check_broken() {
+    const section = (name) => ({ name, type: 1, bytes: Buffer.alloc(64, 1) }), far = 1n << 40n;
+    const whole = elf_file({ sections: ['.a', '.b', '.c'].map(section), segments: [{ bytes: Buffer.alloc(8) }] });
+    const table = Number(whole.readBigUInt64LE(0x28)), [a, b, c] = [1, 2, 3].map((index) => table + 64 * index + 0x18);
+    const cut = 'cut at the file’s end at', end = hex(whole.length);
+    for (const [[at, value, width = 8, size], words, ...places] of [
+        [[0, 0x7f, 1], 'no: tables, sections and segments lie in the file, and no sections overlap'],
+        [[0x34, 52, 2], 'yes: wrong in the header: e_ehsize is 52, not 64', 'header/e_ehsize'],
+        [[0x36, 32, 2], 'yes: wrong in the header: e_phentsize is 32, not 56', 'header/e_phentsize'],
+        [[0x3a, 40, 2], 'yes: wrong in the header: e_shentsize is 40, not 64', 'header/e_shentsize'],
+        [[0x3e, 9, 2], 'yes: wrong in the header: e_shstrndx is 9 of 5 sections', 'header/e_shstrndx'],
+        [[b, whole.readBigUInt64LE(a) + 8n], 'yes: overlapping: .a, .b', 'sections/1', 'sections/2'],
+        [[c, far], `yes: past the file’s end at ${end}: .c`, 'sections/3'],
+        [[c + 8, far], `yes: ${cut} ${end}: .c`, 'sections/3'],
+        [[64 + 0x20, far], `yes: ${cut} ${end}: segment 0, LOAD`, 'segments/0'],
+        [[0, 0x7f, 1, table + 100], `yes: ${cut} ${hex(table + 100)}: Section headers`, 'sections'],
+        [[0, 0x7f, 1, table], `yes: past the file’s end at ${hex(table)}: Section headers`, 'sections'],
+    ]) {
+        const content = Buffer.from(whole.subarray(0, size));
+        packed([value, width]).copy(content, at);
+        await pick_written('broken', content);
+        const found = value_in(await facts(), 'broken'), links = await each_of('#panel .summary tr',
+            `item.textContent.startsWith('broken') ? [...item.querySelectorAll('a')].map(({ hash }) => hash) : []`);
+        assert.deepEqual([found, links.flat()], [words, places.map((place) => `#${place}`)]);
+    }
+}
+
+// A kernel module, its signature, compressed debug information, appended bytes and padding are called so.
+async function check_called() {
+    const texts = Buffer.from('depends=crc16,mbcache\0vermagic=6.1.0 SMP \0'), signature = Buffer.alloc(700, 0x30);
+    const named = (name, bytes, flags = 0, type = 1) => ({ name, type, flags, bytes });
+    const module = elf_file({ sections: [named('.modinfo', texts, 2), named('.gnu.linkonce.this_module', texts, 3),
+        named('.debug_info', Buffer.alloc(24, 1), 0x800), named('.a', Buffer.alloc(1, 1)),
+        named('.none', Buffer.alloc(2040), 0, 0)] });
+    const signed = Buffer.concat([signature, Buffer.from([0, 0, 2, 0, 0, 0, 0, 0, 0, 0, 2, 0xbc]),
+        Buffer.from('~Module signature appended~\n')]);
+    const content = Buffer.concat([module, Buffer.from('appended'), signed]);
+    const rows = await facts(await pick_written('module', content));
+    assert.deepEqual(['kind', 'kernel', 'modules', 'debug information', 'appended bytes', 'module signature', 'broken']
+        .map((name) => value_in(rows, name)), [
+        `A kernel module for x86-64 of ${decimal(content.length)} bytes, with debug information`, '6.1.0 SMP ',
+        'crc16,mbcache', '24 bytes, compressed, .debug_info', `8 bytes, ${hex(module.length)}`,
+        `740 bytes, ${hex(module.length + 8)}`,
+        'no: tables, sections and segments lie in the file, and no sections overlap']);
+    assert.equal((await shares())['appended bytes'], Math.round(1000 * 748 / content.length) / 10);
+    await open_tab('layout');
+    const [sizes, titles] = [await cells(3), await cells(5)];
+    const next = titles.indexOf('.a') + 1, last = titles.slice(-2);
+    assert.deepEqual([titles.includes('.debug_info (compressed)'), titles.includes('gap')], [true, false]);
+    assert.deepEqual([sizes[next], titles[next], ...last], ['2,047', 'padding', 'appended bytes', 'module signature']);
 }
 
 // Of a core the signal, the command, the threads with their registers, and the mapped files, by the layouts of Linux
@@ -321,16 +406,21 @@ async function check_core() {
     const ranges = [[0x400000, 0x401000, 0], [0x401000, 0x402000, 1], [0x7f0000, 0x7f1000, 0]].flat()
         .map((number) => [number, 8]);
     const mapped = Buffer.concat([packed([3, 8], [4096, 8], ...ranges), Buffer.from('/bin/a\0/bin/a\0/lib/b c\0')]);
+    const others = Array.from({ length: 299 }, (_, i) => thread(100 + i, 0x402000, 0x7ffd00));
     const notes = [thread(71, 0x401234, 0x7fff00), note('CORE', 3, process), note('CORE', 0x46494c45, mapped),
-        thread(72, 0x401300, 0x7ffe00)];
-    const rows = await facts(await pick_written('process',
-        elf_file({ type: 4, segments: [{ type: 4, bytes: Buffer.concat(notes) }] })));
-    const start = rows.findIndex(([name]) => name === 'signal');
-    assert.deepEqual(rows.slice(start, start + 7), [['signal', '11, SIGSEGV', true],
-        ['thread 71', 'rip 0x401234, rsp 0x7fff00, note', true], ['command', './program --all, note', true],
-        ['process', '70', true], ['mapped file', '/bin/a, 2 ranges from 0x400000 on', true],
-        ['mapped file', '/lib/b c, 1 range from 0x7f0000 on', true],
-        ['thread 72', 'rip 0x401300, rsp 0x7ffe00, note', true]]);
+        thread(72, 0x401300, 0x7ffe00), ...others];
+    await pick_written('process', elf_file({ type: 4, segments: [{ type: 4, bytes: Buffer.concat(notes) }] }));
+    assert.deepEqual(await facts('', 'What was running'), [['signal', '11, SIGSEGV'],
+        ['command', './program --all, note'], ['process', '70'], ['thread 71', 'rip 0x401234, rsp 0x7fff00, note'],
+        ['thread 72', 'rip 0x401300, rsp 0x7ffe00, note'],
+        ['299 threads', 'rip 0x402000: 100, 101, 102, 103, 104, 105, 106, 107, and 291 more'],
+        ['mapped file', '/bin/a, 2 ranges from 0x400000 on'],
+        ['mapped file', '/lib/b c, 1 range from 0x7f0000 on']].map((row) => [...row, 'not proved']));
+    const apart = Array.from({ length: 25 }, (_, i) => thread(i, 0x401000 + i, 0x7f0000));
+    await pick_written('apart', elf_file({ type: 4, segments: [{ type: 4, bytes: Buffer.concat(apart) }] }));
+    assert.deepEqual((await facts('', 'What was running')).slice(-2).map(([name, value]) => `${name}: ${value}`),
+        ['thread 19: rip 0x401013, rsp 0x7f0000, note', 'other places of threads: 5, notes']);
+    await pick(join(folder, 'process'));
     await go('notes/segments/0', 'CORE PRSTATUS, thread 71');
     assert.deepEqual([await field_of('rax'), await field_of('rip')], ['0x77', '0x401234']);
     assert.match(await field_of('registers'), /not proved/);
@@ -467,6 +557,16 @@ async function check_labels() {
     assert.deepEqual(await cells(3), ['STAPSDT', 'GNU_BUILD_ID', '0x3']);
     await click('#tab-header');
     await until(`document.querySelector('[data-field=ei_osabi]')?.textContent.includes('ELFOSABI_GNU')`);
+    // (numbers that the page does not name are in its closing list)
+    const register = symbols_file([{ text: '%g2', info: 13 }]), table = { name: '.rela', type: 4, entsize: 24 };
+    register.writeUInt16LE(43, 0x12);
+    await pick_written('register', register, 'symbols');
+    const types = await cells(4);
+    const alpha = elf_file({ machine: 0x9026, sections: [{ ...table, bytes: rela({ type: 2 }) }] });
+    await pick_written('alpha', alpha, 'relocations');
+    assert.deepEqual([types, await cells(2)], [['NOTYPE', '13'], ['2']]);
+    await facts();
+    assert.match(await text_of('#panel .others'), /the relocations of Alpha and .* SPARC’s symbol type STT_REGISTER/);
     await pick(program_file);
     await go(main_place, 'main');
     // (what belongs together is apart in the text, too, which is copied and read aloud)
@@ -976,11 +1076,19 @@ async function check_widths() {
     await browser.resize(1400, 1600);
 }
 
-// What is narrower than a pixel is drawn as a pixel: a file of 60,000 sections, and one whose other parts are large.
+// What is narrower than a pixel is drawn as a pixel: a file of 65,300 sections, whose number is the size of section 0,
+// and one whose other parts are large.
 async function check_narrow() {
-    const bytes = Buffer.alloc(8), count = 60000,
+    const bytes = Buffer.alloc(8), count = 65300,
         content = elf_file({ sections: Array(count).fill({ name: '', type: 1, flags: 2, bytes }) });
+    const first = Number(content.readBigUInt64LE(0x28));
+    for (const [at, value, width] of [[0x3c, 0, 2], [0x3e, 0xffff, 2], [first + 0x20, count + 2, 8],
+        [first + 0x28, count + 1, 4]]) packed([value, width]).copy(content, at);
     await pick_written('many', content);
+    const [[largest, name], second] = await facts('', 'Largest sections');
+    assert.deepEqual([largest.startsWith('65,311 bytes, '), name, ...second.slice(0, 2)],
+        [true, '.shstrtab', '8 bytes, 0.0 %', 'section 1']);
+    await click('#tab-sections');
     const wanted = await bar_of(content.length) * count * 8 / await each_row(), many = await pixels_of('constants', 12);
     assert.ok(wanted > 500 && Math.abs(many - wanted) < 5, `${many} pixels, not ${wanted}`);
     await pick_written('large',
@@ -1289,7 +1397,8 @@ async function check_refusals() {
 }
 
 const checks = [
-    check_all_counts, check_refusals, check_trouble, check_unknown, check_own_tables, check_summary, check_core,
+    check_all_counts, check_refusals, check_trouble, check_unknown, check_own_tables, check_summary, check_broken,
+    check_called, check_core,
     check_segments, check_many_segments, check_padding, check_cut, check_labels, check_loading, check_symbol_links,
     check_early_link, check_section_links, check_history, check_relocation_links, check_goto, check_search,
     check_relocation_names, check_section_indices, check_named_links, check_fields, check_low, check_plain_words,

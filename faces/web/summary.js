@@ -1,29 +1,40 @@
-// A summary in words: what a person asks first of a file. Each row is { name, value, links, is_own }. With `is_own` it
-// rests on what the page reads itself, by numbers, such as versions and the contents of notes, and is not proved. The
-// others rest on fields, entries and strings that proved calls return.
+// A summary in words: what a person asks first of a file, in that order. Each block has a title and tables, each with a
+// mark and rows: { name, value, links, also }, where `also` are further lines. Rows without a mark rest on fields,
+// entries and strings that proved calls return. Those with a mark rest on what the page reads itself, by numbers, such
+// as versions and the contents of notes, and are not proved.
 import * as goblin from './goblin.js';
 import { mapped_files, process_of, registers_of, signal_of } from './core.js';
 import { value_of, versions } from './dynamic.js';
 import { facts } from './facts.js';
-import { called, file, is_debug, name_at, read_or, sections, segment_of, symbol_tables } from './file.js';
-import { largest } from './inside.js';
+import { file, is_debug, name_at, read_or, sections, segment_of, size_of, symbol_tables } from './file.js';
+import { code_without_symbol, largest } from './inside.js';
 import * as labels from './labels.js';
 import { notes_of } from './notes.js';
+import { is_compressed, parts, titled } from './pieces.js';
 import { has_addresses, symtab_at, to_address, to_section, to_symbol } from './resolve.js';
 import { count, hex, once } from './text.js';
 
-const { ET_CORE, SHT_NOBITS, SHT_SYMTAB } = goblin, LARGEST = 10, MOST_ROWS = 200;
+const { ET_CORE, ET_REL, SHT_NOBITS, SHT_SYMTAB } = goblin;
+// The most that is shown: of what is largest, of places in a row, of rows of one kind, and of names in a row. And how
+// many bytes of a module's texts are read.
+const LARGEST = 10, MOST_PLACES = 8, MOST_ROWS = 20, MOST_NAMES = 300, MOST_TEXT = 1 << 16;
 const MACHINES = { 3: 'x86', 8: 'MIPS', 20: 'PowerPC', 21: '64-bit PowerPC', 22: 's390', 40: 'ARM', 62: 'x86-64',
     183: 'AArch64', 243: 'RISC-V' };
 
 const row = (name, value, ...links) => ({ name, value: `${value}`, links: links.filter((link) => link) });
-const own = (...given) => ({ ...row(...given), is_own: true });
+const own = (...given) => ({ ...row(...given), mark: 'not proved' });
 const bytes = (size) => `${count(size)} bytes`;
 const to_segment = (type) => {
     const found = segment_of(type);
     return found && { text: `segment ${found.index}`, to: `segments/${found.index}` };
 };
-const section_called = (name) => sections().find(({ index, section }) => called(index, section) === name);
+const section_called = (name) => read_or(undefined, () => file.elf.section_by_name(name));
+// Returns the first links, and one that says how many others there are.
+const first_of = (links, to) => (links.length <= MOST_PLACES ? links
+    : [...links.slice(0, MOST_PLACES), { text: `and ${count(links.length - MOST_PLACES)} more`, to }]);
+// Returns names as a text, which says how many are left out.
+const listed = (names, between) => names.slice(0, MOST_NAMES).join(between)
+    + (names.length > MOST_NAMES ? ` and ${count(names.length - MOST_NAMES)} more` : '');
 /** Returns the facts of the file. */
 export const all_facts = once(() => facts(file.elf, file.content));
 
@@ -36,30 +47,70 @@ function said(name, fact, words = String, ...links) {
 // Returns the words for a fact that is so and one that is not.
 const either = (yes, no = 'no') => (is_so) => (is_so ? yes : no);
 
+// Returns the texts of a kernel module, such as `depends=crc16`, by what is before the sign; or nothing.
+const module_texts = once(() => {
+    const info = section_called('.modinfo'), this_module = section_called('.gnu.linkonce.this_module');
+    if (file.elf.header.e_type !== ET_REL || !info || !this_module) return undefined;
+    const text = new TextDecoder().decode(file.elf.readable_data(info.section)?.subarray(0, MOST_TEXT));
+    return new Map(text.split('\0').map((line) => line.split(/=(.*)/s)));
+});
+
 const KINDS = { object: 'object file', core: 'core file', library: 'shared library',
     'debug file': 'separate debug file', 'program or library': 'program or shared library' };
 /** Returns what kind of file it is, in words. */
 export function kind_in_words() {
     const { e_type, e_machine } = file.elf.header, { kind, pie } = all_facts();
     const words = kind === 'program' ? either('position-independent program', 'program at fixed addresses')(pie)
-        : KINDS[kind] ?? `file of type ${labels.file_type(e_type)}`;
+        : module_texts() ? 'kernel module' : KINDS[kind] ?? `file of type ${labels.file_type(e_type)}`;
     return `${words} for ${MACHINES[e_machine] ?? labels.machine(e_machine)}`;
 }
 
+const debug_sections = once(() => sections()
+    .filter(({ section }) => is_debug(section) && section.sh_type !== SHT_NOBITS));
+
+// Returns lines that say what is wrong with the file, each with links to the places.
+function damage() {
+    const { header } = file.elf, { past, cut, over } = parts(), end = hex(file.content.length), { length } = sections();
+    const line = (words, links, to) => links.length > 0 && row('', words, ...first_of(links, to));
+    // (the segments of a debug file are those of another file)
+    const links_to = (pieces) => pieces
+        .filter(({ to }) => all_facts().kind !== 'debug file' || !to.startsWith('segments/'))
+        .map((piece) => ({ text: titled({ ...piece, is_cut: false }).title, to: piece.to }));
+    const wrong = (name, right, words) => (right ? undefined
+        : { text: `${name} is ${header[name]}${words}`, to: `header/${name}` });
+    const odd = (name, kind) => wrong(name, header[name] === size_of(kind), `, not ${size_of(kind)}`);
+    const fields = [odd('e_ehsize', 'header'), header.e_phoff && odd('e_phentsize', 'segment'),
+        header.e_shoff && odd('e_shentsize', 'section'), length && wrong('e_shstrndx', header.e_shstrndx < length
+            || header.e_shstrndx === 0xffff, ` of ${count(length)} sections`)];
+    return [line(`past the file’s end at ${end}:`, links_to(past), 'sections'),
+        line(`cut at the file’s end at ${end}:`, links_to(cut), 'sections'),
+        line('overlapping:', links_to(over), 'layout'),
+        line('wrong in the header:', fields.filter(Boolean), 'header')].filter(Boolean);
+}
+
 function what_it_is() {
-    const { e_entry } = file.elf.header, kind = kind_in_words();
-    return [row('kind', kind[0].toUpperCase() + kind.slice(1)),
+    const { e_entry } = file.elf.header, { kind, stripped } = all_facts(), words = kind_in_words(), also = damage();
+    const debug = debug_sections().length > 0 ? 'with debug information' : 'without debug information';
+    const sentence = [`${/^[aeo]/.test(words) ? 'An' : 'A'} ${words} of ${bytes(file.content.length)}`,
+        stripped && kind !== 'object' && 'stripped', kind !== 'core' && sections().length > 0 && debug];
+    return [row('kind', sentence.filter(Boolean).join(', ')),
+        { ...row('broken', also.length > 0 ? 'yes:'
+            : 'no: tables, sections and segments lie in the file, and no sections overlap'), also },
         e_entry && row('starts at', '', has_addresses() ? to_address(e_entry) : undefined),
-        said('cut', 'cut', either('yes: headers, or what they describe, lie past its end'))];
+        said('own name', 'soname')];
 }
 
 function what_it_needs() {
-    const { needed, kind } = all_facts(), by_library = versions();
-    const rows = needed?.slice(0, MOST_ROWS).map((name) => (by_library.has(name)
-        ? own('needs', [name, ...by_library.get(name)].join(', ')) : row('needs', name))) ?? [said('needs', 'needed')];
-    if (needed?.length === 0 && ['program', 'library'].includes(kind)) rows.push(row('needs', 'no library'));
-    return [said('interpreter', 'interpreter', String, to_segment(goblin.PT_INTERP)), ...rows,
-        said('own name', 'soname'), said('search path (RPATH)', 'rpath'), said('search path (RUNPATH)', 'runpath')];
+    const { needed, kind } = all_facts(), texts = module_texts(),
+        by_library = Array.from(versions(), ([name, all]) => `${name}: ${all.join(', ')}`);
+    return [said('interpreter', 'interpreter', String, to_segment(goblin.PT_INTERP)),
+        (needed?.length !== 0 || ['program', 'library'].includes(kind))
+            && said('libraries', 'needed', (names) =>
+                (names.length > MOST_PLACES ? `${count(names.length)}: ` : '') + (listed(names, ', ') || 'none')),
+        said('search path (RPATH)', 'rpath'), said('search path (RUNPATH)', 'runpath'),
+        by_library.length > 0 && own('symbol versions', listed(by_library, '; ')),
+        texts?.has('vermagic') && own('kernel', texts.get('vermagic')),
+        texts?.has('depends') && own('modules', texts.get('depends') || 'none')];
 }
 
 function to_build_id() {
@@ -69,18 +120,24 @@ function to_build_id() {
     return found && { text: 'note', to: `notes/${found.by}/${found.index}` };
 }
 
+// Returns the size of the debug information in words, and whether it is compressed.
+function debug_words() {
+    const size_of_all = (all) => all.reduce((sum, { section }) => sum + section.sh_size, 0n), all = debug_sections();
+    const packed = size_of_all(all.filter(({ section }) => is_compressed(section))), size = size_of_all(all);
+    const words = packed === size ? ', compressed' : packed ? `, of which ${bytes(packed)} are compressed` : '';
+    return all.length > 0 ? `${bytes(size)}${words}` : 'none in the file';
+}
+
 function how_it_was_built() {
-    const all = sections(), symbols = all.find(({ section }) => section.sh_type === SHT_SYMTAB),
-        debug = all.filter(({ section }) => is_debug(section) && section.sh_type !== SHT_NOBITS),
-        size = debug.reduce((sum, { section }) => sum + section.sh_size, 0n);
+    const symbols = sections().find(({ section }) => section.sh_type === SHT_SYMTAB), [debug] = debug_sections();
     const [link, comment] = ['.gnu_debuglink', '.comment'].map(section_called),
         name = link && name_at(file.elf.strtab(link.section), 0);
     return file.elf.header.e_type === ET_CORE ? [] : [
         said('build ID', 'build_id', String, to_build_id()) ?? row('build ID', 'none'),
-        said('stripped', 'stripped', either(all.length ? 'yes, it has no SHT_SYMTAB' : 'yes, of all section headers'),
+        said('stripped', 'stripped',
+            either(sections().length ? 'yes, it has no SHT_SYMTAB' : 'yes, of all section headers'),
             symbols && { ...to_section(symbols.index), to: `symbols/${symbols.index}` }),
-        all.length > 0 && row('debug information', debug.length ? bytes(size) : 'none in the file',
-            debug.length > 0 && to_section(debug[0].index)),
+        sections().length > 0 && row('debug information', debug_words(), debug && to_section(debug.index)),
         name && own('debug file', name, to_section(link.index)),
         all_facts().compilers?.length !== 0 && said('compiler', 'compilers', (names) => names.join(', '),
             comment && to_section(comment.index)),
@@ -96,9 +153,10 @@ const to_canary = () => symbol_tables().flatMap((table) => CANARIES.map((name) =
 const changes_code = () => value_of(goblin.DT_TEXTREL) !== undefined
     || ((value_of(goblin.DT_FLAGS) ?? 0n) & goblin.DF_TEXTREL) !== 0n;
 
-function how_it_is_protected() {
+function what_protects_it() {
     const has_stack = segment_of(goblin.PT_GNU_STACK), { kind } = all_facts();
     const flow = said('control-flow marks', 'control_flow', (names) => names.join(', ') || 'none');
+    const signature = parts().added.find(({ title }) => title === 'module signature');
     return [
         kind !== 'library' && said('position-independent', 'pie', either('yes')),
         said('read-only relocations', 'relro', (word) => (word === 'no' ? 'no PT_GNU_RELRO' : word),
@@ -108,53 +166,81 @@ function how_it_is_protected() {
             to_segment(goblin.PT_GNU_STACK)),
         said('writable code', 'writable_code', either('yes, a PT_LOAD has PF_W and PF_X')),
         said('stack canary', 'canary', either('yes', 'no symbol of one'), to_canary()),
-        flow && { ...flow, is_own: true },
         ['program', 'library'].includes(kind) && changes_code() && row('relocations of code', 'yes (DT_TEXTREL)'),
+        flow && own(flow.name, flow.value),
+        signature && own('signature', 'there is one, which is not verified', { text: 'its bytes', to: signature.to }),
     ];
 }
 
+// Returns rows, at most a number, and one that says how many others there are.
+const first_rows = (rows, name, to) => (rows.length <= MOST_ROWS ? rows
+    : [...rows.slice(0, MOST_ROWS), own(name, count(rows.length - MOST_ROWS), { text: 'notes', to })]);
+
+// Returns the rows of a core's threads. Those at the same instruction have one row.
 const POINTERS = new Set(['rip', 'rsp', 'eip', 'esp', 'pc', 'sp']);
-// The rows of notes of a core, by their types. (Of the threads' signals only the first one is shown.)
-const OF_NOTES = {
-    PRSTATUS: (item, link) => [own('signal', signal_of(item)),
-        own(`thread ${item.thread}`, registers_of(item).filter(([name]) => POINTERS.has(name))
-            .map(([name, value]) => `${name} ${hex(value)}`).join(', '), link)],
-    PRPSINFO: (item, link) => [process_of(item)].filter(Boolean)
-        .flatMap(({ id, words }) => [own('command', words, link), own('process', id)]),
-    FILE: (item) => Array.from(mapped_files(item), ([name, { start, ranges }]) =>
-        own('mapped file', `${name}, ${count(ranges)} ${ranges === 1 ? 'range' : 'ranges'} from ${hex(start)} on`)),
-};
+function rows_of_threads(items) {
+    const all = items.map((item) => {
+        const pointers = registers_of(item).filter(([name]) => POINTERS.has(name)).sort()
+            .map(([name, value]) => `${name} ${hex(value)}`);
+        return { text: `${item.thread}`, to: item.to, pointers, place: pointers[0] ?? '' };
+    });
+    const rows = Array.from(Map.groupBy(all, ({ place }) => place), ([place, same]) => (same.length > 1
+        ? own(`${count(same.length)} threads`, place && `${place}:`, ...first_of(same, 'notes/segments'))
+        : own(`thread ${same[0].text}`, same[0].pointers.join(', '), { text: 'note', to: same[0].to })));
+    return first_rows(rows, 'other places of threads', 'notes/segments');
+}
+
+// Returns what the notes of a core say, by their types. (Of the threads' signals only the first one is shown.)
 function what_was_running() {
     if (file.elf.header.e_type !== ET_CORE) return [];
-    const rows = notes_of('segments').items.flatMap((item, index) => (item.note.name !== 'CORE' ? []
-        : OF_NOTES[labels.note_type(item.note)]?.(item, { text: 'note', to: `notes/segments/${index}` }) ?? []));
-    return rows.filter(({ name }, i) => name !== 'signal' || rows.findIndex((other) => other.name === name) === i)
-        .slice(0, MOST_ROWS);
+    const of = (type) => notes_of('segments').items.map((item, index) => ({ ...item, to: `notes/segments/${index}` }))
+        .filter(({ note }) => note.name === 'CORE' && labels.note_type(note) === type);
+    const threads = of('PRSTATUS'), in_words = ([name, { start, ranges }]) =>
+        own('mapped file', `${name}, ${count(ranges)} ${ranges === 1 ? 'range' : 'ranges'} from ${hex(start)} on`);
+    return [...threads.slice(0, 1).map((item) => own('signal', signal_of(item))),
+        ...of('PRPSINFO').map((item) => ({ to: item.to, ...process_of(item) })).filter(({ id }) => id !== undefined)
+            .flatMap(({ to, id, words }) => [own('command', words, { text: 'note', to }), own('process', id)]),
+        ...rows_of_threads(threads),
+        ...of('FILE').flatMap((item) =>
+            first_rows(Array.from(mapped_files(item), in_words), 'other mapped files', item.to))];
 }
 
 const WORDS = { code: 'code', data: 'data', read_only: 'read-only data', zeros: 'zeros, not in the file',
     not_loaded: 'not loaded' };
-const sizes = () => Object.entries(all_facts().sizes ?? {}).filter(([, size]) => size > 0n)
-    .map(([name, size]) => row(WORDS[name], bytes(size)));
+function sizes() {
+    const { tops, starts, ends, added } = parts(), of_padding = (sum, top, i) =>
+        sum + (top?.kind === 'padding' ? ends[i] - starts[i] : 0), padding = tops.reduce(of_padding, 0);
+    return [...Object.entries(all_facts().sizes ?? {}).filter(([, size]) => size > 0n)
+        .map(([name, size]) => row(WORDS[name], bytes(size))), padding > 0 && row('padding', bytes(padding)),
+    ...added.filter(({ kind }) => kind === 'appended')
+        .map(({ title, start, end, to }) => row(title, bytes(end - start), { text: hex(start), to }))];
+}
 
 function largest_sections() {
-    const share = ({ sh_type, sh_size }) => (sh_type === goblin.SHT_NOBITS ? 'in memory only'
+    const share = ({ sh_type, sh_size }) => (sh_type === SHT_NOBITS ? 'in memory only'
         : `${(100 * Number(sh_size) / file.content.length).toFixed(1)} %`);
-    const all = sections().filter(({ section }) => section.sh_size > 0n)
-        .sort((a, b) => Number(b.section.sh_size - a.section.sh_size));
-    return all.slice(0, LARGEST)
+    // (the size of section 0 is a number of sections)
+    return sections().slice(1).filter(({ section }) => section.sh_size > 0n)
+        .sort((a, b) => Number(b.section.sh_size - a.section.sh_size)).slice(0, LARGEST)
         .map(({ index, section }) => row(`${bytes(section.sh_size)}, ${share(section)}`, '', to_section(index)));
 }
 
-const largest_functions = async () => (await largest(LARGEST)).map(({ size, name, title, to }) =>
-    (title === name ? row(bytes(size), '', { text: name, to }) : own(bytes(size), title, { text: name, to })));
+// Returns how much code is in no symbol, and the largest functions. If one has a name of C++, all have a mark.
+async function largest_functions() {
+    const { code, rest } = await code_without_symbol(), all = await largest(LARGEST);
+    const mark = all.some(({ title, name }) => title !== name) ? 'names of C++ not proved' : undefined;
+    return [code > 0 && row('in no symbol', `${count(rest)} of ${bytes(code)} of code`),
+        ...all.map(({ size, name, title, to }) =>
+            ({ ...row(bytes(size), title === name ? '' : title, { text: name, to }), mark }))];
+}
 
-/** Returns the summary: groups with a title and rows. */
+/** Returns the summary: blocks with a title and tables. */
 export async function summary() {
-    return Object.entries({
-        'What it is': what_it_is(), 'What was running': what_was_running(), 'What it runs with': what_it_needs(),
-        'How it was built': how_it_was_built(), 'How it is protected': how_it_is_protected(),
-        'Sections by what they are for': sizes(), 'Largest sections': largest_sections(),
-        'Largest functions': await largest_functions(),
-    }).map(([title, rows]) => [title, rows.filter((item) => item)]).filter(([, rows]) => rows.length > 0);
+    const blocks = { 'What it is': what_it_is(), 'What was running': what_was_running(),
+        'What protects it': what_protects_it(), 'What it needs': what_it_needs(),
+        'Why it is large': sizes(), 'Largest sections': largest_sections(),
+        'Largest functions': await largest_functions(), 'How it was built': how_it_was_built() };
+    return Object.entries(blocks).map(([title, rows]) => ({ title,
+        tables: Array.from(Map.groupBy(rows.filter(Boolean), ({ mark = '' }) => mark), ([mark, of]) =>
+            ({ mark, rows: of })) })).filter(({ tables }) => tables.length > 0);
 }
