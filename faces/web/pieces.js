@@ -108,11 +108,12 @@ function overlapping(pieces) {
 
 const unnamed = (title, kind, start, end) => ({ title, kind, start, end, to: `offset/${hex(start)}` });
 
-// Returns the padding that is a whole range, whose bytes are the same, or nothing.
+// Returns the padding that is a whole range, whose bytes are the same and not too many, or nothing.
+const MOST_PADDING = 1 << 24;
 function padding(start, end) {
-    const { content } = file;
+    const { content } = file, byte = content[start], last = Math.min(end, start + MOST_PADDING);
     let at = start;
-    while (at < end && content[at] === content[start]) at++;
+    while (at < last && content[at] === byte) at++;
     return at === end ? unnamed('padding', 'padding', start, end) : undefined;
 }
 
