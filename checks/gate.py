@@ -100,8 +100,8 @@ def prove(crate):
     return status
 
 
-# These tests are proved before they run. Without a proof they run with checks of each access, and take minutes.
-LONG_TESTS = 'goblin_long_tests'
+# What `make gate` leaves to `rt ci`, which proves and runs it too. (Long tests take minutes without a proof, with checks of each access.)
+LEFT = ('goblin_long_tests', 'goblin_names', 'goblin_refused')
 
 # What takes seconds. All else waits for it.
 QUICK = {'lint': f'{PYTHON} checks/lint', 'whether edits fit': f'{PYTHON} checks/edits --fits', 'views': 'sh checks/views.sh'}
@@ -133,24 +133,26 @@ def test(room, whole, over):
     waits = tuple(QUICK)
     # (`rt ci` tries must-fail/)
     kinds = [] if over else ['controls', 'edits'] if whole else ['must-fail', 'controls']
-    here = lambda name, command, *after: Part(name, command.split(), after or waits, copy)
+    built = copied(f'{room}/whole') if whole else copy
+    here = lambda name, command, *after, where=copy: Part(name, command.split(), after or waits, where)
     parts = [Part(name, command.split(), is_first=True) for name, command in QUICK.items()]
-    parts += [Part('rt ci', ['rt', 'ci'], waits, copied(f'{room}/whole'), True)] if whole else []
+    parts += [Part('rt ci', ['rt', 'ci'], waits, built, True)] if whole else []
     # (a crate whose name ends so holds tests alone)
-    proved = [crate for crate in crates_listed() if not crate.endswith('_tests') or crate == LONG_TESTS and not whole]
+    proved = [crate for crate in crates_listed() if (not whole if crate in LEFT else not crate.endswith('_tests'))]
     parts += proofs(proved, copy, waits)
     has_tests = lambda crate: not subprocess.run(['git', 'grep', '-qF', '#[test]', '--', f'crates/{crate}/src']).returncode
     if not whole:
-        parts += [here(f'tests of {crate}', f'sh checks/tests.sh {crate}') for crate in crates_listed() if has_tests(crate) and crate != LONG_TESTS]
+        parts += [here(f'tests of {crate}', f'sh checks/tests.sh {crate}') for crate in crates_listed() if has_tests(crate) and crate not in LEFT]
     parts += [Part('calls from other languages', ['sh', 'checks/faces.sh'], ('proof of goblin_c',), copy, True, weight=3)]
     # (all kinds together take fewer checks, and each by itself ends sooner)
     for some in [','.join(kinds)] if whole else kinds:
         parts += edits(crates_with(some.split(',')), copy, '--kinds', some, what='edits' if whole else some)
     parts += [here('refused allocations', 'sh checks/refused.sh'),
               here('the program', f'{PYTHON} checks/program.py', 'proof of goblin_show', 'proof of goblin_uses'),
-              here('hostile files', f'{PYTHON} checks/limits.py', 'proof of goblin_show', 'proof of goblin_refused'),
+              here('hostile files', f'{PYTHON} checks/limits.py',
+                   *(['rt ci'] if whole else ['proof of goblin_show', 'proof of goblin_refused']), where=built),
               # (it builds the program once more, which these run)
-              here("README's commands", f'{PYTHON} checks/readme.py', 'the program', 'hostile files')]
+              here("README's commands", f'{PYTHON} checks/readme.py', 'the program', *([] if whole else ['hostile files']))]
     # (in this folder, which git knows)
     parts += [Part('commands', ['sh', 'checks/commands.sh'], waits)]
     return parts + [here("the edits' own test", f'{PYTHON} checks/edits/self_test.py')] * whole
@@ -188,9 +190,8 @@ class Run:
     def begin(self, part):
         part.begun = time.time()
         level = 15 if not part.is_first else 0 if self.chain[part.name] + part.weight > 3 else 8
-        command = ['nice', '-n', str(level), *part.command]
         with part.log('w') as log:
-            ran = subprocess.Popen(command, cwd=part.where, stdin=subprocess.DEVNULL, stdout=log, stderr=subprocess.STDOUT)
+            ran = subprocess.Popen(['nice', '-n', str(level), *part.command], cwd=part.where, stdin=subprocess.DEVNULL, stdout=log, stderr=log)
         self.running[ran.pid] = (part, ran)
 
     def end(self, pid, status, used):
