@@ -1,7 +1,7 @@
 #!/bin/sh
 # Proves a crate over those below it, and builds it: sh checks/prove.sh CRATE. A program is built by both compilers of the toolchain, and each
 # build must write for the crate's file stdin what its file stdout has. A crate whose name ends with _tests holds tests, which are run.
-# (Other crates wait for a library, so its proof uses half of the processors. With more of them the work grows faster than the time falls.)
+# (Other crates wait for a library, so its proof uses half of the processors, or JOBS: with more, the work grows faster than the time falls.)
 # What the toolchain reports is left in the crate's out/said, and the program of the second compiler beside the first, as CRATE.by-rattle.
 # Run from the root of the repository, or of a copy.
 set -eu
@@ -23,7 +23,7 @@ elif [ "${1%_tests}" != "$1" ]; then
     passed=$(sed -n 's/^test result: ok[.] \([1-9][0-9]*\) passed; 0 failed;.*/\1/p' out/said)
     [ "$passed" ] || fail "no test of $1 ran"
 else
-    rt lib --jobs $((($(nproc) + 1) / 2)) > out/said 2>&1 || fail "$1 is not proved"
+    rt lib --jobs "${JOBS:-$((($(nproc) + 1) / 2))}" > out/said 2>&1 || fail "$1 is not proved"
 fi
 count=$(sed -n 's/^logic=proved functions=\([0-9]*\) .*/\1/p' out/said | tail -n 1)
 echo "$1: ${count:+$count functions are }proved${passed:+, and $passed tests pass}"
