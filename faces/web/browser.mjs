@@ -888,7 +888,7 @@ async function check_copies() {
 async function check_formula() {
     await pick_written('formula', symbols_file([{ text: '=1+1' }, { text: 'a,"b"' }]), 'symbols');
     const lines = (await saved('symbols')).trim().split('\r\n');
-    assert.ok(lines[2].startsWith("1,'=1+1,0x0,") && lines[3].startsWith('2,"a,""b""",0x0,'), lines.join('\n'));
+    assert.ok(lines[2].startsWith(`1,"'=1+1",0x0,`) && lines[3].startsWith('2,"a,""b""",0x0,'), lines.join('\n'));
     // (numbers that the page shows as words and signs are saved as numbers)
     const content = elf_file({ segments: [{ flags: 5, bytes: Buffer.alloc(4096) }],
         sections: [{ name: '.rela', type: 4, entsize: 24, bytes: rela({ type: 2, addend: (1n << 64n) - 16n }) }] });

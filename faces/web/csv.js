@@ -2,11 +2,12 @@
 //
 // A report's texts are safe to show. Each byte of a character that does not print, or of a backslash, is written as
 // \xNN, and so is a byte that is not UTF-8. In a CSV a sign ' stands before each of = + - @ ' that begins a cell or
-// follows a semicolon, with or without spaces and quotation marks between: so no spreadsheet runs it as a formula,
-// whether it splits lines at commas or at semicolons. A number stays.
+// follows a comma or a semicolon, with or without spaces and quotation marks between: so no spreadsheet runs it as a
+// formula, whether it splits lines at commas, at semicolons or at both. A number stays. A cell with one of these signs
+// has quotation marks.
 import { UNSEEN } from './unseen.js';
 
-const FORMULA = /(^|;)(?=[ "]*[=+\-@'\uff1d\uff0b\uff0d\uff20])/g, NUMBER = /^-0x[0-9a-f]+$/;
+const FORMULA = /(^|[,;])(?=[ "]*[=+\-@'\uff1d\uff0b\uff0d\uff20])/g, NUMBER = /^-0x[0-9a-f]+$/;
 const encoder = new TextEncoder();
 
 function escaped(sign) {
@@ -17,7 +18,7 @@ function escaped(sign) {
 function cell_of(text) {
     const safe = NUMBER.test(text) ? text
         : text.replace(/\\/g, escaped).replace(UNSEEN, escaped).replace(FORMULA, "$1'");
-    return /[",]/.test(safe) ? `"${safe.replaceAll('"', '""')}"` : safe;
+    return /[",;]|^'/.test(safe) ? `"${safe.replaceAll('"', '""')}"` : safe;
 }
 
 /** Returns a line of cells. */
