@@ -605,7 +605,7 @@ async function check_demangled() {
 async function check_loading() {
     await pick(program_file);
     await open_tab('sections');
-    const large = join(folder, 'large');
+    const large = join(folder, 'large'), { memory } = browser.cost();
     writeFileSync(large, content);
     truncateSync(large, 4e8);
     await browser.pick('#pick', large);
@@ -620,6 +620,8 @@ async function check_loading() {
     assert.equal(await text_of('#file b'), 'x86_64_program');
     await until(`${one('#file b')}.textContent === 'large' && !(${is_busy})`);
     assert.deepEqual([await text_of('#loading'), await evaluate(`${one('.dimmed')} === null`)], ['', true]);
+    // (the file is in the memory once)
+    await waited('no second copy of the file is kept', () => browser.cost().memory - memory < 1.6 * 4e8);
     rmSync(large);
 }
 

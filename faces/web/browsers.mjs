@@ -2,7 +2,7 @@
 // Both report every request and every failure of a script, pick files as a person does, and press keys.
 import { spawn } from 'node:child_process';
 import { randomBytes } from 'node:crypto';
-import { mkdirSync, writeFileSync } from 'node:fs';
+import { mkdirSync, readdirSync, readFileSync, statSync, writeFileSync } from 'node:fs';
 import { request } from 'node:http';
 import { join } from 'node:path';
 import { setTimeout } from 'node:timers/promises';
@@ -103,6 +103,17 @@ class Browser {
     /** Returns the value of an expression, which may be a promise. */
     async evaluate(expression) {
         return JSON.parse(await this.run(`(async () => JSON.stringify(await (${expression})) ?? 'null')()`));
+    }
+
+    /** Returns what the browser's processes take by now: bytes of memory, and seconds of processors. */
+    cost() {
+        const read = (id, name) => { try { return readFileSync(`/proc/${id}/${name}`, 'utf8'); } catch { return ''; } };
+        const all = new Map(readdirSync('/proc').filter(Number)
+            .map((id) => [id, read(id, 'stat').split(') ').at(-1).split(' ')]));
+        const is_own = (id) => Number(id) === this.process.pid || (all.has(id) && is_own(all.get(id)[1]));
+        const own = [...all.keys()].filter(is_own), sum = (of) => own.reduce((total, id) => total + (of(id) || 0), 0);
+        return { memory: 1024 * sum((id) => Number(/^Pss: +(\d+)/m.exec(read(id, 'smaps_rollup'))?.[1])),
+            seconds: sum((id) => (Number(all.get(id)[11]) + Number(all.get(id)[12])) / 100) };
     }
 
     /** Waits until an expression is true. */

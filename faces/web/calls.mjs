@@ -101,6 +101,15 @@ function check_bytes() {
     for (const bytes of wrong) assert.throws(() => Elf.parse(bytes), TypeError);
     assert.throws(() => Elf.parse('ELF'), /ArrayBuffer.* string/);
     assert.throws(() => Elf.parse(new ArrayBuffer(0)), is_refusal(Kind.TOO_SMALL));
+    // A file that is read part by part is not copied. If the memory grows, its bytes are in another array.
+    const parts = goblin.array_for(own.length);
+    for (let at = 0; at < own.length; at += 1000) parts.set(own.subarray(at, at + 1000), at);
+    const elf = Elf.parse(parts);
+    assert.deepEqual([names(elf), elf.bytes.buffer === parts.buffer, own.equals(elf.bytes)],
+        [names(wanted), true, true]);
+    elf.section_by_name('x'.repeat(1 << 20));
+    assert.deepEqual([parts.length, own.equals(elf.bytes), own.equals(wanted.bytes), names(Elf.parse(parts))],
+        [0, true, true, names(wanted)]);
     return `${Object.keys(given).length} kinds of bytes`;
 }
 

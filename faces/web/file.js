@@ -3,7 +3,8 @@
 import * as goblin from './goblin.js';
 import { count, hex, name_of, NAME, once } from './text.js';
 
-export const file = { elf: undefined, content: new Uint8Array(0) };
+export const file = { elf: undefined, bytes: new Uint8Array(0),
+    get content() { return this.elf?.bytes ?? this.bytes; } };
 export const is_wide = () => file.elf.is_64();
 
 // The size of an entry of each table, in 32-bit and 64-bit files.

@@ -367,7 +367,7 @@ export default async function init(source = new URL('goblin_c.wasm', import.meta
     const module = content instanceof WebAssembly.Module ? content : await WebAssembly.compile(content);
     check(module);
     compiled = module;
-    shared = new Memory(new Uint8Array(0));
+    shared = new Memory(0);
 }
 
 async function load(url) {
@@ -412,17 +412,25 @@ function bytes_of(value) {
 
 // An instance of the library, whose memory holds a file's bytes.
 class Memory {
-    constructor(bytes) {
+    constructor(size) {
         this.calls = new WebAssembly.Instance(ready(compiled), {}).exports;
         this.base = Math.ceil(Number(this.calls.__heap_base.value) / 16) * 16;
-        this.reserve(FILE + bytes.length);
-        this.part(FILE, bytes.length).set(bytes);
+        this.reserve(FILE + size);
         // The first arguments of every call: the file's address and its length. And the address of the
         // header, for most.
-        this.file = [this.address(FILE), BigInt(bytes.length)];
+        this.file = [this.address(FILE), BigInt(size)];
         this.header = this.address(HEADER);
-        this.end = FILE + bytes.length;
+        this.end = FILE + size;
     }
+
+    // Returns a memory with a copy of some bytes.
+    static of(bytes) {
+        const memory = new Memory(bytes.length);
+        memory.whole.set(bytes);
+        return memory;
+    }
+
+    get whole() { return this.part(FILE, this.end - FILE); }
 
     // Returns the same memory with another header.
     with_header(offset) { return Object.create(this, { header: { value: this.address(offset) } }); }
@@ -562,6 +570,28 @@ export class GoblinError extends Error {
 
 // ---- files ----
 
+/** @type {WeakMap<Uint8Array, Memory>} */
+const made = new WeakMap();
+
+/**
+ * Returns an array for a file that is read part by part. It is in the library's memory, so `Elf.parse` copies nothing
+ * of it, and a large file takes its size in memory once. Use it for one file.
+ *
+ * ```js
+ * const bytes = array_for(file.size);
+ * for (let at = 0; at < file.size; at += 1 << 24)
+ *     bytes.set(new Uint8Array(await file.slice(at, at + (1 << 24)).arrayBuffer()), at);
+ * const elf = Elf.parse(bytes);
+ * ```
+ * @param {number} size
+ * @returns {Uint8Array}
+ */
+export function array_for(size) {
+    const memory = new Memory(size), bytes = memory.whole;
+    made.set(bytes, memory);
+    return bytes;
+}
+
 /**
  * A file, with its header. Everything else is read on demand. A call throws a `GoblinError` if it reads a
  * damaged part.
@@ -576,10 +606,17 @@ export class Elf {
      * @returns {Elf}
      */
     static parse(bytes) {
-        const memory = new Memory(bytes_of(bytes)), header = memory.call('goblin_header', 'header');
+        const memory = made.get(bytes) ?? Memory.of(bytes_of(bytes)), header = memory.call('goblin_header', 'header');
         memory.pass(HEADER, 'header', header);
         return new Elf(memory, header);
     }
+
+    /**
+     * The file's bytes, in the memory of the library, so they may be read and not changed. A call with a long name may
+     * enlarge that memory. Then the array is empty, and this is another one.
+     * @returns {Uint8Array}
+     */
+    get bytes() { return this.#memory.whole; }
 
     constructor(memory, header) {
         this.#memory = memory;
@@ -1117,7 +1154,7 @@ export class Writer {
 
     constructor(header, bytes) {
         if (!(bytes instanceof Uint8Array)) throw new TypeError(`a writer needs a Uint8Array, not ${describe(bytes)}`);
-        this.#memory = new Memory(bytes);
+        this.#memory = Memory.of(bytes);
         this.#memory.pass(HEADER, 'header', header);
         this.#header = header;
         this.#bytes = bytes;

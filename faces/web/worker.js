@@ -23,9 +23,9 @@ import { hex } from './text.js';
 // How many bytes are read before the progress is sent.
 const CHUNK = 1 << 24;
 
-// Returns the bytes of a file, which are read in steps.
+// Returns the bytes of a file, which are read in steps, into the library's memory.
 async function bytes_of(given) {
-    const bytes = new Uint8Array(given.size);
+    const bytes = goblin.array_for(given.size);
     for (let at = 0; at < given.size; at += CHUNK) {
         const chunk = new Uint8Array(await given.slice(at, Math.min(at + CHUNK, given.size)).arrayBuffer());
         bytes.set(chunk, at);
@@ -111,8 +111,8 @@ function begin(name) {
 const calls = {
     async open({ module, given }) {
         await init(module);
-        file.content = await bytes_of(given);
-        const { elf, refused } = part(() => ({ elf: goblin.Elf.parse(file.content) }), header_refusal);
+        file.bytes = await bytes_of(given);
+        const { elf, refused } = part(() => ({ elf: goblin.Elf.parse(file.bytes) }), header_refusal);
         file.elf = elf;
         return refused ? { refused, start: file.content.slice(0, 16) } : overview();
     },
