@@ -6,7 +6,7 @@
 import assert from 'node:assert/strict';
 import { spawnSync } from 'node:child_process';
 import { randomBytes } from 'node:crypto';
-import { mkdtempSync, readdirSync, readFileSync, rmSync, truncateSync, writeFileSync } from 'node:fs';
+import { mkdirSync, mkdtempSync, readdirSync, readFileSync, rmSync, truncateSync, writeFileSync } from 'node:fs';
 import { tmpdir } from 'node:os';
 import { basename, join, resolve } from 'node:path';
 import { setTimeout } from 'node:timers/promises';
@@ -927,6 +927,45 @@ async function check_refused_tables() {
             }
         }
     }
+}
+
+// A sentence says that a folder is dropped, that of two files one is opened, and that a location leads nowhere.
+async function check_sentences() {
+    const inside = join(folder, 'inside');
+    mkdirSync(inside);
+    await browser.drop(inside);
+    await until_text('#trouble:not([hidden])', 'inside is a folder. Drop an ELF file that is in it.');
+    await browser.drop(program_file, made);
+    await until_text('#said', 'The page shows one file at a time: x86_64_program. Of the 2 that were dropped, little64'
+        + ' is not opened.');
+    await until_text('#file b', 'x86_64_program');
+    await pick(program_file);
+    const nothing = (place) => [place, `The page finds nothing at #${place} in this file.`];
+    for (const [place, words] of [['symbol=nope', 'This file has no symbol with the name nope. This is its summary.'],
+        ['section=.no', 'This file has no section with the name .no. This is its summary.'], nothing('sections/99999'),
+        nothing('header/e_no'), nothing('address/0x'), nothing('nowhere'), nothing(`${symtab}/99999`)]) {
+        await set_place(place);
+        await until_text('#said', words);
+    }
+    await evaluate(`void (${one('#said')}.textContent = '')`);
+    for (const [place, title] of [['header/e_type', 'e_type'], ['sections', 'ELF header'], [main_place, 'main'],
+        ['notes/segments', 'ELF header'], ['offset/0x1', 'offset 0x1'], ['summary', 'ELF header']])
+        await go(place, title).then(text_of.bind(null, '#said')).then((said) => assert.equal(said, '', place));
+}
+
+// Control characters and those that turn the direction of a text are escaped in lists, titles and saved lists.
+async function check_unseen() {
+    const codes = (from, to) => Array.from({ length: to - from + 1 }, (_, i) => from + i);
+    const directions = [0x200e, 0x200f, ...codes(0x2028, 0x202e), ...codes(0x2066, 0x2069)],
+        groups = [codes(1, 0x1f), codes(0x7f, 0x9f), directions];
+    const names = groups.map((group) => `a${String.fromCodePoint(...group)}`);
+    await pick_written('unseen', symbols_file(names.map((text) => ({ text }))), 'symbols');
+    const shown = groups.map((group) =>
+        `a${group.map((code) => `U+${code.toString(16).toUpperCase().padStart(4, '0')}`).join('')}`);
+    const saved = (await saved_rows('symbols')).slice(1).map(([, name]) => name),
+        escapes = names.map((name) => `a${Buffer.from(name.slice(1)).toString('hex').replace(/../g, '\\x$&')}`);
+    assert.deepEqual([(await cells(1)).slice(1), saved], [shown, escapes]);
+    for (const [i, title] of shown.entries()) await go(`symbols/1/${i + 1}`, title);
 }
 
 // What a file is that is no ELF file, and what a refusal means, in words.

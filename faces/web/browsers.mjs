@@ -4,7 +4,7 @@ import { spawn } from 'node:child_process';
 import { randomBytes } from 'node:crypto';
 import { mkdirSync, readdirSync, readFileSync, statSync, writeFileSync } from 'node:fs';
 import { request } from 'node:http';
-import { join } from 'node:path';
+import { basename, join } from 'node:path';
 import { setTimeout } from 'node:timers/promises';
 
 // How many milliseconds the test waits for a result, on a machine that may be busy with proofs.
@@ -226,6 +226,13 @@ export class Chromium extends Browser {
         await this.#ask('Emulation.setEmulatedMedia', { features: [{ name: 'prefers-color-scheme', value }] });
     }
     async screenshot() { return Buffer.from((await this.#ask('Page.captureScreenshot')).data, 'base64'); }
+    async print() { return Buffer.from((await this.#ask('Page.printToPDF')).data, 'base64'); }
+
+    async drop(...files) {
+        const data = { items: [], files, dragOperationsMask: 1 };
+        for (const type of ['dragEnter', 'dragOver', 'drop'])
+            await this.#ask('Input.dispatchDragEvent', { type, x: 300, y: 300, data });
+    }
 }
 
 const NAMED_KEYS = { Enter: '\uE007', Tab: '\uE004', ArrowLeft: '\uE012', ArrowUp: '\uE013', ArrowRight: '\uE014',
@@ -330,5 +337,15 @@ export class Firefox extends Browser {
     async screenshot() {
         return Buffer.from(
             (await this.#ask('browsingContext.captureScreenshot', { context: this.tab })).data, 'base64');
+    }
+
+    // (Firefox lets no test drop what is on the disk, so the event is made up)
+    async drop(...paths) {
+        const given = paths.map((path) => [basename(path), statSync(path).isDirectory()]);
+        await this.run(`(() => {
+            const given = ${JSON.stringify(given)}, files = given.map(([name]) => new File(['no ELF file'], name)),
+                items = given.map(([, isDirectory]) => ({ webkitGetAsEntry: () => ({ isDirectory }) }));
+            dispatchEvent(Object.assign(new Event('drop', { cancelable: true }), { dataTransfer: { files, items } }));
+        })()`);
     }
 }

@@ -43,12 +43,12 @@ export function put_text(element, text) {
 }
 
 let said;
-/** Shows a message in the corner of the page for a while: texts and links, with which it stays longer. */
+/** Shows a message in the corner of the page: texts and links. A sentence stays longer than a few words. */
 export function say(...content) {
     const box = get('said');
     box.replaceChildren(...content);
     clearTimeout(said);
-    said = setTimeout(() => { box.textContent = ''; }, content.length > 1 ? 12000 : 4000);
+    said = setTimeout(() => { box.textContent = ''; }, box.textContent.length > 40 ? 12000 : 4000);
 }
 
 /** Copies a text, and shows a message. */

@@ -1,5 +1,5 @@
 // The page: opens files, each in its own worker, and shows the location that the address bar has.
-import { button, bytes_of, get, make, number, plural, put_text, visible } from './dom.js';
+import { button, bytes_of, get, make, number, plural, put_text, say, visible } from './dom.js';
 import { set_up_goto } from './goto.js';
 import { lines_of, refusal_of } from './hex.js';
 import { mark_range, set_up_map, show_map } from './map.js';
@@ -49,26 +49,30 @@ const decoded = (text) => { try { return decodeURIComponent(text); } catch { ret
 // is built anew.
 async function found_by_name(place) {
     const [, kind, name] = /^(section|symbol)=(.+)$/.exec(place) ?? [];
-    return kind ? await ask('named', [kind, decoded(name)]) ?? 'summary' : place;
+    if (!kind) return place;
+    const found = await ask('named', [kind, decoded(name)]);
+    if (!found) say(`This file has no ${kind} with the name ${visible(decoded(name))}. This is its summary.`);
+    return found ?? 'summary';
 }
 
 let shown_places = 0;
 async function show_place(given) {
     const mine = ++shown_places;
     if (!shown_file.summary) return;
-    const place = await found_by_name(given);
+    const place = await found_by_name(given) || 'summary';
     if (mine !== shown_places) return;
-    const [name, first] = place.split('/');
+    const [name, first] = place.split('/'), tab = tab_of(place), item = tab.field ?? tab.index;
     let details;
     if (Object.hasOwn(PLACES, name)) {
         details = await PLACES[name](first);
         if (!get('panel').firstChild) await open_tab('summary');
     } else {
-        const tab = tab_of(place);
         if (!await open_tab(tab.name, tab.of)) return;
         details = await item_of(tab);
     }
     if (mine !== shown_places) return;
+    const is_all = [tab.name, tab.of, item].filter((part) => part !== undefined).join('/') === place;
+    if (!details && (item !== undefined || !is_all)) say(`The page finds nothing at #${visible(place)} in this file.`);
     // (in a narrow window the side is visible while something is chosen, else the list)
     document.body.classList.toggle('chosen', Boolean(details));
     const [block] = details?.blocks ?? [];
@@ -87,6 +91,12 @@ function why_unread({ size }) {
         ? `The file has ${number(size)} bytes. This page reads files of at most ${LIMIT_WORDS}.` : undefined;
 }
 
+// Why the browser does not read a file, by the name of its error.
+const WHY_NOT = {
+    NotFoundError: 'The file is gone: it was moved, renamed or deleted. Or it is a folder. Choose a file.',
+    NotReadableError: 'The browser may not read the file, or it was changed after it was chosen. Or it is a folder.',
+    RangeError: 'The browser has too little memory for the file.',
+};
 let loading;
 async function open(file) {
     loading?.end();
@@ -97,7 +107,7 @@ async function open(file) {
         const summary = await reader.open(file);
         if (summary.refused) await show_refusal(file, reader, summary); else await show_file(file, reader, summary);
     } catch (error) {
-        if (loading === reader) trouble(file, `The file can’t be read: ${error.message}`);
+        if (loading === reader) trouble(file, WHY_NOT[error.name] ?? `The file can’t be read: ${error.message}`);
     } finally {
         stop();
     }
@@ -207,8 +217,18 @@ function set_up_files() {
     addEventListener('drop', (event) => {
         event.preventDefault();
         over(-inside);
-        if (event.dataTransfer.files[0]) open(event.dataTransfer.files[0]);
+        drop(event.dataTransfer);
     });
+}
+
+// Opens the first of the files that are dropped, and says so of others. A folder is not read.
+function drop({ files: [file, ...others], items }) {
+    if (!file) say('That is no file. Drop an ELF file.');
+    else if (items?.[0]?.webkitGetAsEntry?.()?.isDirectory)
+        trouble(file, `${visible(file.name)} is a folder. Drop an ELF file that is in it.`);
+    else open(file);
+    if (others.length) say(`The page shows one file at a time: ${visible(file.name)}. Of the ${1 + others.length} that `
+        + `were dropped, ${others.length > 1 ? 'the others are' : `${visible(others[0].name)} is`} not opened.`);
 }
 
 function start() {

@@ -26,9 +26,9 @@ export class Reader {
 
     #receive(data) {
         if (data.progress) return this.on_progress(data);
-        const { resolve, reject } = this.#waiting.get(data.id);
+        const { resolve, reject } = this.#waiting.get(data.id), { failed, name } = data;
         this.#waiting.delete(data.id);
-        return 'failed' in data ? reject(new Error(data.failed)) : resolve(data.result);
+        return failed === undefined ? resolve(data.result) : reject(Object.assign(new Error(failed), { name }));
     }
 
     #fail(error) {

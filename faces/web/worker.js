@@ -189,6 +189,6 @@ onmessage = async ({ data: { id, call, given } }) => {
         const result = await calls[call](given);
         postMessage({ id, result });
     } catch (error) {
-        postMessage({ id, failed: `${error?.message ?? error}` });
+        postMessage({ id, failed: `${error?.message ?? error}`, name: error?.name });
     }
 };
