@@ -1053,6 +1053,8 @@ async function check_cells() {
     const aligned = segments_of(program_file).map(({ align }) => align);
     assert.ok(aligned.includes('0x1000'));
     assert.deepEqual([await cells(8), await cut()], [aligned, []]);
+    await open_tab('sections');
+    assert.deepEqual([(await cells(1)).includes('.note.gnu.property'), await cut()], [true, []]);
     const name = 'a_name_that_has_no_room_in_any_list_'.repeat(9);
     await pick_written('long', symbols_file([{ text: name }]), 'symbols');
     assert.deepEqual(await cut(), [name]);

@@ -3,22 +3,24 @@ import { button, make, put_text, visible } from './dom.js';
 
 // The greatest height of an element in all engines. A longer list is scrolled in proportion.
 const HIGHEST = 6e6, BLOCK = 128, KEPT = 64;
+// The space between columns, in pixels.
+const GAP = 12;
 let ids = 0;
 
-// A list: columns { title, wide, least, is_right, is_dim, hint }, and rows(from, size), which promises the cells of
+// A list: columns { title, least, share, is_right, is_dim, hint }, and rows(from, size), which promises the cells of
 // some rows. `chosen` and `opened` are called with the position of a row, and `sorted` with a column and an order.
 export class Grid {
     constructor(label, columns, { rows, chosen = () => {}, opened = () => {}, sorted, high = 24, kind = '' }) {
         Object.assign(this, { columns, rows, chosen, opened, sorted, high, length: 0, active: -1, column: 0 });
         Object.assign(this, { blocks: new Map(), lines: [], version: 0, id: `list-${++ids}` });
-        this.columns_css = columns.map(({ wide }) => wide).join(' ');
+        Object.assign(this, { needs: columns.map(() => 0), unmeasured: new Set() });
         this.body = make('div', {
             class: 'body', role: 'rowgroup', onclick: (event) => this.click(event),
             ondblclick: () => { if (this.active >= 0) this.opened(this.active); },
         });
         this.head = make('div', { class: 'row', role: 'row', id: `${this.id}-head`, 'aria-rowindex': '1' },
             ...this.made_heads());
-        this.head.style.gridTemplateColumns = this.columns_css;
+        this.unmeasured.add(this.head);
         this.heads = make('div', { class: 'heads' }, this.head);
         const has_heads = columns.some(({ title }) => title);
         this.scroller = make('div', {
@@ -31,8 +33,6 @@ export class Grid {
         new ResizeObserver(() => this.draw_soon()).observe(this.scroller);
         // (the column heads are before the list, for the keyboard, too)
         this.box = make('div', { class: `list-box ${kind}` }, ...(has_heads ? [this.heads] : []), this.scroller);
-        const least = columns.reduce((all, { least: own = 70 }) => all + own + 12, 12);
-        this.box.style.setProperty('--least', kind === 'hex' ? '0' : `${least}px`);
         this.box.style.setProperty('--high', `${high}px`);
     }
 
@@ -52,6 +52,15 @@ export class Grid {
     /** Marks the column that the rows are sorted by, and the order: `ascending`, `descending` or `none`. */
     show_order(column, order) {
         [...this.head.children].forEach((cell, i) => cell.setAttribute('aria-sort', i === column ? order : 'none'));
+    }
+
+    /** Gives a column another title and hint. */
+    rename(column, { title, hint }) {
+        const cell = this.head.children[column];
+        cell.title = hint;
+        cell.firstChild.textContent = title;
+        this.needs[column] = 0;
+        this.unmeasured.add(this.head);
     }
 
     /** Shows a list with a number of items. */
@@ -84,6 +93,36 @@ export class Grid {
         this.frame = requestAnimationFrame(() => { this.frame = 0; this.draw(); });
     }
 
+    // Gives the column with the greatest share its least width, and each other one that, or what its texts seen so far
+    // need if that is less. Then each gets what it needs, as far as there is room, and the first one the rest. If they
+    // do not fit into the window, the first one may take more than half of that.
+    fit() {
+        const { columns, needs, scroller: { clientWidth: room } } = this,
+            in_turn = [...columns.keys()].sort((a, b) => (columns[b].share ?? 0) - (columns[a].share ?? 0)),
+            [first] = in_turn;
+        const widths = columns.map(({ least }, i) => (i === first ? least : Math.min(least, needs[i] || least))),
+            sum = () => widths.reduce((all, wide) => all + wide + GAP, GAP);
+        if (sum() > room) widths[first] = Math.max(widths[first], Math.min(needs[first], 0.6 * room));
+        this.box.style.setProperty('--least', `${sum()}px`);
+        for (const [i, need] of [...in_turn.map((i) => [i, needs[i]]), [first, Infinity]])
+            widths[i] += Math.max(Math.min(need - widths[i], room - sum()), 0);
+        this.box.style.setProperty('--columns', widths.map((wide) => `${wide}px`).join(' '));
+        this.fitted = `${needs} ${room}`;
+    }
+
+    // Measures the texts of rows that are new. (A head has an arrow, too, if the rows are sorted by it.)
+    measure() {
+        const range = new Range();
+        for (const { children } of this.unmeasured) this.columns.forEach(({ put }, i) => {
+            const head = children[i].querySelector('button'), { scrollWidth, clientWidth } = children[i];
+            range.selectNodeContents(head ?? children[i]);
+            const { width } = range.getBoundingClientRect(),
+                need = Math.ceil(scrollWidth > clientWidth ? scrollWidth : width) + (head ? 14 : 1);
+            if (!put && need > this.needs[i]) this.needs[i] = need;
+        });
+        this.unmeasured.clear();
+    }
+
     draw() {
         const { index, top } = this.first();
         const size = Math.max(Math.min(Math.ceil(this.room / this.high) + 1, this.length - index), 0);
@@ -94,6 +133,8 @@ export class Grid {
             line.style.transform = `translateY(${top + i * this.high}px)`;
             this.fill(line, index + i);
         });
+        if (this.scroller.clientWidth > 0) this.measure();
+        if (this.fitted !== `${this.needs} ${this.scroller.clientWidth}`) this.fit();
         this.scroller.setAttribute('aria-activedescendant', this.active_line?.id ?? '');
     }
 
@@ -103,7 +144,6 @@ export class Grid {
         const cells = this.columns.map(({ is_right, is_dim }) =>
             make('div', { class: `cell ${is_right ? 'right' : ''} ${is_dim ? 'dim' : ''}`, role: 'gridcell' }));
         const line = make('div', { class: 'row', role: 'row', id: `row-${++ids}` }, ...cells);
-        line.style.gridTemplateColumns = this.columns_css;
         return line;
     }
 
@@ -115,6 +155,7 @@ export class Grid {
         const row = this.block(Math.floor(at / BLOCK))?.[at % BLOCK];
         if (line.row === row && row) return;
         line.row = row;
+        this.unmeasured.add(line);
         // (an item whose bytes are refused has a word after its cells)
         const mark = row?.[this.columns.length];
         line.classList.toggle('bad', Boolean(mark));

@@ -19,10 +19,8 @@ export function light(name) {
 /** Returns how many bytes a row has in a view of a width. */
 export const bytes_in = (width) => (width >= 1060 ? 32 : width >= 590 ? 16 : 8);
 
-/**
- * Returns a view of bytes of the file, with `each` in a row. Those of a record's fields have the fields' colours
- * and names.
- */
+/** Returns a view of bytes of the file, with `each` in a row. Those of a record's fields have the fields' colours
+ * and names. */
 export function hex_view(at, size, each, fields = []) {
     const first = Math.floor(at / each) * each;
     const node_of = (text, place) => {
@@ -38,8 +36,7 @@ export function hex_view(at, size, each, fields = []) {
     };
     const wide = Math.ceil((3 * each - 1) * 7.3) + 10;
     const columns = [
-        { wide: '74px', least: 74, is_dim: true }, { wide: `${wide}px`, least: wide, put: put(two) },
-        { wide: '1fr', least: 60, put: put(printed) },
+        { least: 74, is_dim: true }, { least: wide, put: put(two) }, { least: 60, share: 1, put: put(printed) },
     ];
     const rows = async (from, count) => {
         const bytes = await ask('bytes', [first + from * each, count * each]);

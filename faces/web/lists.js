@@ -13,13 +13,14 @@ import { has_mangled, name_of_symbol, section_of_symbol, symtab_at } from './res
 import { count, hex, once } from './text.js';
 
 const SPECIAL = new Map([[0n, 'undefined'], [0xfff1n, 'absolute'], [0xfff2n, 'common'], [0xffffn, 'extended index']]);
-// A column has a title, a hint, such as the standard's name of the field, the least width, the share of the rest of the
-// width, and functions that return an item's text, and perhaps another one for a saved list, and a number to sort by.
+// A column has a title, a hint, such as the standard's name of the field, the least width, which of the columns gets
+// more of it first, and functions that return an item's text, and perhaps another one for a saved list, a number to
+// sort by, and a function that finds a text.
 const column = (title, hint, least, share, given) =>
-    ({ title, hint, least, wide: share ? `minmax(${least}px, ${share}fr)` : `${least}px`, ...given });
+    ({ title, hint, least, share, ...given });
 const text = (title, hint, least, share, say) => column(title, hint, least, share, { text: say });
-const number = (title, key, least, share, say = hex) =>
-    column(title, key, least, share, { is_right: true, text: (item) => say(item[key]), number: (item) => item[key] });
+const number = (title, key, least, share, say = hex) => column(title, key, least, share,
+    { is_right: true, is_number: true, text: (item) => say(item[key]), number: (item) => item[key] });
 
 // Returns the widths of columns of some kinds of numbers, in which those of the file fit, but for some of
 // damaged files.
@@ -202,7 +203,7 @@ export const open_source = (list, of) => part(() => (is_there(list, of) ? source
  */
 export const columns_of = ({ place = 0, columns = [] } = {}) =>
     [column('#', 'index', place, 0, { is_right: true, is_dim: true }), ...columns]
-        .map(({ title, hint, least, wide, is_right, is_dim }) => ({ title, hint, least, wide, is_right, is_dim }));
+        .map(({ title, hint, least, share, is_right, is_dim }) => ({ title, hint, least, share, is_right, is_dim }));
 /** Returns the cells of an item. The first is its index. */
 export const cells_of = ({ columns }, item, index) =>
     [`${index}`, ...columns.map((column) => column.text(item, index))];
