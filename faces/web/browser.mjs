@@ -592,6 +592,17 @@ async function check_demangled() {
     const wanted = names.map((name) => by_filter[name]);
     await pick_written('mangled', symbols_file(names.map((text) => ({ text }))), 'symbols');
     const found = (await saved_rows('symbols')).slice(1).map(([, , demangled]) => demangled);
+    // (a switch shows them in place of the names, and both are found)
+    const heads = () => each_of('#panel [role=columnheader]', 'item.textContent'), [, , ...others] = await heads();
+    assert.deepEqual([(await cells(1)).slice(1, 21), (await heads())[1]], [names.slice(0, 20), 'Name']);
+    await press_button('Demangle');
+    await until(`${one('#panel .body .row:nth-child(2) .cell:nth-child(2)')}?.textContent === ${quoted(wanted[0])}`);
+    assert.deepEqual([(await cells(1)).slice(1, 1 + READ.length), await heads()],
+        [wanted.slice(0, READ.length), ['#', 'Demangled (not proved)', ...others]]);
+    for (const text of [wanted[0], READ[0]]) await search(text.toUpperCase(), `1 of ${names.length + 1}`);
+    await search('', `${names.length + 1}`);
+    await press_button('Demangle');
+    await until(`${one('#panel .body .row:nth-child(2) .cell:nth-child(2)')}?.textContent === ${quoted(names[0])}`);
     assert.deepEqual(found.slice(0, READ.length + LEFT_ALONE.length),
         [...wanted.slice(0, READ.length), ...LEFT_ALONE.map(() => '')]);
     const read = found.filter(Boolean).length;
@@ -782,6 +793,37 @@ async function check_search() {
     await until_active('[role=grid]');
     await browser.press('ArrowDown', 'Enter');
     await until_active('#chosen h2');
+}
+
+// A search and a sort of 184,833 symbols of C++ take a few seconds of a busy processor, and not one for each 10,000.
+async function check_many_symbols() {
+    const count = 184832, end = 'EEEE4some3mapERKSt6vectorISt4pairIPKcS0_ISsEESaIS6_EEi';
+    const value_of = (i) => i * 7919 % 1000003, symbol = (i) =>
+        ({ text: `_ZN5spaceINS_5ClassIiLi${i}${end}`, info: 0x12, shndx: 3, value: value_of(i) });
+    await pick_written('symbols', symbols_file(Array.from({ length: count }, (_, i) => symbol(i)),
+        { name: '.text', type: 1, flags: 6, bytes: Buffer.alloc(64) }), 'symbols');
+    const timed = async (act) => {
+        const { seconds } = browser.cost();
+        await act();
+        const taken = browser.cost().seconds - seconds;
+        assert.ok(taken < 6, `${taken} seconds`);
+    };
+    await press_button('Demangle');
+    await timed(() => search('class<int, 777>', `1 of ${decimal(count + 1)}`));
+    assert.match((await cells(1))[0], /^space<space::Class<int, 777> >::some::map\(/);
+    await timed(() => search('', decimal(count + 1)));
+    await press_button('Demangle');
+    const values = Array.from({ length: count }, (_, i) => value_of(i)).sort((a, b) => b - a);
+    for (const first of [() => 0, (i) => values[i]]) await timed(async () => {
+        await click('#panel [role=columnheader]:nth-child(3) button');
+        await until(`${one('#panel output')}.textContent === '${decimal(count + 1)}'`);
+        await until(`${one('#panel .body .row:nth-child(2)')}?.children[2].textContent === '${hex(first(1))}'`);
+    });
+    assert.deepEqual((await cells(2)).slice(0, 20), values.slice(0, 20).map(hex));
+    await timed(async () => {
+        await click('#panel [role=columnheader]:nth-child(2) button');
+        await until(`${one('#panel .body .row:nth-child(3)')}?.children[1].textContent === ${quoted(symbol(10).text)}`);
+    });
 }
 
 // Types that have other names in readelf than in the ABI.

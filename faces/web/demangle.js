@@ -19,11 +19,17 @@ const STANDARD = { St: 'std', Sa: 'std::allocator', Sb: 'std::basic_string',
     Ss: `std::basic_string<char, ${TRAITS}, std::allocator<char> >`, Si: stream('istream'), So: stream('ostream'),
     Sd: stream('iostream') };
 const SUFFIXES = { i: '', j: 'u', l: 'l', m: 'ul', x: 'll', y: 'ull' }, MARKS = { P: '*', R: '&', O: '&&' };
+// All words of results that are not in mangled names.
+const OWN_WORDS = [...BUILTINS.values(), ...OPERATORS.values(), ...SPECIAL.values(), ...Object.values(STANDARD),
+    'non-virtual thunk to anonymous namespace operator restrict volatile const abi clone true false ull'].join(' ');
 const WORDS = { r: ' restrict', V: ' volatile', K: ' const', R: ' &', O: ' &&' }, MOST_SIGNS = 8192;
 
-const words = (signs) => signs.split('').map((sign) => WORDS[sign]).join('');
+const words = (signs) => (signs ? signs.split('').map((sign) => WORDS[sign]).join('') : '');
 const listed = (items) => items.map(({ left, right, pack }) => (pack ? listed(pack) : left + right))
     .filter((text) => text).join(', ');
+
+const length_of = ({ left, right, pack }) =>
+    (pack ? pack.reduce((all, item) => all + length_of(item) + 2, 0) : left.length + right.length);
 
 // A reader of one name. What it reads is { left, right }, between which a name of that type would be. Of a name it is
 // also the last part, the arguments if that is a template, and the words after the parameters. It can be read again by
@@ -33,15 +39,21 @@ class Reader {
     constructor(text) { this.text = text; }
     fail() { throw new SyntaxError(this.text); }
     need(found) { return found ?? this.fail(); }
-    is(pattern) { return pattern.test(this.text.slice(this.at, this.at + 2)); }
-    // Takes the text here that a sticky pattern matches, if it does.
-    match(pattern) {
-        pattern.lastIndex = this.at;
-        const [found] = pattern.exec(this.text) ?? [];
-        this.at += found?.length ?? 0;
-        return found;
+    get next() { return this.text[this.at]; }
+    // Takes a sign if it is here, and reports whether it was.
+    takes(sign) {
+        const is_here = this.next === sign;
+        if (is_here) this.at++;
+        return is_here;
     }
-    note(item) { return listed([item]).length > MOST_SIGNS ? this.fail() : this.known[this.known.push(item) - 1]; }
+    // Reports whether a sticky pattern matches here.
+    is(pattern) {
+        pattern.lastIndex = this.at;
+        return pattern.test(this.text);
+    }
+    // Takes the text here that a sticky pattern matches, if it does.
+    match(pattern) { return this.is(pattern) ? this.text.slice(this.at, this.at = pattern.lastIndex) : undefined; }
+    note(item) { return length_of(item) > MOST_SIGNS ? this.fail() : this.known[this.known.push(item) - 1]; }
     // Reads a number that ends with an underscore: without digits it is 0, and others count from 1 on.
     number(base) {
         const digits = this.need(this.match(/[\dA-Z]*_/y)).slice(0, -1);
@@ -52,7 +64,7 @@ class Reader {
         if (special) return `${special} ${listed([this.type()])}`;
         if (thunk) return `${thunk[1] === 'h' ? 'non-' : ''}virtual thunk to ${this.encoding()}`;
         const { left: name, after = '', args, is_bare } = this.name();
-        if (this.is(/^$/)) return name + after;
+        if (this.at === this.text.length) return name + after;
         this.args = args;
         const { left, right } = args && !is_bare ? this.type() : { left: '' }, list = this.parameters();
         return !left ? `${name}(${list})${after}` : `${left}${right ? '' : ' '}${name}(${list})${after}${right}`;
@@ -60,22 +72,22 @@ class Reader {
     parameters() {
         if (this.match(/v(?=[E.RO]|$)/y)) return '';
         const items = [this.type()];
-        while (!this.is(/^[E.]|^[RO]E|^$/)) items.push(this.type());
+        while (!this.is(/[E.]|[RO]E|$/y)) items.push(this.type());
         return listed(items);
     }
     name() {
-        if (this.match(/N/y)) return this.nested();
-        const is_known = this.is(/^S[^t]/);
+        if (this.takes('N')) return this.nested();
+        const is_known = this.is(/S[^t]/y);
         const name = is_known ? this.known_one()
             : this.match(/St/y) ? this.joined({ left: 'std' }, this.part()) : this.part();
-        return this.is(/^I/) ? this.templated(is_known ? name : this.note(name)) : name;
+        return this.next === 'I' ? this.templated(is_known ? name : this.note(name)) : name;
     }
     nested() {
         const after = words(this.match(/r?V?K?[RO]?/y));
-        let name = this.is(/^S/) ? this.known_one() : this.is(/^T/) ? this.type() : undefined;
-        while (!this.match(/E/y)) {
-            name = this.is(/^I/) ? this.templated(this.need(name)) : this.joined(name, this.part(name?.last));
-            if (!this.is(/^E/)) this.note(name);
+        let name = this.next === 'S' ? this.known_one() : this.next === 'T' ? this.type() : undefined;
+        while (!this.takes('E')) {
+            name = this.next === 'I' ? this.templated(this.need(name)) : this.joined(name, this.part(name?.last));
+            if (this.next !== 'E') this.note(name);
         }
         return { ...this.need(name), after };
     }
@@ -84,9 +96,9 @@ class Reader {
         this.match(/L(?=\d)/y);
         const [kind] = this.match(/C[1-5]|D[0-25]/y) ?? '';
         const name = kind ? { left: `${kind === 'D' ? '~' : ''}${this.need(last)}`, last, is_bare: true }
-            : this.is(/^\d/) ? this.source()
+            : this.is(/\d/y) ? this.source()
             : { left: `operator${this.need(OPERATORS.get(this.match(/[a-z][a-zA-Z]/y)))}` };
-        while (this.match(/B/y)) name.left += `[abi:${this.source().left}]`;
+        while (this.takes('B')) name.left += `[abi:${this.source().left}]`;
         return { right: '', ...name };
     }
     source() {
@@ -97,18 +109,18 @@ class Reader {
     known_one() {
         const left = STANDARD[this.match(/S[tabsiod]/y)];
         if (left) return { left, right: '', last: /\w+/.exec(left.slice(5))?.[0] };
-        return this.need(this.known[this.match(/S/y) && this.number(36)]);
+        return this.need(this.known[this.takes('S') && this.number(36)]);
     }
     templated({ left, last, is_bare }) {
-        const args = this.match(/I/y) && this.arguments(), list = listed(args),
+        const args = this.takes('I') && this.arguments(), list = listed(args),
             is_empty = args.at(-1)?.pack?.length === 0;
         const [before, end] = [left.endsWith('<') ? ' ' : '', list.endsWith('>') && !is_empty ? ' ' : ''];
         return { left: `${left}${before}<${list}${end}>`, right: '', last, is_bare, args };
     }
     arguments() {
         const items = [];
-        while (!this.match(/E/y)) {
-            items.push(this.match(/J/y) ? { pack: this.arguments() }
+        while (!this.takes('E')) {
+            items.push(this.takes('J') ? { pack: this.arguments() }
                 : this.match(/L(?=[a-zNS\d])/y) ? this.literal() : this.type());
         }
         return items;
@@ -118,22 +130,23 @@ class Reader {
             digits = this.need(this.match(/n?\d+(?=E)/y)).replace('n', '-');
         const left = sign === 'b' ? ['false', 'true'][digits] : sign in SUFFIXES ? digits + SUFFIXES[sign]
             : `(${type})${digits}`;
-        return { left: this.match(/E/y) && this.need(left), right: '' };
+        return { left: this.takes('E') && this.need(left), right: '' };
     }
     type() {
         const builtin = BUILTINS.get(this.match(/[a-jl-ostv-z]|D[isun]/y));
         if (builtin) return { left: builtin, right: '' };
-        if (!this.is(/^S[^t]/)) return this.note(this.new_type());
+        if (!this.is(/S[^t]/y)) return this.note(this.new_type());
         const item = this.known_one();
-        return this.is(/^I/) ? this.note(this.templated(item)) : item;
+        return this.next === 'I' ? this.note(this.templated(item)) : item;
     }
     new_type() {
-        const qualifiers = words(this.match(/V?K?/y).split('').reverse().join('')),
-            mark = qualifiers || MARKS[this.match(/[PRO]/y)];
+        const is_volatile = this.takes('V'), is_const = this.takes('K'),
+            qualifiers = words((is_const ? 'K' : '') + (is_volatile ? 'V' : '')), mark = qualifiers || MARKS[this.next];
+        if (mark && !qualifiers) this.at++;
         if (mark) return this.marked(mark, this.type());
-        if (this.match(/FY?/y)) return this.function();
-        const given = this.match(/T/y) ? this.need(this.args?.[this.number(10)])
-            : this.is(/^[NS\d]/) ? this.name() : this.fail();
+        if (this.next === 'F' && this.match(/FY?/y)) return this.function();
+        const given = this.takes('T') ? this.need(this.args?.[this.number(10)])
+            : this.is(/[NS\d]/y) ? this.name() : this.fail();
         return given.pack ? this.fail() : given;
     }
     // Returns a type with words or a mark: `*`, `&` or `&&`. A reference to a reference is one to a value only
@@ -149,8 +162,14 @@ class Reader {
     function() {
         const { left, right } = this.type(), list = this.parameters(), on = words(this.need(this.match(/[RO]?(?=E)/y)));
         return { left: right ? left : `${left} `,
-            right: this.match(/E/y) && `(${list})${on}${right}`, form: 'function' };
+            right: this.takes('E') && `(${list})${on}${right}`, form: 'function' };
     }
+}
+
+/** Returns a function that reports, without reading a mangled name, whether it may stand for one with a text. */
+export function may_hold(text) {
+    const needed = (text.match(/[a-z_]\w*|\d+/g) ?? []).filter((word) => !OWN_WORDS.toLowerCase().includes(word));
+    return (name) => needed.every((word) => name.includes(word));
 }
 
 /** Returns a mangled name as it is written in C++, or nothing if it isn't one, or one that isn't read. */

@@ -4,7 +4,7 @@ import {
     called, digits_of, file, name_of_section, part, read_or, refusal, RELOCATION_TYPES, RELR, section_at,
     section_refusal, sections, segments, SYMBOL_TYPES,
 } from './file.js';
-import { demangled } from './demangle.js';
+import { demangled, may_hold } from './demangle.js';
 import { packed_offsets } from './dynamic.js';
 import * as labels from './labels.js';
 import { notes_of } from './notes.js';
@@ -41,11 +41,11 @@ const rooms = once(() => {
 const within = (start, size, value) => start <= value && value < start + size;
 const is_refused = (range) => read_or(true, () => { range(); return false; });
 
+const title_of_section = once((of) => (section_at(of) ? called(of) : `${of}`));
 /** Returns the title of a symbol's section. */
 export function section_word(table, index, symbol) {
     const of = section_of_symbol(table, index, symbol);
-    if (of === undefined) return SPECIAL.get(symbol.st_shndx) ?? hex(symbol.st_shndx);
-    return section_at(of) ? called(of) : `${of}`;
+    return of === undefined ? SPECIAL.get(symbol.st_shndx) ?? hex(symbol.st_shndx) : title_of_section(of);
 }
 
 export const addend = ({ r_addend }) =>
@@ -103,16 +103,20 @@ const sources = {
     },
 
     symbols({ address }, table) {
-        const name = (item, index) => name_of_symbol(table, index, item),
-            known = []; // (a search reads them again and again)
+        const name = (item, index) => name_of_symbol(table, index, item), list = symtab_at(table),
+            known = new Array(list.length), has_demangled = has_mangled(table);
         const in_source = (item, index) => (known[index] ??= demangled(name(item, index)) ?? '');
-        const words = 'the name in C++, read by this page; empty if it is not read', list = symtab_at(table),
-            is_mangled = has_mangled(table);
+        const other = { text: (item, index) => in_source(item, index) || name(item, index), plain: in_source,
+            finder: (wanted) => {
+                const may = may_hold(wanted), has = (found) => found.toLowerCase().includes(wanted);
+                return (item, index) => has(name(item, index))
+                    || (may(name(item, index).toLowerCase()) && has(in_source(item, index)));
+            } };
         return {
-            list, place: 48,
+            list, place: 48, has_demangled,
             columns: [
-                text('Name', 'st_name', is_mangled ? 120 : 180, is_mangled ? 2 : 5, name),
-                ...(is_mangled ? [text('Demangled (not proved)', words, 240, 5, in_source)] : []),
+                text('Name', 'st_name', 180, 5, name),
+                ...(has_demangled ? [column('Demangled (not proved)', 'the name in C++, if read', 180, 5, other)] : []),
                 number('Value', 'st_value', address, 0.3), number('Size', 'st_size', 62, 0, String),
                 text('Type', 'st_info, its low four bits', 74, 0,
                     ({ st_info }) => labels.symbol_type(goblin.st_type(st_info))),
@@ -197,10 +201,11 @@ export const open_source = (list, of) => part(() => (is_there(list, of) ? source
     (error) => (['symbols', 'relocations'].includes(list) ? section_refusal(error, `the ${list}`, of)
         : refusal(error, `the ${list}`, [])));
 
-/**
- * Returns the columns of a list, for the page, or none if there is no such list or it is refused. The first is that of
- * the index.
- */
+/** Returns a source as it is shown: with the names, or with the demangled ones in their place. */
+export const as_shown = (source, is_demangled) => (source?.has_demangled
+    ? { ...source, columns: source.columns.toSpliced(is_demangled ? 0 : 1, 1) } : source);
+/** Returns the columns of a list, for the page, or none if there is no such list or it is refused. The first is that of
+ * the index. */
 export const columns_of = ({ place = 0, columns = [] } = {}) =>
     [column('#', 'index', place, 0, { is_right: true, is_dim: true }), ...columns]
         .map(({ title, hint, least, share, is_right, is_dim }) => ({ title, hint, least, share, is_right, is_dim }));
@@ -237,13 +242,8 @@ export async function arranged(source, { query, column, is_descending, list }, i
     const { length } = source.list;
     let order;
     if (query) {
-        const wanted = query.toLowerCase(), found = [];
-        const value = /^0x[0-9a-f]{1,16}$/.test(wanted) ? BigInt(wanted) : undefined; // (an offset or address)
-        await go_over(source, list, is_wanted, (item, index) => {
-            const is_there = (value !== undefined && source.holds(item, value))
-                || cells_of(source, item, index).some((cell) => cell.toLowerCase().includes(wanted));
-            if (is_there) found.push(index);
-        });
+        const found = [], is_found = finder(source, query.toLowerCase());
+        await go_over(source, list, is_wanted, (item, index) => { if (is_found(item, index)) found.push(index); });
         order = Uint32Array.from(found);
     }
     if (column === 0 && !is_descending) return order;
@@ -253,6 +253,16 @@ export async function arranged(source, { query, column, is_descending, list }, i
     if (!is_wanted()) return undefined;
     const sign = is_descending ? -1 : 1;
     return order.sort((a, b) => sign * compare(a, b) || a - b);
+}
+
+// Returns a function that reports whether a text is in a cell of an item, or the item holds the offset or address that
+// it is.
+function finder({ columns, holds }, wanted) {
+    const is_number = /^[\da-fx]+$/.test(wanted), value = /^0x[\da-f]{1,16}$/.test(wanted) ? BigInt(wanted) : undefined;
+    const finders = columns.filter((item) => is_number || !item.is_number).map(({ text: text_of, finder: own }) =>
+        own?.(wanted) ?? ((item, index) => text_of(item, index).toLowerCase().includes(wanted)));
+    return (item, index) => (value !== undefined && holds(item, value)) || (is_number && `${index}`.includes(wanted))
+        || finders.some((is_found) => is_found(item, index));
 }
 
 async function comparison(source, column, list, is_wanted) {

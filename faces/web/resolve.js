@@ -28,8 +28,13 @@ export function section_of_symbol(table, index, { st_shndx }) {
     return st_shndx === 0n || st_shndx >= goblin.SHN_LORESERVE ? undefined : Number(st_shndx);
 }
 
+// The names of each table's symbols that are read. (Searches and sorts need them again and again.)
+const names = once((table) => new Array(symtab_at(table).length));
+
 /** Returns a symbol's name. The symbol of a section has the section's name. */
-export function name_of_symbol(table, index, symbol) {
+export const name_of_symbol = (table, index, symbol) => (names(table)[index] ??= read_name(table, index, symbol));
+
+function read_name(table, index, symbol) {
     const name = symbol.st_name ? name_at(symtab_at(table).strtab, symbol.st_name) : '';
     if (name || goblin.st_type(symbol.st_info) !== goblin.STT_SECTION) return name;
     const of = section_of_symbol(table, index, symbol);

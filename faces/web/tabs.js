@@ -175,12 +175,13 @@ async function list_panel(mine, wanted) {
     const [longest] = list.toSorted((a, b) => (b.length ?? 0.5) - (a.length ?? 0.5)), of = wanted ?? longest.of;
     Object.assign(mine, { list, of, query: '', column: 0, is_descending: false });
     Object.assign(mine, { output: make('output'), below: make('div', { class: 'notice' }) });
-    mine.grid = new Grid(name, await ask('columns', { list: name, of: mine.of }), {
+    const [columns, others] = await ask('columns', { list: name, of: mine.of });
+    mine.grid = new Grid(name, others && is_demangled ? others : columns, {
         rows: (from, size) => ask('rows', { list: name, from, size }),
         chosen: (at, is_step) => go_to_row(mine, at, is_step), opened: (at) => open_row(mine, at),
         sorted: (column, is_descending) => { Object.assign(mine, { column, is_descending }); refresh(mine); },
     });
-    const bar = tools(mine);
+    const bar = tools(mine, others && [columns, others]);
     await refresh(mine);
     return [bar, mine.below, mine.grid.box];
 }
@@ -188,12 +189,13 @@ async function list_panel(mine, wanted) {
 // Shows the list again, for its search and order.
 async function refresh(mine) {
     const { name, of, query, column, is_descending, output, below, grid } = mine;
-    output.textContent = 'reading …';
+    const word = query ? 'searching' : column || is_descending ? 'sorting' : 'reading';
+    output.textContent = `${word} …`;
     shown_file.reader.on_progress = ({ progress, done }) => {
-        if (progress === name) output.textContent = `reading … ${Math.floor(100 * done)} %`;
+        if (progress === name) output.textContent = `${word} … ${Math.floor(100 * done)} %`;
     };
     const { is_over, refused, is_none, length, all } =
-        await ask('view', { list: name, of, query, column, is_descending });
+        await ask('view', { list: name, of, is_demangled, query, column, is_descending });
     if (is_over) return;
     below.replaceChildren(...await notices_of(mine, { refused, is_none }));
     const is_shown = !refused && !is_none;
@@ -255,7 +257,7 @@ export async function activate(index) {
     if (open === mine && at >= 0 && at !== grid.active) grid.activate(at);
 }
 
-function tools(mine) {
+function tools(mine, switched) {
     const { name, list, of, output, grid } = mine;
     const bar = make('div', { class: 'tools' });
     if (list.length > 1) {
@@ -269,8 +271,20 @@ function tools(mine) {
         button('Copy cell', () => copy_active(grid, ({ [grid.column]: cell }) => cell, 'the cell')),
         button('Copy row', () => copy_active(grid, (cells) => cells.join('\t'), 'the row')),
         button('Save CSV', () => save(mine)));
-    bar.append(mine.search = search_field(mine), output, mine.saving);
+    mine.search = search_field(mine);
+    bar.append(mine.search, ...(switched ? [demangling(mine, switched)] : []), output, mine.saving);
     return bar;
+}
+
+// Returns a button that shows names as they are written in C++, in place of the names, for all lists from then on.
+let is_demangled = false;
+function demangling(mine, switched) {
+    return button('Demangle', ({ target }) => {
+        is_demangled = !is_demangled;
+        target.setAttribute('aria-pressed', is_demangled);
+        mine.grid.rename(1, switched[Number(is_demangled)][1]);
+        refresh(mine);
+    }, { 'aria-pressed': `${is_demangled}`, title: 'names of C++, read by this page and not proved' });
 }
 
 function search_field(mine) {

@@ -7,6 +7,7 @@ import { mkdtempSync, readFileSync, rmSync, writeFileSync } from 'node:fs';
 import { tmpdir } from 'node:os';
 import { join } from 'node:path';
 import { csv_line } from './csv.js';
+import { demangled, may_hold } from './demangle.js';
 import { elf_file, note, packed, symbols_file } from './elves.mjs';
 import { import_goblin } from './tested.mjs';
 
@@ -131,7 +132,23 @@ function check_csv() {
         ['a\u202eb\u2066', 'a\\xe2\\x80\\xaeb\\xe2\\x81\\xa6'],
         ['\u200f\udce9\u0085', '\\xe2\\x80\\x8f\\xe9\\xc2\\x85'], ['\u00e9t\u00e9', '\u00e9t\u00e9'],
     ];
-    for (const [text, cell] of cells) assert.equal(csv_line([text, '0']), `${cell},0\r\n`);
+    // (as a spreadsheet splits lines at commas, at semicolons, at both, or at tabs)
+    const split = (line, at) => [...line.matchAll(new RegExp(`(?:^|[${at}])(?:"((?:[^"]|"")*)"|([^${at}]*))`, 'g'))];
+    for (const [text, cell] of cells) {
+        const line = csv_line([text, '0']);
+        assert.equal(line, `${cell},0\r\n`);
+        for (const [, inside, plain] of [',', ';', ',;', '\t'].flatMap((at) => split(line, at)))
+            assert.doesNotMatch(inside ?? plain, /^[ "]*([=+@\t\r\uff1d]|-(?!0x10\b))/, line);
+    }
+}
+
+// What a search skips, without reading it, holds no word of the text that c++filt makes of it.
+function check_may_hold() {
+    const rows = readFileSync(new URL('../../checks/files/mangled', import.meta.url), 'utf8').trim().split('\n')
+        .filter((row) => demangled(row.split('\t')[0]));
+    for (const [name, text] of rows.map((row) => row.toLowerCase().split('\t')))
+        for (const [word] of text.matchAll(/[\w:]+/g)) assert.ok(may_hold(word)(name), `${word} in ${name}`);
+    assert.deepEqual([may_hold('std::vector')('_z3foov'), may_hold('foo(')('_z3foov')], [false, true]);
 }
 
 // The names in goblin.h of the fields that have other names in goblin.js.
@@ -420,6 +437,7 @@ check_layout();
 check_kinds();
 check_arguments();
 check_csv();
+check_may_hold();
 await check_facts();
 const folder = mkdtempSync(join(tmpdir(), 'goblin-'));
 try {

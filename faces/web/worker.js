@@ -12,7 +12,7 @@ import {
 import { find_own_sections, packed_offsets } from './dynamic.js';
 import { find } from './find.js';
 import * as labels from './labels.js';
-import { arranged, cells_of, columns_of, go_over, open_source, plain_cells_of } from './lists.js';
+import { arranged, as_shown, cells_of, columns_of, go_over, open_source, plain_cells_of } from './lists.js';
 import { notes_of } from './notes.js';
 import { CLASSES, inside, sizes, under } from './inside.js';
 import { KINDS, parts, titled } from './pieces.js';
@@ -108,6 +108,14 @@ function begin(name) {
     return () => runs[name] === run;
 }
 
+// Iterates over the list that is shown, as `go_over` does over a source.
+function over_view(list, progress, is_wanted, each) {
+    const view = views[list], { source, order } = view, add = (item, index) => each(view, item, index);
+    if (!order) return go_over(source, progress, is_wanted, add);
+    const items = { length: order.length, *from() { for (const index of order) yield source.list.get(index); } };
+    return go_over({ list: items }, progress, is_wanted, (item, at) => add(item, order[at]));
+}
+
 const calls = {
     async open({ module, given }) {
         await init(module);
@@ -120,30 +128,42 @@ const calls = {
     bytes([at, size]) { return file.content.slice(at, at + size); },
 
     // Prepares a list: the items of a source that have a text, sorted by a column.
-    async view({ list, of, query = '', column = 0, is_descending = false }) {
-        const is_wanted = begin(list), source = source_of(list, of);
+    async view({ list, of, is_demangled, query = '', column = 0, is_descending = false }) {
+        const is_wanted = begin(list), source = source_of(list, of), shown = as_shown(source, is_demangled);
+        begin('text');
         if (!source || source.refused) {
             views[list] = { source, of, order: [], length: 0 }; // (so nothing of the list before is saved)
             return source ?? { is_none: true };
         }
-        const order = await arranged(source, { query, column, is_descending, list }, is_wanted);
+        const order = await arranged(shown, { query, column, is_descending, list }, is_wanted);
         if (!is_wanted()) return { is_over: true };
-        views[list] = { source, of, order, length: order ? order.length : source.list.length };
+        views[list] = { source, of, shown, order, length: order ? order.length : source.list.length };
         return { length: views[list].length, all: source.list.length };
     },
 
     // Returns the columns of a list, whose source is kept.
     columns({ list, of }) {
-        views[list] = { source: open_source(list, of), of };
-        return columns_of(views[list].source);
+        const source = open_source(list, of);
+        views[list] = { source, of };
+        return [false, true].map((is_demangled) => columns_of(as_shown(source, is_demangled)))
+            .slice(0, source?.has_demangled ? 2 : 1);
     },
 
     rows({ list, from, size }) {
-        const { source, length } = views[list];
+        const { source, shown, length } = views[list];
         return Array.from({ length: Math.min(size, length - from) }, (_, i) => {
             const index = calls.index({ list, at: from + i }), item = source.list.get(index);
-            return [...cells_of(source, item, index), source.mark?.(item) && 'refused'];
+            return [...cells_of(shown, item, index), source.mark?.(item) && 'refused'];
         });
+    },
+
+    // Returns the list that is shown as it is printed, a line for each of at most a number of items, with tabs between
+    // the cells.
+    async text({ list, most }) {
+        const is_wanted = begin('text'), lines = [];
+        await over_view(list, 'text', () => is_wanted() && lines.length < most, ({ shown }, item, index) =>
+            lines.push(cells_of(shown, item, index).map(visible).join('\t')));
+        return is_wanted() ? lines.slice(0, most).join('\n') : undefined;
     },
 
     // Returns the position of an item in the list that is shown, or -1.
