@@ -11,6 +11,7 @@ import { tmpdir } from 'node:os';
 import { basename, join, resolve } from 'node:path';
 import { setTimeout } from 'node:timers/promises';
 import { pathToFileURL } from 'node:url';
+import { inflateSync } from 'node:zlib';
 import { Chromium, Firefox, PATIENCE, waited } from './browsers.mjs';
 import { elf_file, note, packed, rela, symbols_file } from './elves.mjs';
 
@@ -1100,6 +1101,71 @@ async function check_cells() {
     const name = 'a_name_that_has_no_room_in_any_list_'.repeat(9);
     await pick_written('long', symbols_file([{ text: name }]), 'symbols');
     assert.deepEqual(await cut(), [name]);
+    // (a name takes what the other columns do not need)
+    await pick_written('fits', symbols_file([{ text: '_Z'.padEnd(30, 'x') }, { text: '_Z1fv' }]), 'symbols');
+    assert.deepEqual(await cut(), []);
+}
+
+// Beside the summary and the sizes is no side that says nothing of them.
+async function check_alone() {
+    await browser.resize(1280, 900);
+    await pick(program_file);
+    for (const [tab, is_alone] of [['summary', true], ['sizes', true], ['header', false], ['sections', false]]) {
+        await go(tab, 'ELF header');
+        await until(`${one('#panel')}.firstChild && (${one('#panel')}.offsetWidth > 1000) === ${is_alone}`);
+        assert.equal(await is_visible('.side'), !is_alone, tab);
+    }
+    await go('sizes', 'ELF header');
+    await go('offset/0x10', 'offset 0x10');
+    assert.equal(await is_visible('.side'), true);
+}
+
+// Returns the number of sheets of a document, whose objects may be compressed.
+function sheets_of(pdf) {
+    const text = pdf.toString('latin1'), inflated = [...text.matchAll(/stream\r?\n/g)].map(({ index, 0: word }) => {
+        try { return inflateSync(pdf.subarray(index + word.length)).toString('latin1'); } catch { return ''; }
+    });
+    return [text, ...inflated].join('').match(/\/Type *\/Page\b(?!s)/g).length;
+}
+
+// Paper has the summary, and all rows of the open list, over as many sheets as these take.
+async function check_printed() {
+    const rows = 1500, names = Array.from({ length: rows }, (_, i) => `name_${i}`);
+    await pick_written('printed', symbols_file(names.map((text) => ({ text }))), 'symbols');
+    const sheets = async () => sheets_of(await browser.print()), shown = async () => {
+        await evaluate(`void dispatchEvent(new Event('beforeprint'))`);
+        const found = [await each_of('#paper .rows td:nth-child(2)', 'item.textContent'),
+            await text_of('#paper h2'), await each_of('#paper h3', 'item.textContent')];
+        await evaluate(`void dispatchEvent(new Event('afterprint'))`);
+        return found;
+    };
+    await waited('the texts', async () => (await shown())[0].length > rows);
+    assert.deepEqual((await shown()).slice(0, 2), [['', ...names], 'Symbols 1,501, .symtab (1,501)']);
+    assert.ok((await shown())[2].includes('What it is'));
+    const all = await sheets();
+    assert.ok(all > rows / 100 && all < rows / 20, `${all} sheets`);
+    await search('name_14', '111 of 1,501');
+    await waited('the texts', async () => (await shown())[0].length === 111);
+    assert.match((await shown())[1], /111 of 1,501, with “name_14”$/);
+    await go('header', 'ELF header');
+    assert.ok(await sheets() < 3 && await text_of('#paper') === null);
+}
+
+// Whatever is pressed is at least 24 pixels high.
+async function check_buttons() {
+    await pick(program_file);
+    for (const [width, height] of [[1280, 900], [800, 900], [400, 800], [800, 400]]) {
+        await browser.resize(width, height);
+        for (const place of ['summary', 'header', 'header/e_type', 'sections', 'section=.text', symtab, 'sizes']) {
+            await set_place(place);
+            await setTimeout(100);
+            const low = await evaluate(`[...document.querySelectorAll('button, .button, select, input:not(.unseen)')]
+                .filter((item) => item.offsetParent !== null && item.getBoundingClientRect().height < 24)
+                .map((item) => item.textContent || item.id)`);
+            assert.deepEqual(low, [], `${place}, ${width}`);
+        }
+    }
+    await browser.resize(1400, 1600);
 }
 
 // In low and narrow windows the first result of a search is in view, and so are the first bytes of what is chosen.

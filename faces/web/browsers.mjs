@@ -334,6 +334,9 @@ export class Firefox extends Browser {
     async resize(width, height) {
         await this.#ask('browsingContext.setViewport', { context: this.tab, viewport: { width, height } });
     }
+    async print() {
+        return Buffer.from((await this.#ask('browsingContext.print', { context: this.tab })).data, 'base64');
+    }
     async screenshot() {
         return Buffer.from(
             (await this.#ask('browsingContext.captureScreenshot', { context: this.tab })).data, 'base64');

@@ -1,7 +1,8 @@
 // Elements of the page and their texts. A text of a file is always inserted as text, with invisible characters
 // made visible.
-import { UNSEEN } from './unseen.js';
+import { shown, UNSEEN } from './unseen.js';
 
+export * from './unseen.js';
 export const get = (id) => document.getElementById(id);
 export const focus_chosen = () => get('chosen').querySelector('h2')?.focus();
 export const bytes_of = (id) => Uint8Array.from(atob(get(id).textContent), (sign) => sign.charCodeAt(0));
@@ -24,15 +25,6 @@ export function make(name, given = {}, ...content) {
 export const joined = (parts) => parts.flatMap((part, i) =>
     (i ? [/:$/.test(parts[i - 1].textContent) ? ' ' : ', ', part] : [part]));
 export const button = (text, onclick, given = {}) => make('button', { type: 'button', onclick, ...given }, text);
-
-function shown(sign) {
-    const code = sign.codePointAt(0);
-    if (code >= 0xdc80 && code <= 0xdcff) return `\\x${(code - 0xdc00).toString(16)}`;
-    return `U+${code.toString(16).toUpperCase().padStart(4, '0')}`;
-}
-
-/** Returns a text with invisible characters made visible, for use outside of elements. */
-export const visible = (text) => text.replace(UNSEEN, shown);
 
 /** Replaces the content of an element by a text of a file. */
 export function put_text(element, text) {

@@ -3,6 +3,7 @@ import { area_panel } from './area.js';
 import { button, copy, focus_chosen, get, hex, make, number, plural, say, visible } from './dom.js';
 import { Grid } from './grid.js';
 import { refusal_of } from './hex.js';
+import { prepare_paper, set_up_paper } from './paper.js';
 import { ask, shown_file } from './reader.js';
 import { go } from './route.js';
 import { row_of } from './side.js';
@@ -45,6 +46,7 @@ export function show_tabs() {
 }
 
 export function set_up_tabs() {
+    set_up_paper(() => open);
     get('tabs').addEventListener('keydown', (event) => {
         const all = [...get('tabs').children],
             at = all.findIndex((tab) => tab.getAttribute('aria-selected') === 'true');
@@ -84,6 +86,7 @@ export async function open_tab(name, of) {
         if (open !== mine) return;
         get('panel').replaceChildren(...content);
         mine.grid?.draw();
+        if (!mine.grid && name !== 'summary') prepare_paper(mine, summary_panel);
     });
     await mine.ready;
     return open === mine;
@@ -204,6 +207,7 @@ async function refresh(mine) {
     output.textContent = refused ? 'refused' : is_none ? 'none' : count;
     mine.saving.hidden = !is_shown || length === 0;
     grid.show(is_shown ? length : 0);
+    if (is_shown) prepare_paper(mine, summary_panel);
 }
 
 

@@ -19,6 +19,7 @@ import { KINDS, parts, titled } from './pieces.js';
 import { symtab_at } from './resolve.js';
 import { all_facts, kind_in_words, summary } from './summary.js';
 import { hex } from './text.js';
+import { visible } from './unseen.js';
 
 // How many bytes are read before the progress is sent.
 const CHUNK = 1 << 24;
@@ -141,7 +142,7 @@ const calls = {
         return { length: views[list].length, all: source.list.length };
     },
 
-    // Returns the columns of a list, whose source is kept.
+    // Returns the columns of a list, with names and with demangled ones, if it has such. The source is kept.
     columns({ list, of }) {
         const source = open_source(list, of);
         views[list] = { source, of };
@@ -176,10 +177,9 @@ const calls = {
 
     // Returns the list that is shown, as lines of values separated by commas.
     async csv({ list }) {
-        const { source, order } = views[list], lines = [csv_line(columns_of(source).map(({ title }) => title))];
-        const add = (item, index) => lines.push(csv_line(plain_cells_of(source, item, index)));
-        if (order) for (const index of order) add(source.list.get(index), index);
-        else await go_over(source, 'csv', () => true, add);
+        const lines = [csv_line(columns_of(views[list].source).map(({ title }) => title))];
+        await over_view(list, 'csv', () => true, ({ source }, item, index) =>
+            lines.push(csv_line(plain_cells_of(source, item, index))));
         return new Blob(lines, { type: 'text/csv' });
     },
 

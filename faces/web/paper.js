@@ -1,0 +1,54 @@
+// What is printed: the summary, and all of the open tab, over as many sheets as it takes. A page can't wait for its
+// worker once it is printed, so what is printed of a list is requested as soon as the list is shown.
+import { get, make, number } from './dom.js';
+import { ask, shown_file } from './reader.js';
+
+// How many rows of a list are printed at most, and the length of a text that may take several lines.
+const MOST = 300000, LONG = 24;
+
+/** Requests what is printed of a list: the summary, by a function that returns its panel, and the texts of the rows. */
+export async function prepare_paper(mine, summary_panel) {
+    const { summary } = shown_file;
+    mine.text = undefined;
+    summary.panel ??= await summary_panel();
+    if (mine.grid) mine.text = await ask('text', { list: mine.name, most: MOST });
+}
+
+// Returns the table of a list.
+function table_of({ head, columns }, text) {
+    const body = make('tbody'), titles = [...head.children].map(({ textContent }) => make('th', {}, textContent));
+    for (const line of text ? text.split('\n') : []) {
+        const row = body.insertRow();
+        line.split('\t').forEach((cell, i) => Object.assign(row.insertCell(), { textContent: cell,
+            className: `${columns[i].is_right ? 'right' : ''} ${cell.length > LONG ? 'long' : ''}` }));
+    }
+    return make('table', { class: 'rows' }, make('thead', {}, make('tr', {}, ...titles)), body);
+}
+
+// Returns the title of a list, with the table that is chosen and the text that is searched.
+function title_of({ name, list, of, query, output }) {
+    const words = [list?.find((item) => item.of === of)?.text, query && `${output.textContent}, with “${query}”`];
+    return [get(`tab-${name}`).textContent, ...words.filter(Boolean)].join(', ');
+}
+
+// Returns what is printed of a tab but the summary.
+function content_of(mine) {
+    const { grid, text } = mine;
+    if (!grid || grid.box.hidden) return [...get('panel').cloneNode(true).children];
+    if (text === undefined)
+        return [make('p', {}, 'The list was still being read when this was printed. Print it again in a moment.')];
+    const cut = grid.length > MOST && [make('p', {}, `These are the first ${number(MOST)} rows.`)];
+    return [...(cut || []), table_of(grid, text)];
+}
+
+/** Sets a function that returns the open tab. */
+export function set_up_paper(opened) {
+    addEventListener('beforeprint', () => {
+        const mine = opened(), { summary } = shown_file;
+        if (!summary || !mine.name) return;
+        const before = mine.name === 'summary' ? [] : [...summary.panel ?? [], make('h2', {}, title_of(mine))];
+        document.body.append(make('div', { id: 'paper', class: 'paper' }, ...get('file').cloneNode(true).children,
+            ...before, ...content_of(mine)));
+    });
+    addEventListener('afterprint', () => get('paper')?.remove());
+}
