@@ -71,6 +71,7 @@ function select_tab(name) {
         tab.setAttribute('aria-selected', is_chosen);
         tab.tabIndex = is_chosen ? 0 : -1;
     }
+    document.body.dataset.tab = name;
     get('panel').setAttribute('aria-labelledby', `tab-${name}`);
 }
 
@@ -209,7 +210,6 @@ async function refresh(mine) {
     grid.show(is_shown ? length : 0);
     if (is_shown) prepare_paper(mine, summary_panel);
 }
-
 
 // Returns the message for a list that is refused, missing or incomplete.
 async function notices_of({ name, of }, { refused, is_none }) {
