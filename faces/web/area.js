@@ -29,8 +29,8 @@ export async function area_panel() {
     const add = ({ item, ...box }, kind = 'gap', to = 'layout', given = {}) => {
         const said = `${visible(item.title)}: ${plural(item.size, 'byte')}, `
             + `${(100 * item.size / size).toFixed(1)} % of the file`;
-        const link = make('a', { href: `#${item.to ?? to}`, title: said, 'aria-label': said,
-            tabindex: areas.firstChild ? -1 : 0, ...given });
+        const link = make('a', { href: `#${item.to ?? to}`, 'aria-label': said, tabindex: areas.firstChild ? -1 : 0,
+            ...given });
         const [left, top, width, height] = [box.x / wide, box.y / high, box.wide / wide, box.high / high]
             .map((part) => `${100 * part}%`);
         Object.assign(link.style, { left, top, width, height }).setProperty('--tint', `var(--${kind})`);
@@ -46,7 +46,21 @@ export async function area_panel() {
     }
     areas.addEventListener('keydown', ({ key, target: { nextSibling, previousSibling } }) =>
         ({ ArrowRight: nextSibling, ArrowLeft: previousSibling, Home: areas.firstChild,
-            End: areas.lastChild })[key]?.focus());
+            End: tip.previousSibling })[key]?.focus());
+    // (what is below the pointer or has the focus is named beside it: many have no room for their names)
+    const tip = make('output', { class: 'tip', hidden: true }), { style } = tip;
+    const EVENTS = ['pointerover', 'focusin', 'pointerleave', 'focusout'];
+    for (const type of EVENTS) areas.addEventListener(type, ({ target }) => {
+        const link = target.closest('a'), { offsetLeft: left, offsetTop: top, offsetWidth, offsetHeight } = link ?? {};
+        tip.hidden = !link || type === 'focusout';
+        if (tip.hidden) return;
+        tip.textContent = link.ariaLabel;
+        const is_right = left + offsetWidth / 2 > areas.clientWidth / 2, below = top + offsetHeight;
+        style.left = is_right ? 'auto' : `${left}px`;
+        style.right = is_right ? `${areas.clientWidth - left - offsetWidth}px` : 'auto';
+        style.top = `${below + tip.offsetHeight > areas.clientHeight ? Math.max(top - tip.offsetHeight, 0) : below}px`;
+    });
+    areas.append(tip);
     const said = `${number(size)} bytes, where the map draws them. Functions and variables are symbols with a size. `
         + 'Names of C++ are not proved.';
     return [make('p', { class: 'others' }, said), areas];

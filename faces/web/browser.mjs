@@ -1395,7 +1395,7 @@ async function check_sizes() {
     for (const { name, size, place } of [...['.text', '.rodata', '.symtab'].map(section),
         { ...largest, place: `${symtab}/${largest.index}` }]) {
         await Promise.all([click('#tab-sizes'), until_there('.areas a')]);
-        const areas = await each_of('.areas a', `({ hash: item.hash, title: item.title,
+        const areas = await each_of('.areas a', `({ hash: item.hash, title: item.ariaLabel,
             is_inside: item.className === 'inside',
             area: parseFloat(item.style.width) * parseFloat(item.style.height) / 100 })`);
         const { area, hash, is_inside } =
@@ -1406,6 +1406,24 @@ async function check_sizes() {
         await click(`.areas [href='${hash}']`);
         await until_chosen(name);
     }
+    // (a box without a name is named by the keyboard and below the pointer)
+    await Promise.all([click('#tab-sizes'), until_there('.areas a')]);
+    const [steps, place, x, y] = await evaluate(`(() => {
+        const boxes = [...document.querySelectorAll('.areas a')], at = boxes.findIndex((box) => box.textContent === ''
+            && box.hash.startsWith('#${symtab}/') && box.clientWidth > 5 && box.clientHeight > 5);
+        const { left, top, width, height } = boxes[at].getBoundingClientRect();
+        return [at, boxes[at].hash, left + width / 2, top + height / 2];
+    })()`);
+    const { name, size } = symbols[place.split('/')[2]], words = `${name}: ${decimal(size)} byte`;
+    const tip = `${one('.tip')}.offsetParent ? ${one('.tip')}.textContent : ''`;
+    const is_said = `(${tip}).startsWith(${quoted(words)})`;
+    await browser.point(x, y);
+    await until(is_said);
+    await browser.point(5, 5);
+    await until(`(${tip}) === ''`);
+    await focus('.areas a');
+    await browser.press(...Array(steps).fill('ArrowRight'));
+    await until(is_said);
 }
 
 const linear = (colour) =>
@@ -1478,7 +1496,7 @@ async function check_names() {
     await search('ONERROR', '1 of 21');
     assert.deepEqual(await cells(1), [markup]);
     await go_by_field('onerror', markup);
-    await Promise.all([click('#tab-sizes'), until_there('.areas [title^="<img"]')]);
+    await Promise.all([click('#tab-sizes'), until_there('.areas [aria-label^="<img"]')]);
     assert.equal(await text_of('img'), null);
 }
 
