@@ -94,8 +94,8 @@ export class Grid {
     }
 
     // Gives the column with the greatest share its least width, and each other one that, or what its texts seen so far
-    // need if that is less. Then each gets what it needs, as far as there is room, and the first one the rest. If they
-    // do not fit into the window, the first one may take more than half of that.
+    // need if that is less. Then each in turn gets what it needs while there is room, and the first one the rest. If
+    // they do not fit into the window, the first one may take more than half of that.
     fit() {
         const { columns, needs, scroller: { clientWidth: room } } = this,
             in_turn = [...columns.keys()].sort((a, b) => (columns[b].share ?? 0) - (columns[a].share ?? 0)),
