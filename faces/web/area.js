@@ -44,21 +44,26 @@ export async function area_panel() {
         if (box.wide > WIDE && box.high > HIGH)
             for (const small of placed(inside, box)) add(small, kind, to, { class: 'inside' });
     }
-    areas.addEventListener('keydown', ({ key, target: { nextSibling, previousSibling } }) =>
-        ({ ArrowRight: nextSibling, ArrowLeft: previousSibling, Home: areas.firstChild,
-            End: tip.previousSibling })[key]?.focus());
     // (what is below the pointer or has the focus is named beside it: many have no room for their names)
     const tip = make('output', { class: 'tip', hidden: true }), { style } = tip;
-    const EVENTS = ['pointerover', 'focusin', 'pointerleave', 'focusout'];
-    for (const type of EVENTS) areas.addEventListener(type, ({ target }) => {
-        const link = target.closest('a'), { offsetLeft: left, offsetTop: top, offsetWidth, offsetHeight } = link ?? {};
-        tip.hidden = !link || type === 'focusout';
-        if (tip.hidden) return;
+    const show = (link) => {
+        tip.hidden = !link;
+        if (!link) return;
+        const { offsetLeft: left, offsetTop: top, offsetWidth, offsetHeight } = link;
         tip.textContent = link.ariaLabel;
         const is_right = left + offsetWidth / 2 > areas.clientWidth / 2, below = top + offsetHeight;
         style.left = is_right ? 'auto' : `${left}px`;
         style.right = is_right ? `${areas.clientWidth - left - offsetWidth}px` : 'auto';
         style.top = `${below + tip.offsetHeight > areas.clientHeight ? Math.max(top - tip.offsetHeight, 0) : below}px`;
+    };
+    for (const type of ['pointerover', 'focusin', 'pointerleave', 'focusout'])
+        areas.addEventListener(type, ({ target }) => show(type !== 'focusout' && target.closest('a')));
+    areas.addEventListener('keydown', ({ key, target: { nextSibling, previousSibling } }) => {
+        const link = { ArrowRight: nextSibling, ArrowLeft: previousSibling, Home: areas.firstChild,
+            End: tip.previousSibling }[key];
+        if (!link || link === tip) return;
+        link.focus();
+        show(link); // (in a window in the background no event reports the focus)
     });
     areas.append(tip);
     const said = `${number(size)} bytes, where the map draws them. Functions and variables are symbols with a size. `
