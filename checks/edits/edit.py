@@ -1,7 +1,7 @@
 """Edits, each of which plants a wrong body, or as a control a right one in the same form, and where their changes are.
 
 An edit is a file. It has a line 'file: src/lib.rt', or with a file of specs/ or proofs/, and after it pairs of lines 'old: TEXT'
-and 'new: TEXT'. Each old text occurs exactly once in that file as it is committed. A line 'by: texts::laws' names what refuses the edit.
+and 'new: TEXT'. Each old text occurs exactly once in that file as it is committed.
 """
 import os
 import re
@@ -31,11 +31,10 @@ Change = namedtuple('Change', 'file start old new place function source', defaul
 
 @dataclass(frozen=True)
 class Edit:
-    """A wrong body, another wrong text, or a right one: its folder and name, its changes, what it is tried by first, and what judges it."""
+    """A wrong body, or another wrong text, or a right one: its folder and name, its changes, and the functions by which it is judged."""
     kind: str
     name: str
     changes: tuple
-    asked: frozenset
     functions: frozenset = frozenset()
 
     def stands_in(self, *places):
@@ -50,9 +49,7 @@ class Edit:
         paths = {change: path_among(change.function, known) for change in changes if change.function}
         # (what it writes elsewhere may be new)
         is_named = all(path or change.place == ELSEWHERE for change, path in paths.items())
-        functions = frozenset(paths.values()) - {None}
-        asked = self.asked or (functions if all(change.file.startswith('src/') for change in changes) else frozenset())
-        return replace(self, changes=changes, functions=functions, asked=asked) if is_named else None
+        return replace(self, changes=changes, functions=frozenset(paths.values()) - {None}) if is_named else None
 
 
 def read_edits(crate, options):
@@ -86,7 +83,7 @@ def read_edit(path, kind, crate):
         raise Misfit('an old text without a new one, or no pair at all')
     if kind == CONTROLS and any(map(is_idle, changes)):
         raise Misfit('a condition of it, or a part of one, is constant')
-    return Edit(kind, f'{kind}/{path.stem}', tuple(changes), frozenset(re.findall('^by: (.+)', text_of(path), re.MULTILINE)))
+    return Edit(kind, f'{kind}/{path.stem}', tuple(changes))
 
 
 def start_of(old, path):

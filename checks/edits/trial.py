@@ -1,12 +1,12 @@
 """The edits of one crate, tried in groups.
 
-A function is judged by its own clauses alone: those of other functions stay, whatever their bodies are. So edits that change bodies of different
-functions are applied at once, and one check of these functions judges them all. An edit is refused where a goal of its own function's is: one
-that only waits for another function, or that fails by names alone, is judged in a later group, without what it waits for, and in the end alone.
-So are edits of lists of constants that different modules pass on, each by its module's law, which says what number each name is there. An edit
-that changes more, as a constant or a definition, stands alone, and whatever cites that may refuse it, unless it must fail: then its own function
-must. A control is a right body, which must be accepted. Each check goes by what the crate's own proof left, so that none proves anew what an edit
-before it had changed.
+A function is judged by its own clauses alone: those of other functions stay, whatever their bodies are. So edits that change
+bodies of different functions are applied at once, and one check judges them all. An edit is refused where a goal of its own
+function's is: one that only waits for another function, or that fails by names alone, is judged in a later group, without
+what it waits for, and in the end alone. So are edits of lists of constants that different modules pass on, each by its module's
+law, which says what number each name is there. An edit that changes more, as a constant or a definition, stands alone, and
+whatever cites that may refuse it, unless it must fail: then its own function must. A control is a right body, which must be accepted.
+Each check goes by what the crate's own proof left, so that none proves anew what an edit before it had changed.
 """
 import os
 import shutil
@@ -14,10 +14,10 @@ import subprocess
 from collections import Counter, defaultdict
 
 from crates import text_of
-from edit import BODY, CONTROLS, EDITS, HEAD, LIST, MUST_FAIL, apply
+from edit import BODY, CONTROLS, HEAD, LIST, MUST_FAIL, apply
 from verdict import Said
 
-# From this status on a check was killed, as where memory is short; what comes of a right body.
+# From this status on a check was killed; what comes of a right body.
 KILLED, ACCEPTED = 128, 'accepted'
 
 
@@ -49,8 +49,8 @@ class Trial:
             if not edit.stands_in(BODY) and not edit.stands_in(LIST):
                 self.try_alone(edit)
 
-    def check(self, edits, asked=()):
-        """What the prover says of the crate with these edits, or of the functions asked for and what they call. A killed check is made again."""
+    def check(self, edits):
+        """What the prover says of the crate with these edits. A check that is killed, as where memory is short, is made once more."""
         texts = apply(edits, self.folder)
         before = {path: text_of(f'{self.folder}/{path}') for path in texts}
         self.write(texts)
@@ -58,7 +58,7 @@ class Trial:
             # (what the crate's own proof left, in place of what the last check did; no check writes into a file that is there)
             shutil.rmtree(self.cached, ignore_errors=True)
             shutil.copytree(self.proved, self.cached, copy_function=os.link)
-            command = ['rt', 'check', '--jobs', '1', *(word for path in sorted(asked) for word in ('--only', path))]
+            command = ['rt', 'check', '--jobs', '1']
             ran = subprocess.run(command, cwd=self.folder, stdin=subprocess.DEVNULL, capture_output=True, text=True, errors='replace')
             if ran.returncode < KILLED:
                 break
@@ -93,7 +93,7 @@ class Trial:
     def try_group(self, pending):
         """Judges as many edits as can be judged together, or the first one alone, and returns those that are still to be judged."""
         group = self.next_group(pending)
-        said = self.check(group, frozenset().union(*(edit.functions for edit in group))) if len(group) > 1 else Said('', self.crate)
+        said = self.check(group) if len(group) > 1 else Said('', self.crate)
         for path, function in said.functions.items():
             self.waits[path] |= function.waits
         judged = [edit for edit in group if said.is_whole and self.judge(edit, said)]
@@ -123,23 +123,26 @@ class Trial:
         return bool(refused) or is_proved
 
     def try_alone(self, edit):
-        """Judges an edit by a check of its own, of the functions that it asks for, or else by one of the whole crate."""
-        for asked in dict.fromkeys((edit.asked, frozenset())):
-            said = self.check([edit], asked)
-            is_right, refused, is_proved = self.verdict(edit, said)
-            all_refused = said.refused()
-            # one that changes a definition, a constant or a type may be refused by whatever cites it
-            is_cited = edit.kind == EDITS and not edit.stands_in(BODY, HEAD, LIST)
-            if said.is_whole and (is_right or is_cited and all_refused):
-                return self.report_right(edit, refused if is_right else dict(list(all_refused.items())[:3]))
-        others = f', though {next(iter(all_refused))} is not' if all_refused else ''
-        self.report_wrong(
-            edit,
-            'the edited code is no valid Rattle, so no contract was tried' if not said.is_whole else
-            f'its function is not proved with it\n{said.text[-2000:]}' if edit.kind == CONTROLS else
-            'the crate is still proved with it' if said.is_proved else
-            f'its own function is still proved with it{others}' if is_proved else
-            'no goal of its own function is refused, but by names that the edit took away')
+        """Judges an edit by a check of its own."""
+        said = self.check([edit])
+        is_right, refused, is_proved = self.verdict(edit, said)
+        all_refused = said.refused()
+        if not said.is_whole:
+            self.report_wrong(edit, 'the edited code is no valid Rattle, so no contract was tried')
+        elif is_right:
+            self.report_right(edit, refused)
+        elif edit.kind == CONTROLS:
+            self.report_wrong(edit, f'its function is not proved with it\n{said.text[-2000:]}')
+        elif said.is_proved:
+            self.report_wrong(edit, 'the crate is still proved with it')
+        elif all_refused and edit.kind != MUST_FAIL and not edit.stands_in(BODY, HEAD, LIST):
+            # it changes a definition, a constant or a type: whatever cites it may refuse it
+            self.report_right(edit, dict(list(all_refused.items())[:3]))
+        elif is_proved:
+            others = f', though {next(iter(all_refused))} is not' if all_refused else ''
+            self.report_wrong(edit, f'its own function is still proved with it{others}')
+        else:
+            self.report_wrong(edit, 'no goal of its own function is refused, but by names that the edit took away')
 
     def report_right(self, edit, refused):
         """Reports an edit that is judged as it should be: which functions are refused, and by what the first is, or none of a control."""
