@@ -41,10 +41,12 @@ class Trial:
         for edit in [edit for edit in known if not known[edit]]:
             self.report_wrong(edit, 'the prover names no function of this name')
         edits = [edit for edit in known.values() if edit]
-        for kind in (BODY, LIST):
-            pending = [edit for edit in edits if edit.stands_in(kind)]
-            while pending:
-                pending = self.try_group(pending)
+        for place in (BODY, LIST):
+            # (a right body that calls a function with a wrong one is not proved, so these are tried apart)
+            for is_control in (True, False):
+                pending = [edit for edit in edits if edit.stands_in(place) and (edit.kind == CONTROLS) == is_control]
+                while pending:
+                    pending = self.try_group(pending)
         for edit in edits:
             if not edit.stands_in(BODY) and not edit.stands_in(LIST):
                 self.try_alone(edit)
