@@ -136,7 +136,8 @@ def test(room, whole, over):
     built = copied(f'{room}/whole') if whole else copy
     here = lambda name, command, *after, where=copy: Part(name, command.split(), after or waits, where)
     parts = [Part(name, command.split(), is_first=True) for name, command in QUICK.items()]
-    parts += [Part('rt ci', ['rt', 'ci'], waits, built, True)] if whole else []
+    # (each of its proofs by one process, which takes least, where the toolchain heeds this)
+    parts += [Part('rt ci', ['env', f'RT_JOBS={len(os.sched_getaffinity(0))}', 'rt', 'ci'], waits, built, True)] if whole else []
     # (a crate whose name ends so holds tests alone)
     proved = [crate for crate in crates_listed() if (not whole if crate in LEFT else not crate.endswith('_tests'))]
     parts += proofs(proved, copy, waits)
