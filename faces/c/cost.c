@@ -149,9 +149,9 @@ enum { SYMBOLS_SECTION = SHN_LORESERVE - 1 };
 
 /* Makes each symbol a function of that section, at an address and with a size. */
 static void fill_symbols(uint64_t (*address)(uint64_t), uint64_t (*size)(uint64_t)) {
-    uint64_t section_size = 2 * ITEMS;
-    memcpy(bytes + 64 + SYMBOLS_SECTION * sizeof(Elf64_Shdr) + offsetof(Elf64_Shdr, sh_size), &section_size,
-           sizeof section_size);
+    Elf64_Shdr holder;
+    memset(&holder, 0, sizeof holder), holder.sh_flags = SHF_ALLOC, holder.sh_size = 2 * ITEMS;
+    memcpy(bytes + 64 + SYMBOLS_SECTION * sizeof holder, &holder, sizeof holder);
     for (uint64_t i = 0; i < ITEMS; i++) {
         Elf64_Sym symbol;
         memset(&symbol, 0, sizeof symbol);

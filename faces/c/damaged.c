@@ -251,7 +251,7 @@ static bool plain_holds(const goblin_header_t *h, const goblin_symbol_t *s, uint
     goblin_section_t section;
     if (s->st_shndx >= 0xff00 || goblin_section(bytes, len, h, s->st_shndx, &section, &why) != GOBLIN_OK) return false;
     if (h->e_type == 1) return address < section.file.size;
-    return section.sh_addr <= address && address - section.sh_addr < section.file.size;
+    return (section.sh_flags & 2) && section.sh_addr <= address && address - section.sh_addr < section.file.size;
 }
 
 /* Finds the symbol of an address as goblin.h says it. Returns whether there is one. */

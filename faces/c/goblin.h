@@ -475,9 +475,10 @@ uint32_t goblin_symbol_by_name(const uint8_t *bytes, size_t len, const goblin_he
    If no symbol contains the address, a label of size 0 may be there, as assembly has. A label counts only in its own
    section: of the symbols with st_value <= address whose section holds the address, it is the first of size 0 among
    those with the highest st_value. The section is the one at the index st_shndx. It holds the addresses with sh_addr <=
-   address < sh_addr + file.size. In a file of type GOBLIN_ET_REL an st_value is an offset in a section, so there it
-   holds those with address < file.size, and symbols of different sections mix. An st_shndx of 0xffff or past the
-   sections is that of no section. None of these sums wraps around.
+   address < sh_addr + file.size, but none if its sh_flags lack GOBLIN_SHF_ALLOC. In a file of type GOBLIN_ET_REL an
+   st_value is an offset in a section, so there any section holds those with address < file.size, and symbols of
+   different sections mix. An st_shndx of 0xffff or past the sections is that of no section. None of these sums wraps
+   around.
    GOBLIN_END if there is no such symbol. Each call reads all symbols. For many addresses read them once and sort them,
    as symbolize.c does. Refused as goblin_symbol is, and then as goblin_section_count is.
    Example: if (goblin_symbol_by_address(bytes, len, &header, &table.file, 0x401000, &index, &why)) return 1; */

@@ -560,8 +560,9 @@ static bool is_held(const uint8_t *bytes, const goblin_header_t *h, uint64_t cou
                     uint64_t address) {
     if (s->st_shndx >= 0xff00 || s->st_shndx >= count) return false;
     goblin_section_t section = section_at(bytes, h, s->st_shndx);
-    uint64_t start = h->e_type == GOBLIN_ET_REL ? 0 : section.sh_addr;
-    return start <= address && address - start < section.file.size;
+    if (h->e_type == GOBLIN_ET_REL) return address < section.file.size;
+    return (section.sh_flags & GOBLIN_SHF_ALLOC) && section.sh_addr <= address
+        && address - section.sh_addr < section.file.size;
 }
 
 uint32_t goblin_symbol_by_address(const uint8_t *bytes, size_t len, const goblin_header_t *h,

@@ -53,12 +53,14 @@ static int compare_held(const void *one, const void *other) {
     return compare_addresses(&a->first, &b->first);
 }
 
-/* Sets which addresses the section of a symbol holds. In a relocatable file these are offsets in the section. */
+/* Sets which addresses the section of a symbol holds, which is none if it is not in memory. In a relocatable file these
+   are offsets in the section. */
 static void hold(place_t *place, uint64_t shndx) {
     goblin_section_t section;
     if (shndx >= GOBLIN_SHN_LORESERVE || goblin_section(bytes, len, &header, shndx, &section, &why) != GOBLIN_OK
         || section.file.size == 0)
         return;
+    if (header.e_type != GOBLIN_ET_REL && !(section.sh_flags & GOBLIN_SHF_ALLOC)) return;
     uint64_t start = header.e_type == GOBLIN_ET_REL ? 0 : section.sh_addr, more = section.file.size - 1;
     place->first = start > place->start ? start : place->start;
     place->end = start + (more < UINT64_MAX - start ? more : UINT64_MAX - start);

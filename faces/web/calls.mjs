@@ -811,7 +811,8 @@ function check_address_map() {
         const some = Array.from({ length: any(28) }, () => ({ value: any(24), size: any(9) ? any(12) * any(2) : END,
             shndx: [1, 2, 2, 3, 3, 4, 4, 9, 0xffff, 0, 0xfff1][any(11)], info: [2, 2, 0, 1, 10, 3][any(6)] }));
         const others = ['.a', '.b', '.c'].map((name) =>
-            ({ name, type: 1, addr: any(9) ? any(20) : END - BigInt(any(9)), bytes: Buffer.alloc(any(24)) }));
+            ({ name, type: 1, flags: [2, 2, 6, 5][any(4)], addr: any(9) ? any(20) : END - BigInt(any(9)),
+                bytes: Buffer.alloc(any(24)) }));
         agrees(symbols_of([...some, {}], any(4), ...others), [...Array(40).keys()].concat(END - 1n, END));
     }
     assert.ok(found > 5000, `${found} addresses`);

@@ -1514,13 +1514,13 @@ export class Symtab extends List {
      * `st_value <= address < st_value + st_size` it is the one with the highest `st_value`, the first of several. If
      * there is none, a label of size 0 may be there, as assembly has. It counts only in its own section: of the symbols
      * with `st_value <= address` whose section holds the address, it is the first of size 0 among those with the
-     * highest `st_value`. A section holds the addresses with `sh_addr <= address < sh_addr + sh_size`. None of these
-     * sums wraps around.
+     * highest `st_value`. A section holds the addresses with `sh_addr <= address < sh_addr + sh_size`, but none if its
+     * `sh_flags` lack SHF_ALLOC. None of these sums wraps around.
      *
      * Only symbols of a section count, whose `st_shndx` is from 1 to 0xfeff, or 0xffff (SHN_XINDEX), which is the index
      * of no section here. And only those of type STT_NOTYPE, STT_OBJECT, STT_FUNC or STT_GNU_IFUNC count. In a file of
-     * type ET_REL an `st_value` is an offset in a section, so there a section holds the addresses below `sh_size`, and
-     * symbols of different sections mix.
+     * type ET_REL an `st_value` is an offset in a section, so there any section holds the addresses below `sh_size`,
+     * and symbols of different sections mix.
      *
      * Each call reads all symbols: for many addresses use `address_map`.
      * @param {number | bigint} address
@@ -1575,7 +1575,7 @@ export class Symtab extends List {
         const memory = this.#memory, { e_type } = read(memory.view, Number(memory.header), records.header);
         const section = index < SHN_LORESERVE
             ? memory.call('goblin_section', 'section', memory.header, unsigned(index, 64)) : undefined;
-        if (!section?.sh_size) return undefined;
+        if (!section?.sh_size || (e_type !== ET_REL && !is_alloc(section))) return undefined;
         const first = e_type === ET_REL ? 0n : section.sh_addr;
         return { first, last: last_of(first, section.sh_size) };
     }

@@ -1,6 +1,7 @@
 -- The symbol of an address (System V gABI, "Symbol Table").
 use Rattle.std.specs.Prelude.{◌≡◌, ◌≢◌, ◌↔◌, ◌⊎◌, ◌+◌, ◌<◌, ◌≤◌, ◌==◌, ◌&&◌, ◌||◌, not, ℕ, Bool, true, false, nat_lt}
-use Rattle.std.specs.Prelude.{nat_le, if◌then◌else◌, List, position, slice_get, Option, Some, None, unwrap_or}
+use Rattle.std.specs.Prelude.{nat_le, if◌then◌else◌, List, position, slice_get, Option, Some, None, unwrap_or, bit_and}
+use Rattle.std.specs.Prelude.{IsBitSet}
 use Rattle.std.specs.List.{list_any}
 use Rattle.std.specs.Option.{option_map, option_or}
 use Rattle.goblin_headers.specs.declared.section_header.SectionHeader.{SectionHeader}
@@ -27,12 +28,16 @@ reaches address s = nat_lt address (s.st_value + s.st_size)
 abbrev pub contains : ℕ → Sym → Bool
 contains address s = is_below address s && reaches address s
 
--- a section holds an address: one of its own. In a relocatable file (type 1) the symbols have offsets in their sections
--- in place of addresses, so there a section holds what is below its size
+-- a section is in memory while the program runs: bit 1 of its flags (SHF_ALLOC)
+abbrev pub is_in_memory : SectionHeader → Bool
+is_in_memory section = not (bit_and section.sh_flags 2 == 0)
+
+-- a section holds an address: one of its own, which only sections in memory have. In a relocatable file (type 1) the
+-- symbols have offsets in their sections in place of addresses, so there a section holds what is below its size
 abbrev pub holds : ℕ → ℕ → SectionHeader → Bool
 holds address e_type section =
-    let start = if e_type == 1 then 0 else section.sh_addr in
-    nat_le start address && nat_lt address (start + section.sh_size)
+    if e_type == 1 then nat_lt address section.sh_size
+    else is_in_memory section && nat_le section.sh_addr address && nat_lt address (section.sh_addr + section.sh_size)
 
 -- the section of a symbol holds an address. Indices from 0xff00 on name no section, and index 0 has no place
 abbrev pub is_held : ℕ → List SectionHeader → ℕ → Sym → Bool
@@ -98,11 +103,13 @@ pub record ContainsFirst (address : ℕ) (symbols : List Sym) (i : ℕ) (s : Sym
   pub early : (k : ℕ) (other : Sym)
       → slice_get symbols k ≡ Some other → contains address other ≡ true → other.st_value ≡ s.st_value → i ≤ k
 
--- a section holds an address, in a relocatable file (type 1) an offset
+-- a section holds an address, for which it must be in memory (SHF_ALLOC, bit 1 of its flags); in a relocatable file
+-- (type 1) an offset
 abbrev pub HoldsAddress : ℕ → ℕ → SectionHeader → Type 0
 HoldsAddress address e_type section =
     ((e_type ≡ 1) × (address < section.sh_size))
-    ⊎ ((e_type ≢ 1) × (section.sh_addr ≤ address) × (address < section.sh_addr + section.sh_size))
+    ⊎ ((e_type ≢ 1) × IsBitSet section.sh_flags 1 × (section.sh_addr ≤ address)
+    × (address < section.sh_addr + section.sh_size))
 
 -- A symbol is at an address or below it, and the section that its index names holds the address.
 pub record IsBelowInSection (address : ℕ) (sections : List SectionHeader) (e_type : ℕ) (s : Sym) : Type 0 where

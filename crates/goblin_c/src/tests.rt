@@ -205,9 +205,10 @@ fn symbol_at(bytes: &[u8], header: &GoblinHeader, table: &GoblinRange, address: 
     (status, index)
 }
 
-// The same where the symbol has a size of 0, and its section holds the addresses from 0x1000 to 0x1003.
-fn label_at(address: u64) -> (u32, u64) {
+// The same where the symbol has a size of 0, and its section has these flags and lies from 0x1000 to 0x1003.
+fn label_at(flags: u8, address: u64) -> (u32, u64) {
     let mut file = changed(80, 0);
+    file[88 + 40 + 8] = flags;
     file[88 + 40 + 13] = 0x10;
     symbol_at(&file, &header(), &SYMBOLS, address)
 }
@@ -236,8 +237,10 @@ fn finds_symbols_by_addresses(rt: HostRuntime) {
     assert!(rt; symbol_at(FILE, &header(), &SYMBOLS, 0x1004) == (0, 1));
     assert!(rt; symbol_at(FILE, &header(), &SYMBOLS, 0x1005) == (1, 9));
     assert!(rt; symbol_at(&changed(80, 0), &header(), &SYMBOLS, 0x1000) == (1, 9));
-    assert!(rt; label_at(0xfff) == (1, 9) && label_at(0x1000) == (0, 1));
-    assert!(rt; label_at(0x1003) == (0, 1) && label_at(0x1004) == (1, 9));
+    assert!(rt; label_at(2, 0xfff) == (1, 9) && label_at(2, 0x1000) == (0, 1));
+    assert!(rt; label_at(2, 0x1003) == (0, 1) && label_at(2, 0x1004) == (1, 9));
+    // A section that is not in memory holds no address.
+    assert!(rt; label_at(0, 0x1000) == (1, 9) && label_at(5, 0x1003) == (1, 9));
     assert!(rt; label_at_offset(0) == (0, 1) && label_at_offset(3) == (0, 1));
     assert!(rt; label_at_offset(4) == (1, 9) && label_at_offset(0x1000) == (1, 9));
     assert!(rt; symbol_refused(SYMBOLS) == (4, 300));

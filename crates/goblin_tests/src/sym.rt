@@ -560,7 +560,7 @@ fn finds_the_next_of_a_name(rt: HostRuntime) {
 // The null section, and one that holds the addresses from 8 to 0x57, in the 32-bit class and little endian.
 static ONE_SECTION: &[u8; 80] =
     b"\0\0\0\0\0\0\0\0\0\0\0\0\0\0\0\0\0\0\0\0\0\0\0\0\0\0\0\0\0\0\0\0\0\0\0\0\0\0\0\0\
-    \0\0\0\0\x01\0\0\0\0\0\0\0\x08\0\0\0\0\0\0\0\x50\0\0\0\0\0\0\0\0\0\0\0\0\0\0\0\0\0\0\0";
+    \0\0\0\0\x01\0\0\0\x02\0\0\0\x08\0\0\0\0\0\0\0\x50\0\0\0\0\0\0\0\0\0\0\0\0\0\0\0\0\0\0\0";
 
 // A table of sections.
 fn sections_of(bytes: &[u8]) -> Table<'_, SectionHeader, Ctx> {
@@ -658,31 +658,35 @@ fn finds_the_symbol_that_contains_an_address(rt: HostRuntime) {
     }
 }
 
-// The null section, code at 0x1000 of 0x100 bytes, constants of 0x80 bytes after it, and variables of 0x10 bytes at
-// 0x2000.
-static FOUR_SECTIONS: &[u8; 160] =
+// The null section, code at 0x1000 of 0x100 bytes, constants of 0x80 bytes after it, variables of 0x10 bytes at 0x2000,
+// and 0x2000 bytes of debug information, which are not in memory.
+static FIVE_SECTIONS: &[u8; 200] =
     b"\0\0\0\0\0\0\0\0\0\0\0\0\0\0\0\0\0\0\0\0\0\0\0\0\0\0\0\0\0\0\0\0\0\0\0\0\0\0\0\0\
-    \0\0\0\0\x01\0\0\0\0\0\0\0\0\x10\0\0\0\0\0\0\0\x01\0\0\0\0\0\0\0\0\0\0\0\0\0\0\0\0\0\0\
-    \0\0\0\0\x01\0\0\0\0\0\0\0\0\x11\0\0\0\0\0\0\x80\0\0\0\0\0\0\0\0\0\0\0\0\0\0\0\0\0\0\0\
-    \0\0\0\0\x01\0\0\0\0\0\0\0\0\x20\0\0\0\0\0\0\x10\0\0\0\0\0\0\0\0\0\0\0\0\0\0\0\0\0\0\0";
+    \0\0\0\0\x01\0\0\0\x06\0\0\0\0\x10\0\0\0\0\0\0\0\x01\0\0\0\0\0\0\0\0\0\0\0\0\0\0\0\0\0\0\
+    \0\0\0\0\x01\0\0\0\x02\0\0\0\0\x11\0\0\0\0\0\0\x80\0\0\0\0\0\0\0\0\0\0\0\0\0\0\0\0\0\0\0\
+    \0\0\0\0\x01\0\0\0\x03\0\0\0\0\x20\0\0\0\0\0\0\x10\0\0\0\0\0\0\0\0\0\0\0\0\0\0\0\0\0\0\0\
+    \0\0\0\0\x01\0\0\0\x30\0\0\0\0\0\0\0\0\0\0\0\0\x20\0\0\0\0\0\0\0\0\0\0\0\0\0\0\0\0\0\0";
 
 // A symbol of nothing; a label at 0x1010, a function of 0x10 bytes at 0x1020 and a label at 0x1040 in the code; an
 // object of 8 bytes at 0x1110 and a label at 0x1160 in the constants; a label at the variables' end; a label at 0x1120
-// of a section that isn't there, and one at 0x1130 whose index stands elsewhere; and a function of 0x20 bytes at 0x10f0
-// that ends after the code.
-const SCATTERED: &[u8; 160] = b"\0\0\0\0\0\0\0\0\0\0\0\0\0\0\0\0\
+// of a section that isn't there, and one at 0x1130 whose index stands elsewhere; a function of 0x20 bytes at 0x10f0
+// that ends after the code; and labels at 0x800 and 0x1050 of the debug information.
+const SCATTERED: &[u8; 192] = b"\0\0\0\0\0\0\0\0\0\0\0\0\0\0\0\0\
     \x01\0\0\0\x10\x10\0\0\0\0\0\0\0\0\x01\0\
     \x01\0\0\0\x20\x10\0\0\x10\0\0\0\x12\0\x01\0\
     \x01\0\0\0\x40\x10\0\0\0\0\0\0\0\0\x01\0\
     \x01\0\0\0\x10\x11\0\0\x08\0\0\0\x11\0\x02\0\
     \x01\0\0\0\x60\x11\0\0\0\0\0\0\x10\0\x02\0\
     \x01\0\0\0\x10\x20\0\0\0\0\0\0\x10\0\x03\0\
-    \x01\0\0\0\x20\x11\0\0\0\0\0\0\0\0\x04\0\
+    \x01\0\0\0\x20\x11\0\0\0\0\0\0\0\0\x05\0\
     \x01\0\0\0\x30\x11\0\0\0\0\0\0\0\0\xff\xff\
-    \x01\0\0\0\xf0\x10\0\0\x20\0\0\0\x12\0\x01\0";
+    \x01\0\0\0\xf0\x10\0\0\x20\0\0\0\x12\0\x01\0\
+    \x01\0\0\0\0\x08\0\0\0\0\0\0\0\0\x04\0\
+    \x01\0\0\0\x50\x10\0\0\0\0\0\0\0\0\x04\0";
 
 // Addresses, and the index of the symbol of each.
-static SCATTERED_ADDRESSES: [(u64, Option<usize>); 24] = [
+static SCATTERED_ADDRESSES: [(u64, Option<usize>); 26] = [
+    (0x800, None),
     (0x1000, None),
     (0x100f, None),
     (0x1010, Some(1)),
@@ -692,6 +696,7 @@ static SCATTERED_ADDRESSES: [(u64, Option<usize>); 24] = [
     (0x1030, None),
     (0x103f, None),
     (0x1040, Some(3)),
+    (0x1050, Some(3)),
     (0x10ef, Some(3)),
     (0x10f0, Some(9)),
     (0x10ff, Some(9)),
@@ -711,18 +716,20 @@ static SCATTERED_ADDRESSES: [(u64, Option<usize>); 24] = [
 
 #[test]
 fn finds_labels_in_their_section(rt: HostRuntime) {
-    let table = table_of(SCATTERED, 0, 10, LITTLE32);
-    let sections = sections_of(FOUR_SECTIONS);
+    let table = table_of(SCATTERED, 0, 12, LITTLE32);
+    let sections = sections_of(FIVE_SECTIONS);
     for row in &SCATTERED_ADDRESSES {
         assert!(rt; holds(rt, row, is(rt, table.at(row.0, &sections, ET_EXEC), row.1)));
     }
+    // In a relocatable file a section that is not in memory holds offsets, too.
+    assert!(rt; is(rt, table.at(0x1050, &sections, ET_REL), Some(11)));
 }
 
 // The null section, one at 0x1000 of 0x100 bytes, and one at 0 of 0x40 bytes.
 static THREE_SECTIONS: &[u8; 120] =
     b"\0\0\0\0\0\0\0\0\0\0\0\0\0\0\0\0\0\0\0\0\0\0\0\0\0\0\0\0\0\0\0\0\0\0\0\0\0\0\0\0\
-    \0\0\0\0\x01\0\0\0\0\0\0\0\0\x10\0\0\0\0\0\0\0\x01\0\0\0\0\0\0\0\0\0\0\0\0\0\0\0\0\0\0\
-    \0\0\0\0\x01\0\0\0\0\0\0\0\0\0\0\0\0\0\0\0\x40\0\0\0\0\0\0\0\0\0\0\0\0\0\0\0\0\0\0\0";
+    \0\0\0\0\x01\0\0\0\x02\0\0\0\0\x10\0\0\0\0\0\0\0\x01\0\0\0\0\0\0\0\0\0\0\0\0\0\0\0\0\0\0\
+    \0\0\0\0\x01\0\0\0\x02\0\0\0\0\0\0\0\0\0\0\0\x40\0\0\0\0\0\0\0\0\0\0\0\0\0\0\0\0\0\0\0";
 
 // A symbol of nothing; labels at 0x10 and 0x50 and a function of 8 bytes at 0x30 in the first; and labels at 0x20 and
 // 0x3c in the second.

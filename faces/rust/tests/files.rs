@@ -689,7 +689,7 @@ fn symbols_by_a_map_of_their_addresses() {
     for (form, more) in FORMS.into_iter().flat_map(|form| [(form, 0), (form, 3), (form, 100)]) {
         let mut file = made(form, more);
         let header = Elf::parse(&file).unwrap().header;
-        let notes = SectionHeader { sh_size: 0x1000, ..Default::default() };
+        let notes = SectionHeader { sh_flags: SHF_ALLOC, sh_size: 0x1000, ..Default::default() };
         assert_eq!(header.put_section_header(&mut file, 1, &notes), Ok(true));
         let symbols = Elf::parse(&file).unwrap().syms().unwrap().unwrap();
         let map = symbols.address_map();
@@ -713,9 +713,12 @@ fn symbols_by_a_map_of_their_addresses() {
 fn expected_at(elf: &Elf<'_>, symbols: &[Sym], address: u64) -> Option<usize> {
     let counts =
         |s: &Sym| ((1..0xff00).contains(&s.st_shndx) || s.st_shndx == 0xffff) && [0, 1, 2, 10].contains(&s.st_type());
-    let start = |section: &SectionHeader| if elf.header.e_type == 1 { 0 } else { section.sh_addr };
+    let is_relocatable = elf.header.e_type == 1;
+    let start = |section: &SectionHeader| if is_relocatable { 0 } else { section.sh_addr };
     let holds = |section: SectionHeader| {
-        u128::from(address) < u128::from(start(&section)) + u128::from(section.sh_size) && start(&section) <= address
+        u128::from(address) < u128::from(start(&section)) + u128::from(section.sh_size)
+            && start(&section) <= address
+            && (is_relocatable || section.sh_flags & 2 != 0)
     };
     let is_held =
         |s: &Sym| s.st_shndx < 0xff00 && elf.section_header(s.st_shndx).unwrap().map_or(false, holds);
@@ -757,7 +760,8 @@ fn maps_of_nested_symbols() {
         for index in 1..4 {
             let most = if form.is_64 { u64::MAX } else { u32::MAX.into() };
             let sh_addr = if any(4) == 0 { most - any(30) } else { any(20) };
-            let holder = SectionHeader { sh_addr, sh_size: if any(9) == 0 { most } else { any(24) }, ..section };
+            let (sh_size, sh_flags) = (if any(9) == 0 { most } else { any(24) }, [2, 2, 6, 5][any(4) as usize]);
+            let holder = SectionHeader { sh_addr, sh_size, sh_flags, ..section };
             assert_eq!(header.put_section_header(&mut file, index, &holder), Ok(true));
         }
         header::Header { e_type: any(4) as u16, ..header }.put(&mut file).unwrap();

@@ -257,9 +257,10 @@ impl<'a> Symtab<'a> {
     /// It is the symbol with the highest value among those whose bytes contain the address, the first
     /// of several. If no symbol contains the address, it is a label of size 0. Of the symbols with a
     /// value that isn't above the address, only those whose section (`st_shndx`) holds it are
-    /// considered. Of these with the highest value, the label is the first of size 0. A section holds
-    /// the addresses from `sh_addr` to below `sh_addr + sh_size`. In a relocatable file (`ET_REL`)
-    /// values are offsets in sections, so there it holds those below `sh_size`.
+    /// considered. Of these with the highest value, the label is the first of size 0. A section in
+    /// memory (`SHF_ALLOC`) holds the addresses from `sh_addr` to below `sh_addr + sh_size`, and any
+    /// other none. In a relocatable file (`ET_REL`) values are offsets in sections, so there each
+    /// section holds those below `sh_size`.
     ///
     /// Only symbols of a section of the file are considered, and of these only those without a type,
     /// objects, functions and indirect functions. The call reads all symbols once, and for each at most
@@ -322,12 +323,15 @@ fn reaches(address: u64, symbol: &Sym) -> bool
     }
 }
 
-// Reports whether a section holds an address: in a relocatable file, an offset in the section.
+// Reports whether a section holds an address, for which it must be in memory: in a relocatable file, an offset in the
+// section.
 fn holds(address: u64, e_type: u16, section: &SectionHeader) -> bool
     ensures { result ≡ holds address e_type section.now }
 {
-    let start = if e_type == ET_REL { 0 } else { section.sh_addr };
-    start <= address && address - start < section.sh_size
+    if e_type == ET_REL {
+        return address < section.sh_size;
+    }
+    section.is_alloc() && section.sh_addr <= address && address - section.sh_addr < section.sh_size
 }
 
 // Reports whether the section of a symbol holds an address.
