@@ -129,6 +129,7 @@ install_library() {
     for example in execstack flag needed nm size strings symbolize truncated values; do
         put "faces/c/$example.c" "share/goblin_c/examples/$example.c"
     done
+    put faces/c/example.h share/goblin_c/examples/example.h
     put LICENSE share/goblin_c/rust/LICENSE
     put_edited "s|join(\"lib\")|join(\"$libdir\")|" faces/rust/build.rs share/goblin_c/rust/build.rs
     put_all faces/rust/src share/goblin_c/rust/src

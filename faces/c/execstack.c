@@ -2,8 +2,8 @@
    This is the flag GOBLIN_PF_X of the program header of type GOBLIN_PT_GNU_STACK. -c clears it in the file, and -s sets
    it. Prints X if it is set, - if it is not, and ? if there is no such program header. Then -c and -s fail. */
 #include "goblin.h"
+#include "example.h"
 #include <stdio.h>
-#include <stdlib.h>
 #include <string.h>
 
 static uint8_t *bytes;
@@ -29,16 +29,6 @@ static uint32_t find_stack(uint64_t *index) {
     return status;
 }
 
-/* Reads a file, and returns whether all of it is read. */
-static bool load(const char *path) {
-    FILE *file = fopen(path, "rb");
-    long size = file && fseek(file, 0, SEEK_END) == 0 ? ftell(file) : -1;
-    if (size < 0 || !(bytes = (uint8_t *)malloc((size_t)size + 1))) return false;
-    rewind(file);
-    len = fread(bytes, 1, (size_t)size, file);
-    return fclose(file) == 0 && len == (size_t)size;
-}
-
 static bool store(const char *path) {
     FILE *file = fopen(path, "r+b");
     if (!file) return false;
@@ -50,7 +40,7 @@ int main(int argc, char **argv) {
     bool clears = argc == 3 && strcmp(argv[1], "-c") == 0, sets = argc == 3 && strcmp(argv[1], "-s") == 0;
     if (argc != 2 + (clears || sets)) return fputs("usage: execstack [-c | -s] FILE\n", stderr), 2;
     const char *path = argv[argc - 1];
-    if (!load(path)) return perror(path), 2;
+    if (!(bytes = load(path, &len))) return perror(path), 2;
     uint64_t index;
     uint32_t status = find_stack(&index);
     if (status > GOBLIN_END) return refused(path);

@@ -1,8 +1,8 @@
 /* Lists what an ELF file needs of the dynamic linker, its soname and its search paths: needed FILE */
 #include "goblin.h"
+#include "example.h"
 #include <inttypes.h>
 #include <stdio.h>
-#include <stdlib.h>
 
 static uint8_t *bytes;
 static size_t len;
@@ -40,21 +40,8 @@ static uint32_t list(void) {
     return status;
 }
 
-/* Reads a file, and returns whether all of it is read. */
-static bool load(const char *path) {
-    FILE *file = fopen(path, "rb");
-    long size = file && fseek(file, 0, SEEK_END) == 0 ? ftell(file) : -1;
-    if (size < 0 || !(bytes = (uint8_t *)malloc((size_t)size + 1))) return false;
-    rewind(file);
-    len = fread(bytes, 1, (size_t)size, file);
-    return fclose(file) == 0 && len == (size_t)size;
-}
-
 int main(int argc, char **argv) {
     if (argc != 2) return fputs("usage: needed FILE\n", stderr), 2;
-    if (!load(argv[1])) return perror(argv[1]), 2;
-    if (list() <= GOBLIN_END) return 0;
-    char text[160];
-    goblin_refusal_to_str(&why, text, sizeof text);
-    return fprintf(stderr, "needed: %s\n", text), 1;
+    if (!(bytes = load(argv[1], &len))) return perror(argv[1]), 2;
+    return list() <= GOBLIN_END ? 0 : print_refusal("needed", &why);
 }

@@ -4,10 +4,10 @@
    In a file of 65,280 or more sections an index may not fit in its symbol; then it is read from the section of
    type SHT_SYMTAB_SHNDX. */
 #include "goblin.h"
+#include "example.h"
 #include <ctype.h>
 #include <inttypes.h>
 #include <stdio.h>
-#include <stdlib.h>
 #include <string.h>
 
 static uint8_t *bytes;
@@ -15,13 +15,6 @@ static size_t len;
 static goblin_header_t header;
 static goblin_section_t names_of_sections;
 static goblin_refusal_t why;
-
-static int refused(const char *what) {
-    char text[160];
-    goblin_refusal_to_str(&why, text, sizeof text);
-    fprintf(stderr, "nm: %s: %s\n", what, text);
-    return 1;
-}
 
 /* Returns the string at an offset, or an empty one if there is none or it is not UTF-8. */
 static goblin_range_t string(const goblin_section_t *strings, uint64_t offset) {
@@ -75,7 +68,7 @@ static int list(uint64_t index_of_table, const goblin_section_t *table) {
     goblin_section_t names;
     memset(&names, 0, sizeof names);
     if (goblin_linked_section(bytes, len, &header, table->sh_link, &names, &why) > GOBLIN_END)
-        return refused("string table");
+        return print_refusal("nm: string table", &why);
     goblin_symbol_t symbol;
     uint32_t status;
     for (uint64_t i = 1;
@@ -94,25 +87,16 @@ static int list(uint64_t index_of_table, const goblin_section_t *table) {
         fwrite(bytes + name.offset, 1, (size_t)name.size, stdout);
         putchar('\n');
     }
-    return status == GOBLIN_END ? 0 : refused("symbols");
-}
-
-/* Reads a file, and returns whether all of it is read. */
-static bool load(const char *path) {
-    FILE *file = fopen(path, "rb");
-    long size = file && fseek(file, 0, SEEK_END) == 0 ? ftell(file) : -1;
-    if (size < 0 || !(bytes = (uint8_t *)malloc((size_t)size + 1))) return false;
-    rewind(file);
-    len = fread(bytes, 1, (size_t)size, file);
-    return fclose(file) == 0 && len == (size_t)size;
+    return status == GOBLIN_END ? 0 : print_refusal("nm: symbols", &why);
 }
 
 int main(int argc, char **argv) {
     bool is_dynamic = argc == 3 && strcmp(argv[1], "-D") == 0;
     if (argc != 2 + is_dynamic) return fputs("usage: nm [-D] FILE\n", stderr), 2;
-    if (!load(argv[argc - 1])) return perror(argv[argc - 1]), 2;
-    if (goblin_header(bytes, len, &header, &why) != GOBLIN_OK) return refused("header");
-    if (goblin_section_names(bytes, len, &header, &names_of_sections, &why) > GOBLIN_END) return refused("sections");
+    if (!(bytes = load(argv[argc - 1], &len))) return perror(argv[argc - 1]), 2;
+    if (goblin_header(bytes, len, &header, &why) != GOBLIN_OK) return print_refusal("nm: header", &why);
+    if (goblin_section_names(bytes, len, &header, &names_of_sections, &why) > GOBLIN_END)
+        return print_refusal("nm: sections", &why);
     goblin_section_t section;
     int failed = 0;
     for (uint64_t i = 0; goblin_section(bytes, len, &header, i, &section, &why) == GOBLIN_OK; i++)

@@ -2,6 +2,7 @@
    Sections that are executable or not writable count as text, others with bytes in the file as data, and the
    rest as bss. */
 #include "goblin.h"
+#include "example.h"
 #include <inttypes.h>
 #include <stdio.h>
 #include <stdlib.h>
@@ -10,16 +11,6 @@ enum { BATCH = 64 };
 
 static uint8_t *bytes;
 static size_t len;
-
-/* Reads a file, and returns whether all of it is read. */
-static bool load(const char *path) {
-    FILE *file = fopen(path, "rb");
-    long size = file && fseek(file, 0, SEEK_END) == 0 ? ftell(file) : -1;
-    if (size < 0 || !(bytes = (uint8_t *)malloc((size_t)size + 1))) return false;
-    rewind(file);
-    len = fread(bytes, 1, (size_t)size, file);
-    return fclose(file) == 0 && len == (size_t)size;
-}
 
 static int refused(const char *path, const goblin_refusal_t *why) {
     char text[160];
@@ -55,7 +46,7 @@ int main(int argc, char **argv) {
     if (argc < 2) return fputs("usage: size FILE..\n", stderr), 2;
     puts("   text\t   data\t    bss\t    dec\t    hex\tfilename");
     for (int i = 1; i < argc; i++) {
-        bool is_read = load(argv[i]);
+        bool is_read = (bytes = load(argv[i], &len));
         if (!is_read) perror(argv[i]);
         failed |= is_read ? add_up(argv[i]) : 1;
         free(bytes);

@@ -2,9 +2,9 @@
    Each is printed as it stands, UTF-8 or not, after its offset in the section. Strings without bytes are left out. If
    no zero byte closes the last string, a line says so. */
 #include "goblin.h"
+#include "example.h"
 #include <inttypes.h>
 #include <stdio.h>
-#include <stdlib.h>
 #include <string.h>
 
 static uint8_t *bytes;
@@ -50,18 +50,8 @@ static int list(const char *name) {
     return 1;
 }
 
-/* Reads a file, and returns whether all of it is read. */
-static bool load(const char *path) {
-    FILE *file = fopen(path, "rb");
-    long size = file && fseek(file, 0, SEEK_END) == 0 ? ftell(file) : -1;
-    if (size < 0 || !(bytes = (uint8_t *)malloc((size_t)size + 1))) return false;
-    rewind(file);
-    len = fread(bytes, 1, (size_t)size, file);
-    return fclose(file) == 0 && len == (size_t)size;
-}
-
 int main(int argc, char **argv) {
     if (argc != 3) return fputs("usage: strings FILE SECTION\n", stderr), 2;
-    if (!load(argv[1])) return perror(argv[1]), 2;
+    if (!(bytes = load(argv[1], &len))) return perror(argv[1]), 2;
     return list(argv[2]);
 }

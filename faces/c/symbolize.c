@@ -4,6 +4,7 @@
    the symbols once, and finds for each address the symbol that goblin_symbol_by_address finds. With the first argument
    -1 it calls that for each address, which reads all symbols each time. */
 #include "goblin.h"
+#include "example.h"
 #include <stdio.h>
 #include <stdlib.h>
 #include <string.h>
@@ -29,13 +30,6 @@ static place_t *places;
 static piece_t *pieces;
 static goblin_header_t header;
 static goblin_refusal_t why;
-
-static int refused(const char *what) {
-    char text[160];
-    goblin_refusal_to_str(&why, text, sizeof text);
-    fprintf(stderr, "symbolize: %s: %s\n", what, text);
-    return 1;
-}
 
 static int compare_places(const void *one, const void *other) {
     const place_t *a = (const place_t *)one, *b = (const place_t *)other;
@@ -182,16 +176,6 @@ static uint32_t find(uint64_t address, uint64_t *index) {
     return GOBLIN_OK;
 }
 
-/* Reads a file, and returns whether all of it is read. */
-static bool load(const char *path) {
-    FILE *file = fopen(path, "rb");
-    long size = file && fseek(file, 0, SEEK_END) == 0 ? ftell(file) : -1;
-    if (size < 0 || !(bytes = (uint8_t *)malloc((size_t)size + 1))) return false;
-    rewind(file);
-    len = fread(bytes, 1, (size_t)size, file);
-    return fclose(file) == 0 && len == (size_t)size;
-}
-
 /* Finds the symbol table, or the dynamic one if there is none, and its strings. */
 static uint32_t find_table(goblin_section_t *table, goblin_section_t *names) {
     uint64_t index;
@@ -204,12 +188,12 @@ static uint32_t find_table(goblin_section_t *table, goblin_section_t *names) {
 int main(int argc, char **argv) {
     bool one_by_one = argc > 2 && strcmp(argv[1], "-1") == 0;
     if (argc < 2 + one_by_one) return fputs("usage: symbolize [-1] FILE ADDRESS..\n", stderr), 2;
-    if (!load(argv[1 + one_by_one])) return perror(argv[1 + one_by_one]), 2;
-    if (goblin_header(bytes, len, &header, &why) != GOBLIN_OK) return refused("header");
+    if (!(bytes = load(argv[1 + one_by_one], &len))) return perror(argv[1 + one_by_one]), 2;
+    if (goblin_header(bytes, len, &header, &why) != GOBLIN_OK) return print_refusal("symbolize: header", &why);
     goblin_section_t table, names;
     uint32_t found = find_table(&table, &names);
     if (found == GOBLIN_OK && !one_by_one) found = sort_symbols(&table.file);
-    if (found > GOBLIN_END) return refused("symbols");
+    if (found > GOBLIN_END) return print_refusal("symbolize: symbols", &why);
     for (int i = 2 + one_by_one; i < argc; i++) {
         uint64_t address = strtoull(argv[i], NULL, 16), index;
         uint32_t status = found;
@@ -220,7 +204,7 @@ int main(int argc, char **argv) {
                 : find(address, &index);
         if (status == GOBLIN_OK) status = goblin_symbol(bytes, len, &header, &table.file, index, &symbol, &why);
         if (status == GOBLIN_OK) status = goblin_string_closed(bytes, len, &names.file, symbol.st_name, &name, &why);
-        if (status > GOBLIN_END) return refused("symbols");
+        if (status > GOBLIN_END) return print_refusal("symbolize: symbols", &why);
         printf("%s\n??:0\n", status == GOBLIN_OK ? (const char *)bytes + name.offset : "??");
     }
     return 0;

@@ -2,9 +2,9 @@
    It reads the file, and then only as many bytes of it. Then one section header is not inside the file, so all of them
    are refused. The header that goblin_whole_header makes counts only the others. */
 #include "goblin.h"
+#include "example.h"
 #include <inttypes.h>
 #include <stdio.h>
-#include <stdlib.h>
 
 static uint8_t *bytes;
 static size_t len;
@@ -50,18 +50,8 @@ static int list(void) {
     return 0;
 }
 
-/* Reads a file, and returns whether all of it is read. */
-static bool load(const char *path) {
-    FILE *file = fopen(path, "rb");
-    long size = file && fseek(file, 0, SEEK_END) == 0 ? ftell(file) : -1;
-    if (size < 0 || !(bytes = (uint8_t *)malloc((size_t)size + 1))) return false;
-    rewind(file);
-    len = fread(bytes, 1, (size_t)size, file);
-    return fclose(file) == 0 && len == (size_t)size;
-}
-
 int main(int argc, char **argv) {
     if (argc != 2) return fputs("usage: truncated FILE\n", stderr), 2;
-    if (!load(argv[1])) return perror(argv[1]), 2;
+    if (!(bytes = load(argv[1], &len))) return perror(argv[1]), 2;
     return list();
 }
