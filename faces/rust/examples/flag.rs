@@ -5,13 +5,17 @@
 use goblin_rs::section_header::SHF_WRITE;
 use goblin_rs::Elf;
 use std::process::ExitCode;
-use std::{env, error, ffi, fs};
+use std::{env, ffi, fs};
 
-fn change(path: &ffi::OsStr, name: &str) -> Result<(), Box<dyn error::Error>> {
+mod common;
+
+fn change(path: &ffi::OsStr) -> common::Result {
+    let name = env::args_os().nth(2).unwrap_or_default();
+    let name = name.to_string_lossy();
     let mut bytes = fs::read(path)?;
     let elf = Elf::parse(&bytes)?;
     let missing = || format!("there is no section {name}");
-    let (header, found) = (elf.header, elf.section_by_name(name, 0)?);
+    let (header, found) = (elf.header, elf.section_by_name(&name, 0)?);
     let (index, mut section) = found.ok_or_else(missing)?;
     let before = section.sh_flags;
     section.sh_flags ^= SHF_WRITE;
@@ -22,18 +26,5 @@ fn change(path: &ffi::OsStr, name: &str) -> Result<(), Box<dyn error::Error>> {
 }
 
 fn main() -> ExitCode {
-    let (path, name) = match (env::args_os().nth(1), env::args_os().nth(2)) {
-        (Some(path), Some(name)) => (path, name),
-        _ => {
-            eprintln!("usage: flag FILE SECTION");
-            return ExitCode::from(2);
-        }
-    };
-    match change(&path, &name.to_string_lossy()) {
-        Ok(()) => ExitCode::SUCCESS,
-        Err(why) => {
-            eprintln!("flag: {}: {why}", path.to_string_lossy());
-            ExitCode::FAILURE
-        }
-    }
+    common::run("flag FILE SECTION", change)
 }

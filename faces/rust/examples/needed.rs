@@ -2,13 +2,15 @@
 use goblin_rs::dynamic::{DT_NEEDED, DT_RPATH, DT_RUNPATH, DT_SONAME};
 use goblin_rs::{program_header::PT_INTERP, strtab::Strtab, Elf};
 use std::io::{self, Write};
-use std::{env, error::Error, ffi::OsStr, fs, process};
+use std::{ffi, fs, process::ExitCode};
+
+mod common;
 
 const NAMES: [(u64, &str); 4] =
     [(DT_NEEDED, "needed"), (DT_SONAME, "soname"), (DT_RPATH, "rpath"), (DT_RUNPATH, "runpath")];
 
 /// Prints a string, which need not be UTF-8, after its name, or says that it has no end, which a loader needs.
-fn print(name: &str, strings: &Strtab, offset: u64) -> Result<(), Box<dyn Error>> {
+fn print(name: &str, strings: &Strtab, offset: u64) -> common::Result {
     match strings.get_c_str(offset as usize)? {
         Some(string) => io::stdout().write_all(&[name.as_bytes(), b" ", string.to_bytes(), b"\n"].concat())?,
         None => println!("{name}: no zero byte closes a string at offset {offset}"),
@@ -16,7 +18,7 @@ fn print(name: &str, strings: &Strtab, offset: u64) -> Result<(), Box<dyn Error>
     Ok(())
 }
 
-fn list(path: &OsStr) -> Result<(), Box<dyn Error>> {
+fn list(path: &ffi::OsStr) -> common::Result {
     let bytes = fs::read(path)?;
     let elf = Elf::parse(&bytes)?;
     let interpreter = elf.program_headers()?.iter().find(|segment| segment.p_type == PT_INTERP);
@@ -34,13 +36,6 @@ fn list(path: &OsStr) -> Result<(), Box<dyn Error>> {
     Ok(())
 }
 
-fn main() {
-    let path = env::args_os().nth(1).unwrap_or_else(|| {
-        eprintln!("usage: needed FILE");
-        process::exit(2)
-    });
-    if let Err(why) = list(&path) {
-        eprintln!("needed: {}: {why}", path.to_string_lossy());
-        process::exit(1)
-    }
+fn main() -> ExitCode {
+    common::run("needed FILE", list)
 }

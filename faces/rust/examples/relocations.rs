@@ -7,7 +7,9 @@ use goblin_rs::sym::{Symtab, STT_SECTION};
 use goblin_rs::Elf;
 use std::io::{self, Write};
 use std::process::ExitCode;
-use std::{env, error, ffi, fs};
+use std::{ffi, fs};
+
+mod common;
 
 /// Returns the name of a relocation's symbol. The symbol of a section has the section's name.
 fn name_of<'a>(elf: &Elf<'a>, symbols: &Symtab<'a>, reloc: &Reloc) -> Result<&'a str> {
@@ -33,7 +35,7 @@ fn symbols_of<'a>(elf: &Elf<'a>, relocs: &SectionHeader) -> Result<Option<Symtab
     }
 }
 
-fn list(path: &ffi::OsStr) -> std::result::Result<(), Box<dyn error::Error>> {
+fn list(path: &ffi::OsStr) -> common::Result {
     let bytes = fs::read(path)?;
     let elf = &Elf::parse(&bytes)?;
     let mut out = io::BufWriter::new(io::stdout().lock());
@@ -57,18 +59,5 @@ fn list(path: &ffi::OsStr) -> std::result::Result<(), Box<dyn error::Error>> {
 }
 
 fn main() -> ExitCode {
-    let path = match env::args_os().nth(1) {
-        Some(path) => path,
-        None => {
-            eprintln!("usage: relocations FILE");
-            return ExitCode::from(2);
-        }
-    };
-    match list(&path) {
-        Ok(()) => ExitCode::SUCCESS,
-        Err(why) => {
-            eprintln!("relocations: {}: {why}", path.to_string_lossy());
-            ExitCode::FAILURE
-        }
-    }
+    common::run("relocations FILE", list)
 }

@@ -2,9 +2,11 @@
 use goblin_rs::program_header::pt_to_str;
 use goblin_rs::Elf;
 use std::process::ExitCode;
-use std::{env, error, ffi, fs};
+use std::{ffi, fs};
 
-fn list(path: &ffi::OsStr) -> Result<(), Box<dyn error::Error>> {
+mod common;
+
+fn list(path: &ffi::OsStr) -> common::Result {
     let bytes = fs::read(path)?;
     let elf = Elf::parse(&bytes)?;
     for (index, segment) in elf.program_headers()?.iter().enumerate() {
@@ -18,18 +20,5 @@ fn list(path: &ffi::OsStr) -> Result<(), Box<dyn error::Error>> {
 }
 
 fn main() -> ExitCode {
-    let path = match env::args_os().nth(1) {
-        Some(path) => path,
-        None => {
-            eprintln!("usage: segments FILE");
-            return ExitCode::from(2);
-        }
-    };
-    match list(&path) {
-        Ok(()) => ExitCode::SUCCESS,
-        Err(why) => {
-            eprintln!("segments: {}: {why}", path.to_string_lossy());
-            ExitCode::FAILURE
-        }
-    }
+    common::run("segments FILE", list)
 }

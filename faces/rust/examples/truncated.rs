@@ -5,9 +5,11 @@
 use goblin_rs::section_header::{section_header32, section_header64, sht_to_str};
 use goblin_rs::Elf;
 use std::process::ExitCode;
-use std::{env, error, ffi, fs};
+use std::{ffi, fs};
 
-fn list(path: &ffi::OsStr) -> Result<(), Box<dyn error::Error>> {
+mod common;
+
+fn list(path: &ffi::OsStr) -> common::Result {
     let bytes = fs::read(path)?;
     let elf = Elf::parse(&bytes)?;
     let count = elf.section_headers()?.len();
@@ -33,18 +35,5 @@ fn list(path: &ffi::OsStr) -> Result<(), Box<dyn error::Error>> {
 }
 
 fn main() -> ExitCode {
-    let path = match env::args_os().nth(1) {
-        Some(path) => path,
-        None => {
-            eprintln!("usage: truncated FILE");
-            return ExitCode::from(2);
-        }
-    };
-    match list(&path) {
-        Ok(()) => ExitCode::SUCCESS,
-        Err(why) => {
-            eprintln!("truncated: {}: {why}", path.to_string_lossy());
-            ExitCode::FAILURE
-        }
-    }
+    common::run("truncated FILE", list)
 }
