@@ -127,9 +127,9 @@ class Elf:
 
     def _note(self, n_type: int) -> Optional[memoryview]:
         segments = (segment for segment in itertools.islice(self.segments, 1 << 17) if segment.p_type == PT_NOTE)
+        holders: Iterator[Union[Segment, Section]] = itertools.chain(segments, itertools.islice(self._note_sections(), 1 << 17))
         notes = itertools.chain.from_iterable(
-            read_notes(self, 'note_bytes', RANGE.pack(holder[:2]), holder[5], holder[0])
-            for holder in itertools.chain[Union[Segment, Section]](segments, itertools.islice(self._note_sections(), 1 << 17)))
+            read_notes(self, 'note_bytes', RANGE.pack(holder[:2]), holder[5], holder[0]) for holder in holders)
         return next((self._file.part(*fields[2:4]) for fields in itertools.islice(notes, 1 << 16)
                      if fields[5] == n_type and fields[1] == 4 and self._file.part(*fields[:2]) == b'GNU\0'), None)
 
