@@ -1,4 +1,5 @@
 """A file as a whole."""
+import contextlib
 import ctypes
 import itertools
 import mmap
@@ -9,8 +10,12 @@ from typing import Any, Iterable, Iterator, List, Optional, Tuple, Union
 from ._library import FUNCTIONS, HEADER, RANGE, RECORDS, File, call, found, unsigned
 from .constants import (DT_NEEDED, DT_RPATH, DT_RUNPATH, DT_SONAME, ELFCLASS64, ELFDATA2MSB, NT_GNU_BUILD_ID, PT_INTERP, PT_NOTE, SHT_DYNAMIC,
                         SHT_DYNSYM, SHT_NOTE, SHT_SYMTAB)
-from .items import Dynamic, Header, Name, Note, Section, Sections, Segment, Segments, Symbol, Symbols, T, Table, named, note_of, read_notes
+from .items import Dynamic, Fields, Header, Name, Note, Section, Sections, Segment, Segments, Symbol, Symbols, T, Table, named, note_of, read_notes
 from .names import class_to_str, et_to_str, machine_to_str
+from .refused import Unknown, within
+
+# The most segments, and notes, in which a note is looked for.
+SEGMENTS, NOTES = 1 << 17, 1 << 16
 
 
 class Elf:
@@ -121,17 +126,26 @@ class Elf:
     @property
     def build_id(self) -> Optional[memoryview]:
         """The descriptor of the first note GNU of type NT_GNU_BUILD_ID of the segments or, if they have none, of the sections, or `None`.
-        Refused as these are, and then at the first damaged note. It is looked for in the first 65,536 notes of the first 131,072 of them. Names
-        of other notes need not be UTF-8."""
-        return self._note(NT_GNU_BUILD_ID)
+        Refused as these are, and then at the first damaged note. It is looked for in at most 131,072 segments, and in the first 65,536 of their
+        notes, these sections and their notes. Names of other notes need not be UTF-8."""
+        with contextlib.suppress(Unknown):
+            return self._note(NT_GNU_BUILD_ID)
+        return None
 
     def _note(self, n_type: int) -> Optional[memoryview]:
-        segments = (segment for segment in itertools.islice(self.segments, 1 << 17) if segment.p_type == PT_NOTE)
-        holders: Iterator[Union[Segment, Section]] = itertools.chain(segments, itertools.islice(self._note_sections(), 1 << 17))
+        """Returns the descriptor of the first note GNU of a type, or `None`. Raises `Unknown` if it may come after all that is read."""
+        segments = (segment for segment in within(SEGMENTS, self.segments) if segment.p_type == PT_NOTE)
+        holders: Iterator[Union[Segment, Section]] = itertools.chain(segments, self._note_sections())
+        # (a segment or section counts as a note, which comes before its own)
+        own: Fields = ()
         notes = itertools.chain.from_iterable(
-            read_notes(self, 'note_bytes', RANGE.pack(holder[:2]), holder[5], holder[0]) for holder in holders)
-        return next((self._file.part(*fields[2:4]) for fields in itertools.islice(notes, 1 << 16)
-                     if fields[5] == n_type and fields[1] == 4 and self._file.part(*fields[:2]) == b'GNU\0'), None)
+            itertools.chain([own], read_notes(self, 'note_bytes', RANGE.pack(holder[:2]), holder[5], holder[0])) for holder in holders)
+        for fields in itertools.islice(notes, NOTES):
+            if fields and fields[5] == n_type and fields[1] == 4 and self._file.part(*fields[:2]) == b'GNU\0':
+                return self._file.part(*fields[2:4])
+        if next(notes, None) is not None:
+            raise Unknown
+        return None
 
     @property
     def dynamic(self) -> Dynamic:

@@ -1,11 +1,11 @@
 """What compilers leave in a file: their names, and marks of their protections. What these mean is said here: that is not proved, but tested."""
 import re
-from typing import Dict, List, Optional, Set, Tuple
+from typing import Dict, Iterator, List, Optional, Set, Tuple
 
 from .constants import EM_386, EM_AARCH64, EM_X86_64
 from .elf import Elf
 from .items import Strings, Symbols
-from .refused import Refused
+from .refused import Refused, Unknown, within
 
 # The functions and the variable that a canary uses, with or without a version, of which at most 255 bytes are read.
 CANARY = re.compile(rb'__stack_chk_(?:fail_local|fail|guard)(?:@[^\0]{0,255})?')
@@ -15,34 +15,34 @@ NT_GNU_PROPERTY_TYPE_0 = 5
 # By machines the property whose bits, from the lowest one on, say that all code is made for these checks.
 X86 = 0xc0000002, ('IBT', 'SHSTK')
 CHECKS: Dict[int, Tuple[int, Tuple[str, ...]]] = {EM_386: X86, EM_X86_64: X86, EM_AARCH64: (0xc0000000, ('BTI', 'PAC'))}
-# The most that is read: names of canaries, and bytes of a note and of .comment.
+# The most that is read: names of canaries, and bytes of a note and of .comment. What needs more is unknown.
 CANARIES, BYTES = 64, 1 << 16
 
 
 def has_canary(elf: Elf) -> bool:
-    """Whether a symbol of a table that can be read is one of a stack canary. Refused if none is, and a table can't be read."""
-    refusals = []
+    """Whether a symbol of a table that can be read is one of a stack canary. Refused or unknown if none is, and a table is."""
+    errors: List[Exception] = []
     for name in ('symbols', 'dynamic_symbols'):
         try:
             symbols: Symbols = getattr(elf, name)
             if any(map(symbols.find, canaries_of(elf, symbols.strings))):
                 return True
-        except Refused as error:
-            refusals.append(error)
-    if refusals:
-        raise refusals[0]
+        except (Refused, Unknown) as error:
+            errors.append(error)
+    if errors:
+        raise errors[0]
     return False
 
 
-def canaries_of(elf: Elf, strings: Strings) -> Set[bytes]:
-    """Returns the names of canaries that a string table has, the first few. Refused if the table is not inside the file."""
+def canaries_of(elf: Elf, strings: Strings) -> Iterator[bytes]:
+    """Yields the names of canaries that a string table has. Refused if the table is not inside the file."""
     strings.get_bytes(strings.size)
     names: Set[bytes] = set()
     for match in CANARY.finditer(elf.bytes[strings.offset:strings.offset + strings.size]):
-        names.add(match.group())
-        if len(names) == CANARIES:
-            break
-    return names
+        if match.group() not in names:
+            names.add(match.group())
+            within(CANARIES, names)
+            yield match.group()
 
 
 def control_flow(elf: Elf) -> Optional[List[str]]:
@@ -50,7 +50,7 @@ def control_flow(elf: Elf) -> Optional[List[str]]:
     if elf.header.e_machine not in CHECKS:
         return None
     wanted, names = CHECKS[elf.header.e_machine]
-    desc = bytes((elf._note(NT_GNU_PROPERTY_TYPE_0) or b'')[:BYTES])
+    desc = bytes(within(BYTES, elf._note(NT_GNU_PROPERTY_TYPE_0) or b''))
     at, step = 0, 8 if elf.is_64 else 4
     while at + 12 <= len(desc):
         kind, size, flags = (int.from_bytes(desc[at + part:at + part + 4], 'little' if elf.little_endian else 'big') for part in (0, 4, 8))
@@ -63,5 +63,5 @@ def control_flow(elf: Elf) -> Optional[List[str]]:
 def compilers(elf: Elf) -> List[str]:
     """Returns the names that compilers left in the section .comment, each once."""
     section = elf.section('.comment')
-    texts = str(section.bytes[:BYTES], 'utf-8', 'surrogateescape').split('\0') if section else []
+    texts = str(within(BYTES, section.bytes), 'utf-8', 'surrogateescape').split('\0') if section else []
     return [text for text in dict.fromkeys(texts) if text and not text.startswith(LINKERS)]

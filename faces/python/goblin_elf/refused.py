@@ -1,7 +1,9 @@
 """Why a file is refused."""
-from typing import Optional, Tuple
+from typing import Optional, Sized, Tuple, TypeVar
 
 from .interface import NUMBERS, Item, Kind
+
+S = TypeVar('S', bound=Sized)
 
 
 class Refused(ValueError):
@@ -21,3 +23,14 @@ class Refused(ValueError):
 
     def __str__(self) -> str:
         return str(self.args[0])
+
+
+class Unknown(Exception):
+    """What a fact needs is not in the file, or longer than is read."""
+
+
+def within(most: int, found: Optional[S]) -> S:
+    """Returns what was found. Raises `Unknown` if there is none, or if it has more than some length."""
+    if found is None or len(found) > most:
+        raise Unknown
+    return found

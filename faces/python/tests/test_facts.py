@@ -122,6 +122,51 @@ class Facts(unittest.TestCase):
             replace(longer, PT_NOTE, p_offset=len(elf.bytes), p_filesz=16 + size, p_align=4)
             self.assertEqual((facts(longer)['build_id'], facts(longer)['unknown']), (None if unknown else 'ab' * size, unknown))
 
+    def test_notes_past_those_that_are_read(self):
+        """A note is known if it is one of the first 65,536, with the segment that they are in, and its marks if they have at most 65,536 bytes."""
+        note = lambda name, kind, desc: struct.pack('<III', 4, len(desc), kind) + name + desc
+        elf, mark = changed('facts/full'), struct.pack('<III', 0xc0000002, 4, 1)
+        for more, size, expected in ((65533, 12, ('ab', ['IBT'], [])), (65534, 12, ('ab', None, ['control_flow'])),
+                                     (65535, 12, (None, None, ['build_id', 'control_flow'])), (0, 65536, ('ab', ['IBT'], [])),
+                                     (0, 65540, ('ab', None, ['control_flow']))):
+            notes = note(b'ABC\0', 1, b'') * more + note(b'GNU\0', 3, b'\xab\0\0\0') + note(b'GNU\0', 5, mark.ljust(size, b'\0'))
+            longer = Elf(bytearray(elf.bytes) + notes)
+            replace(longer, PT_NOTE, p_offset=len(elf.bytes), p_filesz=len(notes), p_align=4)
+            found = facts(longer)
+            self.assertEqual((found['build_id'] and found['build_id'][:2], found['control_flow'], found['unknown']), expected)
+            self.assertEqual(longer.build_id is None, 'build_id' in found['unknown'])
+
+    def test_names_past_those_that_are_read(self):
+        """Compilers are known if all have at most 65,536 bytes, and a canary if its name is one of the first 64 that the strings have."""
+        elf = changed('facts/two_compilers')
+        comment = elf.section('.comment')
+        for size, expected in ((65536, (['a'], [])), (65537, (None, ['compilers']))):
+            longer = Elf(bytearray(elf.bytes) + (b'a\0' * 32769)[:size])
+            longer.sections[comment.index] = comment._replace(sh_offset=len(elf.bytes), sh_size=size)
+            self.assertEqual((facts(longer)['compilers'], facts(longer)['unknown']), expected)
+        elf = changed('facts/object')
+        symbol, strings = elf.symbols.find('__stack_chk_fail@GLIBC_2.4'), elf.section_by_type(SHT_SYMTAB).linked
+        for count, expected in ((63, (True, [])), (64, (None, ['canary']))):
+            names = b''.join(b'__stack_chk_guard@%d\0' % number for number in range(count))
+            longer = Elf(bytearray(elf.bytes) + bytes(strings.bytes) + names)
+            longer.sections[strings.index] = strings._replace(sh_offset=len(elf.bytes), sh_size=strings.sh_size + len(names))
+            longer.symbols[symbol.index] = symbol._replace(st_name=strings.sh_size + names.rindex(b'__'))
+            self.assertEqual((facts(longer)['canary'], facts(longer)['unknown']), expected)
+
+    def test_headers_past_those_that_are_read(self):
+        """Segments are known if there are at most 131,072, and sizes if there are at most 1,048,576 sections."""
+        for count, known in ((1 << 17, True), ((1 << 17) + 1, False)):
+            head = struct.pack('<' + made.EHDR[64], b'\x7fELF\2\1\1', 2, 62, 1, 0, 128, 64, 0, 64, 56, 0xffff, 64, 1, 0)
+            section = struct.pack('<' + made.SHDR[64], 0, 0, 0, 0, 0, 1, 0, count, 0, 0)
+            found = facts(Elf(head + section + bytes(56 * (count - 1)) + struct.pack('<' + made.PHDR[64], PT_GNU_STACK, 6, 0, 0, 0, 0, 0, 0)))
+            self.assertEqual((found['nx'], found['cut'], found['segments']), (True, False, count) if known else (None, None, count))
+            unknown = ['build_id', 'interpreter', 'nx', 'relro', 'bind_now', 'writable_code', 'canary', 'control_flow', 'cut']
+            self.assertEqual(found['unknown'], ['canary'] if known else unknown)
+        count = (1 << 20) + 1
+        head = struct.pack('<' + made.EHDR[64], b'\x7fELF\2\1\1', 1, 62, 1, 0, 0, 64, 0, 64, 0, 0, 64, 0, 0)
+        found = facts(Elf(head + struct.pack('<' + made.SHDR[64], 0, 0, 0, 0, 0, count, 0, 0, 0, 0) + bytes(64 * (count - 1))))
+        self.assertEqual((found['sizes'], found['sections'], found['unknown'][-2:]), (None, count, ['cut', 'sizes']))
+
     def test_more_sections_than_the_header_counts(self):
         count = 0xff10
         section = struct.pack('<' + made.SHDR[64], 0, 1, 0, 0, 0, 2, 0, 0, 1, 0)
