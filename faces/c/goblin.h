@@ -5,7 +5,7 @@
    Linking
      Link a 64-bit program with libgoblin_c.a, which needs only memcpy of the C library, or with the shared library. The
      linker's option --gc-sections (`-Wl,--gc-sections`) leaves out the calls that a program does not use: of the
-     examples, about two thirds of the library. It also leaves out sections of your own that nothing refers to.
+     examples, about three quarters of the library. It also leaves out sections of your own that nothing refers to.
      A backtrace ends at a call, because the library has no unwind tables.
      Inside a shared library of your own, `-Wl,--exclude-libs,libgoblin_c.a` hides the calls.
 
