@@ -1,8 +1,9 @@
 #!/bin/sh
 # Tests the Python package: sh checks/faces/python.sh FOLDER, after library.sh
 # The unit tests are run over the package as it is installed, by the system's Python, and first without numpy and Dask by the one on PATH if
-# that is another one. What needs numpy, mypy or Dask is left out where these are missing, and a line says so. Then the wheel is
-# installed in an environment of its own, and the first lines of the page and its goblin-scan are run there.
+# that is another one, and most of them by the oldest that its page names. What needs numpy, mypy, Dask or another Python is left out where
+# these are missing, and a line says so. Then the wheel is installed in an environment of its own, and the first lines of the page and its
+# goblin-scan are run there.
 . checks/faces/shared.sh
 package=$folder/python/share/goblin_c/python
 tests=faces/python/tests
@@ -48,6 +49,13 @@ try_wheel() {
 
 # (this fails if the python3 on PATH is older than 3.8)
 quietly sh faces/install.sh "$folder/python"
+oldest=$(sed -n 's/.*CPython \(3\.[0-9]*\) or later.*/\1/p' faces/python/README.md)
+# (pyenv asks for the version that is meant)
+if python=$(PYENV_VERSION=$oldest "python$oldest" -c 'import sys; print(sys.executable)' 2> "$folder/output"); then
+    try_tests 'test_[dfg]*.py'
+else
+    left_out "python$oldest is not installed, so the Python package is not tested by the oldest Python that it needs"
+fi
 python=$(command -v python3) system=/usr/bin/python3 is_new='import sys; sys.exit(sys.version_info < (3, 8))'
 if $system -c "$is_new" 2> "$folder/output" && [ "$(readlink -f "$python")" != "$(readlink -f $system)" ]; then
     try_tests 'test_goblin_elf.py'
