@@ -17,7 +17,7 @@ import { elf_file, note, packed, rela, symbols_file } from './elves.mjs';
 
 const [, , kind, program, page, dump, made_files, stored_folder] = process.argv, stored = resolve(stored_folder);
 const made = join(made_files, 'little64'), content = readFileSync(made),
-    program_file = join(stored, 'made', 'x86_64_program');
+    program_file = join(stored, 'made', 'x86_64_program'), program_bytes = readFileSync(program_file);
 // (readelf lists no symbols of the files without section headers)
 const stored_files = readdirSync(join(stored, 'made')).filter((name) => !/listed$|_core$|_stripped$/.test(name))
     .map((name) => join(stored, 'made', name));
@@ -54,6 +54,9 @@ const cells = (column) => each_of('#panel .body .row', `item.children[${column}]
 const click_row = (row) => evaluate(`document.querySelectorAll('#panel .body .row')[${row}].children[1].click()`);
 const field_of = (name) => evaluate(`[...document.querySelectorAll('#chosen tr')]
     .find((row) => row.firstChild.textContent === ${quoted(name)})?.lastChild.innerText`);
+
+// Returns the offset of a section header of a file.
+const header_at = (content, index) => Number(content.readBigUInt64LE(0x28)) + 64 * index;
 
 // Picks a file, and waits until the bar has its name.
 async function pick(path) {
@@ -152,11 +155,12 @@ function symbols_of(path) {
             ({ index: Number(index), value: parseInt(value, 16), size: Number(size), type, section, name }));
 }
 
-// Of the program that is picked most: its sections and symbols, the location of these, and main with its location,
-// address and offset.
+// Of the program that is picked most: its sections and symbols, the location of these, its functions from the largest
+// on, and main with its location, address and offset.
 const hex = (number) => `0x${number.toString(16)}`, decimal = (number) => number.toLocaleString('en');
 const sections = sections_of(program_file), symbols = symbols_of(program_file),
     symtab = `symbols/${sections['.symtab'].index}`, text = sections['.text'];
+const functions = symbols.filter(({ type, size }) => type === 'FUNC' && size > 0).sort((a, b) => b.size - a.size);
 const main = symbols.find(({ name }) => name === 'main'), main_place = `${symtab}/${main.index}`,
     main_address = hex(main.value);
 const main_at = main.value - text.address + text.offset;
@@ -250,9 +254,9 @@ async function check_own_tables() {
     assert.match(await text_of('#panel .others'), /packed relocations .* outside of what is proved/i);
     await go('relocations/1/3', 'packed relocation 3');
     assert.match(await field_of('r_offset'), /^0x1200/);
-    const of = sections_of(program_file), output = listed(program_file);
-    await pick_written('headless', readFileSync(program_file).fill(0, 0x28, 0x30).fill(0, 0x3a, 0x40), 'symbols');
-    const [symbols, dyn, plt] = ['.dynsym', '.rela.dyn', '.rela.plt'].map((name) => of[name].size / 24);
+    const output = listed(program_file);
+    await pick_written('headless', Buffer.from(program_bytes).fill(0, 0x28, 0x30).fill(0, 0x3a, 0x40), 'symbols');
+    const [symbols, dyn, plt] = ['.dynsym', '.rela.dyn', '.rela.plt'].map((name) => sections[name].size / 24);
     assert.deepEqual([await text_of('#tab-symbols span'), await text_of('#tab-relocations span')],
         [`${symbols}`, `${dyn + plt}`]);
     assert.match(await text_of('#panel .others'),
@@ -294,7 +298,7 @@ async function check_summary() {
     assert.match(of('interpreter')[0], new RegExp(`^${/program interpreter: (.*)\]/.exec(output)[1]}, segment \\d+$`));
     assert.deepEqual([...of('build ID'), ...of('kind'), ...of('position-independent')],
         [`${/Build ID: (\w+)/.exec(output)[1]}, note`, `A position-independent program for x86-64 of ${
-            decimal(readFileSync(program_file).length)} bytes, without debug information`, 'yes']);
+            decimal(program_bytes.length)} bytes, without debug information`, 'yes']);
     assert.match(await text_of('#file'), /position-independent program for x86-64/);
     assert.deepEqual(['read-only relocations', 'stack', 'stack canary', 'stripped'].map((name) => of(name)[0]),
         ['partial, segment 12', 'not executable, segment 11', 'yes, __stack_chk_fail', 'no, .symtab']);
@@ -303,14 +307,11 @@ async function check_summary() {
     assert.deepEqual([cut.libraries, cut['stack canary'], cut.stack], [unknown, unknown, 'not executable, segment 8']);
     for (const [name, , mark] of rows)
         assert.equal(mark, /^(symbol versions|control-flow marks|debug file)$/.test(name) ? 'not proved' : '', name);
-    const [[name, { size: largest }]] = Object.entries(sections_of(program_file))
-        .sort(([, a], [, b]) => b.size - a.size);
+    const [[name, { size: largest }]] = Object.entries(sections).sort(([, a], [, b]) => b.size - a.size);
     assert.ok(rows.some(([size, value]) => size.startsWith(`${decimal(largest)} bytes, `) && value === name));
-    const functions = symbols.filter(({ type, size }) => type === 'FUNC' && size > 0)
-        .sort((a, b) => b.size - a.size).slice(0, 10);
     const [, ...found] = await facts(program_file, 'Largest functions');
     assert.equal(found[0][1], functions[0].name);
-    assert.deepEqual(found.map(([size]) => size), functions.map(({ size }) => `${decimal(size)} bytes`));
+    assert.deepEqual(found.map(([size]) => size), functions.slice(0, 10).map(({ size }) => `${decimal(size)} bytes`));
     const { kind: words, 'debug information': debug } = Object.fromEntries(await facts(made));
     const of_object = `An object file for x86-64 of ${decimal(content.length)} bytes, with debug information`;
     assert.deepEqual([words, debug], [of_object, '64 bytes, .debug_info']);
@@ -333,10 +334,10 @@ async function check_needed() {
 
 // A function has one row, whatever its names. What is in no symbol is said, too.
 async function check_functions() {
-    const functions = [['a', 0, 8], ['alias', 0, 8], ['inside', 4, 4], ['b', 8, 16], ['other', 8, 12]].map(
+    const given = [['a', 0, 8], ['alias', 0, 8], ['inside', 4, 4], ['b', 8, 16], ['other', 8, 12]].map(
         ([text, value, size]) => ({ text, info: 2, shndx: 3, value, size }));
     const text = { name: '.text', type: 1, flags: 6, bytes: Buffer.alloc(64, 1) };
-    await pick_written('functions', symbols_file(functions, text));
+    await pick_written('functions', symbols_file(given, text));
     assert.deepEqual((await facts('', 'Largest functions')).map(([name, value]) => `${name}, ${value}`),
         ['in no symbol, 40 of 64 bytes of code', '16 bytes, b', '8 bytes, a']);
 }
@@ -471,7 +472,7 @@ async function check_segments() {
     const titles = core_notes.map(([owner, , name, thread]) => `${owner} ${name}${thread ? `, thread ${thread}` : ''}`);
     for (const title of [...titles, 'segment 1, LOAD', 'segment 2, LOAD'])
         assert.ok(pieces.includes(title), pieces.join('; '));
-    const stripped = readFileSync(program_file).fill(0, 0x28, 0x30).fill(0, 0x3c, 0x40);
+    const stripped = Buffer.from(program_bytes).fill(0, 0x28, 0x30).fill(0, 0x3c, 0x40);
     await pick_written('stripped', stripped);
     const all = segments_of(program_file).filter(({ type }) => type === 'LOAD');
     const covered = all.reduce((sum, { size: bytes }) => sum + bytes, 0), found = await shares();
@@ -499,10 +500,9 @@ async function check_padding() {
     const { code, padding } = await shares(), share = (bytes) => Math.round(1000 * bytes / content.length) / 10;
     assert.deepEqual([code, padding], [share(4096), share(4096 + 7)]); // (the names of sections have 17 bytes)
     await pick(program_file);
-    const pattern = /^ {2}\[ *\d+\] \S+ +(?!NOBITS)[A-Z_]+ +\S+ \S+ ([0-9a-f]+) \S+ +[WA]*X/gm,
-        bytes = readFileSync(program_file).length;
+    const pattern = /^ {2}\[ *\d+\] \S+ +(?!NOBITS)[A-Z_]+ +\S+ \S+ ([0-9a-f]+) \S+ +[WA]*X/gm;
     const held = [...listed(program_file).matchAll(pattern)].reduce((all, [, size]) => all + parseInt(size, 16), 0);
-    assert.ok(held > 1000 && Math.abs((await shares()).code - 100 * held / bytes) < 0.1);
+    assert.ok(held > 1000 && Math.abs((await shares()).code - 100 * held / program_bytes.length) < 0.1);
 }
 
 // The part of a segment that a cut file has is named and hatched. It is no gap.
@@ -510,7 +510,7 @@ async function check_cut() {
     const all = segments_of(program_file), last = all.findIndex(({ flags }) => flags === 'R E'),
         { offset: start, size } = all[last];
     const end = start + Math.floor(size / 2), final = hex(end - 1), share = (bytes) => 100 * bytes / end;
-    await pick_written('cut', readFileSync(program_file).subarray(0, end));
+    await pick_written('cut', program_bytes.subarray(0, end));
     const held = Buffer.alloc(end).fill(1, 0, 64 + 56 * all.length);
     for (const { offset, size: bytes } of all) held.fill(1, Math.min(offset, end), Math.min(offset + bytes, end));
     const { gap = 0, padding = 0, 'hatched: cut at the file’s end': cut } = await shares(), rest = gap + padding;
@@ -524,14 +524,13 @@ async function check_cut() {
     const low = await evaluate(`document.getElementById('canvas').height - 16`), is_code = await row_of('code', low);
     assert.ok(is_code.filter((is_it, i) => is_it && !is_code[i - 1]).length > 20);
     // (what lies past the end is marked there, and named)
-    const marked = (await row_of('bad', low)).indexOf(true),
-        headers = hex(readFileSync(program_file).readBigUInt64LE(0x28));
+    const marked = (await row_of('bad', low)).indexOf(true), headers = hex(header_at(program_bytes, 0));
     assert.ok(marked > 0 && Math.abs(marked - is_code.lastIndexOf(true)) < 8,
         `${marked}, ${is_code.lastIndexOf(true)}`);
     assert.match(await text_of('#legend .past'),
         new RegExp(`^past the end: Section headers at ${headers}, segment \\d+, `));
     const damaged = elf_file({ sections: [{ name: '.text', type: 1, flags: 6, bytes: Buffer.alloc(64) }] });
-    damaged.writeBigUInt64LE(1n << 40n, Number(damaged.readBigUInt64LE(0x28)) + 64 + 0x20);
+    damaged.writeBigUInt64LE(1n << 40n, header_at(damaged, 1) + 0x20);
     await pick_written('damaged', damaged, 'layout');
     const text = `.text (cut: ${damaged.length - 64} of 1,099,511,627,776 bytes are here)`;
     assert.deepEqual(await cells(5), ['ELF header', text, '.shstrtab', text, 'Section headers']);
@@ -714,21 +713,21 @@ async function check_history() {
 }
 
 async function check_relocation_links() {
-    const of = sections_of(program_file), [dynamic] = listed(program_file).split(" '.rela.plt' ");
+    const [dynamic] = listed(program_file).split(" '.rela.plt' ");
     const all = [...dynamic.matchAll(
         /^([0-9a-f]{16}) +[0-9a-f]{16} (R_\w+) +(?:[0-9a-f]{16} (\w+)(?:@\S+)? \+ )?([0-9a-f]+)$/gm)];
     const at = all.findIndex(([, , type]) => type === 'R_X86_64_GLOB_DAT'), [, digits, , name] = all[at],
         place = parseInt(digits, 16);
     await pick(program_file);
-    await go(`relocations/${of['.rela.dyn'].index}/${at}`, name);
-    const got = Object.values(of).find(({ address, size, type }) =>
+    await go(`relocations/${sections['.rela.dyn'].index}/${at}`, name);
+    const got = Object.values(sections).find(({ address, size, type }) =>
         address > 0 && place >= address && place < address + size && type !== 'NOBITS');
     assert.equal(await bytes_shown(), bytes_of(program_file, place - got.address + got.offset, 8));
     assert.match(await field_of('r_type'), /R_X86_64_GLOB_DAT/);
     await follow('address', `address ${hex(place)}`);
     await go_in_history('back', name);
     await follow(name);
-    await until(`location.hash.startsWith('#symbols/${of['.dynsym'].index}/')`);
+    await until(`location.hash.startsWith('#symbols/${sections['.dynsym'].index}/')`);
     await until(`${with_text('#chosen th', 'st_info')} !== undefined`);
     // an object file, whose relocations have offsets in the section at sh_info
     const bytes = Buffer.from('0011223344556677', 'hex'),
@@ -957,7 +956,7 @@ async function check_refused_tables() {
             { name: '.data', type: 1, bytes }] });
         const place = packed([64 + 72, 8],
             [1n << 40n, 8]); // (the offset of section 2, after the header and section 1, and its size)
-        place.copy(content, Number(content.readBigUInt64LE(0x28)) + 2 * 64 + 0x18);
+        place.copy(content, header_at(content, 2) + 0x18);
         for (const opened of [[2], [1, 2], [1, 3]]) {
             await pick_written(`refused-${name}`, content);
             for (const index of opened) {
@@ -1233,7 +1232,7 @@ async function check_widths() {
 async function check_narrow() {
     const bytes = Buffer.alloc(8), count = 65300,
         content = elf_file({ sections: Array(count).fill({ name: '', type: 1, flags: 2, bytes }) });
-    const first = Number(content.readBigUInt64LE(0x28));
+    const first = header_at(content, 0);
     for (const [at, value, width] of [[0x3c, 0, 2], [0x3e, 0xffff, 2], [first + 0x20, count + 2, 8],
         [first + 0x28, count + 1, 4]]) packed([value, width]).copy(content, at);
     await pick_written('many', content);
@@ -1328,7 +1327,7 @@ async function spots_of(path, ...offsets) {
 // links, then bytes.
 async function check_zoom() {
     await pick(program_file);
-    const [spot] = await spots_of(program_file, main_at), bar = await bar_of(readFileSync(program_file).length),
+    const [spot] = await spots_of(program_file, main_at), bar = await bar_of(program_bytes.length),
         whole = await each_row();
     const { left, top } = await canvas_box(), [x, y] = [left + 500, top + 40], { byte } = await pointed(x, y);
     const zoomed = (each) => readout(new RegExp(`each row has ${decimal(each)} bytes`));
@@ -1352,7 +1351,7 @@ async function check_zoom() {
     await go('header', 'ELF header');
     await browser.drag(spot, spot);
     await until_chosen('main');
-    const [next] = symbols.filter(({ type, size, value }) => type === 'FUNC' && size > 8 && value > main.value)
+    const [next] = functions.filter(({ size, value }) => size > 8 && value > main.value)
         .sort((a, b) => a.value - b.value);
     await browser.press('ArrowRight');
     await until_chosen(next.name);
@@ -1370,8 +1369,7 @@ async function check_zoom() {
 
 // The strip below a row says what the bytes are like.
 async function check_classes() {
-    const size = 8192, { offset } = sections_of(program_file)['.text'],
-        code = readFileSync(program_file).subarray(offset, offset + size);
+    const size = 8192, code = program_bytes.subarray(text.offset, text.offset + size);
     const numbers = Buffer.from(Uint32Array.from({ length: size / 4 }, (_, i) => i).buffer),
         words = Buffer.alloc(size, 'What is below a row? ');
     const all = [Buffer.alloc(size), words, numbers, code, randomBytes(size)]
@@ -1389,8 +1387,7 @@ async function check_classes() {
 // An area is as large as the share of its section in the file. A click on a function leads to its symbol, and on a
 // section to it.
 async function check_sizes() {
-    const [largest] = symbols.filter(({ type }) => type === 'FUNC').sort((a, b) => b.size - a.size),
-        whole = readFileSync(program_file).length;
+    const [largest] = functions, whole = program_bytes.length;
     const section = (name) => ({ name, ...sections[name], place: `sections/${sections[name].index}` });
     await pick(program_file);
     for (const { name, size, place } of [...['.text', '.rodata', '.symtab'].map(section),
