@@ -582,7 +582,9 @@ async function check_labels() {
 const READ = ['_ZN5space5ClassILi5ELb1ELm7EEC2ERKS1_', '_ZNKSs4sizeEv',
     '_ZStlsISt11char_traitsIcEERSt13basic_ostreamIcT_ES5_PKc', '_ZTVN1a1bE', '_ZN1aIiEaSEOS0_', '_Z3mapIPFvPKciEET_S3_',
     '_ZThn16_N1a1bEv', '_ZN3fooB5cxx11ILN1k1eE3EJidEE3barEv.part.0', '_ZNO1a1bEVPKi', '_ZN12_GLOBAL__N_11aD1Ev'];
-const LEFT_ALONE = ['_Z1fILi1EEvRAT__c', '_ZZ1fvENKUlvE_clEv', '_ZN4core3fmt17h0123456789abcdefE', '_Z',
+const SHORT_FORMS = Array.from({ length: 8 }, (_, i) => `S_IS${i}_S${i}_E`).join(''),
+    VERY_LONG = `_Z1f1aIiiE${SHORT_FORMS}${'S8_'.repeat(250)}`; // (of 1.3 million signs)
+const LEFT_ALONE = [VERY_LONG, '_Z1fILi1EEvRAT__c', '_ZZ1fvENKUlvE_clEv', '_ZN4core3fmt17h0123456789abcdefE', '_Z',
     '_ZN', 'main', '_Z1fS9_'];
 
 async function check_demangled() {

@@ -1,6 +1,6 @@
 // Reads mangled names of C++ in Itanium's form: names, templates, functions and most types. A name is left alone if it
 // holds anything else: an expression, a lambda, a conversion, an array, a pointer to a member, a name inside of a
-// function, or a pack of parameters.
+// function, or a pack of parameters. And so is one that stands for a very long text.
 
 // Returns a table from a text: each item is a code, and what it stands for.
 const table = (text) =>
@@ -22,7 +22,8 @@ const SUFFIXES = { i: '', j: 'u', l: 'l', m: 'ul', x: 'll', y: 'ull' }, MARKS = 
 // All words of results that are not in mangled names.
 const OWN_WORDS = [...BUILTINS.values(), ...OPERATORS.values(), ...SPECIAL.values(), ...Object.values(STANDARD),
     'non-virtual thunk to anonymous namespace operator restrict volatile const abi clone true false ull'].join(' ');
-const WORDS = { r: ' restrict', V: ' volatile', K: ' const', R: ' &', O: ' &&' }, MOST_SIGNS = 8192;
+const WORDS = { r: ' restrict', V: ' volatile', K: ' const', R: ' &', O: ' &&' }, MOST_SIGNS = 8192,
+    MOST_OF_ALL = 1 << 16;
 
 const words = (signs) => (signs ? signs.split('').map((sign) => WORDS[sign]).join('') : '');
 const listed = (items) => items.map(({ left, right, pack }) => (pack ? listed(pack) : left + right))
@@ -35,7 +36,7 @@ const length_of = ({ left, right, pack }) =>
 // also the last part, the arguments if that is a template, and the words after the parameters. It can be read again by
 // its number in `known`.
 class Reader {
-    at = 0; known = [];
+    at = 0; known = []; signs = 0;
     constructor(text) { this.text = text; }
     fail() { throw new SyntaxError(this.text); }
     need(found) { return found ?? this.fail(); }
@@ -132,7 +133,13 @@ class Reader {
             : `(${type})${digits}`;
         return { left: this.takes('E') && this.need(left), right: '' };
     }
+    // Reads a type. All types of a name have at most a number of signs: each can stand in it many times.
     type() {
+        const item = this.any_type();
+        this.signs += length_of(item);
+        return this.signs > MOST_OF_ALL ? this.fail() : item;
+    }
+    any_type() {
         const builtin = BUILTINS.get(this.match(/[a-jl-ostv-z]|D[isun]/y));
         if (builtin) return { left: builtin, right: '' };
         if (!this.is(/S[^t]/y)) return this.note(this.new_type());
