@@ -632,9 +632,16 @@ async function check_loading() {
     assert.match(await text_of('#loading'), /^Reading large: [\d,]+ MB of 400 MB left$/);
     assert.equal(await text_of('#file b'), 'x86_64_program');
     await until(`${one('#file b')}.textContent === 'large' && !(${is_busy})`);
-    assert.deepEqual([await text_of('#loading'), await evaluate(`${one('.dimmed')} === null`)], ['', true]);
+    const is_undimmed = async () =>
+        assert.deepEqual([await text_of('#loading'), await evaluate(`${one('.dimmed')} === null`)], ['', true]);
+    await is_undimmed();
     // (the file is in the memory once)
     await waited('no second copy of the file is kept', () => browser.cost().memory - memory < 1.6 * 4e8);
+    // (a file that another one replaces before it is read does not dim that one)
+    await browser.pick('#pick', large);
+    await pick(made);
+    await setTimeout(300);
+    await is_undimmed();
     rmSync(large);
 }
 

@@ -120,10 +120,15 @@ function show_loading(file, reader) {
     const said = (left) => put_text(box, `Reading ${file.name}: ${megabytes(left)} of ${megabytes(file.size)} left`);
     document.body.setAttribute('aria-busy', 'true');
     let left = file.size;
-    const timer = setTimeout(() => { document.body.classList.add('dimmed'); said(left); }, SOON);
+    // (meanwhile another file may be opened, or this one be shown, whose lists report their progress, too)
+    const timer = setTimeout(() => {
+        if (loading !== reader) return;
+        document.body.classList.add('dimmed');
+        said(left);
+    }, SOON);
     reader.on_progress = ({ done }) => {
         left = file.size * (1 - done);
-        if (document.body.classList.contains('dimmed')) said(left);
+        if (loading === reader && document.body.classList.contains('dimmed')) said(left);
     };
     return () => {
         clearTimeout(timer);
