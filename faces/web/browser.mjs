@@ -804,7 +804,8 @@ async function check_search() {
     await until_active('#chosen h2');
 }
 
-// A search and a sort of 184,833 symbols of C++ take a few seconds of a busy processor, and not one for each 10,000.
+// Searches and sorts of 184,833 symbols of C++, of which the first ones read the names, take a few seconds of a busy
+// processor, and not one for each 10,000. Meanwhile the page says how much is done.
 async function check_many_symbols() {
     const count = 184832, end = 'EEEE4some3mapERKSt6vectorISt4pairIPKcS0_ISsEESaIS6_EEi';
     const value_of = (i) => i * 7919 % 1000003, symbol = (i) =>
@@ -818,8 +819,14 @@ async function check_many_symbols() {
         const taken = browser.cost().seconds - seconds;
         assert.ok(taken < 6, `${taken} seconds`);
     };
+    const signs = (word) => evaluate(`signs.some((sign) => /^${word} … \\d+ %$/.test(sign))`);
+    const output = one('#panel output');
+    await evaluate('void (globalThis.signs = [])');
+    await evaluate(`new MutationObserver(() => signs.push(${output}.textContent))
+        .observe(${output}, { childList: true })`);
     await press_button('Demangle');
     await timed(() => search('class<int, 777>', `1 of ${decimal(count + 1)}`));
+    assert.ok(await signs('searching'));
     assert.match((await cells(1))[0], /^space<space::Class<int, 777> >::some::map\(/);
     await timed(() => search('', decimal(count + 1)));
     await press_button('Demangle');
@@ -834,6 +841,12 @@ async function check_many_symbols() {
         await click('#panel [role=columnheader]:nth-child(2) button');
         await until(`${one('#panel .body .row:nth-child(3)')}?.children[1].textContent === ${quoted(second)}`);
     });
+    assert.ok(await signs('sorting'));
+    // (a list that is searched while it is saved says what is found)
+    await press_button('Save CSV');
+    await search('Li777E', `1 of ${decimal(count + 1)}`);
+    await waited('a saved list', () => readdirSync(browser.downloads).some((name) => name.endsWith('.csv')));
+    assert.equal(await text_of('#panel output'), `1 of ${decimal(count + 1)}`);
 }
 
 // Types that have other names in readelf than in the ABI.

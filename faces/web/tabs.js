@@ -319,11 +319,12 @@ function copy_active(grid, of, what) {
 
 async function save({ name, output }) {
     const { reader, title } = shown_file, before = output.textContent;
+    let said = before;
     reader.on_progress = ({ progress, done }) => {
-        if (progress === 'csv') output.textContent = `saving … ${Math.floor(100 * done)} %`;
+        if (progress === 'csv') output.textContent = said = `saving … ${Math.floor(100 * done)} %`;
     };
     const content = await ask('csv', { list: name });
-    output.textContent = before;
+    if (output.textContent === said) output.textContent = before; // (else the list was searched meanwhile)
     const link = make('a', { href: URL.createObjectURL(content), download: `${visible(title)}.${name}.csv` });
     link.click();
     setTimeout(() => URL.revokeObjectURL(link.href), 60000);
