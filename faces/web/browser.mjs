@@ -346,20 +346,25 @@ async function check_functions() {
 async function check_broken() {
     const section = (name) => ({ name, type: 1, bytes: Buffer.alloc(64, 1) }), far = 1n << 40n;
     const whole = elf_file({ sections: ['.a', '.b', '.c'].map(section), segments: [{ bytes: Buffer.alloc(8) }] });
-    const table = Number(whole.readBigUInt64LE(0x28)), [a, b, c] = [1, 2, 3].map((index) => table + 64 * index + 0x18);
-    const cut = 'cut at the file’s end at', end = hex(whole.length);
+    const table = header_at(whole, 0), [a, b, c] = [1, 2, 3].map((index) => header_at(whole, index) + 0x18);
+    const cut = 'cut at the file’s end at', end = hex(whole.length), farthest = (1n << 63n) + 1n;
+    packed([far, 8], [9, 4]).copy(whole, table + 0x20); // (the sh_size and sh_link of section 0)
     for (const [[at, value, width = 8, size], words, ...places] of [
         [[0, 0x7f, 1], 'no: tables, sections and segments lie in the file, and no sections overlap'],
         [[0x34, 52, 2], 'yes: wrong in the header: e_ehsize is 52, not 64', 'header/e_ehsize'],
         [[0x36, 32, 2], 'yes: wrong in the header: e_phentsize is 32, not 56', 'header/e_phentsize'],
         [[0x3a, 40, 2], 'yes: wrong in the header: e_shentsize is 40, not 64', 'header/e_shentsize'],
         [[0x3e, 9, 2], 'yes: wrong in the header: e_shstrndx is 9 of 5 sections', 'header/e_shstrndx'],
+        [[0x3e, 0xffff, 2], 'yes: wrong in the header: e_shstrndx is 65535, sh_link of section 0 is 9 of 5 sections',
+            'header/e_shstrndx'],
+        [[0x3c, 0, 2], 'yes: refused: section headers', 'sections'],
         [[b, whole.readBigUInt64LE(a) + 8n], 'yes: overlapping: .a, .b', 'sections/1', 'sections/2'],
         [[c, far], `yes: past the file’s end at ${end}: .c`, 'sections/3'],
         [[c + 8, far], `yes: ${cut} ${end}: .c`, 'sections/3'],
         [[64 + 0x20, far], `yes: ${cut} ${end}: segment 0, LOAD`, 'segments/0'],
         [[0, 0x7f, 1, table + 100], `yes: ${cut} ${hex(table + 100)}: Section headers`, 'sections'],
         [[0, 0x7f, 1, table], `yes: past the file’s end at ${hex(table)}: Section headers`, 'sections'],
+        [[c, farthest], `yes: past the file’s end at ${end}: .c`, 'sections/3'],
     ]) {
         const content = Buffer.from(whole.subarray(0, size));
         packed([value, width]).copy(content, at);
@@ -368,6 +373,10 @@ async function check_broken() {
             `item.textContent.startsWith('broken') ? [...item.querySelectorAll('a')].map(({ hash }) => hash) : []`);
         assert.deepEqual([found, links.flat()], [words, places.map((place) => `#${place}`)]);
     }
+    assert.equal(await text_of('#legend .past'), `past the end: .c at ${hex(farthest)}`);
+    // (the segments of a debug file are those of another file)
+    const of_debug = value_in(await facts(join(stored, 'facts', 'debug_with_sizes')), 'broken');
+    assert.deepEqual([of_debug.slice(0, 3), await text_of('#legend .past')], ['no:', null]);
 }
 
 // A kernel module, its signature, compressed debug information, appended bytes and padding are called so.

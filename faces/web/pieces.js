@@ -37,8 +37,9 @@ function collector() {
     const add = (offset, size, given) => {
         const start = Number(offset), whole_end = start + Number(size), end = Math.min(whole_end, file.content.length),
             is_cut = end < whole_end;
-        if (whole_end > start)
-            (start >= end ? past : is_cut ? cut : found).push({ ...given, start, end, whole_end, size, is_cut });
+        // (a small size does not change a large number)
+        const list = start >= end ? past : is_cut ? cut : found;
+        if (size > 0) list.push({ ...given, offset, start, end, whole_end, size, is_cut });
     };
     return { found, cut, past, add };
 }
@@ -168,8 +169,8 @@ const of_section = (index, section) => `${called(index, section)}${is_compressed
 
 /** Returns a piece with its title. That of a piece that is cut says how much of it is in the file. */
 export function titled({ section, title = of_section(section, section_at(section)), ...piece }) {
-    const { start, end, size, is_cut } = piece;
-    if (is_cut && start >= end) return { ...piece, title: `${title} at ${hex(start)}` };
+    const { start, end, size, is_cut, offset } = piece;
+    if (is_cut && start >= end) return { ...piece, title: `${title} at ${hex(offset)}` };
     return { ...piece,
         title: is_cut ? `${title} (cut: ${count(end - start)} of ${count(size)} bytes are here)` : title };
 }

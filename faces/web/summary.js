@@ -68,24 +68,33 @@ export function kind_in_words() {
 const debug_sections = once(() => sections()
     .filter(({ section }) => is_debug(section) && section.sh_type !== SHT_NOBITS));
 
+/** Returns those of some pieces that are of this file: the segments of a debug file are those of another file. */
+export const of_this_file = (pieces) =>
+    pieces.filter(({ to }) => all_facts().kind !== 'debug file' || !to.startsWith('segments/'));
+
 // Returns lines that say what is wrong with the file, each with links to the places.
 function damage() {
-    const { header } = file.elf, { past, cut, over } = parts(), end = hex(file.content.length), { length } = sections();
+    const { elf, content } = file, { header } = elf, { past, cut, over } = parts(), end = hex(content.length);
+    const { length, 0: first } = sections(), is_far = header.e_shstrndx === 0xffff,
+        names = is_far ? first?.section.sh_link : header.e_shstrndx;
     const line = (words, links, to) => links.length > 0 && row('', words, ...first_of(links, to));
-    // (the segments of a debug file are those of another file)
-    const links_to = (pieces) => pieces
-        .filter(({ to }) => all_facts().kind !== 'debug file' || !to.startsWith('segments/'))
+    const links_to = (pieces) => of_this_file(pieces)
         .map((piece) => ({ text: titled({ ...piece, is_cut: false }).title, to: piece.to }));
     const wrong = (name, right, words) => (right ? undefined
         : { text: `${name} is ${header[name]}${words}`, to: `header/${name}` });
     const odd = (name, kind) => wrong(name, header[name] === size_of(kind), `, not ${size_of(kind)}`);
     const fields = [odd('e_ehsize', 'header'), header.e_phoff && odd('e_phentsize', 'segment'),
-        header.e_shoff && odd('e_shentsize', 'section'), length && wrong('e_shstrndx', header.e_shstrndx < length
-            || header.e_shstrndx === 0xffff, ` of ${count(length)} sections`)];
-    return [line(`past the file’s end at ${end}:`, links_to(past), 'sections'),
+        header.e_shoff && odd('e_shentsize', 'section'), length && wrong('e_shstrndx', names < length,
+            `${is_far ? `, sh_link of section 0 is ${names}` : ''} of ${count(length)} sections`)];
+    const lines = [line(`past the file’s end at ${end}:`, links_to(past), 'sections'),
         line(`cut at the file’s end at ${end}:`, links_to(cut), 'sections'),
         line('overlapping:', links_to(over), 'layout'),
         line('wrong in the header:', fields.filter(Boolean), 'header')].filter(Boolean);
+    // (their number may be refused, which no field of the header has)
+    const refused = [['sections', 'section_headers'], ['segments', 'program_headers']]
+        .filter(([, name]) => !read_or(undefined, () => elf[name]()))
+        .map(([to, name]) => ({ text: name.replace('_', ' '), to }));
+    return lines.length > 0 || refused.length === 0 ? lines : [line('refused:', refused)];
 }
 
 function what_it_is() {

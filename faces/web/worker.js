@@ -17,7 +17,7 @@ import { notes_of } from './notes.js';
 import { CLASSES, inside, sizes, under } from './inside.js';
 import { KINDS, parts, titled } from './pieces.js';
 import { symtab_at } from './resolve.js';
-import { all_facts, kind_in_words, summary } from './summary.js';
+import { all_facts, kind_in_words, of_this_file, summary } from './summary.js';
 import { hex } from './text.js';
 import { visible } from './unseen.js';
 
@@ -58,7 +58,7 @@ function notes_summary(by, headers) {
 
 // Returns in words what lies past the end of the file, if something does, and the list of the first piece.
 function past_end() {
-    const { past } = parts(), words = past.slice(0, 2).map((piece) => titled(piece).title).join(', ');
+    const past = of_this_file(parts().past), words = past.slice(0, 2).map((piece) => titled(piece).title).join(', ');
     return words ? { words: `past the end: ${words}${past.length > 2 ? ` and ${past.length - 2} more` : ''}`,
         to: past[0].to } : {};
 }
