@@ -340,6 +340,14 @@ async function check_functions() {
     await pick_written('functions', symbols_file(given, text));
     assert.deepEqual((await facts('', 'Largest functions')).map(([name, value]) => `${name}, ${value}`),
         ['in no symbol, 40 of 64 bytes of code', '16 bytes, b', '8 bytes, a']);
+    // (what another section covers is not drawn as code)
+    const data = { name: '.data', type: 1, flags: 3, bytes: Buffer.alloc(32, 1) },
+        content = symbols_file([{ text: 'all', info: 2, shndx: 3, size: 64 }], text, data);
+    const [of_text, of_data] = [3, 4].map((index) => header_at(content, index) + 0x18);
+    content.writeBigUInt64LE(content.readBigUInt64LE(of_text) + 32n, of_data);
+    await pick_written('covered', content);
+    assert.deepEqual((await facts('', 'Largest functions')).map(([name, value]) => `${name}, ${value}`),
+        ['in no symbol, 0 of 32 bytes of code', '64 bytes, all']);
 }
 
 // What is broken is in one row, each with links to its places.

@@ -11,7 +11,14 @@ import { count, once } from './text.js';
 
 const TYPES = new Set([goblin.STT_OBJECT, goblin.STT_FUNC, goblin.STT_GNU_IFUNC]);
 const found = { table: undefined, symbols: [], starts: [], ends: [], functions: [], covered: 0 };
-const is_code = (start) => parts().tops[part_at(start)]?.kind === 'code';
+// Returns how many bytes of code are drawn in a range.
+function code_in(from, to) {
+    const { starts, ends, tops } = parts();
+    let sum = 0;
+    for (let i = part_at(from); starts[i] < to; i++)
+        if (tops[i]?.kind === 'code') sum += Math.max(Math.min(to, ends[i]) - Math.max(from, starts[i]), 0);
+    return sum;
+}
 
 // Finds the bytes of functions and variables of the table of symbols. Of those that overlap the first one counts, and
 // the longest of these.
@@ -28,7 +35,7 @@ const find_symbols = once(async () => {
     all.sort((a, b) => a.start - b.start || b.end - a.end);
     let last = 0, covered = 0;
     for (const { start, end } of all) {
-        if (is_code(start)) covered += Math.max(end - Math.max(start, last), 0);
+        covered += code_in(Math.max(start, last), end);
         last = Math.max(last, end);
     }
     const apart = (items) => { last = 0; return items.filter(({ start, end }) => start >= last && (last = end)); };
@@ -55,8 +62,7 @@ export async function largest(most) {
 /** Returns the number of bytes of code in the file, and of those that are in no symbol. */
 export async function code_without_symbol() {
     await find_symbols();
-    const { starts, ends, tops } = parts();
-    const code = tops.reduce((sum, top, i) => sum + (top?.kind === 'code' ? ends[i] - starts[i] : 0), 0);
+    const code = code_in(0, file.content.length);
     return { code, rest: code - found.covered };
 }
 
