@@ -439,6 +439,15 @@ async function check_core() {
     await pick_written('apart', elf_file({ type: 4, segments: [{ type: 4, bytes: Buffer.concat(apart) }] }));
     assert.deepEqual((await facts('', 'What was running')).slice(-2).map(([name, value]) => `${name}: ${value}`),
         ['thread 19: rip 0x401013, rsp 0x7f0000, note', 'other places of threads: 5, notes']);
+    // (some machines have other signals by these numbers; and a note may be too short to have a number)
+    for (const [machine, bytes, signal, name] of [[62, put(336, [12, 10, 2]), '10, SIGUSR1', 'thread 0'],
+        [8, put(336, [12, 10, 2]), '10', 'thread 0'], [43, put(336, [12, 10, 2]), '10', 'thread 0'],
+        [62, Buffer.alloc(8, 1), 'unknown', 'thread unknown']]) {
+        const segment = { type: 4, bytes: Buffer.concat([note('CORE', 1, bytes), note('CORE', 6, process)]) };
+        await pick_written('signal', elf_file({ type: 4, machine, segments: [segment] }));
+        assert.deepEqual((await facts('', 'What was running')).slice(0, 2).flatMap(([title, value]) => [title, value])
+            .slice(0, 3), ['signal', signal, name]);
+    }
     await pick(join(folder, 'process'));
     await go('notes/segments/0', 'CORE PRSTATUS, thread 71');
     assert.deepEqual([await field_of('rax'), await field_of('rip')], ['0x77', '0x401234']);

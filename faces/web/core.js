@@ -15,13 +15,16 @@ const REGISTERS = {
 };
 const SIGNALS = ['', 'HUP', 'INT', 'QUIT', 'ILL', 'TRAP', 'ABRT', 'BUS', 'FPE', 'KILL', 'USR1', 'SEGV', 'USR2',
     'PIPE', 'ALRM', 'TERM'];
+// The machines whose signals 7, 10 and 12 are others: SPARC, MIPS, PA-RISC and Alpha.
+const OF_THEIR_OWN = [goblin.EM_SPARC, goblin.EM_MIPS, goblin.EM_SPARC32PLUS, goblin.EM_PARISC, goblin.EM_SPARCV9,
+    0x9026];
 const MOST_FILES = 10000, MOST_NAME = 4096;
 
-/** Returns a signal's number with its name. (MIPS has other numbers for some.) */
-export function signal_of({ note }) {
-    const number = Number(number_at(note.desc_range.offset + 12n, 2));
-    const is_own = file.elf.header.e_machine === goblin.EM_MIPS && [7, 10, 12].includes(number);
-    return SIGNALS[number] && !is_own ? `${number}, SIG${SIGNALS[number]}` : `${number}`;
+/** Returns a signal's number with its name, if the note has it. (Some machines have other numbers for some.) */
+export function signal_of({ note: { desc_range: { offset, size } } }) {
+    const number = Number(number_at(offset + 12n, 2)), { e_machine } = file.elf.header;
+    const is_own = OF_THEIR_OWN.includes(e_machine) && [7, 10, 12].includes(number);
+    return size < 14n ? 'unknown' : SIGNALS[number] && !is_own ? `${number}, SIG${SIGNALS[number]}` : `${number}`;
 }
 
 /** Returns the registers of a note of type PRSTATUS, as pairs of a name and a number. */

@@ -1,6 +1,6 @@
 // The notes of sections or segments.
 import * as goblin from './goblin.js';
-import { called, file, is_wide, refusal, sections, segments, read_or } from './file.js';
+import { called, file, is_wide, refusal, sections, segments } from './file.js';
 import { note_type } from './labels.js';
 import { hex, name_of, NAME, once } from './text.js';
 
@@ -60,7 +60,8 @@ function name_threads(items) {
     for (const item of items) {
         const { note } = item, type = note_type(note);
         if (note.name === 'CORE' && type === 'PRSTATUS') {
-            thread = read_or(undefined, () => file.elf.number(note.desc_range.offset + (is_wide() ? 32n : 24n), 4));
+            const { offset, size } = note.desc_range, at = is_wide() ? 32n : 24n;
+            thread = at + 4n > size ? undefined : file.elf.number(offset + at, 4);
         }
         if (OWNERS.has(note.name) && !OF_PROCESS.has(type)) item.thread = thread;
     }

@@ -191,7 +191,7 @@ function rows_of_threads(items) {
     const all = items.map((item) => {
         const pointers = registers_of(item).filter(([name]) => POINTERS.has(name)).sort()
             .map(([name, value]) => `${name} ${hex(value)}`);
-        return { text: `${item.thread}`, to: item.to, pointers, place: pointers[0] ?? '' };
+        return { text: `${item.thread ?? 'unknown'}`, to: item.to, pointers, place: pointers[0] ?? '' };
     });
     const rows = Array.from(Map.groupBy(all, ({ place }) => place), ([place, same]) => (same.length > 1
         ? own(`${count(same.length)} threads`, place && `${place}:`, ...first_of(same, 'notes/segments'))
