@@ -410,6 +410,9 @@ async function check_called() {
     const next = titles.indexOf('.a') + 1, last = titles.slice(-2);
     assert.deepEqual([titles.includes('.debug_info (compressed)'), titles.includes('gap')], [true, false]);
     assert.deepEqual([sizes[next], titles[next], ...last], ['2,047', 'padding', 'appended bytes', 'module signature']);
+    const unsaid = Buffer.from('vermagic\0'), names = ['.modinfo', '.gnu.linkonce.this_module'];
+    await pick_written('unsaid', elf_file({ sections: names.map((name) => named(name, unsaid)) }));
+    assert.equal(value_in(await facts(), 'kernel'), '');
 }
 
 // Of a core the signal, the command, the threads with their registers, and the mapped files, by the layouts of Linux

@@ -52,7 +52,7 @@ const module_texts = once(() => {
     const info = section_called('.modinfo'), this_module = section_called('.gnu.linkonce.this_module');
     if (file.elf.header.e_type !== ET_REL || !info || !this_module) return undefined;
     const text = new TextDecoder().decode(file.elf.readable_data(info.section)?.subarray(0, MOST_TEXT));
-    return new Map(text.split('\0').map((line) => line.split(/=(.*)/s)));
+    return new Map(text.split('\0').map((line) => [...line.split(/=(.*)/s), '']));
 });
 
 const KINDS = { object: 'object file', core: 'core file', library: 'shared library',
