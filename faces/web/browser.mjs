@@ -1184,7 +1184,8 @@ async function check_printed() {
     const rows = 1500, names = Array.from({ length: rows }, (_, i) => `name_${i}`);
     await pick_written('printed', symbols_file(names.map((text) => ({ text }))), 'symbols');
     const sheets = async () => sheets_of(await browser.print()), shown = async () => {
-        await evaluate(`void dispatchEvent(new Event('beforeprint'))`);
+        for (let times = 0; times < 2; times++) await evaluate(`void dispatchEvent(new Event('beforeprint'))`);
+        assert.equal((await each_of('.paper', 'item.id')).length, 1);
         const found = [await each_of('#paper .rows td:nth-child(2)', 'item.textContent'),
             await text_of('#paper h2'), await each_of('#paper h3', 'item.textContent')];
         await evaluate(`void dispatchEvent(new Event('afterprint'))`);

@@ -45,6 +45,7 @@ function content_of(mine) {
 export function set_up_paper(opened) {
     addEventListener('beforeprint', () => {
         const mine = opened(), { summary } = shown_file;
+        get('paper')?.remove(); // (a browser may print again before it says that it has printed)
         if (!summary || !mine.name) return;
         const before = mine.name === 'summary' ? [] : [...summary.panel ?? [], make('h2', {}, title_of(mine))];
         document.body.append(make('div', { id: 'paper', class: 'paper' }, ...get('file').cloneNode(true).children,
