@@ -4,8 +4,8 @@ import * as goblin from './goblin.js';
 import { file, is_wide, name_at, own_sections, read_or, RELR, sections, size_of, SYMBOL_TYPES } from './file.js';
 import { once } from './text.js';
 
-// How many versions, and symbols of a hash table or packed relocations are read at most.
-const MOST_VERSIONS = 4096, MOST_ITEMS = 1 << 20;
+// How many versions, symbols of a hash table or packed relocations, and words of these are read at most.
+const MOST_VERSIONS = 4096, MOST_ITEMS = 1 << 20, MOST_WORDS = 1n << 20n;
 
 const word = () => (is_wide() ? 8n : 4n);
 /** Returns a number at an offset of the file, or 0 if it is not inside. */
@@ -78,7 +78,8 @@ export function find_own_sections() {
  */
 export function packed_offsets({ sh_offset, sh_size }) {
     const width = word(), found = [];
-    for (let at = 0n, next = 0n; at + width <= sh_size && found.length < MOST_ITEMS; at += width) {
+    const end = sh_size < MOST_WORDS * width ? sh_size : MOST_WORDS * width;
+    for (let at = 0n, next = 0n; at + width <= end && found.length < MOST_ITEMS; at += width) {
         const entry = number_at(sh_offset + at, width), is_place = !(entry & 1n);
         if (is_place) found.push(entry);
         for (let bits = is_place ? 0n : entry >> 1n, place = next; bits; bits >>= 1n, place += width)
