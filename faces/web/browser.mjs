@@ -1208,13 +1208,14 @@ async function check_buttons() {
     await pick(program_file);
     for (const [width, height] of [[1280, 900], [800, 900], [400, 800], [800, 400]]) {
         await browser.resize(width, height);
-        for (const place of ['summary', 'header', 'header/e_type', 'sections', 'section=.text', symtab, 'sizes']) {
-            await set_place(place);
-            await setTimeout(100);
-            const low = await evaluate(`[...document.querySelectorAll('button, .button, select, input:not(.unseen)')]
-                .filter((item) => item.offsetParent !== null && item.getBoundingClientRect().height < 24)
-                .map((item) => item.textContent || item.id)`);
-            assert.deepEqual(low, [], `${place}, ${width}`);
+        for (const [place, title = 'ELF header'] of [['header/e_type', 'e_type'], ['summary'],
+            ['section=.text', '.text'], ['sections'], [main_place, 'main'], [symtab], ['offset/0x10', 'offset 0x10'],
+            ['sizes']]) {
+            await go(place, title);
+            const heights = (await each_of('button, .button, select, input:not(.unseen)', `item.offsetParent !== null
+                && [item.textContent || item.id, item.getBoundingClientRect().height]`)).filter(Boolean);
+            assert.deepEqual(heights.filter(([, high]) => high < 24), [], `${place}, ${width}`);
+            assert.ok(heights.length > 4, `${place}, ${width}: ${heights.length} buttons`);
         }
     }
     await browser.resize(1400, 1600);
