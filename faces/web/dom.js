@@ -5,10 +5,15 @@ import { shown, UNSEEN } from './unseen.js';
 export * from './unseen.js';
 export const get = (id) => document.getElementById(id);
 export const focus_chosen = () => get('chosen').querySelector('h2')?.focus();
-export const bytes_of = (id) => Uint8Array.from(atob(get(id).textContent), (sign) => sign.charCodeAt(0));
 export const number = (value) => value.toLocaleString('en');
 export const hex = (value) => `0x${value.toString(16)}`;
 export const plural = (count, word) => `${number(count)} ${word}${count === 1 ? '' : 's'}`;
+
+/** Returns the bytes that an element of the page holds, compressed. */
+export function inflated(id) {
+    const bytes = Uint8Array.from(atob(get(id).textContent), (sign) => sign.charCodeAt(0));
+    return new Response(new Blob([bytes]).stream().pipeThrough(new DecompressionStream('deflate'))).arrayBuffer();
+}
 
 /** Returns an element with attributes and content: elements and texts. Texts are inserted as text. */
 export function make(name, given = {}, ...content) {

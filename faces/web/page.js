@@ -1,5 +1,5 @@
 // The page: opens files, each in its own worker, and shows the location that the address bar has.
-import { button, bytes_of, get, make, number, plural, put_text, say, visible } from './dom.js';
+import { button, get, inflated, make, number, plural, put_text, say, visible } from './dom.js';
 import { set_up_goto } from './goto.js';
 import { lines_of, refusal_of } from './hex.js';
 import { mark_range, set_up_map, show_map } from './map.js';
@@ -213,7 +213,7 @@ function set_up_files() {
         if (target.files[0]) open(target.files[0]);
         target.value = '';
     });
-    get('example').addEventListener('click', () => open(new File([bytes_of('example-file')], 'example')));
+    get('example').addEventListener('click', async () => open(new File([await inflated('example-file')], 'example')));
     let inside = 0;
     const over = (by) => { inside = Math.max(inside + by, 0); document.body.classList.toggle('over', inside > 0); };
     addEventListener('dragenter', (event) => { event.preventDefault(); over(1); });

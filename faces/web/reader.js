@@ -1,6 +1,6 @@
 // The workers, each of which reads one file. The page shows what the current one sends. A new one replaces it once its
 // file is read.
-import { bytes_of, get } from './dom.js';
+import { get, inflated } from './dom.js';
 
 // A module with only a 64-bit memory.
 const WITH_MEMORY = new Uint8Array([0, 0x61, 0x73, 0x6d, 1, 0, 0, 0, 5, 3, 1, 4, 0]);
@@ -17,8 +17,7 @@ export class Reader {
 
     constructor() {
         source ??= URL.createObjectURL(new Blob([get('worker').textContent], { type: 'text/javascript' }));
-        module ??= new Response(new Blob([bytes_of('module')]).stream()
-            .pipeThrough(new DecompressionStream('deflate'))).arrayBuffer();
+        module ??= inflated('module');
         this.worker = new Worker(source);
         this.worker.onmessage = ({ data }) => this.#receive(data);
         this.worker.onerror = (event) => this.#fail(new Error(event.message || 'the worker ends'));
