@@ -225,7 +225,6 @@ export class Chromium extends Browser {
     async theme(value) {
         await this.#ask('Emulation.setEmulatedMedia', { features: [{ name: 'prefers-color-scheme', value }] });
     }
-    async screenshot() { return Buffer.from((await this.#ask('Page.captureScreenshot')).data, 'base64'); }
     async print() { return Buffer.from((await this.#ask('Page.printToPDF')).data, 'base64'); }
 
     async drop(...files) {
@@ -336,10 +335,6 @@ export class Firefox extends Browser {
     }
     async print() {
         return Buffer.from((await this.#ask('browsingContext.print', { context: this.tab })).data, 'base64');
-    }
-    async screenshot() {
-        return Buffer.from(
-            (await this.#ask('browsingContext.captureScreenshot', { context: this.tab })).data, 'base64');
     }
 
     // (Firefox lets no test drop what is on the disk, so the event is made up)
