@@ -246,9 +246,9 @@ function record(text) {
     return { fields, size: Math.ceil(end / widest) * widest };
 }
 
-function read(view, start, { fields }) {
-    // (adding toJSON before the fields is faster)
-    const item = plain({});
+// Reads a struct into an object. (It is faster to add toJSON before the fields, and to no object that only this file
+// reads.)
+function read(view, start, { fields }, item = plain({})) {
     for (const field of fields) item[field.name] = field.get(view, start + field.offset);
     return item;
 }
@@ -503,7 +503,7 @@ class Memory {
             count, this.address(ITEM));
         const { value } = read(this.view, this.base + ITEM, records.number);
         return Array.from({ length: Number(value) },
-            (_, i) => read(this.view, this.base + ranges + i * size, records.range));
+            (_, i) => read(this.view, this.base + ranges + i * size, records.range, {}));
     }
 
     // Returns the text that a call writes.

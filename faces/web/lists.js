@@ -1,23 +1,20 @@
 // The lists of the page. Each is a source: its items, its columns, and whether an item holds an offset or address.
 import * as goblin from './goblin.js';
-import {
-    called, digits_of, file, name_of_section, part, read_or, refusal, RELOCATION_TYPES, RELR, section_at,
-    section_refusal, sections, segments, SYMBOL_TYPES,
-} from './file.js';
+import { called, digits_of, file, name_of_section, part, read_or, refusal, RELOCATION_TYPES, RELR, section_at,
+    section_refusal, sections, segments, SYMBOL_TYPES } from './file.js';
 import { demangled, may_hold } from './demangle.js';
 import { packed_offsets } from './dynamic.js';
 import * as labels from './labels.js';
 import { notes_of } from './notes.js';
 import { parts, titled } from './pieces.js';
-import { has_mangled, name_of_symbol, section_of_symbol, symtab_at } from './resolve.js';
+import { has_mangled, name_of_symbol, named_symbols, section_of_symbol, symtab_at } from './resolve.js';
 import { count, hex, once } from './text.js';
 
 const SPECIAL = new Map([[0n, 'undefined'], [0xfff1n, 'absolute'], [0xfff2n, 'common'], [0xffffn, 'extended index']]);
 // A column has a title, a hint, such as the standard's name of the field, the least width, which of the columns gets
 // more of it first, and functions that return an item's text, and perhaps another one for a saved list, a number to
 // sort by, and a function that finds a text.
-const column = (title, hint, least, share, given) =>
-    ({ title, hint, least, share, ...given });
+const column = (title, hint, least, share, given) => ({ title, hint, least, share, ...given });
 const text = (title, hint, least, share, say) => column(title, hint, least, share, { text: say });
 const number = (title, key, least, share, say = hex) => column(title, key, least, share,
     { is_right: true, is_number: true, text: (item) => say(item[key]), number: (item) => item[key] });
@@ -103,7 +100,8 @@ const sources = {
     },
 
     symbols({ address }, table) {
-        const name = (item, index) => name_of_symbol(table, index, item), list = symtab_at(table),
+        const name = (item, index) => name_of_symbol(table, index, item), symtab = symtab_at(table),
+            list = { length: symtab.length, get: (index) => symtab.get(index), from: () => named_symbols(table) },
             known = new Array(list.length), has_demangled = has_mangled(table);
         const in_source = (item, index) => (known[index] ??= demangled(name(item, index)) ?? '');
         const other = { text: (item, index) => in_source(item, index) || name(item, index), plain: in_source,
@@ -215,29 +213,38 @@ export const cells_of = ({ columns }, item, index) =>
 /** Returns the cells of an item in a saved list, where numbers are plain. */
 export const plain_cells_of = ({ columns }, item, index) =>
     [`${index}`, ...columns.map((column) => (column.plain ?? column.text)(item, index))];
-// How long the worker works before it reads messages.
-const SLICE = 25;
+// How long the worker works before it reads messages, and what waits while it does anything else: what is printed, and
+// what is inside the map's parts.
+const SLICE = 25, PATIENT = ['text', 'symbols inside'];
+let awaited = 0;
+
+// Lets the worker read messages. (A timer would wait for some milliseconds.)
+const { port1, port2 } = new MessageChannel(), resumed = [];
+port1.onmessage = () => resumed.shift()();
+const pause = () => new Promise((resume) => { resumed.push(resume); port2.postMessage(0); });
 
 /** Iterates over a source in steps, while `is_wanted` returns true. Returns whether it reached the end. */
 export async function go_over(source, list, is_wanted, each) {
+    const { length } = source.list, is_patient = PATIENT.includes(list);
     let index = 0, last = performance.now();
-    const { length } = source.list;
-    for (const item of source.list.from()) {
-        each(item, index++);
-        if (index % 256 === 0 && performance.now() - last > SLICE) {
+    awaited += Number(!is_patient);
+    try {
+        for (const item of source.list.from()) {
+            each(item, index++);
+            if (index % 256 || performance.now() - last < SLICE) continue;
             postMessage({ progress: list, done: index / length });
-            await new Promise((resume) => setTimeout(resume, 0));
+            do await pause(); while (is_patient && awaited > 0 && is_wanted());
             if (!is_wanted()) return false;
             last = performance.now();
         }
+        return true;
+    } finally {
+        awaited -= Number(!is_patient);
     }
-    return true;
 }
 
-/**
- * Returns the indices of the items that a search finds, in their order, or nothing if these are all items in the list's
- * own order.
- */
+/** Returns the indices of the items that a search finds, in their order, or nothing if these are all items in the
+ * list's own order. */
 export async function arranged(source, { query, column, is_descending, list }, is_wanted) {
     const { length } = source.list;
     let order;

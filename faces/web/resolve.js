@@ -3,7 +3,7 @@ import * as goblin from './goblin.js';
 import { demangled } from './demangle.js';
 import { called, file, name_at, read_or, section_at, sections, segment_of, segments, SYMBOL_TYPES,
     symbol_tables } from './file.js';
-import { hex, once } from './text.js';
+import { hex, name_of, once } from './text.js';
 
 /** Reports whether the file has addresses. In an object file they are offsets in sections. */
 export const has_addresses = () => file.elf.header.e_type !== goblin.ET_REL;
@@ -34,6 +34,33 @@ const names = once((table) => new Array(symtab_at(table).length));
 /** Returns a symbol's name. The symbol of a section has the section's name. */
 export const name_of_symbol = (table, index, symbol) => (names(table)[index] ??= read_name(table, index, symbol));
 
+// How many names are read at once, and of how many bytes the longest string of their table may be then. (In a damaged
+// table each name may be all of it.)
+const AT_ONCE = 1024, LONGEST = 1 << 14;
+const has_short_strings = once((table) => {
+    const { offset, size } = symtab_at(table).strtab.range,
+        bytes = file.content.subarray(Number(offset), Number(offset + size));
+    for (let at = 0, end; at + LONGEST < bytes.length; at += end + 1) {
+        end = bytes.subarray(at, at + LONGEST + 1).lastIndexOf(0);
+        if (end < 0) return false;
+    }
+    return true;
+});
+
+/** Iterates over the symbols of a table, at most a number, and reads their names, many at once. */
+export function* named_symbols(table, most = Infinity) {
+    const symtab = symtab_at(table), known = names(table), end = Math.min(symtab.length, most);
+    for (let first = 0; first < end; first += AT_ONCE) {
+        const symbols = [...symtab.from(first, Math.min(AT_ONCE, end - first))];
+        const unread = [...symbols.keys()].filter((i) => known[first + i] === undefined && symbols[i].st_name);
+        const all = has_short_strings(table) ? unread.map((i) => symbols[i].st_name) : [];
+        // (of a symbol without a name more is read, if its name is wanted)
+        read_or([], () => symtab.strtab.get_all_bytes(all))
+            .forEach((bytes, i) => { known[first + unread[i]] = (bytes && name_of(bytes)) || undefined; });
+        yield* symbols;
+    }
+}
+
 function read_name(table, index, symbol) {
     const name = symbol.st_name ? name_at(symtab_at(table).strtab, symbol.st_name) : '';
     if (name || goblin.st_type(symbol.st_info) !== goblin.STT_SECTION) return name;
@@ -43,16 +70,15 @@ function read_name(table, index, symbol) {
 
 const MOST_TRIED = 10000;
 /** Reports whether a table has a name of C++ that is read, among its first ones. */
-export function has_mangled(table) {
-    const symbols = symtab_at(table), tried = Math.min(symbols.length, MOST_TRIED);
-    for (let at = 0; at < tried; at++) if (demangled(name_of_symbol(table, at, symbols.get(at)))) return true;
+export const has_mangled = once((table) => {
+    let index = 0;
+    for (const symbol of named_symbols(table, MOST_TRIED))
+        if (demangled(name_of_symbol(table, index++, symbol))) return true;
     return false;
-}
+});
 
-/**
- * Returns the address of a symbol. (For ARM the lowest bit marks a function in Thumb code. Thread-local symbols have
- * offsets instead.)
- */
+/** Returns the address of a symbol. (For ARM the lowest bit marks a function in Thumb code. Thread-local symbols have
+ * offsets instead.) */
 export function address_of_symbol({ st_value, st_info }) {
     const type = goblin.st_type(st_info);
     if (file.elf.header.e_machine === goblin.EM_ARM && type === goblin.STT_FUNC) return st_value & ~1n;

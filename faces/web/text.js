@@ -5,12 +5,15 @@ export const NAME = 1024;
 const strict = new TextDecoder('utf-8', { fatal: true, ignoreBOM: true });
 
 // Returns the text of bytes. If they are not UTF-8, each byte from 0x80 on is the character U+DC00 plus the byte, which
-// UTF-8 doesn't have.
+// UTF-8 doesn't have. (Most names are ASCII. In Chromium the text that a decoder makes of one is made, searched and
+// sorted several times as slowly as this one.)
 function text_of(bytes) {
+    const text = String.fromCharCode.apply(null, bytes);
+    if (!/[\x80-\xff]/.test(text)) return text;
     try {
         return strict.decode(bytes);
     } catch {
-        return String.fromCharCode(...Array.from(bytes, (byte) => (byte < 0x80 ? byte : 0xdc00 + byte)));
+        return text.replace(/[\x80-\xff]/g, (sign) => String.fromCharCode(0xdc00 + sign.charCodeAt(0)));
     }
 }
 
