@@ -2,19 +2,15 @@
 import * as goblin from './goblin.js';
 import { registers_of } from './core.js';
 import { demangled } from './demangle.js';
-import {
-    called, file, is_wide, name_of_section, part, RELOCATION_TYPES, RELR, section_at, section_refusal, sections,
-    segment_refusal, size_of, SYMBOL_TYPES, read_or,
-} from './file.js';
+import { called, file, is_wide, name_of_section, part, RELOCATION_TYPES, RELR, section_at, section_refusal, sections,
+    segment_refusal, size_of, SYMBOL_TYPES, read_or } from './file.js';
 import * as labels from './labels.js';
 import { addend, section_word, symbol_of_relocation } from './lists.js';
 import { title_of } from './notes.js';
 import { kind_of, kind_of_segment, part_at, parts, pieces_at, title_of_segment } from './pieces.js';
-import {
-    address_of_offset, address_of_symbol, with_offset, bytes_of_symbol, has_addresses, name_of_symbol,
+import { address_of_offset, address_of_symbol, with_offset, bytes_of_symbol, has_addresses, name_of_symbol,
     offset_of_address, place_of_relocation, section_of_address, section_of_symbol, segments_of_address,
-    symbol_of_address, symtab_at, to_address, to_offset, to_section, to_symbol,
-} from './resolve.js';
+    symbol_of_address, symtab_at, to_address, to_offset, to_section, to_symbol } from './resolve.js';
 import { count, hex } from './text.js';
 
 const { prefixed } = labels;
@@ -245,10 +241,8 @@ const LISTS = { sections: section_details, segments: segment_details, symbols: s
 /** Returns what is shown of an item of a list. */
 export const item_details = (source, { list, index, of }) => LISTS[list](source.list.get(index), index, of);
 
-/**
- * Returns what is shown of an offset: the pieces that hold it, and the bytes from there to the end of the piece
- * that is drawn.
- */
+/** Returns what is shown of an offset: the pieces that hold it, and the bytes from there to the end of the piece that
+ * is drawn. */
 export function offset_details(offset) {
     const index = part_at(offset), { starts } = parts(), pieces = pieces_at(index);
     const end = pieces[0]?.end ?? starts[index + 1], address = address_of_offset(offset);
@@ -269,10 +263,7 @@ export function offset_details(offset) {
 export const is_address = (address) => segments_of_address(address).length > 0
     || section_of_address(address) !== undefined || symbol_of_address(address) !== undefined;
 
-/**
- * Returns what is shown of an address: its segments, section and symbol, and the bytes that are loaded
- * from there on.
- */
+/** Returns what is shown of an address: its segments, section and symbol, and the bytes loaded from there on. */
 export function address_details(address) {
     const inside = segments_of_address(address), section = section_of_address(address),
         symbol = symbol_of_address(address);

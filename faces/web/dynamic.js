@@ -72,10 +72,8 @@ export function find_own_sections() {
     add('DT_JMPREL', type, value_of(goblin.DT_PLTRELSZ), size_of(kind));
 }
 
-/**
- * Returns the offsets of packed relocations: an even word is one, and a bit of an odd word stands for one of the words
- * that follow.
- */
+/** Returns the offsets of packed relocations: an even word is one, and a bit of an odd word stands for one of the words
+ * that follow. */
 export function packed_offsets({ sh_offset, sh_size }) {
     const width = word(), found = [];
     const end = sh_size < MOST_WORDS * width ? sh_size : MOST_WORDS * width;

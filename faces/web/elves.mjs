@@ -25,10 +25,8 @@ export function note(owner, type, descriptor) {
 export const symbol = ({ name = 0, info = 0, other = 0, shndx = 0, value = 0, size = 0 }) =>
     packed([name, 4], [info, 1], [other, 1], [shndx, 2], [value, 8], [size, 8]);
 
-/**
- * Returns a file with a symbol table: a symbol of zeros, and others, each with its name as `text`. Other sections
- * are after it.
- */
+/** Returns a file with a symbol table: a symbol of zeros, and others, each with its name as `text`. Other sections are
+ * after it. */
 export function symbols_file(symbols, ...others) {
     const names = Buffer.from(`\0${symbols.map(({ text = '' }) => `${text}\0`).join('')}`);
     let next = 1;
@@ -44,10 +42,8 @@ export function symbols_file(symbols, ...others) {
 export const rela = ({ offset = 0, sym = 0, type, addend = 0 }) =>
     packed([offset, 8], [type, 4], [sym, 4], [addend, 8]);
 
-/**
- * Returns a file with sections and segments, of the fields below. The section at index 0 and the section names at the
- * end are added.
- */
+/** Returns a file with sections and segments, of the fields below. The section at index 0 and the section names at the
+ * end are added. */
 export function elf_file({ type = 1, machine = 62, osabi = 0, sections = [], segments = [] }) {
     const parts = [];
     let at = 64 + 56 * segments.length;

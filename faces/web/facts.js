@@ -169,10 +169,8 @@ const RULES = {
     symbols: ({ elf }) => elf.syms()?.length ?? 0, dynamic_symbols: ({ elf }) => elf.dynsyms()?.length ?? 0, sizes,
 };
 
-/**
- * Returns the facts of a file and its bytes. Those in `unknown` can't be read, since the file does not hold what says
- * them, and are null. So are those that such a file does not have.
- */
+/** Returns the facts of a file and its bytes. Those in `unknown` can't be read, since the file does not hold what says
+ * them, and are null. So are those that such a file does not have. */
 export function facts(elf, bytes) {
     const file = { elf, bytes, sections: once(() => [...elf.section_headers()]),
         segments: once(() => [...elf.program_headers()]), strings: once(() => elf.dynamic_strings()) };

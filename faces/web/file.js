@@ -30,10 +30,8 @@ export const part = (read, refused) => read_part(read, (error) => ({ refused: re
 /** Returns the result of reading a part, or a default if it is refused. */
 export const read_or = (other, read) => read_part(read, () => other);
 
-/**
- * Returns a refusal for the page: the library's text, what was being read, the bytes that hold its offset, and perhaps
- * what that means.
- */
+/** Returns a refusal for the page: the library's text, what was being read, the bytes that hold its offset, and perhaps
+ * what that means. */
 export const refusal = ({ message: text, kind }, what, marks, words) => ({ text, kind, what, marks, words });
 
 // Returns in words that something ends past the end of the file, or nothing if it doesn't.
@@ -90,10 +88,8 @@ export function digits_of({ offset, size }, most = Infinity) {
     return Array.from(bytes, (byte) => byte.toString(16).padStart(2, '0')).join('') + (size > most ? '…' : '');
 }
 
-/**
- * The tables that the dynamic section leads to, and no section header, by the name of their tag: as sections, which the
- * page makes.
- */
+/** The tables that the dynamic section leads to, and no section header, by the name of their tag: as sections, which
+ * the page makes. */
 export const own_sections = new Map();
 /** Returns a section, by its index, or one of the page's own, by its name. */
 export const section_at = (index) =>
@@ -114,10 +110,8 @@ export const is_debug = (section) => !(section.sh_flags & 2n)
 export const symbol_tables = () => all_sections().filter(({ section }) => SYMBOL_TYPES.includes(section.sh_type))
     .map(({ index }) => index);
 
-/**
- * Returns the name at an offset of a table, cut if it is long, or an empty text if there is none or the table
- * is refused.
- */
+/** Returns the name at an offset of a table, cut if it is long, or an empty text if there is none or the table is
+ * refused. */
 export function name_at(strtab, offset) {
     const bytes = read_or(undefined, () => strtab.get_start(offset, NAME + 1));
     return bytes ? name_of(bytes) : '';

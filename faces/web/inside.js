@@ -93,10 +93,8 @@ function class_of(from, to) {
 // Returns the class of a byte: a zero byte is one of zeros, wherever it is.
 const class_at = (byte) => (file.content[byte] === 0 ? ZEROS : class_of(byte, byte + 1));
 
-/**
- * Returns what a view of the map shows inside the parts: classes of bytes, each byte if it has a column, symbols, and
- * titles that have room.
- */
+/** Returns what a view of the map shows inside the parts: classes of bytes, each byte if it has a column, symbols, and
+ * titles that have room. */
 export async function inside({ start, end, step, columns, least, least_named }) {
     await find_symbols();
     const { tops, ...all } = parts(), { symbols } = found, last = Math.min(end, file.content.length),
@@ -145,10 +143,8 @@ function from_largest(items, least, of, group_of, ...rest) {
         .sort((a, b) => b.size - a.size);
 }
 
-/**
- * Returns the pieces of the file by the bytes where they are drawn, from the largest on, each with the functions and
- * variables inside.
- */
+/** Returns the pieces of the file by the bytes where they are drawn, from the largest on, each with the functions and
+ * variables inside. */
 export async function sizes(least) {
     await find_symbols();
     const { starts, ends, tops } = parts(), pieces = new Map(tops.map((top) => [top, { top, size: 0, inside: [] }]));

@@ -133,10 +133,8 @@ function appended(from) {
 
 // A part ends where a piece of sections ends, and where another piece of segments is drawn. Of a file with sections,
 // what is in none of them is padding if its bytes are the same.
-/**
- * Returns the parts: their starts and ends, the pieces that are drawn, and how many of sections lie there; the pieces
- * past the end, cut there, and over others; and those that are appended.
- */
+/** Returns the parts: their starts and ends, the pieces that are drawn, and how many of sections lie there; the pieces
+ * past the end, cut there, and over others; and those that are appended. */
 export const parts = once(() => {
     const of_sections = pieces_of_sections(), of_segments = pieces_of_segments(), size = file.content.length;
     const past = [...of_sections.past, ...of_segments.past], of_cut = [...of_sections.cut, ...of_segments.cut];

@@ -4,11 +4,8 @@
 import init, * as goblin from './goblin.js';
 import { csv_line } from './csv.js';
 import { address_details, header_fields, is_address, item_details, offset_details } from './details.js';
-import {
-    all_sections, called, file, header_refusal, list_refusal, part, read_or, RELOCATION_TYPES, RELR, segments,
-    size_of, SYMBOL_TYPES,
-    symbol_tables,
-} from './file.js';
+import { all_sections, called, file, header_refusal, list_refusal, part, read_or, RELOCATION_TYPES, RELR, segments,
+    size_of, SYMBOL_TYPES, symbol_tables } from './file.js';
 import { find_own_sections, packed_offsets } from './dynamic.js';
 import { find } from './find.js';
 import * as labels from './labels.js';
