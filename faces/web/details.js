@@ -11,13 +11,16 @@ import { kind_of, kind_of_segment, part_at, parts, pieces_at, title_of_segment }
 import { address_of_offset, address_of_symbol, with_offset, bytes_of_symbol, has_addresses, name_of_symbol,
     offset_of_address, place_of_relocation, section_of_address, section_of_symbol, segments_of_address,
     symbol_of_address, symtab_at, to_address, to_offset, to_section, to_symbol } from './resolve.js';
-import { count, hex } from './text.js';
+import { count, hex, in_bytes } from './text.js';
 
 const { prefixed } = labels;
 // Returns a field: its name, its value, its meaning, and its links, as `{ text, to }`.
 const field = (name, value, meaning = '', ...links) =>
     ({ name, value: `${value}`, meaning, links: links.filter((link) => link) });
-const bytes_word = (size) => `${count(size)} bytes`;
+// Returns the fields of an item with their values, of which some are decimal, and their meanings or links.
+const DECIMAL = /^(sh_link|sh_info|sh_addralign|sh_entsize|st_size)$/;
+const fields_of = (item, given) => Object.entries(given).map(([name, words]) =>
+    field(name, DECIMAL.test(name) ? item[name] : hex(item[name]), ...[words].flat()));
 // Returns a field's link to an address, if the file has addresses and something is loaded there.
 const at_address = (address) =>
     (has_addresses() && address > 0n ? { ...to_address(address), text: 'address' } : undefined);
@@ -91,23 +94,18 @@ function list_of({ sh_type }, index) {
 }
 
 function section_details(item, index) {
-    const { sh_name, sh_type, sh_flags, sh_addr, sh_offset, sh_size, sh_link, sh_info, sh_addralign,
-        sh_entsize } = item;
+    const { sh_type, sh_flags, sh_addr, sh_offset, sh_size, sh_link } = item;
     const header = record('section header', 'section', Number(file.elf.header.e_shoff) + index * size_of('section'));
     return {
         title: called(index, item), what: `section ${count(index)}`, kind: kind_of(item),
         link: link_by_name('section', name_of_section(item)),
-        fields: [
-            field('sh_name', hex(sh_name)),
-            field('sh_type', hex(sh_type), prefixed('SHT_', labels.section_type(sh_type)), list_of(item, index)),
-            field('sh_flags', hex(sh_flags), labels.section_flags(sh_flags)),
-            field('sh_addr', hex(sh_addr), '', sh_flags & 2n ? at_address(sh_addr) : undefined),
-            field('sh_offset', hex(sh_offset), '', at_offset(sh_offset)),
-            field('sh_size', hex(sh_size), bytes_word(sh_size)),
-            field('sh_link', sh_link, '', to_section_number(sh_link)),
-            field('sh_info', sh_info, INFO_WORDS[sh_type] ?? '', info_link(item)),
-            field('sh_addralign', sh_addralign), field('sh_entsize', sh_entsize),
-        ],
+        fields: fields_of(item, {
+            sh_name: '', sh_type: [prefixed('SHT_', labels.section_type(sh_type)), list_of(item, index)],
+            sh_flags: labels.section_flags(sh_flags), sh_addr: ['', sh_flags & 2n ? at_address(sh_addr) : undefined],
+            sh_offset: ['', at_offset(sh_offset)], sh_size: in_bytes(sh_size),
+            sh_link: ['', to_section_number(sh_link)], sh_info: [INFO_WORDS[sh_type] ?? '', info_link(item)],
+            sh_addralign: '', sh_entsize: '',
+        }),
         blocks: [
             block('bytes', () => file.elf.range(item), (error) => section_refusal(error, 'the bytes', index)), header],
     };
@@ -117,7 +115,7 @@ function section_details(item, index) {
 const MOST_SECTIONS = 24;
 
 function segment_details(item, index) {
-    const { p_type, p_flags, p_offset, p_vaddr, p_paddr, p_filesz, p_memsz, p_align } = item;
+    const { p_type, p_flags, p_offset, p_vaddr, p_filesz, p_memsz } = item;
     const inside = sections().filter(({ index: of, section }) => of && goblin.segment_holds(item, section));
     const first = inside.slice(0, MOST_SECTIONS).map(({ index: of }) => to_section(of)),
         is_cut = inside.length > MOST_SECTIONS;
@@ -127,12 +125,11 @@ function segment_details(item, index) {
         what: `segment ${count(index)} of ${count(file.elf.program_headers().length)}`,
         kind: kind_of_segment(item),
         fields: [
-            field('p_type', hex(p_type), prefixed('PT_', labels.segment_type(p_type))),
-            field('p_flags', hex(p_flags), labels.segment_flags(p_flags)),
-            field('p_offset', hex(p_offset), '', at_offset(p_offset)),
-            field('p_vaddr', hex(p_vaddr), '', at_address(p_vaddr)), field('p_paddr', hex(p_paddr)),
-            field('p_filesz', hex(p_filesz), bytes_word(p_filesz)), field('p_memsz', hex(p_memsz), bytes_word(p_memsz)),
-            field('p_align', hex(p_align)),
+            ...fields_of(item, {
+                p_type: prefixed('PT_', labels.segment_type(p_type)), p_flags: labels.segment_flags(p_flags),
+                p_offset: ['', at_offset(p_offset)], p_vaddr: ['', at_address(p_vaddr)], p_paddr: '',
+                p_filesz: in_bytes(p_filesz), p_memsz: in_bytes(p_memsz), p_align: '',
+            }),
             first.length > 0 && field('sections', '', is_cut ? `the first ${MOST_SECTIONS}` : '', ...first),
         ],
         blocks: [block('bytes', () => file.elf.range(item), (error) => segment_refusal(error, index)), header],
@@ -143,7 +140,7 @@ function segment_details(item, index) {
 const in_source = (name) => demangled(name) && field('demangled', demangled(name), 'not proved');
 
 function symbol_details(item, index, table) {
-    const { st_name, st_value, st_size, st_info, st_other } = item;
+    const { st_size, st_info, st_other } = item;
     const of = section_of_symbol(table, index, item), place = bytes_of_symbol(table, index, item);
     const bind = goblin.st_bind(st_info), type = goblin.st_type(st_info), visibility = goblin.st_visibility(st_other);
     const address = of === undefined ? undefined : at_address(address_of_symbol(item));
@@ -155,13 +152,14 @@ function symbol_details(item, index, table) {
         kind: of === undefined || !section_at(of) ? undefined : kind_of(section_at(of)),
         link: link_by_name('symbol', name_of_symbol(table, index, item)),
         fields: [
-            in_source(name_of_symbol(table, index, item)), field('st_name', hex(st_name)),
-            field('st_value', hex(st_value), place?.section ? with_offset(called(of), place.from) : '', address),
-            field('st_size', st_size, bytes_word(st_size)), field('st_info', hex(st_info), info),
-            field('st_other', hex(st_other),
-                `${prefixed('STV_', labels.symbol_visibility(visibility))} (${visibility})`),
-            field('st_shndx', hex(item.st_shndx), of === undefined ? section_word(table, index, item) : `section ${of}`,
-                of === undefined ? undefined : to_section_number(of)),
+            in_source(name_of_symbol(table, index, item)),
+            ...fields_of(item, {
+                st_name: '', st_value: [place?.section ? with_offset(called(of), place.from) : '', address],
+                st_size: in_bytes(st_size), st_info: info,
+                st_other: `${prefixed('STV_', labels.symbol_visibility(visibility))} (${visibility})`,
+                st_shndx: of === undefined ? section_word(table, index, item)
+                    : [`section ${of}`, to_section_number(of)],
+            }),
         ],
         blocks: [
             ...(place ? [{ ...place,
@@ -206,7 +204,7 @@ function note_details(item, index, by) {
         fields: [
             field('name', note.name),
             field('n_type', hex(note.n_type), type.startsWith('0x') ? '' : prefixed('NT_', type)),
-            field('n_descsz', note.desc_range.size, bytes_word(note.desc_range.size)), field('from', '', '', of),
+            field('n_descsz', note.desc_range.size, in_bytes(note.desc_range.size)), field('from', '', '', of),
             thread !== undefined && field('thread', thread),
             registers.length > 0 && field('registers', '', 'not proved: read by this page, by numbers'),
             ...registers.map(([register, value]) =>

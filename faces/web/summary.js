@@ -12,7 +12,7 @@ import * as labels from './labels.js';
 import { notes_of } from './notes.js';
 import { is_compressed, parts, titled } from './pieces.js';
 import { has_addresses, symtab_at, to_address, to_section, to_symbol } from './resolve.js';
-import { count, hex, once } from './text.js';
+import { count, hex, in_bytes, once } from './text.js';
 
 const { ET_CORE, ET_REL, SHT_NOBITS, SHT_SYMTAB } = goblin;
 // The most that is shown: of what is largest, of places in a row, of rows of one kind, and of names in a row. And how
@@ -23,7 +23,6 @@ const MACHINES = { 3: 'x86', 8: 'MIPS', 20: 'PowerPC', 21: '64-bit PowerPC', 22:
 
 const row = (name, value, ...links) => ({ name, value: `${value}`, links: links.filter((link) => link) });
 const own = (...given) => ({ ...row(...given), mark: 'not proved' });
-const bytes = (size) => `${count(size)} bytes`;
 const to_segment = (type) => {
     const found = segment_of(type);
     return found && { text: `segment ${found.index}`, to: `segments/${found.index}` };
@@ -100,7 +99,7 @@ function damage() {
 function what_it_is() {
     const { e_entry } = file.elf.header, { kind, stripped } = all_facts(), words = kind_in_words(), also = damage();
     const debug = debug_sections().length > 0 ? 'with debug information' : 'without debug information';
-    const sentence = [`${/^[aeo]/.test(words) ? 'An' : 'A'} ${words} of ${bytes(file.content.length)}`,
+    const sentence = [`${/^[aeo]/.test(words) ? 'An' : 'A'} ${words} of ${in_bytes(file.content.length)}`,
         stripped && kind !== 'object' && 'stripped', kind !== 'core' && sections().length > 0 && debug];
     return [row('kind', sentence.filter(Boolean).join(', ')),
         { ...row('broken', also.length > 0 ? 'yes:'
@@ -133,8 +132,8 @@ function to_build_id() {
 function debug_words() {
     const size_of_all = (all) => all.reduce((sum, { section }) => sum + section.sh_size, 0n), all = debug_sections();
     const packed = size_of_all(all.filter(({ section }) => is_compressed(section))), size = size_of_all(all);
-    const words = packed === size ? ', compressed' : packed ? `, of which ${bytes(packed)} are compressed` : '';
-    return all.length > 0 ? `${bytes(size)}${words}` : 'none in the file';
+    const words = packed === size ? ', compressed' : packed ? `, of which ${in_bytes(packed)} are compressed` : '';
+    return all.length > 0 ? `${in_bytes(size)}${words}` : 'none in the file';
 }
 
 function how_it_was_built() {
@@ -220,9 +219,9 @@ function sizes() {
     const { tops, starts, ends, added } = parts(), of_padding = (sum, top, i) =>
         sum + (top?.kind === 'padding' ? ends[i] - starts[i] : 0), padding = tops.reduce(of_padding, 0);
     return [...Object.entries(all_facts().sizes ?? {}).filter(([, size]) => size > 0n)
-        .map(([name, size]) => row(WORDS[name], bytes(size))), padding > 0 && row('padding', bytes(padding)),
+        .map(([name, size]) => row(WORDS[name], in_bytes(size))), padding > 0 && row('padding', in_bytes(padding)),
     ...added.filter(({ kind }) => kind === 'appended')
-        .map(({ title, start, end, to }) => row(title, bytes(end - start), { text: hex(start), to }))];
+        .map(({ title, start, end, to }) => row(title, in_bytes(end - start), { text: hex(start), to }))];
 }
 
 function largest_sections() {
@@ -231,16 +230,16 @@ function largest_sections() {
     // (the size of section 0 is a number of sections)
     return sections().slice(1).filter(({ section }) => section.sh_size > 0n)
         .sort((a, b) => Number(b.section.sh_size - a.section.sh_size)).slice(0, LARGEST)
-        .map(({ index, section }) => row(`${bytes(section.sh_size)}, ${share(section)}`, '', to_section(index)));
+        .map(({ index, section }) => row(`${in_bytes(section.sh_size)}, ${share(section)}`, '', to_section(index)));
 }
 
 // Returns how much code is in no symbol, and the largest functions. If one has a name of C++, all have a mark.
 async function largest_functions() {
     const { code, rest } = await code_without_symbol(), all = await largest(LARGEST);
     const mark = all.some(({ title, name }) => title !== name) ? 'names of C++ not proved' : undefined;
-    return [code > 0 && row('in no symbol', `${count(rest)} of ${bytes(code)} of code`),
+    return [code > 0 && row('in no symbol', `${count(rest)} of ${in_bytes(code)} of code`),
         ...all.map(({ size, name, title, to }) =>
-            ({ ...row(bytes(size), title === name ? '' : title, { text: name, to }), mark }))];
+            ({ ...row(in_bytes(size), title === name ? '' : title, { text: name, to }), mark }))];
 }
 
 /** Returns the summary: blocks with a title and tables. */

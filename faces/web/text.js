@@ -27,6 +27,7 @@ export function name_of(bytes) {
 
 export const hex = (number) => `0x${number.toString(16)}`;
 export const count = (number) => number.toLocaleString('en');
+export const in_bytes = (size) => `${count(size)} bytes`;
 
 /** Returns a function of a key, or of nothing, that computes each result once. */
 export function once(find) {
