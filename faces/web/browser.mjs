@@ -791,7 +791,8 @@ async function check_goto() {
     await go_by_field('main', 'main');
     assert.equal(await fragment(), main_place);
     await go_by_field('there is no such name');
-    await until_there('#none:not([hidden])');
+    await until_text('#none:not([hidden])',
+        'The file has nothing at that offset or address, and nothing with that name.');
     // Digits without 0x are decimal or hexadecimal. The page says how it reads them, and has a link to the
     // other reading.
     const readings = ['offset 0x64, read as decimal', 'offset 0x100, read as hexadecimal'];
@@ -840,7 +841,7 @@ async function check_many_symbols() {
     const value_of = (i) => i * 7919 % 1000003, symbol = (i) =>
         ({ text: `_ZN5spaceINS_5ClassIiLi${i}${end}`, info: 0x12, shndx: 3, value: value_of(i) });
     const all = Array.from({ length: count }, (_, i) => symbol(i)), [, second] = all.map(({ text }) => text).sort();
-    await pick_written('symbols', symbols_file(all,
+    const path = await pick_written('symbols', symbols_file(all,
         { name: '.text', type: 1, flags: 6, bytes: Buffer.alloc(64) }), 'symbols');
     const timed = async (act) => {
         const { seconds } = browser.cost();
@@ -849,10 +850,10 @@ async function check_many_symbols() {
         assert.ok(taken < 6, `${taken} seconds`);
     };
     const signs = (word) => evaluate(`signs.some((sign) => /^${word} … \\d+ %$/.test(sign))`);
-    const output = one('#panel output');
+    const watch = (selector) => evaluate(`void new MutationObserver(() => signs.push(${one(selector)}.textContent))
+        .observe(${one(selector)}, { childList: true })`);
     await evaluate('void (globalThis.signs = [])');
-    await evaluate(`new MutationObserver(() => signs.push(${output}.textContent))
-        .observe(${output}, { childList: true })`);
+    await watch('#panel output');
     await press_button('Demangle');
     await timed(() => search('class<int, 777>', `1 of ${decimal(count + 1)}`));
     assert.ok(await signs('searching'));
@@ -876,6 +877,11 @@ async function check_many_symbols() {
     await search('Li777E', `1 of ${decimal(count + 1)}`);
     await waited('a saved list', () => readdirSync(browser.downloads).some((name) => name.endsWith('.csv')));
     assert.equal(await text_of('#panel output'), `1 of ${decimal(count + 1)}`);
+    // (the field for a name says that it searches, too, here in names that are not read yet)
+    await pick(path);
+    await watch('#none');
+    await go_by_field('Li777E', all[777].text);
+    assert.deepEqual([await evaluate(`signs.includes('searching …')`), await is_hidden('none')], [true, true]);
 }
 
 // Types that have other names in readelf than in the ABI.

@@ -34,9 +34,13 @@ async function take({ title, to, read }) {
         ...(other ? [', or ', link_to({ text: `${other.title}, ${other.read}`, to: other.to })] : []));
 }
 
+// Says what there is in place of results.
+const NONE = 'The file has nothing at that offset or address, and nothing with that name.', SOON = 100;
+const report = (text) => Object.assign(get('none'), { textContent: text, hidden: !text });
+
 function close() {
     show([]);
-    get('none').hidden = true;
+    report('');
     asked = '';
 }
 
@@ -46,10 +50,12 @@ async function look() {
     if (text === asked) return true;
     asked = text;
     if (!text) { close(); return false; }
+    const slow = setTimeout(() => { if (asked === text) report('searching …'); }, SOON);
     const places = await ask('find', text);
+    clearTimeout(slow);
     if (!places || asked !== text) return false;
     show(places);
-    get('none').hidden = places.length > 0;
+    report(places.length > 0 ? '' : NONE);
     return true;
 }
 
