@@ -832,6 +832,14 @@ async function check_search() {
     await until_active('[role=grid]');
     await browser.press('ArrowDown', 'Enter');
     await until_active('#chosen h2');
+    // (a search in a list that another one replaces before it begins is given up)
+    const { index, size } = sections['.dynsym'], box = one('#panel input');
+    await evaluate(`void (${box}.value = 'init', ${box}.dispatchEvent(new Event('input')))`);
+    await open_list(`symbols/${index}`, decimal(size / 24));
+    await setTimeout(300);
+    await click_row(1);
+    await until(`location.hash.startsWith('#symbols/${index}/')`);
+    assert.equal(await fragment(), `symbols/${index}/1`);
 }
 
 // Searches and sorts of 184,833 symbols of C++, of which the first ones read the names, take a few seconds of a busy

@@ -190,8 +190,9 @@ async function list_panel(mine, wanted) {
     return [bar, mine.below, mine.grid.box];
 }
 
-// Shows the list again, for its search and order.
+// Shows the list again, for its search and order, if it is still the open one.
 async function refresh(mine) {
+    if (open !== mine) return;
     const { name, of, query, column, is_descending, output, below, grid } = mine;
     const word = query ? 'searching' : column || is_descending ? 'sorting' : 'reading';
     output.textContent = `${word} …`;
