@@ -8,11 +8,11 @@ use Rattle.goblin_base.proofs.Common.{arith, suc, ⊎_elim, cases_lt, eq-eqb, eq
 use Rattle.goblin_base.proofs.Common.{mask_l-mod, bit_mask_l, get_or-chunk, length-chunk, list_any_at}
 use Rattle.goblin_base.proofs.Common.{list_any_none, get_or-take, length-take-le, bytes_eq, and_parts, and_from}
 use Rattle.goblin_base.proofs.Common.{same_from_decides, not-true, not_from_false, false_from_ne_true, both_ways}
-use Rattle.goblin_base.proofs.Common.{length-take, tops_compared, w8}
+use Rattle.goblin_base.proofs.Common.{length-take, tops_compared, w8, drop, get_or-drop}
+use Rattle.goblin_base.proofs.Common.{bit_or, ◌||◌, or_parts, zero}
 use Rattle.std.proofs.lemmas.Grind.{get_or_default_zero, same_number_lists}
 use Rattle.std.proofs.lemmas.Simd.{get_or-zip2, length-zip2}
 use Rattle.std.proofs.lemmas.Bool.{not-false}
-use Rattle.std.proofs.lemmas.List.{get_or-replicate, length-replicate}
 use Rattle.std.proofs.lemmas.Slice.Eq.{bytes_eq-Decides}
 use Rattle.std.specs.Bool.{Decides}
 use lib.Lanes.{chunk, mask_l, top, zip2}
@@ -46,46 +46,58 @@ compared_Decides t us vs f g i n few long as_long here there =
           at k (omega (arith, size, l)) ∙ none (i + k) (omega arith) (omega (arith, size, l))))),
     )
 
--- so do two masks of one load of the bytes and of the text
+-- the lanes of two comparisons, one of which is with the delimiter, are those of one that tests either
+either : (x y : Bool) → bit_or (cond x 255 0) (cond y 255 0) ≡ cond (x || y) 255 0
+either true true = refl
+either true false = refl
+either false true = refl
+either false false = refl
+
+either_lane : (n d : ℕ) (us vs : List ℕ) → length us ≡ n → length vs ≡ n
+    → zip2 bit_or (zip2 (λ a b. cond (not (eqb a b)) 255 0) us vs)
+    (zip2 (λ a b. cond (eqb a b) 255 0) vs (replicate n d))
+    ≡ zip2 (λ a b. cond (not (eqb a b) || eqb b d) 255 0) us vs
+either_lane n d [] [] e e' = refl
+either_lane n d [] (v ∷ vs) e e' = absurd (omega (arith, e, e'))
+either_lane n d (u ∷ us) [] e e' = absurd (omega (arith, e, e'))
+either_lane zero d (u ∷ us) (v ∷ vs) e e' = absurd (omega (arith, e))
+either_lane (suc n) d (u ∷ us) (v ∷ vs) e e' =
+    let rest = either_lane n d us vs (omega (arith, e)) (omega (arith, e')) in
+    ap (λ x. x ∷ zip2 bit_or (zip2 (λ a b. cond (not (eqb a b)) 255 0) us vs)
+    (zip2 (λ a b. cond (eqb a b) 255 0) vs (replicate n d))) (either (not (eqb u v)) (eqb v d))
+    ∙ ap (λ xs. cond (not (eqb u v) || eqb v d) 255 0 ∷ xs) rest
+
+-- so does one mask of both comparisons of one load of the bytes and of the text
 pub no_bits_Decide : (d n i : ℕ) (bytes text : List ℕ) → n ≤ 64 → i + n ≤ length bytes → i + n ≤ length text
-    → Decides (eqb (mask_l (map (top 7) (zip2 (λ a b. cond (not (eqb a b)) 255 0) (chunk i n bytes) (chunk i n text)))
-    % 2 ^ 64) 0
-    && eqb (mask_l (map (top 7) (zip2 (λ a b. cond (eqb a b) 255 0) (chunk i n text) (replicate n d))) % 2 ^ 64) 0)
+    → Decides (eqb (mask_l (map (top 7)
+    (zip2 bit_or (zip2 (λ a b. cond (not (eqb a b)) 255 0) (chunk i n bytes) (chunk i n text))
+    (zip2 (λ a b. cond (eqb a b) 255 0) (chunk i n text) (replicate n d)))) % 2 ^ 64) 0)
     (IsAlike d bytes text i (i + n))
 unfolding IsAlike
 no_bits_Decide d n i bytes text few room as_room =
-    let at_text : (k : ℕ) → k < n → get_or (chunk i n text) k 0 ≡ get_or text (i + k) 0 =
-    λ k l. get_or-chunk i n text k 0 l in
-    let differ = compared_Decides (λ a b. not (eqb a b)) (chunk i n bytes) (chunk i n text) (λ k. get_or bytes k 0)
-    (λ k. get_or text k 0) i n few (length-chunk i n bytes room) (length-chunk i n text as_room)
-    (λ k l. get_or-chunk i n bytes k 0 l) at_text in
-    let end = compared_Decides eqb (chunk i n text) (replicate n d) (λ k. get_or text k 0) (λ _. d) i n few
-    (length-chunk i n text as_room) (length-replicate n d) at_text (λ k l. get_or-replicate n k d 0 l) in (
+    let us = chunk i n bytes in
+    let vs = chunk i n text in
+    let long = length-chunk i n bytes room in
+    let as_long = length-chunk i n text as_room in
+    let none = compared_Decides (λ a b. not (eqb a b) || eqb b d) us vs (λ k. get_or bytes k 0)
+    (λ k. get_or text k 0) i n few long as_long
+    (λ k l. get_or-chunk i n bytes k 0 l) (λ k l. get_or-chunk i n text k 0 l) in
+    rw (either_lane n d us vs long as_long) (
       (λ t k le l.
-          let both = and_parts _ _ t in
-          (eqb-true _ _ (not-false _ (differ.0 both.0 k le l)), end.0 both.1 k le l)),
-      (λ alike. and_from _ _
-          (differ.1 (λ k le l. ap not (eq-eqb _ _ (alike k le l).0))) (end.1 (λ k le l. (alike k le l).1))),
+          let both = or_parts _ _ (none.0 t k le l) in
+          (eqb-true _ _ (not-false _ both.0), both.1)),
+      (λ alike. none.1 (λ k le l.
+          ap (λ x. x || eqb (get_or text k 0) d) (ap not (eq-eqb _ _ (alike k le l).0)) ∙ (alike k le l).1)),
     )
 
--- the first and last bytes of a text, if they cover it, are alike exactly if the bytes begin with the text, and it
--- doesn't contain the delimiter
-pub ends_are : (r s : Bool) (d n last : ℕ) (bytes text : List ℕ)
-    → last ≤ n → last + n ≡ length text → length text ≤ length bytes
-    → Decides r (IsAlike d bytes text 0 (0 + n)) → Decides s (IsAlike d bytes text last (last + n))
-    → (r && s) ≡ (bytes_eq (take (length text) bytes) text && is_apart d text)
+-- what decides whether each byte of a text is alike decides whether the bytes begin with it, and it doesn't contain the
+-- delimiter
+whole_is : (r : Bool) (d : ℕ) (bytes text : List ℕ)
+    → length text ≤ length bytes → Decides r (IsAlike d bytes text 0 (length text))
+    → r ≡ (bytes_eq (take (length text) bytes) text && is_apart d text)
 unfolding IsAlike is_apart
-ends_are r s d n last bytes text cover whole room first rest =
+whole_is r d bytes text room covered =
     let size = length-take-le (length text) bytes room in
-    let covered : Decides (r && s) (IsAlike d bytes text 0 (length text)) = (
-      (λ t k low l.
-          let both = and_parts r s t in
-          ⊎_elim (λ (m : k < n). first.0 both.0 k low (omega arith))
-          (λ (m : n ≤ k). rest.0 both.1 k (omega arith) (omega arith))
-          (cases_lt k n)),
-      (λ alike. and_from r s
-          (first.1 (λ k low l. alike k low (omega arith))) (rest.1 (λ k low l. alike k (omega arith) (omega arith)))),
-    ) in
     let begins : Decides (bytes_eq (take (length text) bytes) text && is_apart d text)
     (IsAlike d bytes text 0 (length text)) = (
       (λ t k low l.
@@ -102,6 +114,66 @@ ends_are r s d n last bytes text cover whole room first rest =
           ap (λ x. eqb x d) (get_or_default_zero text k e l) ∙ (alike k (omega arith) l).1)))),
     ) in
     same_from_decides _ _ covered begins
+
+-- so do the first and last bytes of a text, if they cover it
+pub ends_are : (r s : Bool) (d n last : ℕ) (bytes text : List ℕ)
+    → last ≤ n → last + n ≡ length text → length text ≤ length bytes
+    → Decides r (IsAlike d bytes text 0 (0 + n)) → Decides s (IsAlike d bytes text last (last + n))
+    → (r && s) ≡ (bytes_eq (take (length text) bytes) text && is_apart d text)
+unfolding IsAlike
+ends_are r s d n last bytes text cover whole room first rest =
+    whole_is (r && s) d bytes text room (
+      (λ t k low l.
+          let both = and_parts r s t in
+          ⊎_elim (λ (m : k < n). first.0 both.0 k low (omega arith))
+          (λ (m : n ≤ k). rest.0 both.1 k (omega arith) (omega arith))
+          (cases_lt k n)),
+      (λ alike. and_from r s
+          (first.1 (λ k low l. alike k low (omega arith))) (rest.1 (λ k low l. alike k (omega arith) (omega arith)))),
+    )
+
+-- and those a step from them, with them
+pub quarters_are : (p q r s : Bool) (d n last step : ℕ) (bytes text : List ℕ)
+    → step ≤ last → step ≤ n → last ≤ step + step + n → last + n ≡ length text → length text ≤ length bytes
+    → Decides p (IsAlike d bytes text step (step + n))
+    → Decides q (IsAlike d bytes text (last - step) (last - step + n))
+    → Decides r (IsAlike d bytes text 0 (0 + n)) → Decides s (IsAlike d bytes text last (last + n))
+    → (((p && q) && r) && s) ≡ (bytes_eq (take (length text) bytes) text && is_apart d text)
+unfolding IsAlike
+quarters_are p q r s d n last step bytes text inner few cover whole room second third first fourth =
+    whole_is (((p && q) && r) && s) d bytes text room (
+      (λ t k low l.
+          let three = and_parts ((p && q) && r) s t in
+          let two = and_parts (p && q) r three.0 in
+          let both = and_parts p q two.0 in
+          ⊎_elim (λ (m : k < n). first.0 two.1 k low (omega arith))
+          (λ (m : n ≤ k). ⊎_elim (λ (m' : k < step + n). second.0 both.0 k (omega arith) (omega arith))
+          (λ (m' : step + n ≤ k). ⊎_elim
+          (λ (e : k < last - step + n). third.0 both.1 k (omega arith) (omega arith))
+          (λ (e : last - step + n ≤ k). fourth.0 three.1 k (omega arith) (omega arith))
+          (cases_lt k (last - step + n)))
+          (cases_lt k (step + n)))
+          (cases_lt k n)),
+      (λ alike. and_from ((p && q) && r) s
+          (and_from (p && q) r
+          (and_from p q (second.1 (λ k low l. alike k (omega arith) (omega arith)))
+          (third.1 (λ k low l. alike k (omega arith) (omega arith))))
+          (first.1 (λ k low l. alike k low (omega arith))))
+          (fourth.1 (λ k low l. alike k (omega arith) (omega arith)))),
+    )
+
+-- bytes whose first is another don't begin with a text
+pub first_differs : (bytes text : List ℕ) (o : ℕ)
+    → 0 < length text → (get_or text 0 0 == get_or bytes o 0) ≡ false
+    → bytes_eq (take (length text) (drop o bytes)) text ≡ false
+first_differs bytes text o some differ =
+    false_from_ne_true _ (λ t.
+    let same = (bytes_eq-Decides (take (length text) (drop o bytes)) text).0 t in
+    let place : o + 0 ≡ o = omega arith in
+    let first : get_or text 0 0 ≡ get_or bytes o 0 =
+    sym (ap (λ xs. get_or xs 0 0) same) ∙ get_or-take (length text) (drop o bytes) 0 0 some ∙ get_or-drop o bytes 0 0
+    ∙ ap (λ i. get_or bytes i 0) place in
+    both_ways _ differ (eq-eqb _ _ first))
 
 -- bytes that are fewer than those of a text don't begin with it
 pub too_few : (bytes text : List ℕ) → length bytes < length text → bytes_eq (take (length text) bytes) text ≡ false

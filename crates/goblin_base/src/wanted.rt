@@ -105,9 +105,13 @@ pub fn is_piece(bytes: &[u8], delim: u8, offset: usize, text: &[u8]) -> bool
 /// not. It does not if the text contains the delimiter, or if the offset is not below the number of bytes.
 ///
 /// It reads no more of the piece than the text has.
-#[tactic(auto, using(crate::proofs::WantedLemmas::piece_begins, crate::proofs::Common::take_rest))]
+#[tactic(auto, using(crate::proofs::WantedLemmas::piece_begins, crate::proofs::Common::take_rest, crate::proofs::AlikeLemmas::first_differs))]
 pub fn starts_piece(bytes: &[u8], delim: u8, offset: usize, text: &[u8]) -> bool
     ensures { result ≡ starts_piece bytes.now delim offset text.now }
 {
-    offset < bytes.len() && begins_apart(&bytes[offset..], delim, text)
+    // (where many strings begin with another byte, this takes a fraction of the time of comparing them)
+    if offset >= bytes.len() || !text.is_empty() && text[0] != bytes[offset] {
+        return false;
+    }
+    begins_apart(&bytes[offset..], delim, text)
 }
