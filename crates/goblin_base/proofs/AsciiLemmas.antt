@@ -48,44 +48,44 @@ run_is d v z r long lanes found =
     ∙ ap (λ m. lowest_set m 16) mask
     ∙ first
 
--- what stands before the first byte of a kind, from an offset on: it ends in the next 16 bytes, or goes on after them
-pub stops_here : (test : ℕ → Bool) (bytes : List ℕ) (at : ℕ)
-    → at + 16 ≤ length bytes → position_or_len test (take 16 (drop at bytes)) < 16
-    → position_or_len test (drop at bytes) ≡ position_or_len test (take 16 (drop at bytes))
-stops_here test bytes at room short =
+-- what stands before the first byte of a kind, from an offset on: it ends in the next n bytes, or goes on after them
+pub stops_here : (n : ℕ) (test : ℕ → Bool) (bytes : List ℕ) (at : ℕ)
+    → at + n ≤ length bytes → position_or_len test (take n (drop at bytes)) < n
+    → position_or_len test (drop at bytes) ≡ position_or_len test (take n (drop at bytes))
+stops_here n test bytes at room short =
     let p : ℕ → Bool = λ b. not (test b) in
-    let split : drop at bytes ≡ chunk at 16 bytes ++ drop (at + 16) bytes = chunk-drop at 16 bytes in
-    let long : length (chunk at 16 bytes) ≡ 16 = length-chunk at 16 bytes room in
-    let not_all : ¬ (prefix_len p (chunk at 16 bytes) ≡ length (chunk at 16 bytes)) =
+    let split : drop at bytes ≡ chunk at n bytes ++ drop (at + n) bytes = chunk-drop at n bytes in
+    let long : length (chunk at n bytes) ≡ n = length-chunk at n bytes room in
+    let not_all : ¬ (prefix_len p (chunk at n bytes) ≡ length (chunk at n bytes)) =
     λ e. absurd (omega (arith, e, long, short)) in
     ap (prefix_len p) split
-    ∙ prefix_len-append p (chunk at 16 bytes) (drop (at + 16) bytes)
+    ∙ prefix_len-append p (chunk at n bytes) (drop (at + n) bytes)
     ∙ cond-false _ _ _ (ne_eqb _ _ not_all)
 
-pub passes_on : (test : ℕ → Bool) (bytes : List ℕ) (at : ℕ)
-    → at + 16 ≤ length bytes → 16 ≤ position_or_len test (take 16 (drop at bytes))
-    → position_or_len test (drop at bytes) ≡ 16 + position_or_len test (drop (at + 16) bytes)
-passes_on test bytes at room all =
+pub passes_on : (n : ℕ) (test : ℕ → Bool) (bytes : List ℕ) (at : ℕ)
+    → at + n ≤ length bytes → n ≤ position_or_len test (take n (drop at bytes))
+    → position_or_len test (drop at bytes) ≡ n + position_or_len test (drop (at + n) bytes)
+passes_on n test bytes at room all =
     let p : ℕ → Bool = λ b. not (test b) in
-    let split : drop at bytes ≡ chunk at 16 bytes ++ drop (at + 16) bytes = chunk-drop at 16 bytes in
-    let long : length (chunk at 16 bytes) ≡ 16 = length-chunk at 16 bytes room in
-    let whole : prefix_len p (chunk at 16 bytes) ≡ length (chunk at 16 bytes) =
-    omega (arith, long, all, prefix_len-le-length p (chunk at 16 bytes)) in
+    let split : drop at bytes ≡ chunk at n bytes ++ drop (at + n) bytes = chunk-drop at n bytes in
+    let long : length (chunk at n bytes) ≡ n = length-chunk at n bytes room in
+    let whole : prefix_len p (chunk at n bytes) ≡ length (chunk at n bytes) =
+    omega (arith, long, all, prefix_len-le-length p (chunk at n bytes)) in
     ap (prefix_len p) split
-    ∙ prefix_len-append p (chunk at 16 bytes) (drop (at + 16) bytes)
+    ∙ prefix_len-append p (chunk at n bytes) (drop (at + n) bytes)
     ∙ cond-true _ _ _ (eq-eqb _ _ whole)
-    ∙ ap (λ n. n + prefix_len p (drop (at + 16) bytes)) long
+    ∙ ap (λ m. m + prefix_len p (drop (at + n) bytes)) long
 
 -- so it is with a run
 pub ends_here : (d : ℕ) (bytes : List ℕ) (at : ℕ)
     → at + 16 ≤ length bytes → position_or_len (ends_run d) (take 16 (drop at bytes)) < 16
     → position_or_len (ends_run d) (drop at bytes) ≡ position_or_len (ends_run d) (take 16 (drop at bytes))
-ends_here d = stops_here (ends_run d)
+ends_here d = stops_here 16 (ends_run d)
 
 pub goes_on : (d : ℕ) (bytes : List ℕ) (at : ℕ)
     → at + 16 ≤ length bytes → 16 ≤ position_or_len (ends_run d) (take 16 (drop at bytes))
     → position_or_len (ends_run d) (drop at bytes) ≡ 16 + position_or_len (ends_run d) (drop (at + 16) bytes)
-goes_on d = passes_on (ends_run d)
+goes_on d = passes_on 16 (ends_run d)
 
 pub ruleset runs = (ends_here, goes_on, first_or_length, take_rest)
 
@@ -93,19 +93,19 @@ pub ruleset runs = (ends_here, goes_on, first_or_length, take_rest)
 pub before_here : (d : ℕ) (bytes : List ℕ) (at : ℕ)
     → at + 16 ≤ length bytes → position_or_len (λ b. b == d) (take 16 (drop at bytes)) < 16
     → position_or_len (λ b. b == d) (drop at bytes) ≡ position_or_len (λ b. b == d) (take 16 (drop at bytes))
-before_here d = stops_here (λ b. b == d)
+before_here d = stops_here 16 (λ b. b == d)
 
 pub ruleset stops = (before_here, first_or_length, take_rest)
 
 -- the lowest bit of a mask of the delimiters is at the first of them
-pub delim_is : (d : ℕ) (v : List ℕ) (mask r : ℕ)
-    → length v ≡ 16 → mask ≡ mask_l (map (λ b. eqb b d) v) → r ≡ lowest_set mask 16
+pub delim_is : (n d : ℕ) (v : List ℕ) (mask r : ℕ)
+    → length v ≡ n → n ≤ 64 → mask ≡ mask_l (map (λ b. eqb b d) v) → r ≡ lowest_set mask n
     → r ≡ position_or_len (λ b. b == d) v
-delim_is d v mask r long marked found =
-    let first : lowest_set (mask_l (map (λ b. eqb b d) v)) 16 ≡ position_or_len (λ b. b == d) v =
-    first_set_mask_l (λ b. eqb b d) v 16 long (omega arith) in
+delim_is n d v mask r long few marked found =
+    let first : lowest_set (mask_l (map (λ b. eqb b d) v)) n ≡ position_or_len (λ b. b == d) v =
+    first_set_mask_l (λ b. eqb b d) v n long few in
     found
-    ∙ ap (λ m. lowest_set m 16) marked
+    ∙ ap (λ m. lowest_set m n) marked
     ∙ first
 
 -- the bytes of a run, and the one that ends it

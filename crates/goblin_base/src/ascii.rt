@@ -56,7 +56,7 @@ pub(crate) fn len_before(bytes: &[u8], delim: u8) -> usize
 {
     let mut at = 0;
     while LANES <= bytes.len() - at {
-        let len = len_in(bytes, at, delim);
+        let len = len_in::<LANES>(bytes, at, delim);
         if len < LANES {
             return at + len;
         }
@@ -66,14 +66,36 @@ pub(crate) fn len_before(bytes: &[u8], delim: u8) -> usize
     at + position(rest, delim).unwrap_or(rest.len())
 }
 
-// Does the same for the sixteen bytes at an offset. Returns 16 if none of them is the delimiter.
+/// Returns the same. Most strings end in the first 112 bytes, which take three branches in place of seven.
 #[inline(always)]
-fn len_in(bytes: &[u8], at: usize, delim: u8) -> usize
-    requires { at + LANES ≤ length bytes.now }
-    ensures { result ≡ position_or_len (λ b. b == delim) (take LANES (drop at bytes.now)) }
+pub(crate) fn short_len_before(bytes: &[u8], delim: u8) -> usize
+    ensures { result ≡ position_or_len (λ b. b == delim) bytes.now }
 {
-    let lanes = u8x16::from_slice(&bytes[at..]);
-    lowest_set(lanes.simd_eq(u8x16::splat(delim)).to_bitmask(), LANES)
+    if bytes.len() >= 112 {
+        let len = len_in::<16>(bytes, 0, delim);
+        if len < 16 {
+            return len;
+        }
+        let len = len_in::<32>(bytes, 16, delim);
+        if len < 32 {
+            return 16 + len;
+        }
+        let len = len_in::<64>(bytes, 48, delim);
+        if len < 64 {
+            return 48 + len;
+        }
+    }
+    len_before(bytes, delim)
+}
+
+// Does the same for the N bytes at an offset. Returns N if none of them is the delimiter.
+#[inline(always)]
+fn len_in<const N: usize>(bytes: &[u8], at: usize, delim: u8) -> usize
+    requires { (N ≤ 64) × (at + N ≤ length bytes.now) }
+    ensures { result ≡ position_or_len (λ b. b == delim) (take N (drop at bytes.now)) }
+{
+    let lanes = Simd::<u8, N>::from_slice(&bytes[at..]);
+    lowest_set(lanes.simd_eq(Simd::splat(delim)).to_bitmask(), N)
 }
 
 // Returns the index of the lowest bit that is set, or `other` if none is.

@@ -15,7 +15,7 @@ ghost use Rattle.goblin_base.specs.StrtabLaws.{ClosedForm, DependsOnRange, Digit
 ghost use Rattle.goblin_base.specs.StrtabLaws.{PermissiveAccepts, StrictIsPermissive, StrictLookUpIsPlain, TextIsUtf8};
 ghost use Rattle.goblin_base.specs.StrtabLaws.{NamesArePlain, TextIsTaken};
 
-use crate::ascii::{ascii_piece, len_before};
+use crate::ascii::{ascii_piece, len_before, short_len_before};
 use crate::entries::{Entries, Looked, Probes};
 use crate::error::{Error, Result};
 use crate::find::find;
@@ -75,6 +75,16 @@ pub fn piece_len(bytes: &[u8], offset: usize, delim: u8) -> usize
     ensures { result ≡ length (piece bytes.now delim offset) }
 {
     len_before(&bytes[offset..], delim)
+}
+
+/// Returns the same as [`piece_len`], for a caller that asks for many strings, most of them of up to 111 bytes.
+#[inline(always)]
+#[tactic(auto, using(crate::proofs::StrtabLemmas::rests), unfolding(crate::specs::Pieces::piece))]
+pub fn short_piece_len(bytes: &[u8], offset: usize, delim: u8) -> usize
+    requires { offset ≤ length bytes.now }
+    ensures { result ≡ length (piece bytes.now delim offset) }
+{
+    short_len_before(&bytes[offset..], delim)
 }
 
 // Returns the offset of the first delimiter.

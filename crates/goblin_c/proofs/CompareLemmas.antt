@@ -6,7 +6,8 @@ use Rattle.goblin_c.proofs.Common.{◌≡◌, ◌+◌, ◌<◌, ◌≤◌, ◌>>
 use Rattle.goblin_c.proofs.Common.{List, length, Option, Some, None, Result, Ok, refl, subst, arith}
 use Rattle.goblin_c.proofs.Common.{nat_tests, piece, RefusalAt, GoblinRange, strings_expected}
 use Rattle.std.proofs.lemmas.Slice.Eq.{bytes_eq-Decides}
-use Rattle.std.specs.Prelude.{IsErr, slice_range}
+use Rattle.std.specs.Prelude.{IsErr, drop, take}
+use Rattle.std.proofs.lemmas.List.{drop-take}
 use Rattle.std.specs.Str.{is_utf8}
 use Rattle.goblin_base.specs.Strtab.{has_name, range_in}
 use Rattle.goblin_base.specs.Wanted.{is_piece, starts_piece}
@@ -68,9 +69,9 @@ strings_are_compared = record {
 -- a range that lies in the file has its bytes, and any other is refused
 pub inside_is : (bytes : List ℕ) (range : GoblinRange)
     → range.offset + range.size ≤ length bytes
-    → strings_expected bytes range ≡ Ok (slice_range bytes range.offset (range.offset + range.size))
+    → strings_expected bytes range ≡ Ok (drop range.offset (take (range.offset + range.size) bytes))
 unfolding range_in
-inside_is bytes range within = grind (arith, nat_tests)
+inside_is bytes range within = grind (arith, nat_tests, drop-take)
 
 pub outside_is : (bytes : List ℕ) (range : GoblinRange)
     → length bytes < range.offset + range.size → IsErr (strings_expected bytes range)

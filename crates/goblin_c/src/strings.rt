@@ -1,6 +1,7 @@
 //! Strings: where they lie in the file, and what they are.
-ghost use Rattle.std.specs.Prelude.{◌≡◌, ◌+◌, ◌≤◌, ◌<◌, Ok, IfOk, IsErr, IsErrAnd, MatchOption, length, map, take};
-ghost use Rattle.goblin_base.specs.Pieces.{piece};
+ghost use Rattle.std.specs.Prelude.{◌≡◌, ◌+◌, ◌≤◌, if◌then◌else◌, Ok, IfOk, IfSome, IsErr, IsErrAnd, MatchOption};
+ghost use Rattle.std.specs.Prelude.{drop, length, map, take};
+ghost use Rattle.goblin_base.specs.Wanted.{is_piece, starts_piece};
 ghost use Rattle.goblin_c.specs.Bytes.{IsCString, string_bytes_expected, string_closed_expected};
 ghost use Rattle.goblin_c.specs.Refused.{Returns};
 ghost use Rattle.goblin_c.specs.Expected.{string_expected, string_is_expected, string_starts_expected, strings_expected};
@@ -13,10 +14,7 @@ use crate::status::{refuse, status_of, store};
 use crate::types::{GoblinRange, GoblinRefusal};
 use goblin::options::ParseMode;
 use goblin::strtab;
-use goblin::strtab::{bytes_in_range, is_piece, piece_len, starts_piece};
-
-// The most bytes of a short string and of the zero byte after it.
-const SHORT: usize = 32;
+use goblin::strtab::{bytes_in_range, is_piece, piece_len, short_piece_len, starts_piece};
 
 /// Returns the bytes of a string table.
 #[tactic(auto, unfolding(goblin_base::specs::Strtab::range_in))]
@@ -66,19 +64,21 @@ pub extern "C" fn goblin_string(
     store(string_at(bytes, strings, offset), string, why)
 }
 
-// Returns the bytes of a string table that lies in the file, without the steps that prepare a refusal.
+// Returns the bytes of the file up to the end of a string table that lies in it, without the steps that prepare a
+// refusal.
 #[inline(always)]
 #[tactic(auto, using(crate::proofs::CompareLemmas::inside))]
-fn table_inside<'a>(bytes: &'a [u8], range: &GoblinRange) -> Option<&'a [u8]>
-    ensures { MatchOption result
+fn up_to_table_end<'a>(bytes: &'a [u8], range: &GoblinRange) -> Option<&'a [u8]>
+    ensures value { MatchOption result
         (IsErr (strings_expected bytes.now range.now))
-        (λ strings. strings_expected bytes.now range.now ≡ Ok strings.now) }
+        (λ file. strings_expected bytes.now range.now ≡ Ok (drop range.now.offset file.now)) }
+    ensures fits { IfSome result (λ file. range.now.offset ≤ length file.now) }
 {
-    let (end, overflow) = range.offset.overflowing_add(range.size);
-    if overflow || end > bytes.len() as u64 {
+    let end = range.offset.saturating_add(range.size);
+    if end > bytes.len() as u64 {
         return None;
     }
-    Some(&bytes[range.offset as usize..end as usize])
+    Some(&bytes[..end as usize])
 }
 
 // Stores the refusal of a string table that doesn't lie in the file. Returns the number of its kind.
@@ -95,6 +95,25 @@ fn refuse_table(bytes: &[u8], range: &GoblinRange, why: &mut GoblinRefusal) -> u
     }
 }
 
+// Reports whether the string at an offset of the table from a start of these bytes on is a name. It stands apart, and
+// takes its arguments in the order of the call. So the call saves no register, and moves few.
+#[inline(never)]
+fn piece_status(file: &[u8], start: usize, offset: usize, name: &[u8]) -> u32
+    requires { start ≤ length file.now }
+    ensures { result ≡ (if is_piece (drop start file.now) 0 offset name.now then OK else END) }
+{
+    status_of(is_piece(&file[start..], 0, offset, name))
+}
+
+// Reports whether it starts with some bytes.
+#[inline(never)]
+fn start_status(file: &[u8], start: usize, offset: usize, bytes: &[u8]) -> u32
+    requires { start ≤ length file.now }
+    ensures { result ≡ (if starts_piece (drop start file.now) 0 offset bytes.now then OK else END) }
+{
+    status_of(starts_piece(&file[start..], 0, offset, bytes))
+}
+
 /// Reports whether the string at an offset of a string table is a name.
 #[unsafe(no_mangle)]
 pub extern "C" fn goblin_string_is(
@@ -107,8 +126,8 @@ pub extern "C" fn goblin_string_is(
     ensures { Reports (string_is_expected bytes.now strings.now offset name.now)
         why.old result why.new }
 {
-    match table_inside(bytes, strings) {
-        Some(table) => status_of(is_piece(table, 0, offset as usize, name)),
+    match up_to_table_end(bytes, strings) {
+        Some(file) => piece_status(file, strings.offset as usize, offset as usize, name),
         None => refuse_table(bytes, strings, why),
     }
 }
@@ -125,8 +144,8 @@ pub extern "C" fn goblin_string_starts(
     ensures { Reports (string_starts_expected bytes.now strings.now offset start.now)
         why.old result why.new }
 {
-    match table_inside(bytes, strings) {
-        Some(table) => status_of(starts_piece(table, 0, offset as usize, start)),
+    match up_to_table_end(bytes, strings) {
+        Some(file) => start_status(file, strings.offset as usize, offset as usize, start),
         None => refuse_table(bytes, strings, why),
     }
 }
@@ -168,24 +187,6 @@ pub extern "C" fn goblin_string_closed(
     store(closed_string_at(bytes, strings, offset), string, why)
 }
 
-// Returns the length of the string at an offset of a table. Most strings are short, so the first bytes are searched
-// before the others.
-#[inline(always)]
-#[tactic(auto, using(crate::proofs::PieceLemmas::pieces))]
-fn string_len(table: &[u8], start: usize) -> usize
-    requires { start < length table.now }
-    ensures { result ≡ length (piece table.now 0 start) }
-{
-    if table.len() - start < SHORT {
-        return piece_len(table, start, 0);
-    }
-    let len = piece_len(&table[start..start + SHORT], 0, 0);
-    if len < SHORT {
-        return len;
-    }
-    SHORT + piece_len(table, start + SHORT, 0)
-}
-
 /// Stores the ranges that `goblin_string_bytes` stores at some offsets, in their order, up to the first offset at which
 /// it stores none. The string table is tested once.
 #[unsafe(no_mangle)]
@@ -219,7 +220,7 @@ pub extern "C" fn goblin_strings(
         }
         ranges[i] = GoblinRange {
             offset: place + start as u64,
-            size: string_len(table, start) as u64,
+            size: short_piece_len(table, start, 0) as u64,
         };
     }
     *filled = count as u64;

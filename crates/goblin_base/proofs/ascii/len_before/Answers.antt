@@ -13,5 +13,5 @@ loop-at-preserved c =
     ≡ at + 16 + position_or_len test (drop (at + 16) bytes) = omega arith in
     record {
       within = room;
-      so_far = c.loop-at.invariant.so_far ∙ ap (λ n. at + n) (passes_on test bytes at room all) ∙ more;
+      so_far = c.loop-at.invariant.so_far ∙ ap (λ n. at + n) (passes_on 16 test bytes at room all) ∙ more;
     }

@@ -16,10 +16,10 @@ loop-i-preserved c =
     let offset = get_or c.args.offsets.now l.i 0 in
     let f = string_bytes_expected bytes strings in
     let results = map f (take (length c.args.ranges.now) c.args.offsets.now) in
-    let string : GoblinRange = record { offset = strings.offset + offset; size = c.string_len.result } in
+    let string : GoblinRange = record { offset = strings.offset + offset; size = c.short_piece_len.result } in
     let is : f offset ≡ Ok (Some string) =
-    bytes_there bytes strings offset c.in-Ok.table.now c.string_len.result c.in-Ok.ensures.given c.if-start-table.false
-    c.string_len.ensures in
+    bytes_there bytes strings offset c.in-Ok.table.now c.short_piece_len.result c.in-Ok.ensures.given
+    c.if-start-table.false c.short_piece_len.ensures in
     let found : slice_get results l.i ≡ Some (Ok (Some string)) =
     result_at f (length c.args.ranges.now) c.args.offsets.now l.i offset 0 refl (omega arith) ∙ ap Some is in
     record {
