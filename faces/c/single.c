@@ -1,14 +1,15 @@
-/* Makes calls for one item, for checks/faces/c.sh, which counts their instructions: single FILE
+/* Makes calls for one item, for checks/faces/c.sh, which counts their instructions: single [FILE]
    It reads the header of a 64-bit file, each section header, each symbol and each relocation of its longest tables, its
    first note, and the first name of a section. It finds the names of the symbols one by one and 64 at once, and
-   compares each with a name and with a start. It prints each call and how many items it found or compared. */
+   compares each with a name and with a start. It prints each call and how many items it found or compared.
+   Without a FILE it makes names of 4 to 67 bytes. It finds them in both ways, and compares each with itself. */
 #include "goblin.h"
 #include <inttypes.h>
 #include <stdio.h>
 #include <stdlib.h>
 #include <string.h>
 
-enum { ROUNDS = 100, ROOM = 1 << 24, MOST = 1 << 16 };
+enum { ROUNDS = 100, ROOM = 1 << 24, MOST = 1 << 16, LEAST = 4, LENGTHS = 64, NAMES = 1 << 10 };
 
 static uint8_t *bytes;
 static size_t len;
@@ -65,6 +66,28 @@ static bool count_strings(const goblin_section_t *table) {
     return true;
 }
 
+/* Finds names that are made, and compares each with itself, by the calls and as plain C does. */
+static int count_made(void) {
+    uint64_t offsets[NAMES], place = 0, singles = 0, found = 0, filled = 0, same = 0;
+    goblin_range_t all = {0, ROOM}, name, ranges[64];
+    len = ROOM;
+    memset(bytes, 0, ROOM);
+    for (size_t i = 0; i < NAMES; i++) {
+        size_t size = LEAST + i % LENGTHS;
+        offsets[i] = place;
+        memset(bytes + place, 'a', size);
+        singles += goblin_string_bytes(bytes, len, &all, place, &name, &why) == GOBLIN_OK && name.size == size;
+        same += goblin_string_is(bytes, len, &all, place, bytes + place, size, &why) == GOBLIN_OK;
+        same += plain_is(all, place, bytes + place, size);
+        place += size + 1;
+    }
+    while (found < NAMES && !goblin_strings(bytes, len, &all, offsets + found, 64, ranges, 64, &filled, &why)
+           && ranges[63].size == LEAST + LENGTHS - 1)
+        found += filled;
+    printf("plain_is %d\ngoblin_string_bytes %d\ngoblin_strings %d\ngoblin_string_is %d\n", NAMES, NAMES, NAMES, NAMES);
+    return singles == NAMES && found == NAMES && same == 2 * NAMES ? EXIT_SUCCESS : EXIT_FAILURE;
+}
+
 static int count_calls(void) {
     uint64_t headers = 0, sections = 0, symbols = 0, relocs = 0, notes = 0, strings = 0;
     goblin_section_t section, names, table = longest(GOBLIN_SHT_SYMTAB), relas = longest(GOBLIN_SHT_RELA),
@@ -96,6 +119,7 @@ static int count_calls(void) {
 int main(int argc, char **argv) {
     FILE *file = argc == 2 ? fopen(argv[1], "rb") : NULL;
     bytes = (uint8_t *)malloc(ROOM);
+    if (argc == 1 && bytes) return count_made();
     if (!file || !bytes) return EXIT_FAILURE;
     len = fread(bytes, 1, ROOM, file);
     fclose(file);
