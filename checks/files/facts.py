@@ -29,6 +29,9 @@ file of another one. The rules:
 - A core has neither canary, control_flow, stripped nor compilers, and a debug file nothing of what PT_DYNAMIC, PT_INTERP, other segments and
   control_flow and canary say: these are null.
 - What can't be read since the file does not hold it is null, and named in `unknown`, in the order of the facts.
+- So is what needs more than a face reads: 131,072 segments, 1,048,576 sections, 4,096 entries of the dynamic section, 4,095 bytes of a text, 64
+  of a build ID, 65,536 of .comment or of the note of control_flow, 65,536 notes (a segment or section of notes counts as one), and 64 names of
+  canaries in the strings of a table.
 """
 import json
 import os

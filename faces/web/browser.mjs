@@ -303,7 +303,7 @@ async function check_summary() {
     assert.deepEqual(['read-only relocations', 'stack', 'stack canary', 'stripped'].map((name) => of(name)[0]),
         ['partial, segment 12', 'not executable, segment 11', 'yes, __stack_chk_fail', 'no, .symtab']);
     const cut = Object.fromEntries(await facts(join(stored, 'facts', 'cut_dynamic'))),
-        unknown = 'unknown, the file does not hold it';
+        unknown = 'unknown: not in the file, or more than is read';
     assert.deepEqual([cut.libraries, cut['stack canary'], cut.stack], [unknown, unknown, 'not executable, segment 8']);
     for (const [name, , mark] of rows)
         assert.equal(mark, /^(symbol versions|control-flow marks|debug file)$/.test(name) ? 'not proved' : '', name);
@@ -1089,7 +1089,7 @@ async function check_plain_words() {
     assert.match(await text_of('#panel .plainly'),
         /^The section headers begin at 0x1800, the file ends at 0x1000: it is cut/);
     assert.ok((await facts(join(folder, 'short')))
-        .some(([, value]) => value === 'unknown, the file does not hold it'));
+        .some(([, value]) => value === 'unknown: not in the file, or more than is read'));
     await click('#example');
     await until_text('#file b', 'example');
     assert.match(await text_of('#file'), /program at fixed addresses for x86-64/);

@@ -3,13 +3,14 @@
 // and what the bytes of a note say, is not proved.
 import * as goblin from './goblin.js';
 import { read_or } from './file.js';
-import { name_of, NAME, once } from './text.js';
+import { once, text_of } from './text.js';
 
 const { DT_BIND_NOW, DT_DEBUG, DT_FLAGS, DT_FLAGS_1, ET_CORE, ET_DYN, ET_EXEC, ET_REL, PF_W, PF_X, PT_INTERP,
     SHT_NOBITS, SHT_NOTE, SHT_SYMTAB } = goblin;
-// The most that is read: entries, notes, bytes of a build ID, of .comment and of strings, and names of canaries.
-const MOST_ENTRIES = 10000, MOST_NOTES = 100000, MOST_ID = 64, MOST_COMMENT = 1 << 16, MOST_TEXT = 1 << 28,
-    MOST_NAMES = 64;
+// The most that is read: sections, segments, entries, notes, bytes of a text, of a build ID, of .comment or the marks
+// of a note, and of strings, and names of canaries. A fact that needs more is unknown.
+const MOST_SECTIONS = 1 << 20, MOST_SEGMENTS = 1 << 17, MOST_ENTRIES = 4096, MOST_NOTES = 1 << 16, MOST_TEXT = 4095,
+    MOST_ID = 64, MOST_COMMENT = 1 << 16, MOST_STRINGS = 1 << 28, MOST_NAMES = 64;
 const BUILD_ID = 3, PROPERTY = 5, LINKER = /^(Linker:|LLD|GNU ld|GNU gold|mold)/;
 const CANARY = /__stack_chk_(?:fail_local|fail|guard)(?:@[^\0]{0,255})?/g;
 // The property that marks control-flow enforcement, and the names of its bits.
@@ -20,16 +21,29 @@ const LOADED = ['interpreter', 'pie', 'nx', 'relro', 'bind_now', 'writable_code'
 const LACKS = { object: LOADED, other: LOADED, core: [...LOADED, 'canary', 'control_flow', 'compilers', 'stripped'],
     'debug file': [...LOADED, 'soname', 'rpath', 'runpath', 'needed', 'canary', 'control_flow'] };
 
-const known = (read) => read_or(undefined, read);
+// Thrown where a fact needs more than is read.
+class Unknown extends Error {}
+function within(most, found) {
+    if (found.length > most) throw new Unknown();
+    return found;
+}
+// Returns the result of reading a part, or nothing if it is refused or needs more than is read.
+function known(read) {
+    try {
+        return read_or(undefined, read);
+    } catch (error) {
+        if (!(error instanceof Unknown)) throw error;
+        return undefined;
+    }
+}
 const of_type = (file, type) => file.segments().filter(({ p_type }) => p_type === type);
 const is_static = (file) => file.kind === 'program' && of_type(file, PT_INTERP).length === 0;
-const bytes_of = ({ bytes }, { offset, size }, most) =>
-    bytes.subarray(Number(offset), Number(offset + size)).subarray(0, most);
+const bytes_of = ({ bytes }, { offset, size }) => bytes.subarray(Number(offset), Number(offset + size));
 
 // Returns the entries of the dynamic section, unless its bytes are in another file.
-function entries_of({ elf, segments }) {
-    const segment = segments().find(({ p_type }) => p_type === goblin.PT_DYNAMIC);
-    return segment?.p_filesz === 0n ? undefined : elf.dynamic(MOST_ENTRIES);
+function entries_of({ elf }) {
+    const segment = elf.program_headers().find(({ p_type }) => p_type === goblin.PT_DYNAMIC);
+    return segment?.p_filesz === 0n ? undefined : within(MOST_ENTRIES, elf.dynamic(MOST_ENTRIES + 1));
 }
 const values_of = (entries, tag) => entries.filter(({ d_tag }) => d_tag === tag).map(({ d_val }) => d_val);
 const has_flag = (entries, tag, flag) => ((values_of(entries, tag)[0] ?? 0n) & flag) !== 0n;
@@ -56,24 +70,28 @@ function *holders_of(file) {
 function note_of(file, type) {
     let left = MOST_NOTES;
     for (const holder of holders_of(file)) {
-        const { notes, refusal } = file.elf.readable_notes_bytes(holder, left);
-        const found = notes.find((note) => note.n_type === type && note.name_range.size === 4n
+        // (a segment or section counts as a note, which comes before its own)
+        if (left-- === 0) throw new Unknown();
+        const { notes, refusal } = file.elf.readable_notes_bytes(holder, left + 1);
+        const found = notes.slice(0, left).find((note) => note.n_type === type && note.name_range.size === 4n
             && String.fromCharCode(...note.name) === 'GNU\0');
         if (found) return found.desc_range;
+        left -= within(left, notes).length;
         if (refusal) throw refusal;
-        left -= notes.length;
     }
     return null;
 }
 
 function build_id(file) {
     const range = note_of(file, BUILD_ID);
-    return range && Array.from(bytes_of(file, range, MOST_ID), (byte) => byte.toString(16).padStart(2, '0')).join('');
+    return range && Array.from(within(MOST_ID, bytes_of(file, range)), (byte) => byte.toString(16).padStart(2, '0'))
+        .join('');
 }
 
 function control_flow(file) {
     const { elf } = file, [wanted, names] = MARKS[elf.header.e_machine] ?? [], width = elf.is_64() ? 8n : 4n;
     const { offset, size } = (names && note_of(file, PROPERTY)) ?? { size: 0n };
+    within(MOST_COMMENT, { length: size });
     for (let at = 0n, length; at + 12n <= size; at += 8n + (length + width - 1n) / width * width) {
         const [type, bits] = [at, at + 8n].map((place) => elf.number(offset + place, 4));
         length = elf.number(offset + at + 4n, 4);
@@ -84,8 +102,8 @@ function control_flow(file) {
 
 // Returns the text at an offset of a string table, or nothing past its end.
 function text_at(strtab, offset) {
-    const bytes = strtab.get_start(offset, NAME + 1);
-    return bytes && name_of(bytes);
+    const bytes = strtab.get_start(offset, MOST_TEXT + 1);
+    return bytes && text_of(within(MOST_TEXT, bytes));
 }
 
 function interpreter(file) {
@@ -119,9 +137,13 @@ function relro(file) {
 function has_canary(file, symtab) {
     if (!symtab) return null;
     symtab.strtab.get_start(0, 0); // (throws if the strings are not all in the file)
-    const strings = new TextDecoder('latin1').decode(bytes_of(file, symtab.strtab.range, MOST_TEXT)), names = new Set();
-    for (const [name] of strings.matchAll(CANARY)) if (names.add(name).size === MOST_NAMES) break;
-    return [...names].some((name) => symtab.by_name(name) !== undefined);
+    const strings = within(MOST_STRINGS, bytes_of(file, symtab.strtab.range)), names = new Set();
+    for (const [name] of new TextDecoder('latin1').decode(strings).matchAll(CANARY)) {
+        if (names.has(name)) continue;
+        within(MOST_NAMES, { length: names.add(name).size });
+        if (symtab.by_name(name) !== undefined) return true;
+    }
+    return false;
 }
 
 function canary(file) {
@@ -134,13 +156,13 @@ function canary(file) {
 function compilers(file) {
     const section = file.elf.section('.comment'), found = new Set();
     const strtab = file.elf.strtab(section && file.elf.range(section) && section);
-    for (let at = 0, bytes; at < MOST_COMMENT && (bytes = strtab.get_start(at, MOST_COMMENT)); at += bytes.length + 1)
-        found.add(name_of(bytes));
+    within(MOST_COMMENT, { length: strtab.range.size });
+    for (let at = 0, bytes; (bytes = strtab.get_bytes(at)); at += bytes.length + 1) found.add(text_of(bytes));
     return [...found].filter((string) => string && !LINKER.test(string));
 }
 
 function is_cut(file) {
-    const parts = known(() => [file.sections(), file.segments()]);
+    const parts = read_or(undefined, () => [file.sections(), file.segments()]);
     return !parts || parts[0].slice(1).concat(file.kind === 'debug file' ? [] : parts[1])
         .some((part) => known(() => [file.elf.range(part)]) === undefined);
 }
@@ -165,15 +187,16 @@ const RULES = {
     relro, bind_now,
     writable_code: (file) => of_type(file, goblin.PT_LOAD).some(({ p_flags }) => p_flags & PF_W && p_flags & PF_X),
     canary, control_flow, compilers, stripped: ({ elf }) => !elf.section_by_type(SHT_SYMTAB), cut: is_cut,
-    sections: ({ sections }) => sections().length, segments: ({ segments }) => segments().length,
+    sections: ({ elf }) => elf.section_headers().length, segments: ({ elf }) => elf.program_headers().length,
     symbols: ({ elf }) => elf.syms()?.length ?? 0, dynamic_symbols: ({ elf }) => elf.dynsyms()?.length ?? 0, sizes,
 };
 
 /** Returns the facts of a file and its bytes. Those in `unknown` can't be read, since the file does not hold what says
  * them, and are null. So are those that such a file does not have. */
 export function facts(elf, bytes) {
-    const file = { elf, bytes, sections: once(() => [...elf.section_headers()]),
-        segments: once(() => [...elf.program_headers()]), strings: once(() => elf.dynamic_strings()) };
+    const file = { elf, bytes, sections: once(() => [...within(MOST_SECTIONS, elf.section_headers())]),
+        segments: once(() => [...within(MOST_SEGMENTS, elf.program_headers())]),
+        strings: once(() => elf.dynamic_strings()) };
     file.entries = once(() => entries_of(file));
     file.kind = kind_of(file);
     const values = Object.entries(RULES).map(([name, rule]) =>

@@ -40,7 +40,7 @@ export const all_facts = once(() => facts(file.elf, file.content));
 // Returns the row of a fact in words, or that it is unknown, or nothing if there is nothing to say of it.
 function said(name, fact, words = String, ...links) {
     const value = all_facts()[fact];
-    if (all_facts().unknown.includes(fact)) return row(name, 'unknown, the file does not hold it');
+    if (all_facts().unknown.includes(fact)) return row(name, 'unknown: not in the file, or more than is read');
     return value === null ? undefined : row(name, words(value), ...links);
 }
 // Returns the words for a fact that is so and one that is not.

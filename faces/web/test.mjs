@@ -79,7 +79,36 @@ async function check_facts() {
     for (const [name, wanted] of table) assert.deepEqual(of(read(name)), wanted, name);
     assert.ok(table.length > 40);
     check_made_facts(of);
+    check_bounds(of);
     console.log(`facts.js says of ${table.length} stored files what facts.json says`);
+}
+
+// A fact is known up to what is read, and unknown past it: one more byte, entry, note or name.
+function check_bounds(of) {
+    const of_segments = (...segments) => of(elf_file({ type: 3, segments }));
+    const repeat = (count, part) => Buffer.concat(Array.from({ length: count }, () => part));
+    const id = note('GNU', 3, Buffer.from('id..')), other = note('ABC', 1, Buffer.alloc(0));
+    const marks = (size) => note('GNU', 5, Buffer.concat([packed([0xc0000002, 4], [4, 4], [1, 4]),
+        Buffer.alloc(size - 12)]));
+    const canaries = (count) => of(symbols_file([...Array.from({ length: count - 1 }, (_, i) =>
+        ({ text: `x__stack_chk_guard@${i}` })), { text: '__stack_chk_fail' }]));
+    const comment = (size) =>
+        of(elf_file({ sections: [{ name: '.comment', type: 1, bytes: Buffer.alloc(size, 'a\0') }] }));
+    for (const [fact, read, most, known] of [
+        ['interpreter', (size) => of_segments({ type: 3, bytes: Buffer.alloc(size + 1).fill('a', 0, size) }), 4095,
+            'a'.repeat(4095)],
+        ['build_id', (size) => of_segments({ type: 4, bytes: note('GNU', 3, Buffer.alloc(size, 171)) }), 64,
+            'ab'.repeat(64)],
+        ['build_id', (count) => of_segments({ type: 4, bytes: Buffer.concat([repeat(count, other), id]) }), 65534,
+            '69642e2e'],
+        ['control_flow', (size) => of_segments({ type: 4, bytes: marks(size) }), 65536, ['IBT']],
+        ['pie', (count) => of_segments({ type: 2, bytes: repeat(count, packed([21, 8], [1, 8])) }), 4096, true],
+        ['compilers', comment, 65536, ['a']], ['canary', canaries, 64, true],
+    ]) {
+        const [last, past] = [most, most + 1].map(read);
+        assert.deepEqual([last[fact], last.unknown.includes(fact)], [known, false], fact);
+        assert.deepEqual([past[fact], past.unknown.includes(fact)], [null, true], fact);
+    }
 }
 
 // What each entry, flag, name and note says alone, by the numbers of the standard.

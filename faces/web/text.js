@@ -4,10 +4,12 @@
 export const NAME = 1024;
 const strict = new TextDecoder('utf-8', { fatal: true, ignoreBOM: true });
 
-// Returns the text of bytes. If they are not UTF-8, each byte from 0x80 on is the character U+DC00 plus the byte, which
-// UTF-8 doesn't have. (Most names are ASCII. In Chromium the text that a decoder makes of one is made, searched and
-// sorted several times as slowly as this one.)
-function text_of(bytes) {
+/**
+ * Returns the text of bytes. If they are not UTF-8, each byte from 0x80 on is the character U+DC00 plus the byte, which
+ * UTF-8 doesn't have. (Most names are ASCII. In Chromium the text that a decoder makes of one is made, searched and
+ * sorted several times as slowly as this one.)
+ */
+export function text_of(bytes) {
     const text = String.fromCharCode.apply(null, bytes);
     if (!/[\x80-\xff]/.test(text)) return text;
     try {
