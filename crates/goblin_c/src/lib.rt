@@ -5,11 +5,7 @@
 ghost use Rattle.std.specs.Prelude.{◌≡◌};
 
 mod bytes;
-#[cfg(test)]
-mod bytes_tests;
 mod dynamic;
-#[cfg(test)]
-mod dynamic_tests;
 mod headers;
 mod inside;
 mod kinds;
@@ -21,8 +17,6 @@ mod names;
 mod notes;
 mod place_laws;
 mod places;
-#[cfg(test)]
-mod places_tests;
 mod refused;
 mod status;
 mod strings;
@@ -34,8 +28,6 @@ pub mod types;
 mod usual_note;
 mod write;
 mod write_laws;
-#[cfg(test)]
-mod write_tests;
 mod writer;
 
 pub use bytes::{goblin_number, goblin_section_bytes, goblin_segment_bytes, goblin_string_bytes};

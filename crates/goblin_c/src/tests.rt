@@ -4,6 +4,11 @@ use crate::layout::marked_layout;
 use crate::types::{GoblinHeader, GoblinNote, GoblinRange, GoblinRefusal, GoblinReloc};
 use crate::*;
 
+mod bytes;
+mod dynamic;
+mod places;
+mod write;
+
 pub static FILE: &[u8; 208] = b"\x7fELF\x01\x01\x01\0\0\0\0\0\0\0\0\0\
     \x03\0\0\0\x01\0\0\0\0\0\0\0\0\0\0\0\x58\0\0\0\0\0\0\0\x34\0\x20\0\0\0\x28\0\x03\0\0\0\
     \0f\0\0\
