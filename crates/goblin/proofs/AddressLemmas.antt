@@ -15,9 +15,8 @@ use Rattle.std.specs.List.{position_or_len}
 use Rattle.std.specs.Option.{option_or}
 use Rattle.goblin_headers.specs.declared.section_header.SectionHeader.{SectionHeader}
 use Rattle.goblin_records.specs.declared.sym.Sym.{Sym}
-use Rattle.goblin.specs.Addresses.{IsBelowInSection, IsSymbolAt, NoneContains, SymbolAtComesFirst}
-use Rattle.goblin.specs.Addresses.{contains, found_at, is_candidate, is_highest, is_nearer, is_nearest, reaches}
-use Rattle.goblin.specs.Addresses.{symbol_at, taken}
+use Rattle.goblin.specs.Addresses.{IsBelowInSection, IsSymbolAt, NoneContains, SymbolAtComesFirst, contains, found_at}
+use Rattle.goblin.specs.Addresses.{is_candidate, is_highest, is_nearer, is_nearest, reaches, symbol_at, taken}
 use Rattle.goblin.proofs.Positions.{some-within}
 
 -- ---- a search for the highest score through the symbols, one after another

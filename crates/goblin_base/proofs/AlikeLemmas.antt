@@ -4,12 +4,11 @@
 -- whether it is alike (`covered_Decides`, `apart_Decides`).
 use Rattle.goblin_base.proofs.Common.{◌≡◌, ℕ, ◌+◌, ◌-◌, ◌%◌, ◌^◌, ◌<◌, ◌≤◌, ◌==◌, ◌&&◌, eqb, cond, Bool, true, false}
 use Rattle.goblin_base.proofs.Common.{not, List, [], ◌∷◌, map, take, length, get_or, replicate, refl, sym, ap, ◌∙◌}
-use Rattle.goblin_base.proofs.Common.{arith, suc, ⊎_elim, cases_lt, eq-eqb, eqb-true, false≢true}
-use Rattle.goblin_base.proofs.Common.{mask_l-mod, bit_mask_l, get_or-chunk, length-chunk, list_any_at}
-use Rattle.goblin_base.proofs.Common.{list_any_none, get_or-take, length-take-le, bytes_eq, and_parts, and_from}
-use Rattle.goblin_base.proofs.Common.{same_from_decides, not-true, not_from_false, false_from_ne_true, both_ways}
-use Rattle.goblin_base.proofs.Common.{length-take, tops_compared, w8, drop, get_or-drop}
-use Rattle.goblin_base.proofs.Common.{bit_or, ◌||◌, or_parts, zero}
+use Rattle.goblin_base.proofs.Common.{arith, suc, ⊎_elim, cases_lt, eq-eqb, eqb-true, false≢true, mask_l-mod}
+use Rattle.goblin_base.proofs.Common.{bit_mask_l, get_or-chunk, length-chunk, list_any_at, list_any_none, get_or-take}
+use Rattle.goblin_base.proofs.Common.{length-take-le, bytes_eq, and_parts, and_from, same_from_decides, not-true}
+use Rattle.goblin_base.proofs.Common.{not_from_false, false_from_ne_true, both_ways, length-take, tops_compared, w8}
+use Rattle.goblin_base.proofs.Common.{drop, get_or-drop, bit_or, ◌||◌, or_parts, zero}
 use Rattle.std.proofs.lemmas.Grind.{get_or_default_zero, same_number_lists}
 use Rattle.std.proofs.lemmas.Simd.{get_or-zip2, length-zip2}
 use Rattle.std.proofs.lemmas.Bool.{not-false}

@@ -4,10 +4,9 @@
 -- stands there and doesn't contain it (`piece-stands`, `piece-apart`). So comparing bytes decides whether the piece is
 -- the text, without a search for the piece's end, and the UTF-8 of the name is that of the piece (`stands_Decides`).
 use Rattle.goblin_base.proofs.Common.{◌≡◌, ℕ, ◌<◌, ◌≤◌, Bool, true, false, if◌then◌else◌, not, ◌&&◌, eqb, leb, ltb}
-use Rattle.goblin_base.proofs.Common.{◌||◌}
-use Rattle.goblin_base.proofs.Common.{List, length, get_or, take, drop, refl, sym, ap, subst, ◌∙◌, ⊎_elim, arith, Ok}
-use Rattle.goblin_base.proofs.Common.{Err, cases_lt, le-leb, leb-true, and_parts, and_from, or_cases, or_left, or_right}
-use Rattle.goblin_base.proofs.Common.{not-true, not_from_false, false_from_ne_true, both_ways, false≢true}
+use Rattle.goblin_base.proofs.Common.{◌||◌, List, length, get_or, take, drop, refl, sym, ap, subst, ◌∙◌, ⊎_elim, arith}
+use Rattle.goblin_base.proofs.Common.{Ok, Err, cases_lt, le-leb, leb-true, and_parts, and_from, or_cases, or_left}
+use Rattle.goblin_base.proofs.Common.{or_right, not-true, not_from_false, false_from_ne_true, both_ways, false≢true}
 use Rattle.goblin_base.proofs.Common.{same_from_decides, get_or-take, length-take-le, length-take, list_any_at}
 use Rattle.goblin_base.proofs.Common.{list_any_none, prefix_len-le-length, fails_before_first, passes_at_first}
 use Rattle.goblin_base.proofs.Common.{position_or_len_is, position_or_len, list_any, bytes_eq, is_utf8, piece, Refusal}

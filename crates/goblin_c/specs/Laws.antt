@@ -19,9 +19,8 @@ use Rattle.goblin_c.specs.Expected.{section_expected, segment_count_expected, se
 use Rattle.goblin_c.specs.Expected.{reloc_expected, string_expected, symbol_count_expected, reloc_count_expected}
 use Rattle.goblin_c.specs.Expected.{sections_from_expected, symbols_from_expected, relocs_from_expected}
 use Rattle.goblin_c.specs.Expected.{section_names_expected, section_by_name_expected, symbol_by_name_expected}
-use Rattle.goblin_c.specs.Expected.{segments_from_expected}
-use Rattle.goblin_c.specs.Expected.{is_named, string_is_expected, string_starts_expected, strings_expected}
-use Rattle.goblin_c.specs.Expected.{table_expected, whole_header}
+use Rattle.goblin_c.specs.Expected.{segments_from_expected, is_named, string_is_expected, string_starts_expected}
+use Rattle.goblin_c.specs.Expected.{strings_expected, table_expected, whole_header}
 use Rattle.goblin_c.specs.Bytes.{section_bytes_expected, segment_bytes_expected, string_bytes_expected}
 use Rattle.goblin_c.specs.FilledBuffer.{closed, laid}
 use Rattle.goblin_c.specs.Notes.{note_bytes_expected, note_expected, part_number}

@@ -1,6 +1,5 @@
 -- The structs that calls share with C, each as it is converted from what the library reads.
-use Rattle.std.specs.Prelude.{ℕ, ◌+◌, if◌then◌else◌, Bool, List, codes, slice_index, pos, unwrap_or}
-use Rattle.std.specs.Prelude.{Option}
+use Rattle.std.specs.Prelude.{ℕ, ◌+◌, if◌then◌else◌, Bool, List, codes, slice_index, pos, unwrap_or, Option}
 use Rattle.std.specs.Option.{is_some}
 use Rattle.std.specs.Str.{bytes_eq}
 use Rattle.goblin_c.specs.Common.{Facts, kind_number, refusal_facts, Header, ProgramHeader, Reloc, SectionHeader, Sym}
