@@ -356,9 +356,13 @@ class Workers(Folder):
 
         for kill in (kill_first, kill_at_rows, kill_often):
             killed.clear()
-            with contextlib.suppress(FileNotFoundError):
-                os.remove(self.out('many.csv'))
-            self.check_killed(kill)
+            # (on a busy machine a scan may end before its workers are seen)
+            for _ in range(20):
+                with contextlib.suppress(FileNotFoundError):
+                    os.remove(self.out('many.csv'))
+                self.check_killed(kill)
+                if killed:
+                    break
             self.assertTrue(killed)
 
     def test_files_that_end_workers(self):
