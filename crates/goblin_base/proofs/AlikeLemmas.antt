@@ -1,7 +1,7 @@
 -- Bytes that are compared with a text many at a time.
 --
--- No bit of a mask is set exactly if no lane is (`no_bit_Decides`). Runs that cover the text, which may overlap, decide
--- whether it is alike (`covered_Decides`, `apart_Decides`).
+-- No bit of a mask is set exactly if no lane is (`no_bits_Decide`). Runs that cover the text, which may overlap, decide
+-- whether it is alike (`ends_are`, `quarters_are`).
 use Rattle.goblin_base.proofs.Common.{◌≡◌, ℕ, ◌+◌, ◌-◌, ◌%◌, ◌^◌, ◌<◌, ◌≤◌, ◌==◌, ◌&&◌, eqb, cond, Bool, true, false}
 use Rattle.goblin_base.proofs.Common.{not, List, [], ◌∷◌, map, take, length, get_or, replicate, refl, sym, ap, ◌∙◌}
 use Rattle.goblin_base.proofs.Common.{arith, suc, ⊎_elim, cases_lt, eq-eqb, eqb-true, false≢true, mask_l-mod}
