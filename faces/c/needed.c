@@ -17,15 +17,16 @@ static uint32_t print(const char *name, const goblin_range_t *strings, uint64_t 
     return status;
 }
 
-static uint32_t list(void) {
+int main(int argc, char **argv) {
+    if (argc != 2) return fputs("usage: needed FILE\n", stderr), 2;
+    if (!(bytes = load(argv[1], &len))) return perror(argv[1]), 2;
     goblin_header_t header;
     goblin_segment_t segment;
     goblin_range_t dynamic = {0, 0}, strings = {0, 0}; /* (they stay empty if there are none) */
     goblin_dyn_t entry;
     uint64_t filled, i = 0;
     uint32_t status = goblin_header(bytes, len, &header, &why);
-    if (status != GOBLIN_OK) return status;
-    do status = goblin_segment(bytes, len, &header, i++, &segment, &why);
+    do if (status == GOBLIN_OK) status = goblin_segment(bytes, len, &header, i++, &segment, &why);
     while (status == GOBLIN_OK && segment.p_type != GOBLIN_PT_INTERP);
     if (status == GOBLIN_OK && segment.file.size > 0) status = print("interpreter", &segment.file, 0);
     if (status <= GOBLIN_END) status = goblin_dynamic(bytes, len, &header, &dynamic, &why);
@@ -37,11 +38,5 @@ static uint32_t list(void) {
             : entry.d_tag == GOBLIN_DT_RPATH ? "rpath" : entry.d_tag == GOBLIN_DT_RUNPATH ? "runpath" : NULL;
         if (name) status = print(name, &strings, entry.d_val);
     }
-    return status;
-}
-
-int main(int argc, char **argv) {
-    if (argc != 2) return fputs("usage: needed FILE\n", stderr), 2;
-    if (!(bytes = load(argv[1], &len))) return perror(argv[1]), 2;
-    return list() <= GOBLIN_END ? 0 : print_refusal("needed", &why);
+    return status <= GOBLIN_END ? 0 : print_refusal("needed", &why);
 }
