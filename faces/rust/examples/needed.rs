@@ -1,8 +1,7 @@
 //! Lists what an ELF file needs of the dynamic linker, its soname and its search paths: needed FILE
 use goblin_rs::dynamic::{DT_NEEDED, DT_RPATH, DT_RUNPATH, DT_SONAME};
-use goblin_rs::{program_header::PT_INTERP, strtab::Strtab, Elf};
+use goblin_rs::{program_header::PT_INTERP, strtab::Strtab};
 use std::io::{self, Write};
-use std::{ffi, fs, process::ExitCode};
 
 mod common;
 
@@ -18,24 +17,20 @@ fn print(name: &str, strings: &Strtab, offset: u64) -> common::Result {
     Ok(())
 }
 
-fn list(path: &ffi::OsStr) -> common::Result {
-    let bytes = fs::read(path)?;
-    let elf = Elf::parse(&bytes)?;
-    let interpreter = elf.program_headers()?.iter().find(|segment| segment.p_type == PT_INTERP);
-    if let Some(segment) = interpreter.filter(|segment| segment.p_filesz > 0) {
-        print("interpreter", &elf.strtab(&segment), 0)?;
-    }
-    if let Some(dynamic) = elf.dynamic()? {
-        let strings = dynamic.strings()?.unwrap_or_default();
-        for entry in dynamic.entries() {
-            if let Some((_, name)) = NAMES.iter().find(|(tag, _)| *tag == entry.d_tag) {
-                print(name, &strings, entry.d_val)?;
+fn main() -> std::process::ExitCode {
+    common::run("needed FILE", |elf, _| {
+        let interpreter = elf.program_headers()?.iter().find(|segment| segment.p_type == PT_INTERP);
+        if let Some(segment) = interpreter.filter(|segment| segment.p_filesz > 0) {
+            print("interpreter", &elf.strtab(&segment), 0)?;
+        }
+        if let Some(dynamic) = elf.dynamic()? {
+            let strings = dynamic.strings()?.unwrap_or_default();
+            for entry in dynamic.entries() {
+                if let Some((_, name)) = NAMES.iter().find(|(tag, _)| *tag == entry.d_tag) {
+                    print(name, &strings, entry.d_val)?;
+                }
             }
         }
-    }
-    Ok(())
-}
-
-fn main() -> ExitCode {
-    common::run("needed FILE", list)
+        Ok(())
+    })
 }

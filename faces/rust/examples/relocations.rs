@@ -7,7 +7,6 @@ use goblin_rs::sym::{Symtab, STT_SECTION};
 use goblin_rs::Elf;
 use std::io::{self, Write};
 use std::process::ExitCode;
-use std::{ffi, fs};
 
 mod common;
 
@@ -35,9 +34,7 @@ fn symbols_of<'a>(elf: &Elf<'a>, relocs: &SectionHeader) -> Result<Option<Symtab
     }
 }
 
-fn list(path: &ffi::OsStr) -> common::Result {
-    let bytes = fs::read(path)?;
-    let elf = &Elf::parse(&bytes)?;
+fn list(elf: &Elf, _: &[u8]) -> common::Result {
     let mut out = io::BufWriter::new(io::stdout().lock());
     for (section, relocs) in elf.shdr_relocs()? {
         writeln!(out, "{}:", elf.section_name(&section)?.unwrap_or(""))?;

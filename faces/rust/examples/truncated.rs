@@ -5,13 +5,10 @@
 use goblin_rs::section_header::{section_header32, section_header64, sht_to_str};
 use goblin_rs::Elf;
 use std::process::ExitCode;
-use std::{ffi, fs};
 
 mod common;
 
-fn list(path: &ffi::OsStr) -> common::Result {
-    let bytes = fs::read(path)?;
-    let elf = Elf::parse(&bytes)?;
+fn list(elf: &Elf, bytes: &[u8]) -> common::Result {
     let count = elf.section_headers()?.len();
     if count == 0 {
         println!("no section headers");
