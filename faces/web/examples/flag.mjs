@@ -2,27 +2,19 @@
 //
 // It reads the file, turns over SHF_WRITE of the first section with that name, and prints the flags before and after.
 // The file stays as it is.
-import init, { Elf, SHF_WRITE } from '../goblin.js';
-import { readFileSync } from 'node:fs';
-
-function change(path, name) {
-    const bytes = readFileSync(path), elf = Elf.parse(bytes), found = elf.section_by_name(name);
-    if (found === undefined) throw new Error(`there is no section ${name}`);
-    const { index, section } = found;
-    elf.writer(bytes).put_section_header(index, { ...section, sh_flags: section.sh_flags ^ SHF_WRITE });
-    const changed = Elf.parse(bytes).section_header(index);
-    console.log(`${name}: flags 0x${section.sh_flags.toString(16)}, now 0x${changed.sh_flags.toString(16)}`);
-}
+import { Elf, SHF_WRITE } from '../goblin.js';
+import { run } from './common.mjs';
 
 const [, , path, name] = process.argv;
 if (name === undefined) {
     console.error('usage: flag.mjs FILE SECTION');
     process.exit(2);
 }
-await init();
-try {
-    change(path, name);
-} catch (error) {
-    console.error(`flag: ${path}: ${error.message}`);
-    process.exitCode = 1;
-}
+await run('flag', [path], (elf, bytes) => {
+    const found = elf.section_by_name(name);
+    if (found === undefined) throw new Error(`there is no section ${name}`);
+    const { index, section } = found;
+    elf.writer(bytes).put_section_header(index, { ...section, sh_flags: section.sh_flags ^ SHF_WRITE });
+    const changed = Elf.parse(bytes).section_header(index);
+    console.log(`${name}: flags 0x${section.sh_flags.toString(16)}, now 0x${changed.sh_flags.toString(16)}`);
+});

@@ -1,6 +1,6 @@
 // Lists what ELF files need of the dynamic linker, their sonames and search paths: node needed.mjs FILE..
-import init, { DT_NEEDED, DT_RPATH, DT_RUNPATH, DT_SONAME, Elf, PT_INTERP } from '../goblin.js';
-import { readFileSync } from 'node:fs';
+import { DT_NEEDED, DT_RPATH, DT_RUNPATH, DT_SONAME, PT_INTERP } from '../goblin.js';
+import { run } from './common.mjs';
 
 const NAMES = new Map([[DT_NEEDED, 'needed'], [DT_SONAME, 'soname'], [DT_RPATH, 'rpath'], [DT_RUNPATH, 'runpath']]);
 
@@ -11,18 +11,9 @@ function print(name, strings, offset) {
         : `${name}: no zero byte closes a string at offset ${offset}\n`);
 }
 
-await init();
-const paths = process.argv.slice(2);
-for (const path of paths) {
-    if (paths.length > 1) console.log(`file: ${path}`);
-    try {
-        const elf = Elf.parse(readFileSync(path)),
-            interpreter = elf.program_headers().find(({ p_type }) => p_type === PT_INTERP);
-        if (interpreter?.p_filesz) print('interpreter', elf.strtab(interpreter), 0);
-        const strings = elf.dynamic_strings();
-        for (const { d_tag, d_val } of elf.dynamic()) if (NAMES.has(d_tag)) print(NAMES.get(d_tag), strings, d_val);
-    } catch ({ message }) {
-        console.error(`needed: ${path}: ${message}`);
-        process.exitCode = 1;
-    }
-}
+await run('needed', process.argv.slice(2), (elf) => {
+    const interpreter = elf.program_headers().find(({ p_type }) => p_type === PT_INTERP);
+    if (interpreter?.p_filesz) print('interpreter', elf.strtab(interpreter), 0);
+    const strings = elf.dynamic_strings();
+    for (const { d_tag, d_val } of elf.dynamic()) if (NAMES.has(d_tag)) print(NAMES.get(d_tag), strings, d_val);
+});

@@ -2,11 +2,11 @@
 //
 // It reads the file, and then only as many bytes of it. One section header of such a file is not inside it, so
 // `section_headers` throws. `whole` returns a file with the others.
-import init, { Elf, section_header32, section_header64, sht_to_str } from '../goblin.js';
-import { readFileSync } from 'node:fs';
+import { Elf, section_header32, section_header64, sht_to_str } from '../goblin.js';
+import { run } from './common.mjs';
 
-function list(path) {
-    const bytes = readFileSync(path), elf = Elf.parse(bytes), count = elf.section_headers().length;
+function list(elf, bytes) {
+    const count = elf.section_headers().length;
     if (count === 0) return console.log('no section headers');
     const size = (elf.is_64() ? section_header64 : section_header32).SIZEOF_SHDR;
     const cut = Elf.parse(bytes.subarray(0, Number(elf.header.e_shoff) + count * size - size / 2));
@@ -29,10 +29,4 @@ if (path === undefined) {
     console.error('usage: truncated.mjs FILE');
     process.exit(2);
 }
-await init();
-try {
-    list(path);
-} catch (error) {
-    console.error(`truncated: ${path}: ${error.message}`);
-    process.exitCode = 1;
-}
+await run('truncated', [path], list);
