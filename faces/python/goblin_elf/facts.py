@@ -7,7 +7,7 @@ from typing import Any, Callable, Dict, Iterator, List, Optional
 
 from .constants import (DF_1_NOW, DF_1_PIE, DF_BIND_NOW, DT_BIND_NOW, DT_DEBUG, DT_FLAGS, DT_FLAGS_1, DT_NEEDED, DT_RPATH, DT_RUNPATH, DT_SONAME,
                         ET_CORE, ET_DYN, ET_EXEC, ET_REL, NT_GNU_BUILD_ID, PF_W, PF_X, PT_GNU_RELRO, PT_GNU_STACK, PT_INTERP, PT_LOAD, PT_NULL,
-                        SHF_ALLOC, SHF_EXECINSTR, SHF_WRITE, SHT_DYNSYM, SHT_NOBITS, SHT_NOTE, SHT_NULL, SHT_SYMTAB)
+                        SHF_ALLOC, SHF_EXECINSTR, SHF_WRITE, SHT_NOBITS, SHT_NOTE, SHT_NULL, SHT_SYMTAB)
 from .elf import SEGMENTS, Elf
 from .items import Dynamic, Section, Segment
 from .marks import compilers, control_flow, has_canary
@@ -74,12 +74,6 @@ class Parts(Elf):
         is_tagged = self.entries.value(DT_BIND_NOW) is not None
         return is_tagged or self.has(DT_FLAGS, DF_BIND_NOW) or self.has(DT_FLAGS_1, DF_1_NOW)
 
-    def has_canary(self) -> bool:
-        is_found = has_canary(self)
-        if not is_found and not self.section_by_type(SHT_SYMTAB) and (self.is_static() or not self.section_by_type(SHT_DYNSYM)):
-            raise Unknown
-        return is_found
-
     def is_cut(self) -> bool:
         """Whether the headers, or the bytes of a section or a segment, are not all in the file. A debug file lacks those of its segments."""
         with contextlib.suppress(Refused):
@@ -118,7 +112,7 @@ FACTS: Dict[str, Callable[[Parts], Any]] = {
     'relro': lambda of: 'no' if not of.of_type(PT_GNU_RELRO) else 'partial' if of.is_bound_now() is False else 'full',
     'bind_now': Parts.is_bound_now,
     'writable_code': lambda of: any(segment.p_flags & PF_W and segment.p_flags & PF_X for segment in of.of_type(PT_LOAD)),
-    'canary': Parts.has_canary, 'control_flow': control_flow, 'compilers': compilers,
+    'canary': lambda of: has_canary(of, of.is_static), 'control_flow': control_flow, 'compilers': compilers,
     'stripped': lambda of: of.section_by_type(SHT_SYMTAB) is None, 'cut': Parts.is_cut, 'sections': lambda of: len(of.sections),
     'segments': lambda of: len(of.segments), 'symbols': lambda of: len(of.symbols), 'dynamic_symbols': lambda of: len(of.dynamic_symbols),
     'sizes': Parts.sizes}

@@ -1,8 +1,8 @@
 """What compilers leave in a file: their names, and marks of their protections. What these mean is said here: that is not proved, but tested."""
 import re
-from typing import Dict, Iterator, List, Optional, Set, Tuple
+from typing import Callable, Dict, Iterator, List, Optional, Set, Tuple
 
-from .constants import EM_386, EM_AARCH64, EM_X86_64
+from .constants import EM_386, EM_AARCH64, EM_X86_64, SHT_DYNSYM, SHT_SYMTAB
 from .elf import Elf
 from .items import Strings, Symbols
 from .refused import Refused, Unknown, within
@@ -19,8 +19,9 @@ CHECKS: Dict[int, Tuple[int, Tuple[str, ...]]] = {EM_386: X86, EM_X86_64: X86, E
 CANARIES, BYTES = 64, 1 << 16
 
 
-def has_canary(elf: Elf) -> bool:
-    """Whether a symbol of a table that can be read is one of a stack canary. Refused or unknown if none is, and a table is."""
+def has_canary(elf: Elf, is_static: Callable[[], bool]) -> bool:
+    """Whether a symbol of a table that can be read is one of a stack canary. If none is, it is refused or unknown if a table is, and unknown if
+    there is no table that would have it: a static program need not list it among its dynamic symbols."""
     errors: List[Exception] = []
     for name in ('symbols', 'dynamic_symbols'):
         try:
@@ -31,6 +32,8 @@ def has_canary(elf: Elf) -> bool:
             errors.append(error)
     if errors:
         raise errors[0]
+    if not elf.section_by_type(SHT_SYMTAB) and (is_static() or not elf.section_by_type(SHT_DYNSYM)):
+        raise Unknown
     return False
 
 
