@@ -55,21 +55,18 @@ function symbol_count() {
 /** Adds the tables of symbols and relocations that the dynamic section leads to, if no section header does. */
 export function find_own_sections() {
     const lacks = (...types) => !sections().some(({ section }) => types.includes(section.sh_type));
-    const add = (tag, sh_type, sh_size, entsize, given = { sh_link: 'DT_SYMTAB' }) => {
-        const sh_addr = value_of(goblin[tag]), sh_offset = offset_of(goblin[tag]);
-        if (sh_offset === undefined || !sh_size) return;
-        own_sections.set(tag, { sh_type, sh_flags: 2n, sh_addr, sh_offset, sh_size, sh_info: 0, sh_addralign: word(),
-            sh_entsize: BigInt(entsize), ...given });
+    const add = (tag, sh_type, sh_size, links = { sh_link: 'DT_SYMTAB' }) => {
+        const sh_offset = offset_of(goblin[tag]);
+        if (sh_offset !== undefined && sh_size) own_sections.set(tag, { sh_type, sh_offset, sh_size, ...links });
     };
-    const { SHT_REL, SHT_RELA, SHT_DYNSYM } = goblin, entry = BigInt(size_of('symbol'));
+    const { SHT_REL, SHT_RELA, SHT_DYNSYM } = goblin, has_addends = value_of(goblin.DT_PLTREL) === goblin.DT_RELA;
     if (lacks(...SYMBOL_TYPES))
-        add('DT_SYMTAB', SHT_DYNSYM, symbol_count() * entry, entry, { sh_link: 0, strtab: strtab() });
-    if (lacks(RELR)) add('DT_RELR', RELR, value_of(goblin.DT_RELRSZ), word());
+        add('DT_SYMTAB', SHT_DYNSYM, symbol_count() * BigInt(size_of('symbol')), { sh_link: 0, strtab: strtab() });
+    if (lacks(RELR)) add('DT_RELR', RELR, value_of(goblin.DT_RELRSZ));
     if (!lacks(SHT_REL, SHT_RELA)) return;
-    const [type, kind] = value_of(goblin.DT_PLTREL) === goblin.DT_RELA ? [SHT_RELA, 'rela'] : [SHT_REL, 'rel'];
-    add('DT_RELA', SHT_RELA, value_of(goblin.DT_RELASZ), size_of('rela'));
-    add('DT_REL', SHT_REL, value_of(goblin.DT_RELSZ), size_of('rel'));
-    add('DT_JMPREL', type, value_of(goblin.DT_PLTRELSZ), size_of(kind));
+    add('DT_RELA', SHT_RELA, value_of(goblin.DT_RELASZ));
+    add('DT_REL', SHT_REL, value_of(goblin.DT_RELSZ));
+    add('DT_JMPREL', has_addends ? SHT_RELA : SHT_REL, value_of(goblin.DT_PLTRELSZ));
 }
 
 /** Returns the offsets of packed relocations: an even word is one, and a bit of an odd word stands for one of the words
