@@ -4,8 +4,8 @@ import * as goblin from './goblin.js';
 import { file, is_wide, name_at, own_sections, read_or, RELR, sections, size_of, SYMBOL_TYPES } from './file.js';
 import { once } from './text.js';
 
-// How many versions, symbols of a hash table or packed relocations, and words of these are read at most.
-const MOST_VERSIONS = 4096, MOST_ITEMS = 1 << 20, MOST_WORDS = 1n << 20n;
+// How many versions, and how many symbols of a hash table, packed relocations or words of these are read at most.
+const MOST_VERSIONS = 4096, MOST_ITEMS = 1n << 20n;
 
 const word = () => (is_wide() ? 8n : 4n);
 /** Returns a number at an offset of the file, or 0 if it is not inside. */
@@ -19,36 +19,33 @@ const strtab = once(() => read_or(file.elf.strtab(), () => file.elf.dynamic_stri
 
 /** Returns the versions that are needed of each library, by its name. */
 export function versions() {
-    const all = new Map();
+    const all = new Map(), name_in = (at) => name_at(strtab(), number_at(at, 4));
     let left = MOST_VERSIONS;
-    // Calls a function with the offset of each of some records. At 12 each has the distance to the next one.
-    const each = (at, count, read) => {
+    // Yields the offset of each of some records. At 12 each has the distance to the next one.
+    function* chain(at, count) {
         for (let next = 1n; at && count > 0n && next && left > 0; count--, left--, at += next) {
-            read(at);
+            yield at;
             next = number_at(at + 12n, 4);
         }
-    };
-    each(offset_of(goblin.DT_VERNEED), value_of(goblin.DT_VERNEEDNUM), (at) => {
-        const name = name_at(strtab(), number_at(at + 4n, 4)), names = all.get(name) ?? [];
-        each(at + number_at(at + 8n, 4), number_at(at + 2n, 2), (aux) =>
-            names.push(name_at(strtab(), number_at(aux + 8n, 4))));
-        all.set(name, names);
-    });
+    }
+    for (const at of chain(offset_of(goblin.DT_VERNEED), value_of(goblin.DT_VERNEEDNUM))) {
+        const name = name_in(at + 4n), names = chain(at + number_at(at + 8n, 4), number_at(at + 2n, 2));
+        all.set(name, [...(all.get(name) ?? []), ...Array.from(names, (aux) => name_in(aux + 8n))]);
+    }
     return all;
 }
 
 // Returns the number of dynamic symbols: that of the hash table, or that of the last chain of a table of GNU's form,
 // which ends at an odd number.
 function symbol_count() {
-    const hash = offset_of(goblin.DT_HASH), gnu = offset_of(goblin.DT_GNU_HASH) ?? 0n;
+    const hash = offset_of(goblin.DT_HASH), gnu = offset_of(goblin.DT_GNU_HASH);
     const wide = file.elf.header.e_machine === goblin.EM_S390 ? word() : 4n;
     if (hash !== undefined || !gnu) return hash === undefined ? 0n : number_at(hash + wide, wide);
     const [buckets, first, blooms] = [0n, 4n, 8n].map((at) => number_at(gnu + at, 4));
     const item = (index) => number_at(gnu + 16n + blooms * word() + 4n * index, 4);
     let last = first - 1n;
     for (let at = 0n; at < buckets && at < MOST_ITEMS; at++) if (item(at) > last) last = item(at);
-    for (const most = last + BigInt(MOST_ITEMS); last >= first && last < most && !(item(buckets + last - first) & 1n);)
-        last++;
+    for (const most = last + MOST_ITEMS; last >= first && last < most && !(item(buckets + last - first) & 1n);) last++;
     return last + 1n;
 }
 
@@ -72,8 +69,7 @@ export function find_own_sections() {
 /** Returns the offsets of packed relocations: an even word is one, and a bit of an odd word stands for one of the words
  * that follow. */
 export function packed_offsets({ sh_offset, sh_size }) {
-    const width = word(), found = [];
-    const end = sh_size < MOST_WORDS * width ? sh_size : MOST_WORDS * width;
+    const width = word(), most = MOST_ITEMS * width, end = sh_size < most ? sh_size : most, found = [];
     for (let at = 0n, next = 0n; at + width <= end && found.length < MOST_ITEMS; at += width) {
         const entry = number_at(sh_offset + at, width), is_place = !(entry & 1n);
         if (is_place) found.push(entry);
