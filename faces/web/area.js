@@ -1,6 +1,6 @@
 // The sizes: the file's pieces, and the functions and variables inside them, as areas. One that is twice as large has
 // twice as many bytes.
-import { get, make, number, plural, put_text, visible } from './dom.js';
+import { count, get, in_bytes, make, plural, put_text, visible } from './dom.js';
 import { ask, shown_file } from './reader.js';
 
 // In pixels: the least area of an item, the heights of the line above and of a piece's title, and the least box
@@ -34,7 +34,7 @@ export async function area_panel() {
         const [left, top, width, height] = [box.x / wide, box.y / high, box.wide / wide, box.high / high]
             .map((part) => `${100 * part}%`);
         Object.assign(link.style, { left, top, width, height }).setProperty('--tint', `var(--${kind})`);
-        if (box.wide > WIDE && box.high > HIGH) link.append(put_text(make('b'), item.title), ` ${number(item.size)}`);
+        if (box.wide > WIDE && box.high > HIGH) link.append(put_text(make('b'), item.title), ` ${count(item.size)}`);
         areas.append(link);
     };
     for (const place of placed(await ask('sizes', LEAST * size / (wide * high)), { x: 0, y: 0, wide, high })) {
@@ -66,7 +66,7 @@ export async function area_panel() {
         show(link); // (in a window in the background no event reports the focus)
     });
     areas.append(tip);
-    const said = `${number(size)} bytes, where the map draws them. Functions and variables are symbols with a size. `
+    const said = `${in_bytes(size)}, where the map draws them. Functions and variables are symbols with a size. `
         + 'Names of C++ are not proved.';
     return [make('p', { class: 'others' }, said), areas];
 }

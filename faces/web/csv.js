@@ -5,14 +5,14 @@
 // follows a comma or a semicolon, with or without spaces and quotation marks between: so no spreadsheet runs it as a
 // formula, whether it splits lines at commas, at semicolons or at both. A number stays. A cell with one of these signs
 // has quotation marks.
-import { UNSEEN } from './unseen.js';
+import { two_digits, UNSEEN } from './text.js';
 
 const FORMULA = /(^|[,;])(?=[ "]*[=+\-@'\uff1d\uff0b\uff0d\uff20])/g, NUMBER = /^-0x[0-9a-f]+$/;
 const encoder = new TextEncoder();
 
 function escaped(sign) {
     const code = sign.codePointAt(0), bytes = code >= 0xdc80 && code <= 0xdcff ? [code - 0xdc00] : encoder.encode(sign);
-    return Array.from(bytes, (byte) => `\\x${byte.toString(16).padStart(2, '0')}`).join('');
+    return Array.from(bytes, (byte) => `\\x${two_digits(byte)}`).join('');
 }
 
 function cell_of(text) {

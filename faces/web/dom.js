@@ -1,13 +1,11 @@
 // Elements of the page and their texts. A text of a file is always inserted as text, with invisible characters
 // made visible.
-import { shown, UNSEEN } from './unseen.js';
+import { count, shown, UNSEEN } from './text.js';
 
-export * from './unseen.js';
+export * from './text.js';
 export const get = (id) => document.getElementById(id);
 export const focus_chosen = () => get('chosen').querySelector('h2')?.focus();
-export const number = (value) => value.toLocaleString('en');
-export const hex = (value) => `0x${value.toString(16)}`;
-export const plural = (count, word) => `${number(count)} ${word}${count === 1 ? '' : 's'}`;
+export const plural = (number, word) => `${count(number)} ${word}${number === 1 ? '' : 's'}`;
 
 /** Returns the bytes that an element of the page holds, compressed. */
 export function inflated(id) {
@@ -15,37 +13,47 @@ export function inflated(id) {
     return new Response(new Blob([bytes]).stream().pipeThrough(new DecompressionStream('deflate'))).arrayBuffer();
 }
 
-/** Returns an element with attributes and content: elements and texts. Texts are inserted as text. */
+/** Replaces the content of an element by elements and texts, without those that are empty or missing. */
+export function fill(element, ...content) {
+    element.replaceChildren(...content.filter(Boolean));
+    return element;
+}
+
+/** Returns an element with attributes and content, as `fill` takes it. */
 export function make(name, given = {}, ...content) {
     const element = document.createElement(name);
     for (const [key, value] of Object.entries(given)) {
         if (key.startsWith('on')) element.addEventListener(key.slice(2), value);
         else if (value !== undefined && value !== false) element.setAttribute(key, value === true ? '' : value);
     }
-    element.append(...content);
-    return element;
+    return fill(element, ...content);
 }
 
 /** Returns elements with commas between them, which a copied text has, too, but none after a colon. */
-export const joined = (parts) => parts.flatMap((part, i) =>
-    (i ? [/:$/.test(parts[i - 1].textContent) ? ' ' : ', ', part] : [part]));
-export const button = (text, onclick, given = {}) => make('button', { type: 'button', onclick, ...given }, text);
+export const joined = (...parts) => parts.filter(Boolean).flatMap((part, i, all) =>
+    (i ? [/:$/.test(all[i - 1].textContent) ? ' ' : ', ', part] : [part]));
+export const button = (text, onclick, given = {}, ...more) =>
+    make('button', { type: 'button', onclick, ...given }, text, ...more);
 
 /** Replaces the content of an element by a text of a file. */
-export function put_text(element, text) {
-    // (each second part is such a character)
-    element.replaceChildren(...text.split(UNSEEN)
-        .map((part, i) => (i % 2 ? make('span', { class: 'esc' }, shown(part)) : part)));
-    return element;
+export const put_text = (element, text) =>
+    fill(element, ...text.split(UNSEEN).map((part, i) => (i % 2 ? make('span', { class: 'esc' }, shown(part)) : part)));
+
+/** Returns a function that calls another one once it has not been called for a moment. */
+export function after_typing(act) {
+    let soon;
+    return () => {
+        clearTimeout(soon);
+        soon = setTimeout(act, 120);
+    };
 }
 
 let said;
 /** Shows a message in the corner of the page: texts and links. A sentence stays longer than a few words. */
 export function say(...content) {
-    const box = get('said');
-    box.replaceChildren(...content);
+    const box = fill(get('said'), ...content);
     clearTimeout(said);
-    said = setTimeout(() => { box.textContent = ''; }, box.textContent.length > 40 ? 12000 : 4000);
+    said = setTimeout(() => fill(box), box.textContent.length > 40 ? 12000 : 4000);
 }
 
 /** Copies a text, and shows a message. */

@@ -3,7 +3,7 @@
 // and what the bytes of a note say, is not proved.
 import * as goblin from './goblin.js';
 import { read_or } from './file.js';
-import { once, text_of } from './text.js';
+import { once, text_of, two_digits } from './text.js';
 
 const { DT_BIND_NOW, DT_DEBUG, DT_FLAGS, DT_FLAGS_1, ET_CORE, ET_DYN, ET_EXEC, ET_REL, PF_W, PF_X, PT_INTERP,
     SHT_NOBITS, SHT_NOTE, SHT_SYMTAB } = goblin;
@@ -84,8 +84,7 @@ function note_of(file, type) {
 
 function build_id(file) {
     const range = note_of(file, BUILD_ID);
-    return range && Array.from(within(MOST_ID, bytes_of(file, range)), (byte) => byte.toString(16).padStart(2, '0'))
-        .join('');
+    return range && Array.from(within(MOST_ID, bytes_of(file, range)), two_digits).join('');
 }
 
 function control_flow(file) {

@@ -1,7 +1,7 @@
 // The file that the worker reads, with what several modules need of it: sizes, names of sections, and texts
 // of refusals.
 import * as goblin from './goblin.js';
-import { count, hex, name_of, NAME, once } from './text.js';
+import { count, hex, name_of, NAME, once, two_digits } from './text.js';
 
 export const file = { elf: undefined, bytes: new Uint8Array(0),
     get content() { return this.elf?.bytes ?? this.bytes; } };
@@ -85,7 +85,7 @@ export function segment_refusal(error, index) {
 /** Returns the bytes of a range as hexadecimal digits, those past a number of bytes as an ellipsis. */
 export function digits_of({ offset, size }, most = Infinity) {
     const bytes = file.content.subarray(Number(offset), Number(offset + size)).subarray(0, most);
-    return Array.from(bytes, (byte) => byte.toString(16).padStart(2, '0')).join('') + (size > most ? '…' : '');
+    return Array.from(bytes, two_digits).join('') + (size > most ? '…' : '');
 }
 
 /** The tables that the dynamic section leads to, and no section header, by the name of their tag: as sections, which

@@ -1,5 +1,5 @@
 // The field for an offset, an address or a name. The results are below it, the best first.
-import { focus_chosen, get, make, put_text, say } from './dom.js';
+import { after_typing, fill, focus_chosen, get, make, put_text, say } from './dom.js';
 import { ask } from './reader.js';
 import { go } from './route.js';
 import { link_to } from './side.js';
@@ -8,17 +8,17 @@ let found = [], active = 0, asked = '';
 
 function show(places) {
     found = places;
-    active = 0;
     get('found').hidden = places.length === 0;
     get('goto').setAttribute('aria-expanded', places.length > 0);
-    get('found').replaceChildren(...places.map((place, i) => make('li', {
+    fill(get('found'), ...places.map((place, i) => make('li', {
         role: 'option', id: `found-${i}`, onpointerdown: (event) => { event.preventDefault(); take(place); },
     }, put_text(make('b'), place.title),
         put_text(make('span'), place.read ? `${place.read}: ${place.detail}` : place.detail))));
-    mark();
+    mark(0);
 }
 
-function mark() {
+function mark(at) {
+    active = at;
     [...get('found').children].forEach((item, i) => item.setAttribute('aria-selected', i === active));
     get('found').children[active]?.scrollIntoView({ block: 'nearest' });
     get('goto').setAttribute('aria-activedescendant', found.length ? `found-${active}` : '');
@@ -30,8 +30,8 @@ async function take({ title, to, read }) {
     close();
     await go(to);
     focus_chosen();
-    if (read) say(`${title}, ${read}`,
-        ...(other ? [', or ', link_to({ text: `${other.title}, ${other.read}`, to: other.to })] : []));
+    if (read) say(`${title}, ${read}`, other && ', or ',
+        other && link_to({ text: `${other.title}, ${other.read}`, to: other.to }));
 }
 
 // Says what there is in place of results.
@@ -59,21 +59,18 @@ async function look() {
     return true;
 }
 
-async function key(event) {
+async function press(event) {
     if (event.key === 'Escape') close();
     if (event.key === 'Enter' && await look() && found[active]) take(found[active]);
     const step = { ArrowDown: 1, ArrowUp: -1 }[event.key];
     if (!step || !found.length) return;
     event.preventDefault();
-    active = (active + step + found.length) % found.length;
-    mark();
+    mark((active + step + found.length) % found.length);
 }
 
 export function set_up_goto() {
-    let soon;
     const field = get('goto');
-    const soon_look = () => { clearTimeout(soon); soon = setTimeout(look, 120); };
-    Object.assign(field, { oninput: soon_look, onkeydown: key, onblur: close, onfocus: look });
+    Object.assign(field, { oninput: after_typing(look), onkeydown: press, onblur: close, onfocus: look });
     addEventListener('keydown', (event) => {
         if (event.key !== '/' || event.target.closest('input, select') || field.offsetParent === null) return;
         event.preventDefault();

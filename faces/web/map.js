@@ -1,6 +1,6 @@
 // The map: the file's parts, drawn to scale, with the functions inside them, what their bytes are like, what is loaded,
 // and what is chosen.
-import { get, hex, make, number, plural, put_text, visible } from './dom.js';
+import { get, hex, in_bytes, make, plural, put_text, two_digits, visible } from './dom.js';
 import { ask, shown_file } from './reader.js';
 import { go } from './route.js';
 import { first_after, visible_ranges } from './spans.js';
@@ -178,7 +178,7 @@ function draw_contents(pen, { down, high, fill }, has_digits) {
         for (to = from + 1; !has_digits && to % columns !== 0 && classes[to] === classes[from];) to++;
         over_rows(start + from * step, start + to * step, (x, width, y) => {
             fill(shades[classes[from]], x, y + down, width, high);
-            if (has_digits) write(pen, bytes[from].toString(16).padStart(2, '0'), 'on-kind', x + width / 2, y);
+            if (has_digits) write(pen, two_digits(bytes[from]), 'on-kind', x + width / 2, y);
         });
     }
 }
@@ -251,7 +251,7 @@ async function describe(byte) {
     const words = found ? [symbol?.title, title, kind ? words_of(kind) : 'in no section or segment',
         `${hex(start)} to ${hex(end)}`, plural(end - start, 'byte'), depth > 1 && `${depth} pieces overlap`,
         `${content} at ${hex(byte)}`].filter(Boolean).join(' · ')
-        : `${plural(map.kinds.length, 'part')}, drawn to scale; each row has ${number(map.view.each)} bytes; `
+        : `${plural(map.kinds.length, 'part')}, drawn to scale; each row has ${in_bytes(map.view.each)}; `
             + 'the wheel zooms, dragging moves';
     readout.title = put_text(readout, words).textContent;
     if (map.over?.start === start && map.over?.end === end) return;

@@ -1,5 +1,5 @@
 // The page: opens files, each in its own worker, and shows the location that the address bar has.
-import { button, get, inflated, make, number, plural, put_text, say, visible } from './dom.js';
+import { button, count, fill, get, in_bytes, inflated, make, plural, put_text, say, visible } from './dom.js';
 import { set_up_goto } from './goto.js';
 import { lines_of, refusal_of } from './hex.js';
 import { mark_range, set_up_map, show_map } from './map.js';
@@ -18,9 +18,9 @@ const whole = (text) => (/^\d{1,10}$/.test(text ?? '') ? Number(text) : undefine
 const from_hex = (text) => (/^0x[0-9a-f]{1,16}$/i.test(text ?? '') ? BigInt(text) : undefined);
 // Returns what is shown of a location outside the lists: a part of the map, an offset, an address.
 const PLACES = {
-    part: (text) => (whole(text) === undefined ? undefined : ask('item', { list: 'layout', index: whole(text) })),
-    offset: (text) => (from_hex(text) === undefined ? undefined : ask('offset', Number(from_hex(text)))),
-    address: (text) => (from_hex(text) === undefined ? undefined : ask('address', from_hex(text))),
+    part: (text) => ask('item', { list: 'layout', index: whole(text) }),
+    offset: (text) => ask('offset', from_hex(text)),
+    address: (text) => ask('address', from_hex(text)),
 };
 
 // Returns the tab of a location, its section or kind, and the index of an item, if the location has them.
@@ -30,9 +30,8 @@ function tab_of(place) {
     if (!is_list(name)) return { name: name === 'sizes' ? name : 'summary' };
     if (name === 'notes')
         return { name, of: ['sections', 'segments'].includes(first) ? first : undefined, index: whole(second) };
-    const of = /^DT_[A-Z]+$/.test(first) ? first : whole(first);
-    if (name === 'symbols' || name === 'relocations') return { name, of, index: whole(second) };
-    return { name, index: whole(first) };
+    if (name !== 'symbols' && name !== 'relocations') return { name, index: whole(first) };
+    return { name, of: /^DT_[A-Z]+$/.test(first) ? first : whole(first), index: whole(second) };
 }
 
 // Returns what is shown of an item of a tab.
@@ -88,7 +87,7 @@ const unchosen = () =>
 function why_unread({ size }) {
     if (size === 0) return 'The file is empty: it has 0 bytes.';
     return size > LIMIT
-        ? `The file has ${number(size)} bytes. This page reads files of at most ${LIMIT_WORDS}.` : undefined;
+        ? `The file has ${in_bytes(size)}. This page reads files of at most ${LIMIT_WORDS}.` : undefined;
 }
 
 // Why the browser does not read a file, by the name of its error.
@@ -116,20 +115,17 @@ async function open(file) {
 // Shows that a file is being read, and how much is left, if that takes long. The previous file stays, dimmed.
 function show_loading(file, reader) {
     const box = get('loading');
-    const megabytes = (size) => `${number(Math.ceil(size / 1e6))} MB`;
-    const said = (left) => put_text(box, `Reading ${file.name}: ${megabytes(left)} of ${megabytes(file.size)} left`);
-    document.body.setAttribute('aria-busy', 'true');
-    let left = file.size;
+    const megabytes = (size) => `${count(Math.ceil(size / 1e6))} MB`;
+    let left = file.size, is_soon = true;
     // (meanwhile another file may be opened, or this one be shown, whose lists report their progress, too)
-    const timer = setTimeout(() => {
-        if (loading !== reader) return;
+    const show = () => {
+        if (loading !== reader || is_soon) return;
         document.body.classList.add('dimmed');
-        said(left);
-    }, SOON);
-    reader.on_progress = ({ done }) => {
-        left = file.size * (1 - done);
-        if (loading === reader && document.body.classList.contains('dimmed')) said(left);
+        put_text(box, `Reading ${file.name}: ${megabytes(left)} of ${megabytes(file.size)} left`);
     };
+    document.body.setAttribute('aria-busy', 'true');
+    const timer = setTimeout(() => { is_soon = false; show(); }, SOON);
+    reader.on_progress = ({ done }) => { left = file.size * (1 - done); show(); };
     return () => {
         clearTimeout(timer);
         if (loading === reader) end_loading();
@@ -150,8 +146,8 @@ function show_part(part, file, ...words) {
     get('trouble').hidden = true;
     document.body.classList.remove('chosen', 'wide');
     document.title = `${visible(file.name)}: goblin`;
-    get('file').replaceChildren(put_text(make('b', { title: visible(file.name) }), file.name),
-        make('span', {}, plural(file.size, 'byte')), ...words.map((word) => make('span', {}, word)));
+    fill(get('file'), put_text(make('b', { title: visible(file.name) }), file.name),
+        ...[plural(file.size, 'byte'), ...words].map((word) => make('span', {}, word)));
 }
 
 // Replaces the previous file, whose worker ends.
@@ -180,19 +176,18 @@ const OTHERS = [['MZ', 'a program for Windows or DOS (PE)'], ['\xcf\xfa\xed\xfe'
 
 async function show_refusal(file, reader, { refused, start }) {
     replace(reader, file, undefined);
-    const box = await refusal_of(refused, (call, given) => reader.ask(call, given));
     const is_elf = MAGIC.slice(0, start.length).every((byte, i) => start[i] === byte);
+    const box = await refusal_of(is_elf ? refused : { ...refused, marks: [] });
+    if (shown_file.reader !== reader) return;
     const other = OTHERS.find(([begin]) => String.fromCharCode(...start).startsWith(begin));
     const words = is_elf ? [] : [
         make('h2', {}, 'This is not an ELF file'),
-        ...(other ? [make('p', {}, `By its first bytes it is ${other[1]}.`)] : []),
+        other && make('p', {}, `By its first bytes it is ${other[1]}.`),
         make('p', { class: 'what' }, 'An ELF file starts with 7f 45 4c 46. This one starts with:'),
-        lines_of(start, 0, innerWidth < 600 ? 8 : 16, (byte) => byte < MAGIC.length && start[byte] !== MAGIC[byte]),
+        lines_of(start, 0, (byte) => byte < MAGIC.length && start[byte] !== MAGIC[byte]),
     ];
-    if (shown_file.reader !== reader) return;
-    if (!is_elf) box.querySelector('pre').remove();
     show_part('refused', file);
-    get('refused').replaceChildren(...words, ...box.childNodes);
+    fill(get('refused'), ...words, ...box.childNodes);
 }
 
 let is_first = true;
@@ -204,7 +199,7 @@ async function show_file(file, reader, summary) {
     show_part('shown', file, ...summary.words);
     show_map(summary.map, file.size);
     show_tabs();
-    get('panel').replaceChildren();
+    fill(get('panel'));
     await show_place(current_place());
 }
 

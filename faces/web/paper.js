@@ -1,13 +1,15 @@
 // What is printed: the summary, and all of the open tab, over as many sheets as it takes. A page can't wait for its
 // worker once it is printed, so what is printed of a list is requested as soon as the list is shown.
-import { get, make, number } from './dom.js';
+import { count, get, make } from './dom.js';
 import { ask, shown_file } from './reader.js';
 
 // How many rows of a list are printed at most, and the length of a text that may take several lines.
 const MOST = 300000, LONG = 24;
+// A function that returns the panel of the summary.
+let summary_panel;
 
-/** Requests what is printed of a list: the summary, by a function that returns its panel, and the texts of the rows. */
-export async function prepare_paper(mine, summary_panel) {
+/** Requests what is printed of a tab: the panel of the summary, and the texts of a list's rows. */
+export async function prepare_paper(mine) {
     const { summary } = shown_file;
     mine.text = undefined;
     summary.panel ??= await summary_panel();
@@ -32,17 +34,16 @@ function title_of({ name, list, of, query, output }) {
 }
 
 // Returns what is printed of a tab but the summary.
-function content_of(mine) {
-    const { grid, text } = mine;
+function content_of({ grid, text }) {
     if (!grid || grid.box.hidden) return [...get('panel').cloneNode(true).children];
     if (text === undefined)
         return [make('p', {}, 'The list was still being read when this was printed. Print it again in a moment.')];
-    const cut = grid.length > MOST && [make('p', {}, `These are the first ${number(MOST)} rows.`)];
-    return [...(cut || []), table_of(grid, text)];
+    return [grid.length > MOST && make('p', {}, `These are the first ${count(MOST)} rows.`), table_of(grid, text)];
 }
 
-/** Sets a function that returns the open tab. */
-export function set_up_paper(opened) {
+/** Sets functions that return the open tab, and the panel of the summary. */
+export function set_up_paper(opened, panel) {
+    summary_panel = panel;
     addEventListener('beforeprint', () => {
         const mine = opened(), { summary } = shown_file;
         get('paper')?.remove(); // (a browser may print again before it says that it has printed)

@@ -1,8 +1,7 @@
 // The side: what is chosen, with its fields, links and bytes.
-import { button, copy, get, hex, joined, make, plural, put_text, visible } from './dom.js';
+import { button, copy, fill, get, hex, joined, make, plural, put_text, visible } from './dom.js';
 import { bytes_in, copy_hex, hex_view, light, refusal_of } from './hex.js';
 import { dot } from './map.js';
-import { ask } from './reader.js';
 
 const SIDE_BYTES = 8, SIDE_WIDTH = 372;
 /** Returns a link to a location. */
@@ -11,23 +10,24 @@ export const link_to = ({ text, to }) => put_text(make('a', { href: `#${to}` }),
 // Returns the cell of a field: its value, its meaning and its links.
 function value_of({ value, meaning, links }) {
     const said = meaning && put_text(make('span', { class: 'meaning' }), meaning);
-    return make('td', {},
-        ...joined([value && put_text(make('span'), value), said, ...links.map(link_to)].filter((part) => part)));
+    return make('td', {}, ...joined(value && put_text(make('span'), value), said, ...links.map(link_to)));
 }
 
 /** Returns the row of a field, with a name or an element at its head, and perhaps other cells. */
 export const row_of = (field, given = {}, head = field.name, ...cells) =>
     make('tr', given, make('th', { scope: 'row' }, head), value_of(field), ...cells);
 
+/** Returns a table of such rows. */
+export const table_of = (rows, given) => make('table', { class: 'fields', ...given }, make('tbody', {}, ...rows));
+
 // Returns the width that bytes have. In a low window they are beside the fields.
 const room = () =>
     (matchMedia('(max-height: 600px) and (min-width: 561px)').matches ? SIDE_WIDTH : get('chosen').clientWidth);
 
 async function content_of({ at, size, refused, fields }) {
-    if (refused) return [await refusal_of(refused, ask, SIDE_BYTES)];
+    if (refused) return [await refusal_of(refused, SIDE_BYTES)];
     const lies = at === undefined ? 'no bytes in the file' : `${hex(at)} to ${hex(at + size)}, ${plural(size, 'byte')}`;
-    return [make('p', { class: 'lies' }, lies),
-        ...(size > 0 ? [hex_view(at, size, shown_each = bytes_in(room()), fields)] : [])];
+    return [make('p', { class: 'lies' }, lies), size > 0 && hex_view(at, size, shown_each = bytes_in(room()), fields)];
 }
 
 // Returns the view of the chosen block of bytes, at first the first one.
@@ -42,7 +42,7 @@ async function bytes_box(blocks) {
         choices.forEach((choice, i) => choice.setAttribute('aria-pressed', blocks[i] === block));
         copying.hidden = !(block.size > 0);
         const shown = await content_of(block);
-        if (current === block) content.replaceChildren(...shown);
+        if (current === block) fill(content, ...shown);
     };
     shown_again = () => show(current);
     await show(blocks[0]);
@@ -53,9 +53,8 @@ async function bytes_box(blocks) {
 // How many bytes a row has, and what shows the bytes again once the width has changed.
 let shown_each, shown_again;
 export function set_up_side() {
-    for (const event of ['pointerover', 'focusin']) {
+    for (const event of ['pointerover', 'focusin'])
         get('chosen').addEventListener(event, ({ target }) => light(target.closest('[data-field]')?.dataset.field));
-    }
     addEventListener('resize', () => { if (shown_again && bytes_in(room()) !== shown_each) shown_again(); });
 }
 
@@ -67,17 +66,18 @@ function widening() {
         { class: 'copy widen', 'aria-pressed': `${classList.contains('wide')}`, title: 'in place of the list' });
 }
 
+const copying_link = (link) =>
+    button('Copy link', () => copy(`${location.href.split('#')[0]}#${link}`, 'a link by the name'), { class: 'copy' });
+
 let asked = 0;
 /** Shows the worker's description of what is chosen. */
 export async function show_side({ title, what, kind, link, fields = [], blocks = [] }) {
-    const mine = ++asked;
-    const bytes = blocks.length ? await bytes_box(blocks) : undefined, record = blocks.find((block) => block.fields);
+    const mine = ++asked, bytes = blocks.length > 0 && await bytes_box(blocks),
+        record = blocks.find((block) => block.fields);
     if (mine !== asked) return;
     const sub = put_text(make('p', { class: 'sub' }), what);
-    if (kind) sub.prepend(dot(kind));
-    sub.append(widening());
-    if (link) sub.append(button('Copy link', () => copy(`${location.href.split('#')[0]}#${link}`, 'a link by the name'),
-        { class: 'copy' }));
+    sub.prepend(kind ? dot(kind) : '');
+    sub.append(widening(), link ? copying_link(link) : '');
     // (the name of a field of a record shows its bytes)
     const rows = fields.filter(Boolean).map((field) => {
         const tint = record?.fields.findIndex(({ name }) => name === field.name) ?? -1;
@@ -86,8 +86,6 @@ export async function show_side({ title, what, kind, link, fields = [], blocks =
             { title: 'show its bytes' });
         return row_of(field, { 'data-field': field.name, 'data-tint': tint % 4 }, head);
     });
-    const table = rows.length
-        ? [make('div', { class: 'list' }, make('table', { class: 'fields' }, make('tbody', {}, ...rows)))] : [];
-    get('chosen')
-        .replaceChildren(put_text(make('h2', { tabindex: '-1' }), title), sub, ...table, ...(bytes ? [bytes.box] : []));
+    fill(get('chosen'), put_text(make('h2', { tabindex: '-1' }), title), sub,
+        rows.length > 0 && make('div', { class: 'list' }, table_of(rows)), bytes.box);
 }

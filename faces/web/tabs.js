@@ -1,23 +1,23 @@
 // The tabs: the header's fields, and the lists with their searches.
 import { area_panel } from './area.js';
-import { button, copy, focus_chosen, get, hex, make, number, plural, say, visible } from './dom.js';
+import { after_typing, button, copy, count, fill, focus_chosen, get, hex, make, plural, say, visible } from './dom.js';
 import { Grid } from './grid.js';
 import { refusal_of } from './hex.js';
 import { prepare_paper, set_up_paper } from './paper.js';
 import { ask, shown_file } from './reader.js';
 import { go } from './route.js';
-import { row_of } from './side.js';
+import { row_of, table_of } from './side.js';
 
 const LISTS = ['sections', 'segments', 'symbols', 'relocations', 'notes', 'layout'];
 export const is_list = (name) => LISTS.includes(name);
-// The open list: its tab, its section or kind, and its grid. And the header's rows.
+// The open list: its tab, its section or kind, and its grid.
 let open = { name: undefined };
 
 // Returns the number of items in the tables as text, with `+` if there are more, or `refused`.
 function sum_of({ refused, found, all }) {
     if (refused || (found.length > 0 && found.every(({ length }) => length === undefined))) return 'refused';
     const known = found.reduce((total, { length = 0 }) => total + length, 0);
-    return all > found.length ? `${number(known)}+` : number(known);
+    return all > found.length ? `${count(known)}+` : count(known);
 }
 
 // Returns the number of notes of sections, or of segments if these have more, as text, with `+` if there are more,
@@ -25,31 +25,29 @@ function sum_of({ refused, found, all }) {
 function notes_sum({ sections, segments }) {
     if (sections.length === undefined && !segments.length) return 'refused';
     const { length, refusals, is_cut } = (segments.length ?? 0) > (sections.length ?? 0) ? segments : sections;
-    return refusals.length || is_cut ? `${number(length)}+` : number(length);
+    return refusals.length || is_cut ? `${count(length)}+` : count(length);
 }
 
 /** Shows the tabs, each with its number of items or as refused. */
 export function show_tabs() {
-    const { summary } = shown_file, length = ({ refused, length: count }) => (refused ? 'refused' : number(count));
+    const { sections, segments, symbols, relocations, notes, map } = shown_file.summary;
+    const length_of = ({ refused, length }) => (refused ? 'refused' : count(length));
+    const numbers = {
+        Summary: '', Header: '', Sections: length_of(sections), Segments: length_of(segments), Symbols: sum_of(symbols),
+        Relocations: sum_of(relocations), Notes: notes_sum(notes), Layout: count(map.kinds.length), Sizes: '',
+    };
     open = { name: undefined };
-    const list = [
-        ['summary', 'Summary', ''], ['header', 'Header', ''], ['sections', 'Sections', length(summary.sections)],
-        ['segments', 'Segments', length(summary.segments)], ['symbols', 'Symbols', sum_of(summary.symbols)],
-        ['relocations', 'Relocations', sum_of(summary.relocations)], ['notes', 'Notes', notes_sum(summary.notes)],
-        ['layout', 'Layout', number(summary.map.kinds.length)], ['sizes', 'Sizes', ''],
-    ];
-    get('tabs').replaceChildren(...list.map(([name, title, count]) => make('button', {
-        type: 'button', role: 'tab', id: `tab-${name}`, 'aria-controls': 'panel',
-        'aria-selected': 'false', tabindex: '-1',
-        onclick: () => go(name),
-    }, `${title} `, make('span', { class: count === 'refused' ? 'bad' : '' }, count))));
+    fill(get('tabs'), ...Object.entries(numbers).map(([title, number]) => {
+        const name = title.toLowerCase(), given = { role: 'tab', id: `tab-${name}`, 'aria-controls': 'panel' };
+        return button(`${title} `, () => go(name), { ...given, 'aria-selected': 'false', tabindex: '-1' },
+            make('span', { class: number === 'refused' && 'bad' }, number));
+    }));
 }
 
 export function set_up_tabs() {
-    set_up_paper(() => open);
+    set_up_paper(() => open, summary_panel);
     get('tabs').addEventListener('keydown', (event) => {
-        const all = [...get('tabs').children],
-            at = all.findIndex((tab) => tab.getAttribute('aria-selected') === 'true');
+        const all = [...get('tabs').children], at = all.findIndex((tab) => tab.ariaSelected === 'true');
         const next = { ArrowRight: at + 1, ArrowLeft: at - 1 + all.length, Home: 0, End: all.length - 1 }[event.key];
         if (next === undefined) return;
         event.preventDefault();
@@ -85,9 +83,9 @@ export async function open_tab(name, of) {
     select_tab(name);
     mine.ready = (panels[name] ?? list_panel)(mine, of).then((content) => {
         if (open !== mine) return;
-        get('panel').replaceChildren(...content);
+        fill(get('panel'), ...content);
         mine.grid?.draw();
-        if (!mine.grid && name !== 'summary') prepare_paper(mine, summary_panel);
+        if (!mine.grid && name !== 'summary') prepare_paper(mine);
     });
     await mine.ready;
     return open === mine;
@@ -100,19 +98,16 @@ const CLOSING = 'Facts rest on fields that proved calls return. What is below �
     + ' SPARC’s symbol type STT_REGISTER.';
 // Returns the facts in words. Those that the page reads itself are below a mark.
 async function summary_panel() {
-    const line = ({ also = [], ...fact }) => {
+    const line = (fact) => {
         const row = row_of(fact);
-        for (const more of also) row.lastChild.append(' ', make('br'), ...row_of(more).lastChild.childNodes);
+        for (const more of fact.also ?? []) row.lastChild.append(' ', make('br'), ...row_of(more).lastChild.childNodes);
         return row;
     };
-    const table = (title, { mark, rows }) => [...(mark ? [make('span', { class: 'own' }, mark)] : []),
-        make('table', { class: 'fields', 'aria-label': mark ? `${title}, ${mark}` : title },
-            make('tbody', {}, ...rows.map(line)))];
     const group = ({ title, tables }) => make('section', {}, make('h3', {}, title),
-        ...tables.flatMap((given) => table(title, given)));
-    const said = make('p', { class: 'others' }, CLOSING);
-    return [make('div', { class: 'scroll', tabindex: '0' },
-        make('div', { class: 'summary' }, ...(await ask('summary')).map(group)), said)];
+        ...tables.flatMap(({ mark, rows }) => [mark && make('span', { class: 'own' }, mark),
+            table_of(rows.map(line), { 'aria-label': mark ? `${title}, ${mark}` : title })]));
+    const groups = make('div', { class: 'summary' }, ...(await ask('summary')).map(group));
+    return [make('div', { class: 'scroll', tabindex: '0' }, groups, make('p', { class: 'others' }, CLOSING))];
 }
 
 async function header_panel() {
@@ -127,8 +122,7 @@ async function header_panel() {
         return row_of(field, { tabindex: '0', 'data-field': name, onclick, onkeydown }, name,
             make('td', { class: 'words' }, words), make('td', { class: 'dim' }, `${hex(at)}, ${plural(size, 'byte')}`));
     });
-    const table = make('table', { class: 'fields header', role: 'grid', 'aria-label': 'Fields of the header' },
-        make('tbody', {}, ...rows));
+    const table = table_of(rows, { class: 'fields header', role: 'grid', 'aria-label': 'Fields of the header' });
     return [make('div', { class: 'scroll' }, table)];
 }
 
@@ -138,8 +132,8 @@ export function choose_field(wanted) {
         row.setAttribute('aria-selected', row.dataset.field === wanted);
     const field = shown_file.summary.header.find(({ name }) => name === wanted);
     if (!field) return undefined;
-    const { name, at, size, words, value, meaning, links } = field;
-    return { title: name, kind: 'header', what: words, fields: [{ name: 'value', value, meaning, links }],
+    const { at, size, words } = field;
+    return { title: wanted, kind: 'header', what: words, fields: [{ ...field, name: 'value' }],
         blocks: [{ word: 'bytes', at, size }, header_block('header')] };
 }
 
@@ -147,13 +141,13 @@ export function choose_field(wanted) {
 export const header_block = (word) =>
     ({ word, at: 0, size: shown_file.summary.header_size, fields: shown_file.summary.header });
 
-// Returns the tables of symbols, relocations or notes to choose from.
+// Returns the tables of symbols, relocations or notes to choose from. Other lists have one.
 function choices(name) {
-    const { summary } = shown_file;
+    const { notes, [name]: tables } = shown_file.summary;
     const choice = (of, title, length) =>
-        ({ of, length, text: `${title} (${length === undefined ? 'refused' : number(length)})` });
-    if (name === 'notes') return ['sections', 'segments'].map((of) => choice(of, `of ${of}`, summary.notes[of].length));
-    return summary[name].found.map(({ index, name: title, length }) => choice(index, title, length));
+        ({ of, length, text: `${title} (${length === undefined ? 'refused' : count(length)})` });
+    if (name === 'notes') return ['sections', 'segments'].map((of) => choice(of, `of ${of}`, notes[of].length));
+    return tables?.found?.map(({ index, name: title, length }) => choice(index, title, length)) ?? [{ of: undefined }];
 }
 
 const NONE = {
@@ -168,17 +162,17 @@ const OWN = {
         + ' Proved calls read the table.',
 };
 
+const UNSORTED = { query: '', column: 0, is_descending: false };
 async function list_panel(mine, wanted) {
     const { name } = mine, { summary } = shown_file;
     if (summary[name]?.refused) return [await refusal_of(summary[name].refused)];
-    let list = Object.hasOwn(NONE, name) || name === 'notes' ? choices(name) : [{ of: undefined }];
+    let list = choices(name);
     if (wanted !== undefined && !list.some(({ of }) => of === wanted))
         list = [{ of: wanted, text: `section ${wanted}` }, ...list];
     if (list.length === 0) return [make('p', { class: 'empty' }, NONE[name])];
     // (a refusal is shown before an empty list)
     const [longest] = list.toSorted((a, b) => (b.length ?? 0.5) - (a.length ?? 0.5)), of = wanted ?? longest.of;
-    Object.assign(mine, { list, of, query: '', column: 0, is_descending: false });
-    Object.assign(mine, { output: make('output'), below: make('div', { class: 'notice' }) });
+    Object.assign(mine, { list, of, ...UNSORTED, output: make('output'), below: make('div', { class: 'notice' }) });
     const [columns, others] = await ask('columns', { list: name, of: mine.of });
     mine.grid = new Grid(name, others && is_demangled ? others : columns, {
         rows: (from, size) => ask('rows', { list: name, from, size }),
@@ -202,14 +196,14 @@ async function refresh(mine) {
     const { is_over, refused, is_none, length, all } =
         await ask('view', { list: name, of, is_demangled, query, column, is_descending });
     if (is_over) return;
-    below.replaceChildren(...await notices_of(mine, { refused, is_none }));
+    fill(below, ...await notices_of(mine, { refused, is_none }));
     const is_shown = !refused && !is_none;
     grid.box.hidden = !is_shown;
-    const count = is_shown && (query ? `${number(length)} of ${number(all)}` : number(all));
-    output.textContent = refused ? 'refused' : is_none ? 'none' : count;
+    const number = is_shown && (query ? `${count(length)} of ${count(all)}` : count(all));
+    output.textContent = refused ? 'refused' : is_none ? 'none' : number;
     mine.saving.hidden = !is_shown || length === 0;
     grid.show(is_shown ? length : 0);
-    if (is_shown) prepare_paper(mine, summary_panel);
+    if (is_shown) prepare_paper(mine);
 }
 
 // Returns the message for a list that is refused, missing or incomplete.
@@ -219,14 +213,14 @@ async function notices_of({ name, of }, { refused, is_none }) {
     if (refused) return [await refusal_of(refused)];
     const table = shown_file.summary[name]?.found?.find(({ index }) => index === of),
         said = table?.is_packed ? OWN.packed : table?.is_own && OWN.own;
-    return said ? [make('p', { class: 'others' }, said)] : [];
+    return [said && make('p', { class: 'others' }, said)];
 }
 
 const MOST_REFUSALS = 3;
 async function note_refusals(by) {
     const { refusals, is_cut } = shown_file.summary.notes[by];
     const boxes = await Promise.all(refusals.slice(0, MOST_REFUSALS).map((refusal) => refusal_of(refusal)));
-    return is_cut ? [...boxes, make('p', { class: 'empty' }, 'There are more notes, which are not read.')] : boxes;
+    return [...boxes, is_cut && make('p', { class: 'empty' }, 'There are more notes, which are not read.')];
 }
 
 async function go_to_row(mine, at, is_step) {
@@ -253,7 +247,7 @@ export async function activate(index) {
     if (index === undefined || is_own) return;
     let at = await ask('position', { list: name, index });
     if (at < 0) {
-        Object.assign(mine, { query: '', column: 0, is_descending: false });
+        Object.assign(mine, UNSORTED);
         mine.search.value = '';
         grid.show_order(0, 'none');
         await refresh(mine);
@@ -263,22 +257,18 @@ export async function activate(index) {
 }
 
 function tools(mine, switched) {
-    const { name, list, of, output, grid } = mine;
-    const bar = make('div', { class: 'tools' });
-    if (list.length > 1) {
-        const onchange = ({ target }) => go(`${name}/${list[target.selectedIndex].of}`);
-        bar.append(make('select', { 'aria-label': `Which ${name}`, onchange },
-            ...list.map((item, i) => make('option', { value: `${i}`, selected: item.of === of }, visible(item.text)))));
-    }
-    const hidden = (shown_file.summary[name]?.all ?? 0) - (shown_file.summary[name]?.found?.length ?? 0);
-    if (hidden > 0) bar.append(make('span', {}, `and ${number(hidden)} more: choose them among the sections`));
+    const { name, list, of, output, grid } = mine, { all = 0, found = [] } = shown_file.summary[name] ?? {};
+    const onchange = ({ target }) => go(`${name}/${list[target.selectedIndex].of}`), hidden = all - found.length;
     mine.saving = make('span', { class: 'saving' },
         button('Copy cell', () => copy_active(grid, ({ [grid.column]: cell }) => cell, 'the cell')),
         button('Copy row', () => copy_active(grid, (cells) => cells.join('\t'), 'the row')),
         button('Save CSV', () => save(mine)));
     mine.search = search_field(mine);
-    bar.append(mine.search, ...(switched ? [demangling(mine, switched)] : []), output, mine.saving);
-    return bar;
+    return make('div', { class: 'tools' },
+        list.length > 1 && make('select', { 'aria-label': `Which ${name}`, onchange },
+            ...list.map((item) => make('option', { selected: item.of === of }, visible(item.text)))),
+        hidden > 0 && make('span', {}, `and ${count(hidden)} more: choose them among the sections`),
+        mine.search, switched && demangling(mine, switched), output, mine.saving);
 }
 
 // Returns a button that shows names as they are written in C++, in place of the names, for all lists from then on.
@@ -293,7 +283,6 @@ function demangling(mine, switched) {
 }
 
 function search_field(mine) {
-    let soon;
     const look = async () => {
         const query = mine.search.value.trim();
         if (query === mine.query) return;
@@ -303,7 +292,7 @@ function search_field(mine) {
     return make('input', {
         type: 'search', placeholder: 'Search: text or 0x…',
         'aria-label': `Search ${mine.name} by text, offset or address`, spellcheck: 'false', autocomplete: 'off',
-        oninput: () => { clearTimeout(soon); soon = setTimeout(look, 120); },
+        oninput: after_typing(look),
         onkeydown: async ({ key }) => {
             if (key !== 'Enter') return;
             await look();

@@ -15,8 +15,7 @@ import { CLASSES, inside, sizes, under } from './inside.js';
 import { KINDS, parts, titled } from './pieces.js';
 import { symtab_at } from './resolve.js';
 import { all_facts, kind_in_words, of_this_file, summary } from './summary.js';
-import { hex } from './text.js';
-import { visible } from './unseen.js';
+import { hex, visible } from './text.js';
 
 // How many bytes are read before the progress is sent.
 const CHUNK = 1 << 24;
@@ -185,8 +184,9 @@ const calls = {
         return source && !source.refused && index < source.list.length
             ? item_details(source, { list, index, of }) : undefined;
     },
-    offset: (offset) => (offset < file.content.length ? offset_details(offset) : undefined),
-    address: (address) => (is_address(address) ? address_details(address) : undefined),
+    // (a location may have neither)
+    offset: (offset) => (offset < file.content.length ? offset_details(Number(offset)) : undefined),
+    address: (address) => (address !== undefined && is_address(address) ? address_details(address) : undefined),
     find: (text) => find(text, begin('find')),
     // Returns the location of the section or symbol with a name. Of symbols the first one that is defined is preferred.
     named([kind, name]) {
