@@ -10,14 +10,16 @@ import { parts, titled } from './pieces.js';
 import { has_mangled, name_of_symbol, named_symbols, section_of_symbol, symtab_at } from './resolve.js';
 import { count, hex, once } from './text.js';
 
+const { st_bind, st_type, st_visibility } = goblin;
 const SPECIAL = new Map([[0n, 'undefined'], [0xfff1n, 'absolute'], [0xfff2n, 'common'], [0xffffn, 'extended index']]);
 // A column has a title, a hint, such as the standard's name of the field, the least width, which of the columns gets
-// more of it first, and functions that return an item's text, and perhaps another one for a saved list, a number to
-// sort by, and a function that finds a text.
-const column = (title, hint, least, share, given) => ({ title, hint, least, share, ...given });
-const text = (title, hint, least, share, say) => column(title, hint, least, share, { text: say });
-const number = (title, key, least, share, say = hex) => column(title, key, least, share,
-    { is_right: true, is_number: true, text: (item) => say(item[key]), number: (item) => item[key] });
+// more of it first, a function that returns an item's text, and perhaps another one for a saved list, a number to sort
+// by, and a function that finds a text.
+const column = (title, hint, least, share, text, given) => ({ title, hint, least, share, text, ...given });
+// A column of the numbers that a function returns, and one of a field's numbers.
+const number = (title, hint, least, share, of, say = hex, given = { is_number: true }) =>
+    column(title, hint, least, share, (item) => say(of(item)), { is_right: true, number: of, ...given });
+const field = (title, key, least, share, say) => number(title, key, least, share, (item) => item[key], say);
 
 // Returns the widths of columns of some kinds of numbers, in which those of the file fit, but for some of
 // damaged files.
@@ -62,67 +64,62 @@ const packed = (offsets) =>
     list_of(offsets.length, (at) => ({ r_offset: offsets[at], r_type: 0, r_sym: 0, r_addend: undefined }));
 
 const sources = {
-    sections({ address, offset, align, index }) {
-        return {
-            list: file.elf.section_headers(), place: 30,
-            columns: [
-                text('Name', 'sh_name', 126, 4, name_of_section),
-                text('Type', 'sh_type', 92, 0.6, ({ sh_type }) => labels.section_type(sh_type)),
-                number('Address', 'sh_addr', address, 0.4), number('Offset', 'sh_offset', offset, 0.3),
-                number('Size', 'sh_size', offset, 0.3),
-                text('Flags', 'sh_flags', 118, 0.3, ({ sh_flags }) => labels.section_flags(sh_flags)),
-                number('Link', 'sh_link', index, 0, String),
-                number('Info', 'sh_info', index, 0, String), number('Align', 'sh_addralign', align, 0, String),
-                number('Entry', 'sh_entsize', 36, 0, String),
-            ],
-            mark: (item) => is_refused(() => file.elf.range(item)),
-            holds: ({ sh_addr, sh_offset, sh_size, sh_type, sh_flags }, value) =>
-                (sh_flags & 2n && within(sh_addr, sh_size, value))
-                || (sh_type !== goblin.SHT_NOBITS && within(sh_offset, sh_size, value)),
-        };
-    },
+    sections: ({ address, offset, align, index }) => ({
+        list: file.elf.section_headers(), place: 30,
+        columns: [
+            column('Name', 'sh_name', 126, 4, name_of_section),
+            column('Type', 'sh_type', 92, 0.6, ({ sh_type }) => labels.section_type(sh_type)),
+            field('Address', 'sh_addr', address, 0.4), field('Offset', 'sh_offset', offset, 0.3),
+            field('Size', 'sh_size', offset, 0.3),
+            column('Flags', 'sh_flags', 118, 0.3, ({ sh_flags }) => labels.section_flags(sh_flags)),
+            field('Link', 'sh_link', index, 0, String), field('Info', 'sh_info', index, 0, String),
+            field('Align', 'sh_addralign', align, 0, String), field('Entry', 'sh_entsize', 36, 0, String),
+        ],
+        mark: (item) => is_refused(() => file.elf.range(item)),
+        holds: ({ sh_addr, sh_offset, sh_size, sh_type, sh_flags }, value) =>
+            (sh_flags & 2n && within(sh_addr, sh_size, value))
+            || (sh_type !== goblin.SHT_NOBITS && within(sh_offset, sh_size, value)),
+    }),
 
-    segments({ address, offset }) {
-        const flags = { text: ({ p_flags }) => labels.segment_flags(p_flags), plain: ({ p_flags }) => hex(p_flags) };
-        return {
-            list: file.elf.program_headers(), place: 40,
-            columns: [
-                text('Type', 'p_type', 104, 1, ({ p_type }) => labels.segment_type(p_type)),
-                column('Flags', 'p_flags', 46, 0, flags), number('Offset', 'p_offset', offset, 0.5),
-                number('File size', 'p_filesz', offset, 0.5), number('Address', 'p_vaddr', address, 1),
-                number('Memory size', 'p_memsz', Math.max(offset, 80), 0.5), number('Physical', 'p_paddr', address, 1),
-                number('Align', 'p_align', 66),
-            ],
-            mark: (item) => is_refused(() => file.elf.range(item)),
-            holds: ({ p_offset, p_filesz, p_vaddr, p_memsz }, value) => within(p_offset, p_filesz, value)
-                || within(p_vaddr, p_memsz, value),
-        };
-    },
+    segments: ({ address, offset }) => ({
+        list: file.elf.program_headers(), place: 40,
+        columns: [
+            column('Type', 'p_type', 104, 1, ({ p_type }) => labels.segment_type(p_type)),
+            column('Flags', 'p_flags', 46, 0, ({ p_flags }) => labels.segment_flags(p_flags),
+                { plain: ({ p_flags }) => hex(p_flags) }),
+            field('Offset', 'p_offset', offset, 0.5), field('File size', 'p_filesz', offset, 0.5),
+            field('Address', 'p_vaddr', address, 1), field('Memory size', 'p_memsz', Math.max(offset, 80), 0.5),
+            field('Physical', 'p_paddr', address, 1), field('Align', 'p_align', 66),
+        ],
+        mark: (item) => is_refused(() => file.elf.range(item)),
+        holds: ({ p_offset, p_filesz, p_vaddr, p_memsz }, value) => within(p_offset, p_filesz, value)
+            || within(p_vaddr, p_memsz, value),
+    }),
 
     symbols({ address }, table) {
         const name = (item, index) => name_of_symbol(table, index, item), symtab = symtab_at(table),
             list = { length: symtab.length, get: (index) => symtab.get(index), from: () => named_symbols(table) },
             known = new Array(list.length), has_demangled = has_mangled(table);
         const in_source = (item, index) => (known[index] ??= demangled(name(item, index)) ?? '');
-        const other = { text: (item, index) => in_source(item, index) || name(item, index), plain: in_source,
-            finder: (wanted) => {
-                const may = may_hold(wanted), has = (found) => found.toLowerCase().includes(wanted);
-                return (item, index) => has(name(item, index))
-                    || (may(name(item, index).toLowerCase()) && has(in_source(item, index)));
-            } };
+        const finder = (wanted) => {
+            const may = may_hold(wanted), has = (found) => found.toLowerCase().includes(wanted);
+            return (item, index) => has(name(item, index))
+                || (may(name(item, index).toLowerCase()) && has(in_source(item, index)));
+        };
+        const in_cpp = column('Demangled (not proved)', 'the name in C++, if read', 180, 5,
+            (item, index) => in_source(item, index) || name(item, index), { plain: in_source, finder });
         return {
             list, place: 48, has_demangled,
             columns: [
-                text('Name', 'st_name', 180, 5, name),
-                ...(has_demangled ? [column('Demangled (not proved)', 'the name in C++, if read', 180, 5, other)] : []),
-                number('Value', 'st_value', address, 0.3), number('Size', 'st_size', 62, 0, String),
-                text('Type', 'st_info, its low four bits', 74, 0,
-                    ({ st_info }) => labels.symbol_type(goblin.st_type(st_info))),
-                text('Binding', 'st_info, its high four bits', 64, 0,
-                    ({ st_info }) => labels.symbol_binding(goblin.st_bind(st_info))),
-                text('Visibility', 'st_other', 78, 0,
-                    ({ st_other }) => labels.symbol_visibility(goblin.st_visibility(st_other))),
-                text('Section', 'st_shndx', 90, 0.5, (item, index) => section_word(table, index, item)),
+                column('Name', 'st_name', 180, 5, name), ...(has_demangled ? [in_cpp] : []),
+                field('Value', 'st_value', address, 0.3), field('Size', 'st_size', 62, 0, String),
+                column('Type', 'st_info, its low four bits', 74, 0,
+                    ({ st_info }) => labels.symbol_type(st_type(st_info))),
+                column('Binding', 'st_info, its high four bits', 64, 0,
+                    ({ st_info }) => labels.symbol_binding(st_bind(st_info))),
+                column('Visibility', 'st_other', 78, 0,
+                    ({ st_other }) => labels.symbol_visibility(st_visibility(st_other))),
+                column('Section', 'st_shndx', 90, 0.5, (item, index) => section_word(table, index, item)),
             ],
             holds: ({ st_value, st_size }, value) => st_value === value || within(st_value, st_size, value),
         };
@@ -130,58 +127,53 @@ const sources = {
 
     relocations({ address }, of) {
         const section = section_at(of), half = 1n << 63n, is_packed = section.sh_type === RELR;
-        const type = { text: ({ r_type }) => (is_packed ? 'packed, relative' : labels.relocation_type(r_type)),
-            number: ({ r_type }) => r_type };
-        const added = { is_right: true, text: addend, plain: (item) => addend(item).replace('−', '-'),
+        const type = ({ r_type }) => (is_packed ? 'packed, relative' : labels.relocation_type(r_type));
+        const added = { is_right: true, plain: (item) => addend(item).replace('−', '-'),
             number: ({ r_addend = 0n }) => r_addend + half };
         return {
             list: is_packed ? packed(packed_offsets(section)) : file.elf.relocs(section), place: 48,
             columns: [
-                number('Offset', 'r_offset', address, 0.6), column('Type', 'r_type', 165, 0.5, type),
-                text('Symbol', 'the name of r_sym', 190, 4, (item) => symbol_of_relocation(section.sh_link, item)),
-                column('Addend', 'r_addend', address, 0.6, added),
-                number('Index', 'r_sym', 56, 0, (index) => (is_packed ? '' : `${index}`)),
+                field('Offset', 'r_offset', address, 0.6),
+                column('Type', 'r_type', 165, 0.5, type, { number: ({ r_type }) => r_type }),
+                column('Symbol', 'the name of r_sym', 190, 4, (item) => symbol_of_relocation(section.sh_link, item)),
+                column('Addend', 'r_addend', address, 0.6, addend, added),
+                field('Index', 'r_sym', 56, 0, (index) => (is_packed ? '' : `${index}`)),
             ],
             holds: ({ r_offset }, value) => r_offset === value,
         };
     },
 
     notes(_, by) {
-        const { items } = notes_of(by),
-            type = { text: ({ note }) => labels.note_type(note), number: ({ note }) => note.n_type };
-        const of_thread = { is_right: true, text: ({ thread = '' }) => `${thread}`,
-            number: ({ thread = 0n }) => thread };
-        const size = { is_right: true, text: ({ note }) => `${note.desc_range.size}`,
-            number: ({ note }) => note.desc_range.size };
+        const { items } = notes_of(by), of_thread = { is_right: true, number: ({ thread = 0n }) => thread };
         return {
             list: list_of(items.length, (at) => items[at]), place: 40,
             columns: [
-                text('From', 'the section or segment', 120, 1, ({ holder }) => holder.title),
-                text('Owner', 'the name', 72, 0.6, ({ note }) => note.name), column('Type', 'n_type', 130, 0.8, type),
-                column('Thread', 'of a core', 60, 0, of_thread), column('Size', 'n_descsz', 56, 0, size),
-                text('Descriptor', 'its first bytes', 160, 2, ({ note }) => digits_of(note.desc_range, 64)),
+                column('From', 'the section or segment', 120, 1, ({ holder }) => holder.title),
+                column('Owner', 'the name', 72, 0.6, ({ note }) => note.name),
+                column('Type', 'n_type', 130, 0.8, ({ note }) => labels.note_type(note),
+                    { number: ({ note }) => note.n_type }),
+                column('Thread', 'of a core', 60, 0, ({ thread = '' }) => `${thread}`, of_thread),
+                number('Size', 'n_descsz', 56, 0, ({ note }) => note.desc_range.size, String),
+                column('Descriptor', 'its first bytes', 160, 2, ({ note }) => digits_of(note.desc_range, 64)),
             ],
             holds: ({ start, end }, value) => within(BigInt(start), BigInt(end - start), value),
         };
     },
 
     layout({ offset }) {
-        const { starts, tops, depths } = parts(), size = (at) => starts[at + 1] - starts[at];
-        const share = (at) => (100 * size(at) / file.content.length).toFixed(2),
-            title = (at) => (tops[at] ? titled(tops[at]).title : 'gap');
-        const sized = (title_of, hint, least, given) =>
-            column(title_of, hint, least, 0, { is_right: true, number: size, ...given });
-        const place = (name, by) => column(name, 'offset', offset, 0,
-            { is_right: true, text: (at) => hex(starts[at + by]), number: (at) => starts[at + by] });
+        const { starts, ends, tops, depths } = parts(), size = (at) => ends[at] - starts[at];
+        const share = (bytes) => (100 * bytes / file.content.length).toFixed(2);
         return {
             list: list_of(tops.length, (at) => at), place: 56,
             columns: [
-                place('From', 0), place('To', 1),
-                sized('Bytes', 'size', 96, { text: (at) => count(size(at)), plain: (at) => `${size(at)}` }),
-                sized('Share', 'of the file', 72, { text: (at) => `${share(at)} %`, plain: share }),
-                text('What', 'the piece that is drawn', 160, 2, title),
-                column('Overlap', 'how many pieces lie there', 120, 1, {
-                    text: (at) => (depths[at] > 1 ? `${depths[at]} pieces overlap` : ''), number: (at) => depths[at] }),
+                number('From', 'offset', offset, 0, (at) => starts[at]),
+                number('To', 'offset', offset, 0, (at) => ends[at]),
+                number('Bytes', 'size', 96, 0, size, count, { plain: (at) => `${size(at)}` }),
+                number('Share', 'of the file', 72, 0, size, (bytes) => `${share(bytes)} %`,
+                    { plain: (at) => share(size(at)) }),
+                column('What', 'the piece that is drawn', 160, 2, (at) => (tops[at] ? titled(tops[at]).title : 'gap')),
+                column('Overlap', 'how many pieces lie there', 120, 1,
+                    (at) => (depths[at] > 1 ? `${depths[at]} pieces overlap` : ''), { number: (at) => depths[at] }),
             ],
             holds: (at, value) => within(BigInt(starts[at]), BigInt(size(at)), value),
         };
@@ -205,7 +197,7 @@ export const as_shown = (source, is_demangled) => (source?.has_demangled
 /** Returns the columns of a list, for the page, or none if there is no such list or it is refused. The first is that of
  * the index. */
 export const columns_of = ({ place = 0, columns = [] } = {}) =>
-    [column('#', 'index', place, 0, { is_right: true, is_dim: true }), ...columns]
+    [{ title: '#', hint: 'index', least: place, share: 0, is_right: true, is_dim: true }, ...columns]
         .map(({ title, hint, least, share, is_right, is_dim }) => ({ title, hint, least, share, is_right, is_dim }));
 /** Returns the cells of an item. The first is its index. */
 export const cells_of = ({ columns }, item, index) =>
