@@ -2,8 +2,8 @@
 import * as goblin from './goblin.js';
 import { registers_of } from './core.js';
 import { demangled } from './demangle.js';
-import { called, file, is_wide, name_of_section, part, RELOCATION_TYPES, RELR, section_at, section_refusal, sections,
-    segment_refusal, size_of, SYMBOL_TYPES, read_or } from './file.js';
+import { called, fields_at, file, header_at, name_of_section, part, RELOCATION_TYPES, RELR, section_at, section_refusal,
+    sections, segment_refusal, size_of, SYMBOL_TYPES, read_or } from './file.js';
 import * as labels from './labels.js';
 import { addend, section_word, symbol_of_relocation } from './lists.js';
 import { title_of } from './notes.js';
@@ -13,7 +13,7 @@ import { address_of_offset, address_of_symbol, with_offset, bytes_of_symbol, has
     symbol_of_address, symtab_at, to_address, to_offset, to_section, to_symbol } from './resolve.js';
 import { count, hex, in_bytes } from './text.js';
 
-const { prefixed } = labels;
+const { named, prefixed } = labels;
 // Returns a field: its name, its value, its meaning, and its links, as `{ text, to }`.
 const field = (name, value, meaning = '', ...links) =>
     ({ name, value: `${value}`, meaning, links: links.filter((link) => link) });
@@ -30,34 +30,8 @@ const at_offset = (offset) =>
 const link_by_name = (kind, name) =>
     (name && name.isWellFormed() && !name.endsWith('…') ? `${kind}=${encodeURIComponent(name)}` : undefined);
 
-// The fields of records with their sizes if these are not four bytes, in files of each class. A `w` is 4 or 8, by
-// the class.
-const RECORDS = {
-    header: ['magic ei_class:1 ei_data:1 ei_version:1 ei_osabi:1 ei_abiversion:1 padding:7 e_type:2 e_machine:2'
-        + ' e_version e_entry:w e_phoff:w e_shoff:w e_flags e_ehsize:2 e_phentsize:2 e_phnum:2 e_shentsize:2'
-        + ' e_shnum:2 e_shstrndx:2'],
-    section: ['sh_name sh_type sh_flags:w sh_addr:w sh_offset:w sh_size:w sh_link sh_info sh_addralign:w sh_entsize:w'],
-    segment: ['p_type p_offset p_vaddr p_paddr p_filesz p_memsz p_flags p_align',
-        'p_type p_flags p_offset:w p_vaddr:w p_paddr:w p_filesz:w p_memsz:w p_align:w'],
-    symbol: ['st_name st_value st_size st_info:1 st_other:1 st_shndx:2',
-        'st_name st_info:1 st_other:1 st_shndx:2 st_value:w st_size:w'],
-    rela: ['r_offset r_type:1 r_sym:3 r_addend', 'r_offset:w r_type r_sym r_addend:w'],
-    symbol_first: ['r_offset r_sym:3 r_type:1 r_addend', 'r_offset:w r_sym r_type r_addend:w'],
-    note: ['n_namesz n_descsz n_type'],
-};
-
 // Returns a record at an offset of the file, with the bytes of each field.
-function record(word, kind, at, size = size_of(kind)) {
-    const is_first = !file.elf.little_endian() || (file.elf.header.e_machine === goblin.EM_MIPS && is_wide());
-    const form = RECORDS[/^rel/.test(kind) ? (is_first ? 'symbol_first' : 'rela') : kind];
-    let next = at;
-    const fields = (form[Number(is_wide())] ?? form[0]).split(' ').map((text) => {
-        const [name, wide = 4] = text.split(':'), own = wide === 'w' ? (is_wide() ? 8 : 4) : Number(wide);
-        return { name, at: (next += own) - own, size: own };
-    });
-    return { word, at, size, fields: fields.filter((item) => item.at < at + size) };
-}
-
+const record = (word, kind, at, size = size_of(kind)) => ({ word, at, size, fields: fields_at(kind, at) });
 // Returns the entry of a table.
 const entry = (of, index, kind) =>
     record(`entry in ${called(of)}`, kind, Number(section_at(of).sh_offset) + index * size_of(kind));
@@ -95,7 +69,6 @@ function list_of({ sh_type }, index) {
 
 function section_details(item, index) {
     const { sh_type, sh_flags, sh_addr, sh_offset, sh_size, sh_link } = item;
-    const header = record('section header', 'section', Number(file.elf.header.e_shoff) + index * size_of('section'));
     return {
         title: called(index, item), what: `section ${count(index)}`, kind: kind_of(item),
         link: link_by_name('section', name_of_section(item)),
@@ -107,7 +80,9 @@ function section_details(item, index) {
             sh_addralign: '', sh_entsize: '',
         }),
         blocks: [
-            block('bytes', () => file.elf.range(item), (error) => section_refusal(error, 'the bytes', index)), header],
+            block('bytes', () => file.elf.range(item), (error) => section_refusal(error, 'the bytes', index)),
+            record('section header', 'section', header_at('section', index)),
+        ],
     };
 }
 
@@ -119,7 +94,6 @@ function segment_details(item, index) {
     const inside = sections().filter(({ index: of, section }) => of && goblin.segment_holds(item, section));
     const first = inside.slice(0, MOST_SECTIONS).map(({ index: of }) => to_section(of)),
         is_cut = inside.length > MOST_SECTIONS;
-    const header = record('program header', 'segment', Number(file.elf.header.e_phoff) + index * size_of('segment'));
     return {
         title: title_of_segment(index, item),
         what: `segment ${count(index)} of ${count(file.elf.program_headers().length)}`,
@@ -132,7 +106,10 @@ function segment_details(item, index) {
             }),
             first.length > 0 && field('sections', '', is_cut ? `the first ${MOST_SECTIONS}` : '', ...first),
         ],
-        blocks: [block('bytes', () => file.elf.range(item), (error) => segment_refusal(error, index)), header],
+        blocks: [
+            block('bytes', () => file.elf.range(item), (error) => segment_refusal(error, index)),
+            record('program header', 'segment', header_at('segment', index)),
+        ],
     };
 }
 
@@ -182,8 +159,7 @@ function relocation_details(item, index, of) {
             in_source(name),
             field('r_offset', hex(r_offset), '', target ?? at_address(r_offset), changed && to_symbol(changed)),
             ...(is_packed ? [field('type', 'relative, packed')] : [
-                field('r_type', r_type,
-                    prefixed('', labels.relocation_type(r_type)) === `${r_type}` ? '' : labels.relocation_type(r_type)),
+                field('r_type', r_type, named('', labels.relocation_type(r_type))),
                 field('r_sym', r_sym, '', symbol_link(section.sh_link, r_sym)), field('r_addend', addend(item))]),
         ],
         blocks: [
@@ -203,7 +179,7 @@ function note_details(item, index, by) {
         title: title_of(item), what: `note ${count(index)} of ${by}`, kind: 'notes',
         fields: [
             field('name', note.name),
-            field('n_type', hex(note.n_type), type.startsWith('0x') ? '' : prefixed('NT_', type)),
+            field('n_type', hex(note.n_type), named('NT_', type)),
             field('n_descsz', note.desc_range.size, in_bytes(note.desc_range.size)), field('from', '', '', of),
             thread !== undefined && field('thread', thread),
             registers.length > 0 && field('registers', '', 'not proved: read by this page, by numbers'),
@@ -286,34 +262,34 @@ export function address_details(address) {
     };
 }
 
-const named = (name, prefix) => (/^(0x|\d+$)/.test(name) ? '' : prefixed(prefix, name));
 const to_headers = (offset) => (offset ? at_offset(offset) : undefined);
 
-// What each field means, in a few words, and functions of the header that return its number's name and its link, if
-// it has them.
+// What each field means, in a few words, and functions of its number that return its name and its link, if it has them.
 const FIELDS = {
-    ei_class: ['class', ({ ei_class }) => named(labels.file_class(ei_class), '')],
-    ei_data: ['byte order', ({ ei_data }) => (ei_data === 2 ? 'big endian' : 'little endian')],
-    ei_version: ['version of the format'], ei_osabi: ['operating system and ABI',
-        ({ ei_osabi }) => named(labels.osabi(ei_osabi), 'ELFOSABI_')], ei_abiversion: ['version of the ABI'],
-    e_type: ['what the file is', ({ e_type }) => named(labels.file_type(e_type), 'ET_')],
-    e_machine: ['machine', ({ e_machine }) => named(labels.machine(e_machine), 'EM_')],
+    ei_class: ['class', (number) => named('', labels.file_class(number))],
+    ei_data: ['byte order', (number) => (number === 2 ? 'big endian' : 'little endian')],
+    ei_version: ['version of the format'],
+    ei_osabi: ['operating system and ABI', (number) => named('ELFOSABI_', labels.osabi(number))],
+    ei_abiversion: ['version of the ABI'],
+    e_type: ['what the file is', (number) => named('ET_', labels.file_type(number))],
+    e_machine: ['machine', (number) => named('EM_', labels.machine(number))],
     e_version: ['version of the format, once more'],
-    e_entry: ['address at which the program starts', undefined, ({ e_entry }) => at_address(e_entry)],
-    e_phoff: ['offset of the program headers', undefined, ({ e_phoff }) => to_headers(e_phoff)],
-    e_shoff: ['offset of the section headers', undefined, ({ e_shoff }) => to_headers(e_shoff)],
+    e_entry: ['address at which the program starts', undefined, at_address],
+    e_phoff: ['offset of the program headers', undefined, to_headers],
+    e_shoff: ['offset of the section headers', undefined, to_headers],
     e_flags: ['flags of the machine'], e_ehsize: ['size of this header'], e_phentsize: ['size of a program header'],
-    e_phnum: ['number of program headers', ({ e_phnum }) => (e_phnum === 0xffff ? 'sh_info of section 0 has it' : '')],
+    e_phnum: ['number of program headers', (number) => (number === 0xffff ? 'sh_info of section 0 has it' : '')],
     e_shentsize: ['size of a section header'], e_shnum: ['number of section headers'],
     e_shstrndx: ['index of the section with the names of sections', undefined,
-        ({ e_shstrndx }) => read_or(undefined, () => to_section_number(e_shstrndx))],
+        (number) => read_or(undefined, () => to_section_number(number))],
 };
 
 /** Returns the header's fields, each with its bytes. */
 export function header_fields() {
     const { header } = file.elf;
     return record('ELF header', 'header', 0).fields.filter(({ name }) => FIELDS[name]).map(({ name, at, size }) => {
-        const [words, meaning, link] = FIELDS[name], shown = /^e_(entry|phoff|shoff|flags)$/.test(name) ? hex : String;
-        return { at, size, words, ...field(name, shown(header[name]), meaning?.(header), link?.(header)) };
+        const [words, meaning, link] = FIELDS[name], number = header[name];
+        const value = /^e_(entry|phoff|shoff|flags)$/.test(name) ? hex(number) : number;
+        return { at, size, words, ...field(name, value, meaning?.(number), link?.(number)) };
     });
 }

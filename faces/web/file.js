@@ -7,10 +7,37 @@ export const file = { elf: undefined, bytes: new Uint8Array(0),
     get content() { return this.elf?.bytes ?? this.bytes; } };
 export const is_wide = () => file.elf.is_64();
 
-// The size of an entry of each table, in 32-bit and 64-bit files.
-const SIZES = { header: [52, 64], segment: [32, 56], section: [40, 64], symbol: [16, 24],
-    rel: [8, 16], rela: [12, 24] };
-export const size_of = (kind) => SIZES[kind][Number(is_wide())];
+// The fields of records with their sizes if these are not four bytes, in files of each class. A `w` is 4 or 8, by the
+// class.
+const RECORDS = {
+    header: ['magic ei_class:1 ei_data:1 ei_version:1 ei_osabi:1 ei_abiversion:1 padding:7 e_type:2 e_machine:2'
+        + ' e_version e_entry:w e_phoff:w e_shoff:w e_flags e_ehsize:2 e_phentsize:2 e_phnum:2 e_shentsize:2'
+        + ' e_shnum:2 e_shstrndx:2'],
+    section: ['sh_name sh_type sh_flags:w sh_addr:w sh_offset:w sh_size:w sh_link sh_info sh_addralign:w sh_entsize:w'],
+    segment: ['p_type p_offset p_vaddr p_paddr p_filesz p_memsz p_flags p_align',
+        'p_type p_flags p_offset:w p_vaddr:w p_paddr:w p_filesz:w p_memsz:w p_align:w'],
+    symbol: ['st_name st_value st_size st_info:1 st_other:1 st_shndx:2',
+        'st_name st_info:1 st_other:1 st_shndx:2 st_value:w st_size:w'],
+    rel: ['r_offset r_type:1 r_sym:3', 'r_offset:w r_type r_sym'],
+    rela: ['r_offset r_type:1 r_sym:3 r_addend', 'r_offset:w r_type r_sym r_addend:w'],
+    note: ['n_namesz n_descsz n_type'],
+};
+
+/** Returns the fields of a record at an offset of the file, each with its bytes. */
+export function fields_at(kind, start) {
+    const is_symbol_first = !file.elf.little_endian() || (file.elf.header.e_machine === goblin.EM_MIPS && is_wide());
+    const form = RECORDS[kind][Number(is_wide())] ?? RECORDS[kind][0], width = is_wide() ? 8 : 4;
+    let at = start;
+    return (is_symbol_first ? form.replace(/(r_type\S*) (r_sym\S*)/, '$2 $1') : form).split(' ').map((text) => {
+        const [name, own = 4] = text.split(':'), size = own === 'w' ? width : Number(own);
+        return { name, at: (at += size) - size, size };
+    });
+}
+
+export const size_of = (kind) => fields_at(kind, 0).reduce((sum, { size }) => sum + size, 0);
+/** Returns the offset of a section's or segment's header. */
+export const header_at = (kind, index) =>
+    Number(file.elf.header[kind === 'section' ? 'e_shoff' : 'e_phoff']) + index * size_of(kind);
 export const RELR = 19;
 export const SYMBOL_TYPES = [goblin.SHT_SYMTAB, goblin.SHT_DYNSYM];
 export const RELOCATION_TYPES = [goblin.SHT_REL, goblin.SHT_RELA, RELR];
@@ -47,39 +74,35 @@ export function header_refusal(error) {
     return refusal(error, 'the file header, at 0x0', [{ at, size }]);
 }
 
-// The offset and size of fields of the header, by the class.
-const FIELDS = {
-    e_phoff: [[0x1c, 4], [0x20, 8]], e_shoff: [[0x20, 4], [0x28, 8]], e_phnum: [[0x2c, 2], [0x38, 2]],
-    e_shnum: [[0x30, 2], [0x3c, 2]],
-};
+// Returns the bytes of some fields of a record.
+const marks_of = (kind, at, ...names) => fields_at(kind, at).filter(({ name }) => names.includes(name));
 
 export function list_refusal(error, what, offset, number) {
     const { header } = file.elf;
-    const mark = (name) => { const [at, size] = FIELDS[name][Number(is_wide())]; return { at, size }; };
     const values = `${number} ${count(header[number])}, ${offset} ${hex(header[offset])}, `
         + `file size ${count(file.content.length)} bytes`;
     const size = BigInt(header[number] * size_of(number === 'e_shnum' ? 'section' : 'segment'));
-    return refusal(error, `${what}: ${values}`, [mark(offset), mark(number)],
+    return refusal(error, `${what}: ${values}`, marks_of('header', 0, offset, number),
         words_of_cut(what.replace('t', 'T'), header[offset], size));
 }
 
 // Returns the refusal of a range, with the bytes of its header that say where it is.
-function range_refusal(error, what, title, offset, size, mark) {
+function range_refusal(error, what, title, offset, size, marks) {
     const values =
         `${what}: offset ${hex(offset)}, size ${hex(size)}, in a file of ${count(file.content.length)} bytes`;
-    return refusal(error, values, [mark], words_of_cut(`The bytes of ${title}`, offset, size));
+    return refusal(error, values, marks, words_of_cut(`The bytes of ${title}`, offset, size));
 }
 
 export function section_refusal(error, what, index) {
-    const { sh_offset, sh_size } = section_at(index), [before, size] = is_wide() ? [0x18, 16] : [0x10, 8];
-    const mark = { at: Number(file.elf.header.e_shoff) + index * size_of('section') + before, size };
-    return range_refusal(error, `${what} of section ${index}`, called(index), sh_offset, sh_size, mark);
+    const { sh_offset, sh_size } = section_at(index);
+    const marks = marks_of('section', header_at('section', index), 'sh_offset', 'sh_size');
+    return range_refusal(error, `${what} of section ${index}`, called(index), sh_offset, sh_size, marks);
 }
 
 export function segment_refusal(error, index) {
-    const { p_offset, p_filesz } = file.elf.program_header(index), size = size_of('segment');
-    const mark = { at: Number(file.elf.header.e_phoff) + index * size, size };
-    return range_refusal(error, `the bytes of segment ${index}`, `segment ${index}`, p_offset, p_filesz, mark);
+    const { p_offset, p_filesz } = file.elf.program_header(index);
+    const marks = fields_at('segment', header_at('segment', index));
+    return range_refusal(error, `the bytes of segment ${index}`, `segment ${index}`, p_offset, p_filesz, marks);
 }
 
 /** Returns the bytes of a range as hexadecimal digits, those past a number of bytes as an ellipsis. */

@@ -32,8 +32,10 @@ export const machine = label('EM_', undefined, goblin.machine_to_str, String);
 export const file_class = label('', undefined, goblin.class_to_str, String);
 export const osabi = label('ELFOSABI_', own.osabi, () => 'UNKNOWN', String);
 
+/** Returns a name with its prefix, or nothing of a number. */
+export const named = (prefix, name) => (/^(0x|\d+$)/.test(name) ? '' : `${prefix}${name}`);
 /** Returns a name with its prefix, or only the number. */
-export const prefixed = (prefix, name) => (/^(0x|\d+$)/.test(name) ? name : `${prefix}${name}`);
+export const prefixed = (prefix, name) => named(prefix, name) || name;
 /** Returns the name of a relocation's type with its prefix, or the number. */
 export const relocation_type =
     once((type) => own.relocation_type(type, file.elf.header.e_machine, is_wide()) ?? `${type}`);
