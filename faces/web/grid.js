@@ -1,5 +1,5 @@
 // Lists of any length, of which only the visible rows are drawn.
-import { button, make, put_text, visible } from './dom.js';
+import { button, clamp, make, put_text, visible } from './dom.js';
 
 // The greatest height of an element in all engines. A longer list is scrolled in proportion.
 const HIGHEST = 6e6, BLOCK = 128, KEPT = 64;
@@ -32,7 +32,7 @@ export class Grid {
         }, this.body);
         new ResizeObserver(() => this.draw_soon()).observe(this.scroller);
         // (the column heads are before the list, for the keyboard, too)
-        this.box = make('div', { class: `list-box ${kind}` }, ...(has_heads ? [this.heads] : []), this.scroller);
+        this.box = make('div', { class: `list-box ${kind}` }, has_heads && this.heads, this.scroller);
         this.box.style.setProperty('--high', `${high}px`);
     }
 
@@ -78,6 +78,12 @@ export class Grid {
     get room() { return this.scroller.clientHeight; }
     get seen() { return Math.floor(this.room / this.high); }
     get is_long() { return this.length * this.high > HIGHEST; }
+    // The texts of the active row's cells, if they are there, and its line, if it is drawn.
+    get active_cells() {
+        const { rows } = this.blocks.get(Math.floor(this.active / BLOCK)) ?? {};
+        return rows?.[this.active % BLOCK].slice(0, this.columns.length);
+    }
+    get active_line() { return this.lines.find((line) => line.at === this.active && line.isConnected); }
 
     // Returns the index and the position of the first visible row.
     first() {
@@ -125,7 +131,7 @@ export class Grid {
 
     draw() {
         const { index, top } = this.first();
-        const size = Math.max(Math.min(Math.ceil(this.room / this.high) + 1, this.length - index), 0);
+        const size = clamp(this.length - index, 0, Math.ceil(this.room / this.high) + 1);
         while (this.lines.length < size) this.lines.push(this.make_line());
         this.lines.forEach((line, i) => {
             if (i >= size) { line.remove(); return; }
@@ -138,13 +144,10 @@ export class Grid {
         this.scroller.setAttribute('aria-activedescendant', this.active_line?.id ?? '');
     }
 
-    get active_line() { return this.lines.find((line) => line.at === this.active && line.isConnected); }
-
     make_line() {
         const cells = this.columns.map(({ is_right, is_dim }) =>
             make('div', { class: `cell ${is_right ? 'right' : ''} ${is_dim ? 'dim' : ''}`, role: 'gridcell' }));
-        const line = make('div', { class: 'row', role: 'row', id: `row-${++ids}` }, ...cells);
-        return line;
+        return make('div', { class: 'row', role: 'row', id: `row-${++ids}` }, ...cells);
     }
 
     fill(line, at) {
@@ -194,13 +197,12 @@ export class Grid {
     /** Makes a row the active one, and scrolls to it. */
     activate(at) {
         if (this.length === 0) return;
-        this.active = Math.min(Math.max(at, 0), this.length - 1);
-        const { seen, is_long } = this, { index } = this.first(),
-            first = Math.max(Math.min(index, this.active), this.active - seen + 1);
-        if (first !== index || (this.active === index && !is_long)) {
+        this.active = clamp(at, 0, this.length - 1);
+        const { seen, is_long, active } = this, { index } = this.first();
+        const first = Math.max(Math.min(index, active), active - seen + 1);
+        if (first !== index || (active === index && !is_long))
             this.scroller.scrollTop = is_long ? first / Math.max(this.length - seen, 1) * (HIGHEST - this.room)
                 : first * this.high;
-        }
         this.draw();
     }
 
@@ -215,13 +217,6 @@ export class Grid {
         if (this.length > 0) this.chosen(this.active, is_step);
     }
 
-    /** Returns the texts of the active row's cells. */
-    get active_cells() {
-        const row = this.active < 0 ? undefined
-            : this.blocks.get(Math.floor(this.active / BLOCK))?.rows?.[this.active % BLOCK];
-        return row?.slice(0, this.columns.length);
-    }
-
     key(event) {
         const { length } = this, page = Math.max(this.seen - 1, 1), sides = { ArrowLeft: -1, ArrowRight: 1 };
         const steps = { ArrowDown: 1, ArrowUp: -1, PageDown: page, PageUp: -page, Home: -length, End: length };
@@ -229,7 +224,7 @@ export class Grid {
             this.choose(this.active < 0 ? (event.key === 'End' ? this.length : 0)
                 : this.active + steps[event.key], true);
         } else if (event.key in sides && this.active >= 0) {
-            this.column = Math.min(Math.max(this.column + sides[event.key], 0), this.columns.length - 1);
+            this.column = clamp(this.column + sides[event.key], 0, this.columns.length - 1);
             this.draw();
             this.active_line?.children[this.column].scrollIntoView({ block: 'nearest', inline: 'nearest' });
         } else if (event.key === 'Enter' && this.length > 0) {

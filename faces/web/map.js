@@ -1,6 +1,6 @@
 // The map: the file's parts, drawn to scale, with the functions inside them, what their bytes are like, what is loaded,
 // and what is chosen.
-import { get, hex, in_bytes, make, plural, put_text, two_digits, visible } from './dom.js';
+import { clamp, fill, get, hex, in_bytes, make, plural, put_text, two_digits, visible } from './dom.js';
 import { ask, shown_file } from './reader.js';
 import { go } from './route.js';
 import { first_after, visible_ranges } from './spans.js';
@@ -15,15 +15,16 @@ const MOST_ROWS = 16, SHARE = 1 / 3, LOW = 600, FEWEST = 16;
 const KIND_WORDS = { header: 'ELF header', tables: 'header tables', names: 'symbols and names',
     debug: 'debug information', appended: 'appended bytes' };
 const words_of = (kind) => KIND_WORDS[kind] ?? kind;
-export const colour = (kind) => getComputedStyle(document.documentElement).getPropertyValue(`--${kind}`);
+const colour = (kind) => getComputedStyle(document.documentElement).getPropertyValue(`--${kind}`);
 
 /** Returns a dot in the colour of a kind. */
 export function dot(kind) {
-    const item = make('i', { 'data-kind': kind });
-    item.style.background = colour(kind);
+    const item = make('i');
+    item.style.background = `var(--${kind})`;
     return item;
 }
 
+const canvas = get('canvas'), pen = canvas.getContext('2d');
 // The map's parts, the view, and what the worker has sent of a view.
 const map = { rows: MOST_ROWS, view: { start: 0, each: 1 } };
 
@@ -32,7 +33,7 @@ export function show_map(parts, size) {
     const nothing = { inside: { classes: [], bytes: [], symbols: [], parts: [] }, asked: {}, over: undefined,
         chosen: undefined, whole: undefined };
     Object.assign(map, parts, nothing, { ends: parts.starts.subarray(1), size, at: -1 });
-    get('canvas').setAttribute('aria-valuemax', Math.max(map.kinds.length - 1, 0));
+    canvas.ariaValueMax = Math.max(map.kinds.length - 1, 0);
     show_legend();
     fit();
     describe(undefined);
@@ -46,28 +47,24 @@ function show_legend() {
         if (map.depths[i] > 1) add(OVERLAPPING, i);
         if (map.cuts[i]) add(CUT, i);
     });
-    const line = (content, shade) => make('li', {}, ...(shade ? [dot(shade)] : []), content);
-    const share = (name) => `${words_of(name)} ${(100 * sums.get(name) / map.size).toFixed(1)} %`,
-        { words, to } = map.past;
-    const kinds = [...map.KINDS, 'gap'].filter((name) => sums.has(name)),
-        is_small = (name) => sums.get(name) / map.size < 0.0005;
-    const small = kinds.filter(is_small).map(words_of).join(', ');
-    get('legend').replaceChildren(...kinds.filter((name) => !is_small(name)).map((name) => line(share(name), name)),
-        ...(small ? [line(`each below 0.05 %: ${small}`)] : []),
+    const line = (content, kind) => make('li', {}, kind && dot(kind), content);
+    const share = (name) => `${words_of(name)} ${(100 * sums.get(name) / map.size).toFixed(1)} %`;
+    const is_small = (name) => sums.get(name) / map.size < 0.0005, { words, to } = map.past;
+    const kinds = [...map.KINDS, 'gap'].filter((name) => sums.has(name)), small = kinds.filter(is_small);
+    fill(get('legend'), ...kinds.filter((name) => !is_small(name)).map((name) => line(share(name), name)),
+        small.length > 0 && line(`each below 0.05 %: ${small.map(words_of).join(', ')}`),
         ...[OVERLAPPING, CUT].filter((name) => sums.has(name)).map((name) => line(share(name))),
-        ...(words ? [line(put_text(make('a', { class: 'past', href: `#${to}` }), words))] : []), line('strip below:'),
-        ...map.CLASSES.map((name, i) => line(name, `in-${i}`)),
-        ...(map.segments.length ? [line('line below: loaded')] : []));
+        words && line(put_text(make('a', { class: 'past', href: `#${to}` }), words)), line('strip below:'),
+        ...map.CLASSES.map((name, i) => line(name, `in-${i}`)), map.segments.length > 0 && line('line below: loaded'));
 }
 
 // Computes the number of rows, which gives the map its share of the window, and the bytes of a row. The whole file is
 // shown if it was before.
 function fit() {
     if (!shown_file.summary) return;
-    const canvas = get('canvas'), others = canvas.parentElement.offsetHeight - canvas.offsetHeight,
-        is_whole = !(map.view.each < map.whole);
-    map.rows = Math.min(Math.max(
-        Math.floor((innerHeight * (innerHeight > LOW ? SHARE : SHARE / 3) - others - TOP - 4) / STEP), 1), MOST_ROWS);
+    const others = canvas.parentElement.offsetHeight - canvas.offsetHeight, is_whole = !(map.view.each < map.whole);
+    const high = innerHeight * (innerHeight > LOW ? SHARE : SHARE / 3) - others - TOP - 4;
+    map.rows = clamp(Math.floor(high / STEP), 1, MOST_ROWS);
     const least = Math.max(map.size / map.rows, FEWEST),
         quarter = 2 ** Math.floor(Math.log2(least)) / 4; // (so offsets are round numbers)
     map.whole = Math.ceil(least / quarter) * quarter;
@@ -79,8 +76,16 @@ const part_at = (byte) => Math.min(first_after(map.ends, byte), map.kinds.length
 const end_of_view = () => Math.min(map.view.start + map.view.each * map.rows, map.size);
 const rows_of_view = () => Math.max(Math.ceil((end_of_view() - map.view.start) / map.view.each), 1);
 const is_in_view = (byte) => map.view.start <= byte && byte < end_of_view();
-const write = (pen, text, shade, x, y) => Object.assign(pen, { fillStyle: colour(shade) })
-    .fillText(text, x, y + BAND / 2 + 1);
+
+function paint(shade, x, y, width, high) {
+    pen.fillStyle = shade;
+    pen.fillRect(x, y, width, high);
+}
+
+function write(text, shade, x, y) {
+    pen.fillStyle = colour(shade);
+    pen.fillText(text, x, y + BAND / 2 + 1);
+}
 
 // Draws a range, cut at the ends of the rows, by to(x, width, y) for each piece, in units of the canvas.
 function over_rows(from, to, draw) {
@@ -92,44 +97,43 @@ function over_rows(from, to, draw) {
     }
 }
 
-function sized_pen() {
-    const canvas = get('canvas'), scale = window.devicePixelRatio || 1, pen = canvas.getContext('2d');
-    const wide = canvas.clientWidth, high = TOP + rows_of_view() * STEP + 2, left = 30 + 7 * hex(map.size).length;
+// Gives the canvas the size of its rows, which clears it.
+function size_canvas() {
+    const scale = devicePixelRatio, wide = canvas.clientWidth, high = TOP + rows_of_view() * STEP + 2;
+    const left = 30 + 7 * hex(map.size).length;
     Object.assign(map, { wide, left, bar: Math.max(wide - left - RIGHT, 1) });
     canvas.style.height = `${high + 2 * canvas.clientTop}px`;
     Object.assign(canvas, { width: Math.round(wide * scale), height: Math.round(high * scale) });
     pen.scale(scale, scale);
     pen.textBaseline = 'middle';
-    return pen;
 }
 
 // Draws the map. If bytes have room for their digits, these are in the bars, and the kinds in the strips below, else
 // the other way round.
 function draw_map() {
-    const pen = sized_pen(), has_digits = map.inside.bytes.length && map.bar / map.view.each >= DIGITS;
-    const fill = (shade, x, y, width, high) => { pen.fillStyle = shade; pen.fillRect(x, y, width, high); };
-    const bars = { down: 0, high: BAND, fill }, strips = { down: BAND, high: STRIP, fill };
+    size_canvas();
+    const has_digits = map.inside.bytes.length && map.bar / map.view.each >= DIGITS;
+    const bars = { down: 0, high: BAND }, strips = { down: BAND, high: STRIP };
     const [kinds, contents] = has_digits ? [strips, bars] : [bars, strips];
-    draw_offsets(pen);
-    draw_segments(fill);
-    draw_parts(pen, kinds);
+    draw_offsets();
+    draw_segments();
+    draw_parts(kinds);
     const drawn = draw_symbols(kinds);
-    draw_contents(pen, contents, has_digits);
-    if (!has_digits) draw_names(pen, drawn, fill);
-    if (map.over) outline(pen, map.over, colour('dim'), 1);
-    if (map.chosen) outline(pen, map.chosen, colour('ink'), 2);
-    draw_past(pen, fill);
+    draw_contents(contents, has_digits);
+    if (!has_digits) draw_names(drawn);
+    if (map.over) outline(map.over, 'dim', 1);
+    if (map.chosen) outline(map.chosen, 'ink', 2);
+    draw_past();
     ask_inside();
 }
 
 // Asks the worker for what is inside the parts of the view, one view at a time, and draws the map again.
 async function ask_inside() {
-    const { view: { start, each }, bar, rows, asked } = map, columns = Math.min(each, Math.ceil(bar / 2)),
-        least = LEAST * each / bar;
-    const view = { start, end: start + each * rows, step: each / columns, columns, least,
-        least_named: LEAST_NAMED * each / bar };
-    if (asked.is_busy || asked.key === JSON.stringify(view)) return;
-    Object.assign(asked, { key: JSON.stringify(view), is_busy: true });
+    const { view: { start, each }, bar, rows, asked } = map, columns = Math.min(each, Math.ceil(bar / 2));
+    const view = { start, end: start + each * rows, step: each / columns, columns, least: LEAST * each / bar,
+        least_named: LEAST_NAMED * each / bar }, key = JSON.stringify(view);
+    if (asked.is_busy || asked.key === key) return;
+    Object.assign(asked, { key, is_busy: true });
     const inside = await ask('inside', view);
     asked.is_busy = false;
     if (asked !== map.asked) return;
@@ -139,58 +143,59 @@ async function ask_inside() {
 
 // Draws the parts. Those narrower than a pixel are drawn over the others, as a pixel. (A gap as narrow as that has the
 // colour of what follows. Padding is drawn as a gap.)
-function draw_parts(pen, { down, high, fill }) {
+function draw_parts({ down, high }) {
     const shades = map.KINDS.map((kind) => (kind === 'padding' ? undefined : colour(kind))), gap = colour('gap'),
-        line = colour('raised'), hatch = hatching(pen, 'ink'), narrow = [], { starts, ends, view, bar } = map;
+        line = colour('raised'), hatch = hatching('ink'), narrow = [], { starts, ends, view, bar } = map;
     for (const i of visible_ranges(starts, ends, view.start, end_of_view(), view.each / bar)) {
         const shade = shades[map.kinds[i]], is_hatched = map.depths[i] > 1 || map.cuts[i],
             is_narrow = ends[i] - starts[i] < view.each / bar;
         over_rows(starts[i], ends[i], (x, width, y) => {
             if (is_narrow) {
                 narrow.push([shade ?? shades[map.kinds[i + 1]] ?? gap, Math.floor(x), y + down, 1, high]);
-                return;
+            } else if (shade) {
+                paint(shade, x, y + down, width, high);
+                if (is_hatched) paint(hatch, x, y + down, width, high);
+                if (width > 3) paint(line, x + width - 0.75, y + down, 0.75, high);
+            } else {
+                paint(gap, x, y + down + high / 2 - 1, width, 2);
             }
-            if (!shade) { fill(gap, x, y + down + high / 2 - 1, width, 2); return; }
-            fill(shade, x, y + down, width, high);
-            if (is_hatched) fill(hatch, x, y + down, width, high);
-            if (width > 3) fill(line, x + width - 0.75, y + down, 0.75, high);
         });
     }
-    narrow.forEach((given) => fill(...given));
+    narrow.forEach((given) => paint(...given));
 }
 
 // Draws functions and variables lighter than their parts, each second one more so, and returns their pieces.
-function draw_symbols({ down, high, fill }) {
+function draw_symbols({ down, high }) {
     const line = colour('raised'), drawn = [];
     map.inside.symbols.forEach((item) => over_rows(item.start, item.end, (x, width, y) => {
-        fill(`rgb(255 255 255 / ${item.is_odd ? 0.18 : 0.4})`, x, y + down, width, high);
-        if (width > CLICK) fill(line, x, y + down, 0.75, high);
+        paint(`rgb(255 255 255 / ${item.is_odd ? 0.18 : 0.4})`, x, y + down, width, high);
+        if (width > CLICK) paint(line, x, y + down, 0.75, high);
         drawn.push({ item, x, width, y });
     }));
     return drawn;
 }
 
 // Draws the classes of bytes, each run of columns with the same class at once, or each byte with its digits.
-function draw_contents(pen, { down, high, fill }, has_digits) {
+function draw_contents({ down, high }, has_digits) {
     const { start, step, columns, classes, bytes } = map.inside, shades = map.CLASSES.map((_, i) => colour(`in-${i}`));
     Object.assign(pen, { font: `11px ${colour('mono')}`, textAlign: 'center' });
     for (let from = 0, to; from < classes.length; from = to) {
         for (to = from + 1; !has_digits && to % columns !== 0 && classes[to] === classes[from];) to++;
         over_rows(start + from * step, start + to * step, (x, width, y) => {
-            fill(shades[classes[from]], x, y + down, width, high);
-            if (has_digits) write(pen, two_digits(bytes[from]), 'on-kind', x + width / 2, y);
+            paint(shades[classes[from]], x, y + down, width, high);
+            if (has_digits) write(two_digits(bytes[from]), 'on-kind', x + width / 2, y);
         });
     }
 }
 
 // Writes the offsets of the rows.
-function draw_offsets(pen) {
+function draw_offsets() {
     Object.assign(pen, { font: `11px ${colour('mono')}`, textAlign: 'right' });
     for (let row = 0; row < rows_of_view(); row++)
-        write(pen, hex(map.view.start + row * map.view.each), 'dim', map.left - 12, TOP + row * STEP);
+        write(hex(map.view.start + row * map.view.each), 'dim', map.left - 12, TOP + row * STEP);
 }
 
-function hatching(pen, shade) {
+function hatching(shade) {
     const tile = Object.assign(document.createElement('canvas'), { width: 6, height: 6 }), on = tile.getContext('2d');
     Object.assign(on, { strokeStyle: colour(shade), globalAlpha: 0.55 });
     for (const x of [-6, 0, 6]) { on.moveTo(x, 6); on.lineTo(x + 6, 0); }
@@ -199,24 +204,22 @@ function hatching(pen, shade) {
 }
 
 // Draws a line below what is loaded, in the colour of code, data or constants.
-function draw_segments(fill) {
-    for (const [from, to, flags] of map.segments) {
+function draw_segments() {
+    for (const [start, end, flags] of map.segments) {
         const shade = colour(flags & 1 ? 'code' : flags & 2 ? 'data' : 'constants');
-        over_rows(from, Math.min(to, map.size),
-            (x, width, y) => fill(shade, x, y + BAND + STRIP + 1, Math.max(width, 1), 2));
+        over_rows(start, end, (x, width, y) => paint(shade, x, y + BAND + STRIP + 1, Math.max(width, 1), 2));
     }
 }
 
 // Writes the names of functions and variables, and those of the parts where none of these is, once each, if they
 // have room.
-function draw_names(pen, symbols, fill) {
+function draw_names(symbols) {
     const drawn = new Set(), put = (item, { x, width, y }, shade) => {
         const text = visible(item.title), wide = pen.measureText(text).width;
         if (!text || item.kind === 'padding' || drawn.has(item) || wide > width - 10) return;
         drawn.add(item);
-        if (item.is_cut)
-            fill(colour(item.kind), x + 2, y + 1, wide + 6, BAND - 2); // (so hatching doesn't cross the name)
-        write(pen, text, shade, x + 5, y);
+        if (item.is_cut) paint(colour(item.kind), x + 2, y + 1, wide + 6, BAND - 2); // (over the hatching)
+        write(text, shade, x + 5, y);
     };
     Object.assign(pen, { font: `11px ${colour('text')}`, textAlign: 'left' });
     symbols.forEach((piece) => put(piece.item, piece, 'on-kind'));
@@ -228,17 +231,17 @@ function draw_names(pen, symbols, fill) {
 }
 
 // Marks at the file's end that something lies past it.
-function draw_past(pen, fill) {
+function draw_past() {
     if (!map.past.words) return;
     over_rows(map.size - 1, map.size, (left, width, y) => {
         const edge = map.left + map.bar + RIGHT, x = Math.round(Math.min(left + width, edge - 8));
-        fill(hatching(pen, 'bad'), x, y, edge - x, BAND + STRIP);
-        fill(colour('bad'), x, y - 3, 2, BAND + STRIP + 6);
+        paint(hatching('bad'), x, y, edge - x, BAND + STRIP);
+        paint(colour('bad'), x, y - 3, 2, BAND + STRIP + 6);
     });
 }
 
-function outline(pen, { start, end }, shade, width) {
-    Object.assign(pen, { strokeStyle: shade, lineWidth: width });
+function outline({ start, end }, shade, width) {
+    Object.assign(pen, { strokeStyle: colour(shade), lineWidth: width });
     over_rows(start, end, (x, wide, y) => pen.strokeRect(x - 0.5, y - 0.5, Math.max(wide, 2) + 1, BAND + STRIP + 1));
 }
 
@@ -264,11 +267,10 @@ export function mark_range(range, title = '') {
     map.chosen = range && range.size > 0 && range.at < map.size
         ? { start: range.at, end: range.at + range.size } : undefined;
     if (!map.chosen) { draw_map(); return; }
-    const { start, end } = map.chosen, canvas = get('canvas');
+    const { start, end } = map.chosen;
     if (map.at < start || map.at >= end) map.at = start;
-    canvas.setAttribute('aria-valuenow', part_at(map.at));
-    canvas.setAttribute('aria-valuetext',
-        `${visible(title)}: ${hex(start)} to ${hex(end)}, ${plural(range.size, 'byte')}`);
+    canvas.ariaValueNow = part_at(map.at);
+    canvas.ariaValueText = `${visible(title)}: ${hex(start)} to ${hex(end)}, ${plural(range.size, 'byte')}`;
     if (is_in_view(map.at)) draw_map(); else move_to(map.at - map.view.each * Math.floor(map.rows / 2));
 }
 
@@ -276,8 +278,8 @@ export function mark_range(range, title = '') {
 // starts there.
 function choose(byte, is_step = false) {
     map.at = byte;
-    const symbol =
-        map.inside.symbols.find(({ start, end }) => (is_step ? start === byte : start <= byte && byte < end));
+    const is_there = ({ start, end }) => (is_step ? start === byte : start <= byte && byte < end),
+        symbol = map.inside.symbols.find(is_there);
     go(symbol?.to ?? `part/${part_at(byte)}`, is_step);
 }
 
@@ -292,7 +294,7 @@ function step(by, byte = map.at + by) {
 function move_to(start, each = map.view.each) {
     const last = Math.max(map.size - each * (map.rows - 0.5), 0),
         unit = 2 ** Math.max(Math.floor(Math.log2(each / map.bar)), 0); // (a pixel)
-    map.view = { start: each === map.whole ? 0 : Math.round(Math.min(Math.max(start, 0), last) / unit) * unit, each };
+    map.view = { start: each === map.whole ? 0 : Math.round(clamp(start, 0, last) / unit) * unit, each };
     draw_map();
     describe(undefined);
 }
@@ -302,12 +304,12 @@ const move_by = (rows) => move_to(map.view.start + rows * map.view.each);
 // Zooms, so that a byte stays where it is: the one below the pointer, the chosen one if it is shown, or that in
 // the middle.
 function zoom(by, byte = is_in_view(map.at) ? map.at : (map.view.start + end_of_view()) / 2) {
-    const { start, each } = map.view, next = Math.min(Math.max(each * by, FEWEST), map.whole);
+    const { start, each } = map.view, next = clamp(each * by, FEWEST, map.whole);
     move_to(byte - (byte - start) * next / each, next);
 }
 
 function byte_at({ clientX, clientY }) {
-    const canvas = get('canvas'), { left, top } = canvas.getBoundingClientRect(), border = canvas.clientTop;
+    const { left, top } = canvas.getBoundingClientRect(), border = canvas.clientTop;
     const row = Math.floor((clientY - top - border - TOP + 3) / STEP),
         part = (clientX - left - border - map.left) / map.bar;
     const byte = Math.floor(map.view.start + (row + part) * map.view.each);
@@ -360,12 +362,11 @@ const ACTS = {
 };
 
 export function set_up_map() {
-    for (const [name, act] of Object.entries(ACTS)) get('canvas').addEventListener(name, act, { passive: false });
+    for (const [name, act] of Object.entries(ACTS)) canvas.addEventListener(name, act, { passive: false });
     for (const [id, pressed] of [['in', '+'], ['out', '-'], ['whole', '0']])
         get(id).addEventListener('click', KEYS[pressed]);
-    new ResizeObserver(() => { if (get('canvas').clientWidth !== map.wide) fit(); })
-        .observe(get('canvas').parentElement);
+    new ResizeObserver(() => { if (canvas.clientWidth !== map.wide) fit(); }).observe(canvas.parentElement);
     addEventListener('resize', fit);
     matchMedia('(prefers-color-scheme: dark)')
-        .addEventListener('change', () => { if (shown_file.summary) { show_legend(); draw_map(); } });
+        .addEventListener('change', () => { if (shown_file.summary) draw_map(); });
 }

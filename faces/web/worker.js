@@ -64,7 +64,7 @@ function map() {
     const { starts, tops, depths } = parts(),
         loaded = segments().filter(({ segment }) => segment.p_type === 1).slice(0, MOST_LOADED)
             .map(({ segment: { p_offset, p_filesz, p_flags } }) =>
-                [Number(p_offset), Number(p_offset + p_filesz), p_flags & 7]);
+                [Number(p_offset), Math.min(Number(p_offset + p_filesz), file.content.length), p_flags & 7]);
     const kinds = Int8Array.from(tops, (top) => (top ? KINDS.indexOf(top.kind) : -1));
     const cuts = Uint8Array.from(tops, (top) => Number(top?.is_cut ?? false));
     return { starts: Float64Array.from(starts), kinds, depths: Uint32Array.from(depths), cuts, segments: loaded,
