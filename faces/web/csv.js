@@ -21,5 +21,4 @@ function cell_of(text) {
     return /[",;]|^'/.test(safe) ? `"${safe.replaceAll('"', '""')}"` : safe;
 }
 
-/** Returns a line of cells. */
 export const csv_line = (cells) => `${cells.map(cell_of).join(',')}\r\n`;

@@ -30,9 +30,7 @@ const at_offset = (offset) =>
 const link_by_name = (kind, name) =>
     (name && name.isWellFormed() && !name.endsWith('…') ? `${kind}=${encodeURIComponent(name)}` : undefined);
 
-// Returns a record at an offset of the file, with the bytes of each field.
 const record = (word, kind, at, size = size_of(kind)) => ({ word, at, size, fields: fields_at(kind, at) });
-// Returns the entry of a table.
 const entry = (of, index, kind) =>
     record(`entry in ${called(of)}`, kind, Number(section_at(of).sh_offset) + index * size_of(kind));
 
@@ -60,7 +58,6 @@ function symbol_link(table, index) {
 
 const INFO_WORDS = { [goblin.SHT_SYMTAB]: 'symbols that are local', [goblin.SHT_DYNSYM]: 'symbols that are local' };
 
-// Returns the list that a section holds.
 function list_of({ sh_type }, index) {
     if (SYMBOL_TYPES.includes(sh_type)) return { text: 'its symbols', to: `symbols/${index}` };
     if (RELOCATION_TYPES.includes(sh_type)) return { text: 'its relocations', to: `relocations/${index}` };
@@ -193,7 +190,6 @@ function note_details(item, index, by) {
     };
 }
 
-// Returns what is shown of a part of the map: the piece that is drawn there, and the others.
 function part_details(index) {
     const { starts, depths } = parts(), [top, ...others] = pieces_at(index);
     const [start, end] = [starts[index], starts[index + 1]], depth = depths[index];
@@ -212,11 +208,8 @@ function part_details(index) {
 
 const LISTS = { sections: section_details, segments: segment_details, symbols: symbol_details,
     relocations: relocation_details, notes: note_details, layout: part_details };
-/** Returns what is shown of an item of a list. */
 export const item_details = (source, { list, index, of }) => LISTS[list](source.list.get(index), index, of);
 
-/** Returns what is shown of an offset: the pieces that hold it, and the bytes from there to the end of the piece that
- * is drawn. */
 export function offset_details(offset) {
     const index = part_at(offset), { starts } = parts(), pieces = pieces_at(index);
     const end = pieces[0]?.end ?? starts[index + 1], address = address_of_offset(offset);
@@ -233,11 +226,9 @@ export function offset_details(offset) {
     };
 }
 
-/** Reports whether something is loaded at an address. */
 export const is_address = (address) => segments_of_address(address).length > 0
     || section_of_address(address) !== undefined || symbol_of_address(address) !== undefined;
 
-/** Returns what is shown of an address: its segments, section and symbol, and the bytes loaded from there on. */
 export function address_details(address) {
     const inside = segments_of_address(address), section = section_of_address(address),
         symbol = symbol_of_address(address);
@@ -284,7 +275,6 @@ const FIELDS = {
         (number) => read_or(undefined, () => to_section_number(number))],
 };
 
-/** Returns the header's fields, each with its bytes. */
 export function header_fields() {
     const { header } = file.elf;
     return record('ELF header', 'header', 0).fields.filter(({ name }) => FIELDS[name]).map(({ name, at, size }) => {

@@ -57,7 +57,6 @@ export function say(...content) {
     said = setTimeout(() => fill(box), box.textContent.length > 40 ? 12000 : 4000);
 }
 
-/** Copies a text, and shows a message. */
 export async function copy(text, what) {
     try {
         await navigator.clipboard.writeText(text);

@@ -23,7 +23,6 @@ const RECORDS = {
     note: ['n_namesz n_descsz n_type'],
 };
 
-/** Returns the fields of a record at an offset of the file, each with its bytes. */
 export function fields_at(kind, start) {
     const is_symbol_first = !file.elf.little_endian() || (file.elf.header.e_machine === goblin.EM_MIPS && is_wide());
     const form = RECORDS[kind][Number(is_wide())] ?? RECORDS[kind][0], width = is_wide() ? 8 : 4;
@@ -35,7 +34,6 @@ export function fields_at(kind, start) {
 }
 
 export const size_of = (kind) => fields_at(kind, 0).reduce((sum, { size }) => sum + size, 0);
-/** Returns the offset of a section's or segment's header. */
 export const header_at = (kind, index) =>
     Number(file.elf.header[kind === 'section' ? 'e_shoff' : 'e_phoff']) + index * size_of(kind);
 export const RELR = 19;
@@ -52,7 +50,6 @@ function read_part(read, refused) {
     }
 }
 
-/** Returns the result of reading a part, or its refusal. */
 export const part = (read, refused) => read_part(read, (error) => ({ refused: refused(error) }));
 /** Returns the result of reading a part, or a default if it is refused. */
 export const read_or = (other, read) => read_part(read, () => other);
@@ -74,7 +71,6 @@ export function header_refusal(error) {
     return refusal(error, 'the file header, at 0x0', [{ at, size }]);
 }
 
-// Returns the bytes of some fields of a record.
 const marks_of = (kind, at, ...names) => fields_at(kind, at).filter(({ name }) => names.includes(name));
 
 export function list_refusal(error, what, offset, number) {
@@ -123,7 +119,6 @@ export const sections = once(() => read_or([], () => file.elf.section_headers())
 export const segments = once(() => read_or([], () => file.elf.program_headers())
     .map((segment, index) => ({ index, segment })));
 export const segment_of = (type) => segments().find(({ segment }) => segment.p_type === type);
-/** Returns all sections, and the page's own. */
 export const all_sections = () =>
     [...sections(), ...Array.from(own_sections, ([index, section]) => ({ index, section }))];
 /** Reports whether a section has debug information, which its name says. */
@@ -141,7 +136,6 @@ export function name_at(strtab, offset) {
 }
 
 const section_names = once(() => file.elf.shdr_strtab());
-/** Returns the name of a section header. */
 export const name_of_section = ({ sh_name }) => name_at(section_names(), sh_name);
 /** Returns the title of a section: its name, or its index if it has none. */
 export const called = (index, section = section_at(index)) =>

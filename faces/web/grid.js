@@ -54,7 +54,6 @@ export class Grid {
         [...this.head.children].forEach((cell, i) => cell.setAttribute('aria-sort', i === column ? order : 'none'));
     }
 
-    /** Gives a column another title and hint. */
     rename(column, { title, hint }) {
         const cell = this.head.children[column];
         cell.title = hint;
@@ -63,7 +62,6 @@ export class Grid {
         this.unmeasured.add(this.head);
     }
 
-    /** Shows a list with a number of items. */
     show(length) {
         this.length = length;
         this.active = -1;
@@ -85,7 +83,6 @@ export class Grid {
     }
     get active_line() { return this.lines.find((line) => line.at === this.active && line.isConnected); }
 
-    // Returns the index and the position of the first visible row.
     first() {
         const { scrollTop } = this.scroller;
         if (!this.is_long)
@@ -206,7 +203,6 @@ export class Grid {
         this.draw();
     }
 
-    /** Makes no row the active one. */
     leave() {
         this.active = -1;
         this.draw();

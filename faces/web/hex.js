@@ -16,7 +16,6 @@ export function light(name) {
         item.classList.toggle('lit', item.dataset.field === name);
 }
 
-/** Returns how many bytes a row has in a view of a width. */
 export const bytes_in = (width) => (width >= 1060 ? 32 : width >= 590 ? 16 : 8);
 
 /** Returns a view of bytes of the file, with `each` in a row. Those of a record's fields have the fields' colours
@@ -48,7 +47,6 @@ export function hex_view(at, size, each, fields = []) {
     return grid.box;
 }
 
-/** Copies bytes of the file as hexadecimal digits. */
 export async function copy_hex(at, size) {
     const bytes = await ask('bytes', [at, Math.min(size, MOST_COPIED)]), what = plural(bytes.length, 'byte');
     await copy(Array.from(bytes, two_digits).join(' '), size > MOST_COPIED ? `the first ${what}` : what);

@@ -53,7 +53,6 @@ function shown(symbol, has_name = true) {
     return { start, end, size, name, title: demangled(name) ?? name, to: `symbols/${found.table}/${index}` };
 }
 
-/** Returns a number of functions, from the largest on. */
 export async function largest(most) {
     await find_symbols();
     return found.functions.sort((a, b) => b.size - a.size).slice(0, most).map((item) => shown(item));
@@ -112,7 +111,6 @@ export async function inside({ start, end, step, columns, least, least_named }) 
     };
 }
 
-/** Returns what is at a byte: the part, the function or variable, and the class. */
 export function under(byte) {
     const { starts, ends, tops, depths } = parts(), part = part_at(byte),
         symbol = found.symbols[first_after(found.ends, byte)];

@@ -36,7 +36,6 @@ export const osabi = label('ELFOSABI_', own.osabi, () => 'UNKNOWN', String);
 export const named = (prefix, name) => (/^(0x|\d+$)/.test(name) ? '' : `${prefix}${name}`);
 /** Returns a name with its prefix, or only the number. */
 export const prefixed = (prefix, name) => named(prefix, name) || name;
-/** Returns the name of a relocation's type with its prefix, or the number. */
 export const relocation_type =
     once((type) => own.relocation_type(type, file.elf.header.e_machine, is_wide()) ?? `${type}`);
 

@@ -41,7 +41,6 @@ const within = (start, size, value) => start <= value && value < start + size;
 const is_refused = (range) => read_or(true, () => { range(); return false; });
 
 const title_of_section = once((of) => (section_at(of) ? called(of) : `${of}`));
-/** Returns the title of a symbol's section. */
 export function section_word(table, index, symbol) {
     const of = section_of_symbol(table, index, symbol);
     return of === undefined ? SPECIAL.get(symbol.st_shndx) ?? hex(symbol.st_shndx) : title_of_section(of);
@@ -50,7 +49,6 @@ export function section_word(table, index, symbol) {
 export const addend = ({ r_addend }) =>
     (r_addend === undefined ? 'in place' : r_addend < 0n ? `−${hex(-r_addend)}` : hex(r_addend));
 
-/** Returns the name of a relocation's symbol. */
 export function symbol_of_relocation(table, { r_sym }) {
     const symbol = r_sym ? read_or(undefined, () => symtab_at(table)?.get(r_sym)) : undefined;
     return symbol ? name_of_symbol(table, r_sym, symbol) : r_sym ? `symbol ${r_sym}` : '';
@@ -199,7 +197,6 @@ export const as_shown = (source, is_demangled) => (source?.has_demangled
 export const columns_of = ({ place = 0, columns = [] } = {}) =>
     [{ title: '#', hint: 'index', least: place, share: 0, is_right: true, is_dim: true }, ...columns]
         .map(({ title, hint, least, share, is_right, is_dim }) => ({ title, hint, least, share, is_right, is_dim }));
-/** Returns the cells of an item. The first is its index. */
 export const cells_of = ({ columns }, item, index) =>
     [`${index}`, ...columns.map((column) => column.text(item, index))];
 /** Returns the cells of an item in a saved list, where numbers are plain. */

@@ -17,7 +17,6 @@ const KIND_WORDS = { header: 'ELF header', tables: 'header tables', names: 'symb
 const words_of = (kind) => KIND_WORDS[kind] ?? kind;
 const colour = (kind) => getComputedStyle(document.documentElement).getPropertyValue(`--${kind}`);
 
-/** Returns a dot in the colour of a kind. */
 export function dot(kind) {
     const item = make('i');
     item.style.background = `var(--${kind})`;
@@ -28,7 +27,6 @@ const canvas = get('canvas'), pen = canvas.getContext('2d');
 // The map's parts, the view, and what the worker has sent of a view.
 const map = { rows: MOST_ROWS, view: { start: 0, each: 1 } };
 
-/** Shows the parts of a file. */
 export function show_map(parts, size) {
     const nothing = { inside: { classes: [], bytes: [], symbols: [], parts: [] }, asked: {}, over: undefined,
         chosen: undefined, whole: undefined };
@@ -188,7 +186,6 @@ function draw_contents({ down, high }, has_digits) {
     }
 }
 
-// Writes the offsets of the rows.
 function draw_offsets() {
     Object.assign(pen, { font: `11px ${colour('mono')}`, textAlign: 'right' });
     for (let row = 0; row < rows_of_view(); row++)
@@ -290,7 +287,6 @@ function step(by, byte = map.at + by) {
     if (starts.length) choose(starts.reduce((best, start) => (by * (start - best) < 0 ? start : best)), true);
 }
 
-// Shows rows of a number of bytes, from a byte on.
 function move_to(start, each = map.view.each) {
     const last = Math.max(map.size - each * (map.rows - 0.5), 0),
         unit = 2 ** Math.max(Math.floor(Math.log2(each / map.bar)), 0); // (a pixel)

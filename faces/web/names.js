@@ -1,5 +1,6 @@
 // The page's own names of numbers, which goblin and the library don't have. They are the names of the public ABIs: the
-// generic ABI, GNU's and LLVM's additions, Linux's core files, and the processor supplements. They are not proved.
+// generic ABI, GNU's and LLVM's additions, Linux's core files, and the processor supplements. They are not proved. But
+// for those of relocations they are returned without their prefix, such as `SHT_`.
 
 const EM = { 386: 3, MIPS: 8, PPC: 20, PPC64: 21, S390: 22, ARM: 40, X86_64: 62, AARCH64: 183, RISCV: 243 };
 
@@ -24,7 +25,6 @@ function row(text) {
 const OSABI = row('SYSV HPUX NETBSD GNU @6 SOLARIS AIX IRIX FREEBSD TRU64 MODESTO OPENBSD OPENVMS NSK AROS FENIXOS'
     + ' CLOUDABI OPENVOS @97 ARM @255 STANDALONE');
 const OSABI_OF = { [EM.ARM]: row('@64 ARM_AEABI @65 ARM_FDPIC'), 224: row('@64 AMDGPU_HSA AMDGPU_PAL AMDGPU_MESA3D') };
-/** Returns the name of an `ei_osabi`. */
 export const osabi = (number, machine) => OSABI.get(number) ?? OSABI_OF[machine]?.get(number);
 
 const SECTIONS = row(`@19 RELR @0x6fff4700 GNU_INCREMENTAL_INPUTS @0x6fff4c00 LLVM_{ODRTAB,LINKER_OPTIONS} @0x6fff4c03
@@ -38,7 +38,6 @@ const SECTIONS_OF = {
         + ' @30 MIPS_DWARF @42 MIPS_ABIFLAGS MIPS_XHASH'),
 };
 
-/** Returns the name of a section's type, without its prefix. */
 export const section_type = (type, machine) => SECTIONS.get(type) ?? SECTIONS_OF[machine]?.get(type - PROCESSOR);
 
 const FLAGS = { 21: 'GNU_RETAIN', 24: 'GNU_MBIND', 31: 'EXCLUDE' };
@@ -48,7 +47,6 @@ const FLAGS_OF = {
         29: 'MIPS_MERGE', 30: 'MIPS_ADDR', 31: 'MIPS_STRINGS' },
 };
 
-/** Returns the name of a section's flag, by its bit, without its prefix. */
 export const section_flag = (bit, machine) => FLAGS_OF[machine]?.[bit] ?? FLAGS[bit];
 
 const SEGMENTS = row('@0x6474e553 GNU_{PROPERTY,SFRAME} @0x65a3dbe6 OPENBSD_{RANDOMIZE,WXNEEDED} @0x65a41be6'
@@ -58,10 +56,8 @@ const SEGMENTS_OF = {
     [EM.RISCV]: row('@3 RISCV_ATTRIBUTES'), [EM.MIPS]: row('MIPS_REGINFO MIPS_RTPROC MIPS_OPTIONS MIPS_ABIFLAGS'),
 };
 
-/** Returns the name of a segment's type, without its prefix. */
 export const segment_type = (type, machine) => SEGMENTS.get(type) ?? SEGMENTS_OF[machine]?.get(type - PROCESSOR);
 const SYMBOLS_OF = { [EM.ARM]: row('@13 ARM_TFUNC @15 ARM_16BIT') };
-/** Returns the name of a symbol's type, without its prefix. */
 export const symbol_type = (type, machine) => SYMBOLS_OF[machine]?.get(type);
 
 const NOTES = {
@@ -78,7 +74,6 @@ const NOTES = {
     FreeBSD: row('@1 FREEBSD_{ABI_TAG,NOINIT_TAG,ARCH_TAG,FEATURE_CTL}'), OpenBSD: row('@1 OPENBSD_IDENT'),
 };
 
-/** Returns the name of a note's type, which depends on its owner, without its prefix. */
 export const note_type = (owner, type) => (Object.hasOwn(NOTES, owner) ? NOTES[owner].get(type) : undefined);
 
 const RELOCATIONS = {

@@ -5,7 +5,6 @@ import { note_type } from './labels.js';
 import { hex, name_of, NAME, once } from './text.js';
 
 const MOST_NOTES = 100000, MOST_REFUSALS = 20, NHDR = 12;
-// Returns the sections or segments that hold notes.
 const holders = (by) => (by === 'sections'
     ? sections().filter(({ section }) => section.sh_type === goblin.SHT_NOTE).map(({ index, section }) =>
         ({ index, title: called(index, section), start: section.sh_offset, item: section }))
@@ -20,7 +19,6 @@ function named({ n_type, name_range, desc_range, next }) {
         name: name_of(content.subarray(offset, Math.min(end, offset + NAME + 1))) };
 }
 
-// The parts of a note that are refused.
 const PARTS = { [goblin.Item.NOTE_HEADER]: 'header', [goblin.Item.NOTE_NAME]: 'name',
     [goblin.Item.NOTE_DESC]: 'descriptor' };
 
@@ -68,7 +66,6 @@ const OWNERS = new Set(['CORE', 'LINUX', 'GDB']);
 const OF_PROCESS = new Set(['PRPSINFO', 'AUXV', 'FILE', 'SIGINFO', 'PLATFORM', 'UTSNAME', 'GDB_TDESC',
     'X86_XSAVE_LAYOUT', 'VMCOREDD']);
 
-/** Returns the title of a note. */
 export function title_of({ note, thread }) {
     const title = `${note.name} ${note_type(note)}`.trim();
     return thread === undefined ? title : `${title}, thread ${thread}`;

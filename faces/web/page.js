@@ -13,7 +13,6 @@ const MAGIC = [0x7f, 0x45, 0x4c, 0x46];
 const LIMIT = 2 ** 31, LIMIT_WORDS = '2 GiB (2,147,483,648 bytes)';
 // After how many milliseconds the page shows that a file is being read.
 const SOON = 200;
-// Returns a whole number of a location, or nothing.
 const whole = (text) => (/^\d{1,10}$/.test(text ?? '') ? Number(text) : undefined);
 const from_hex = (text) => (/^0x[0-9a-f]{1,16}$/i.test(text ?? '') ? BigInt(text) : undefined);
 // Returns what is shown of a location outside the lists: a part of the map, an offset, an address.
@@ -34,7 +33,6 @@ function tab_of(place) {
     return { name, of: /^DT_[A-Z]+$/.test(first) ? first : whole(first), index: whole(second) };
 }
 
-// Returns what is shown of an item of a tab.
 async function item_of({ name, of, field, index }) {
     if (name === 'header') return choose_field(field);
     await activate(index);
@@ -79,11 +77,9 @@ async function show_place(given) {
     await show_side(details ?? unchosen());
 }
 
-// Returns what the side shows while nothing is chosen.
 const unchosen = () =>
     ({ title: 'ELF header', kind: 'header', what: 'at the start of the file', blocks: [header_block('bytes')] });
 
-// Returns why a file is not read, or nothing.
 function why_unread({ size }) {
     if (size === 0) return 'The file is empty: it has 0 bytes.';
     return size > LIMIT

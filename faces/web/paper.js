@@ -16,7 +16,6 @@ export async function prepare_paper(mine) {
     if (mine.grid) mine.text = await ask('text', { list: mine.name, most: MOST });
 }
 
-// Returns the table of a list.
 function table_of({ head, columns }, text) {
     const body = make('tbody'), titles = [...head.children].map(({ textContent }) => make('th', {}, textContent));
     for (const line of text ? text.split('\n') : []) {
@@ -33,7 +32,6 @@ function title_of({ name, list, of, query, output }) {
     return [get(`tab-${name}`).textContent, ...words.filter(Boolean)].join(', ');
 }
 
-// Returns what is printed of a tab but the summary.
 function content_of({ grid, text }) {
     if (!grid || grid.box.hidden) return [...get('panel').cloneNode(true).children];
     if (text === undefined)

@@ -159,10 +159,8 @@ export const parts = once(() => {
         over: overlapping(of_sections.found) };
 });
 
-/** Reports whether the bytes of a section are compressed. */
 export const is_compressed = (section) => (section.sh_flags & goblin.SHF_COMPRESSED) !== 0n
     || (is_debug(section) && name_of_section(section).startsWith('.z'));
-// Returns the title of a section's bytes.
 const of_section = (index, section) => `${called(index, section)}${is_compressed(section) ? ' (compressed)' : ''}`;
 
 /** Returns a piece with its title. That of a piece that is cut says how much of it is in the file. */
@@ -184,5 +182,4 @@ export function pieces_at(index) {
         .map((piece) => titled(piece));
 }
 
-/** Returns the part that holds a byte. */
 export const part_at = (byte) => Math.min(first_after(parts().ends, byte), parts().tops.length - 1);

@@ -50,5 +50,4 @@ export class Reader {
 
 /** The file that is shown: its reader, its size, and the worker's first result. */
 export const shown_file = { reader: undefined, size: 0, summary: undefined };
-/** Calls the worker of the file that is shown. */
 export const ask = (call, given) => shown_file.reader.ask(call, given);

@@ -17,7 +17,6 @@ export const symtab_at = once((index) => {
 const extended_of = once((table) => sections()
     .find(({ section }) => section.sh_type === goblin.SHT_SYMTAB_SHNDX && section.sh_link === table)?.section);
 
-/** Returns the index of a symbol's section, or nothing. */
 export function section_of_symbol(table, index, { st_shndx }) {
     if (st_shndx === goblin.SHN_XINDEX) {
         const indices = extended_of(table);
@@ -116,11 +115,9 @@ export function place_of_relocation({ sh_info }, { r_offset }) {
 }
 
 const holds = (start, size, address) => start <= address && address < start + size;
-/** Returns the loaded segments that hold an address. */
 export const segments_of_address = (address) => (has_addresses() ? segments().filter(({ segment }) =>
     segment.p_type === goblin.PT_LOAD && holds(segment.p_vaddr, segment.p_memsz, address)) : []);
 
-/** Returns the index of the section that holds an address, or nothing. */
 export function section_of_address(address) {
     const is_in = ({ sh_flags, sh_type }) => sh_flags & goblin.SHF_ALLOC
         && !(sh_type === goblin.SHT_NOBITS && sh_flags & goblin.SHF_TLS);
@@ -128,7 +125,6 @@ export function section_of_address(address) {
     return has_addresses() ? found?.index : undefined;
 }
 
-/** Returns the offset of the byte that is loaded at an address, or nothing. */
 export function offset_of_address(address) {
     const segment = segments_of_address(address)
         .find(({ segment: { p_vaddr, p_filesz } }) => holds(p_vaddr, p_filesz, address))?.segment;
@@ -138,7 +134,6 @@ export function offset_of_address(address) {
     return at < BigInt(file.content.length) ? Number(at) : undefined;
 }
 
-/** Returns the address at which a byte of the file is loaded, or nothing. */
 export function address_of_offset(offset) {
     const at = BigInt(offset),
         is_there = ({ p_type, p_offset, p_filesz }) => p_type === goblin.PT_LOAD && holds(p_offset, p_filesz, at);
@@ -159,7 +154,6 @@ export function symbol_of_address(address) {
     return undefined;
 }
 
-/** Returns a name with a distance from its start. */
 export const with_offset = (name, from) => (from > 0n ? `${name} + ${hex(from)}` : name);
 export const to_section = (index) => ({ text: called(index), to: `sections/${index}` });
 export const to_symbol = ({ table, index, name, from = 0n }) =>

@@ -3,10 +3,8 @@
 
 let show = () => {};
 
-/** Returns the location in the address bar. */
 export const current_place = () => location.hash.slice(1);
 
-/** Sets the function that shows a location. */
 export function on_place(shows) {
     show = shows;
     addEventListener('popstate', () => show(current_place()));

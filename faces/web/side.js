@@ -4,10 +4,8 @@ import { bytes_in, copy_hex, hex_view, light, refusal_of } from './hex.js';
 import { dot } from './map.js';
 
 const SIDE_BYTES = 8, SIDE_WIDTH = 372;
-/** Returns a link to a location. */
 export const link_to = ({ text, to }) => put_text(make('a', { href: `#${to}` }), text);
 
-// Returns the cell of a field: its value, its meaning and its links.
 function value_of({ value, meaning, links }) {
     const said = meaning && put_text(make('span', { class: 'meaning' }), meaning);
     return make('td', {}, ...joined(value && put_text(make('span'), value), said, ...links.map(link_to)));
@@ -17,7 +15,6 @@ function value_of({ value, meaning, links }) {
 export const row_of = (field, given = {}, head = field.name, ...cells) =>
     make('tr', given, make('th', { scope: 'row' }, head), value_of(field), ...cells);
 
-/** Returns a table of such rows. */
 export const table_of = (rows, given) => make('table', { class: 'fields', ...given }, make('tbody', {}, ...rows));
 
 // Returns the width that bytes have. In a low window they are beside the fields.

@@ -34,7 +34,6 @@ const first_of = (links, to) => (links.length <= MOST_PLACES ? links
 // Returns names as a text, which says how many are left out.
 const listed = (names, between) => names.slice(0, MOST_NAMES).join(between)
     + (names.length > MOST_NAMES ? ` and ${count(names.length - MOST_NAMES)} more` : '');
-/** Returns the facts of the file. */
 export const all_facts = once(() => facts(file.elf, file.content));
 
 // Returns the row of a fact in words, or that it is unknown, or nothing if there is nothing to say of it.
@@ -56,7 +55,6 @@ const module_texts = once(() => {
 
 const KINDS = { object: 'object file', core: 'core file', library: 'shared library',
     'debug file': 'separate debug file', 'program or library': 'program or shared library' };
-/** Returns what kind of file it is, in words. */
 export function kind_in_words() {
     const { e_type, e_machine } = file.elf.header, { kind, pie } = all_facts();
     const words = kind === 'program' ? either('position-independent program', 'program at fixed addresses')(pie)
@@ -128,7 +126,6 @@ function to_build_id() {
     return found && { text: 'note', to: `notes/${found.by}/${found.index}` };
 }
 
-// Returns the size of the debug information in words, and whether it is compressed.
 function debug_words() {
     const size_of_all = (all) => all.reduce((sum, { section }) => sum + section.sh_size, 0n), all = debug_sections();
     const packed = size_of_all(all.filter(({ section }) => is_compressed(section))), size = size_of_all(all);

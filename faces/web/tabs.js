@@ -28,7 +28,6 @@ function notes_sum({ sections, segments }) {
     return refusals.length || is_cut ? `${count(length)}+` : count(length);
 }
 
-/** Shows the tabs, each with its number of items or as refused. */
 export function show_tabs() {
     const { sections, segments, symbols, relocations, notes, map } = shown_file.summary;
     const length_of = ({ refused, length }) => (refused ? 'refused' : count(length));
@@ -137,7 +136,6 @@ export function choose_field(wanted) {
         blocks: [{ word: 'bytes', at, size }, header_block('header')] };
 }
 
-/** Returns the block of the header's bytes. */
 export const header_block = (word) =>
     ({ word, at: 0, size: shown_file.summary.header_size, fields: shown_file.summary.header });
 

@@ -171,7 +171,6 @@ const calls = {
 
     index: ({ list, at }) => (views[list].order ? views[list].order[at] : at),
 
-    // Returns the list that is shown, as lines of values separated by commas.
     async csv({ list }) {
         const lines = [csv_line(columns_of(views[list].source).map(({ title }) => title))];
         await over_view(list, 'csv', () => true, ({ source }, item, index) =>
