@@ -88,7 +88,7 @@ const MOST_SECTIONS = 24;
 
 function segment_details(item, index) {
     const { p_type, p_flags, p_offset, p_vaddr, p_filesz, p_memsz } = item;
-    const inside = sections().filter(({ index: of, section }) => of && goblin.segment_holds(item, section));
+    const inside = sections().filter((section) => section.index && goblin.segment_holds(item, section));
     const first = inside.slice(0, MOST_SECTIONS).map(({ index: of }) => to_section(of)),
         is_cut = inside.length > MOST_SECTIONS;
     return {
@@ -233,8 +233,8 @@ export function address_details(address) {
     const inside = segments_of_address(address), section = section_of_address(address),
         symbol = symbol_of_address(address);
     const at = offset_of_address(address);
-    const segment = ({ index, segment: item }) =>
-        ({ text: with_offset(title_of_segment(index, item), address - item.p_vaddr), to: `segments/${index}` });
+    const to_segment = (segment) => ({ text: with_offset(title_of_segment(segment.index, segment),
+        address - segment.p_vaddr), to: `segments/${segment.index}` });
     const of = section === undefined ? undefined
         : { text: with_offset(called(section), address - section_at(section).sh_addr), to: `sections/${section}` };
     const pieces = at === undefined ? [] : pieces_at(part_at(at));
@@ -244,7 +244,7 @@ export function address_details(address) {
         kind: section === undefined ? pieces[0]?.kind : kind_of(section_at(section)),
         fields: [
             symbol && field('symbol', '', '', to_symbol(symbol)), of && field('section', '', '', of),
-            inside.length > 0 && field('segment', '', '', ...inside.map(segment)),
+            inside.length > 0 && field('segment', '', '', ...inside.map(to_segment)),
             at === undefined ? field('offset', 'none', 'no bytes in the file')
                 : field('offset', hex(at), '', at_offset(at)),
         ],

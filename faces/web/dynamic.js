@@ -50,10 +50,11 @@ function symbol_count() {
 
 /** Adds the tables of symbols and relocations that the dynamic section leads to, if no section header does. */
 export function find_own_sections() {
-    const lacks = (...types) => !sections().some(({ section }) => types.includes(section.sh_type));
+    const lacks = (...types) => !sections().some(({ sh_type }) => types.includes(sh_type));
     const add = (tag, sh_type, sh_size, links = { sh_link: 'DT_SYMTAB' }) => {
         const sh_offset = offset_of(goblin[tag]);
-        if (sh_offset !== undefined && sh_size) own_sections.set(tag, { sh_type, sh_offset, sh_size, ...links });
+        if (sh_offset !== undefined && sh_size)
+            own_sections.set(tag, { index: tag, sh_type, sh_offset, sh_size, ...links });
     };
     const { SHT_REL, SHT_RELA, SHT_DYNSYM } = goblin, has_addends = value_of(goblin.DT_PLTREL) === goblin.DT_RELA;
     if (lacks(...SYMBOL_TYPES))

@@ -113,20 +113,18 @@ export const own_sections = new Map();
 /** Returns a section, by its index, or one of the page's own, by its name. */
 export const section_at = (index) =>
     (typeof index === 'string' ? own_sections.get(index) : file.elf.section_header(index));
-/** Returns all sections with their indices, and all segments, or none if they are refused. */
-export const sections = once(() => read_or([], () => file.elf.section_headers())
-    .map((section, index) => ({ index, section })));
-export const segments = once(() => read_or([], () => file.elf.program_headers())
-    .map((segment, index) => ({ index, segment })));
-export const segment_of = (type) => segments().find(({ segment }) => segment.p_type === type);
-export const all_sections = () =>
-    [...sections(), ...Array.from(own_sections, ([index, section]) => ({ index, section }))];
+// Returns the items of a list, each with its index, or none if the list is refused.
+const indexed = (list) => read_or([], list).map((item, index) => Object.assign(item, { index }));
+export const sections = once(() => indexed(() => file.elf.section_headers()));
+export const segments = once(() => indexed(() => file.elf.program_headers()));
+export const segment_of = (type) => segments().find(({ p_type }) => p_type === type);
+export const all_sections = () => [...sections(), ...own_sections.values()];
 /** Reports whether a section has debug information, which its name says. */
 export const is_debug = (section) => !(section.sh_flags & 2n)
     && /^\.(z?debug_|gdb_index|stab|line$)/.test(name_of_section(section));
 /** Returns the indices of all symbol tables, and the name of the page's own. */
-export const symbol_tables = () => all_sections().filter(({ section }) => SYMBOL_TYPES.includes(section.sh_type))
-    .map(({ index }) => index);
+export const symbol_tables = () =>
+    all_sections().filter(({ sh_type }) => SYMBOL_TYPES.includes(sh_type)).map(({ index }) => index);
 
 /** Returns the name at an offset of a table, cut if it is long, or an empty text if there is none or the table is
  * refused. */

@@ -40,8 +40,8 @@ function collector(text) {
 
 function add_small(found) {
     for (const { name, words } of header_fields()) found.add(name, () => ({ detail: words, to: `header/${name}` }));
-    sections().forEach(({ index, section }) =>
-        found.add(name_of_section(section), () => ({ detail: `section ${index}`, to: `sections/${index}` })));
+    for (const section of sections()) found.add(name_of_section(section),
+        () => ({ detail: `section ${section.index}`, to: `sections/${section.index}` }));
     for (const by of ['sections', 'segments']) {
         notes_of(by).items.forEach((item, index) =>
             found.add(title_of(item), () => ({ detail: `note ${index} of ${by}`, to: `notes/${by}/${index}` })));

@@ -26,12 +26,12 @@ const field = (title, key, least, share, say) => number(title, key, least, share
 const rooms = once(() => {
     let address = 0n, align = 0n, index = 0;
     const raise = (end) => { if (end > address && end < 1n << 64n) address = end; };
-    for (const { section } of sections()) {
-        raise(section.sh_addr + section.sh_size);
-        if (section.sh_addralign > align) align = section.sh_addralign;
-        index = Math.max(index, section.sh_link, section.sh_info);
+    for (const { sh_addr, sh_size, sh_addralign, sh_link, sh_info } of sections()) {
+        raise(sh_addr + sh_size);
+        if (sh_addralign > align) align = sh_addralign;
+        index = Math.max(index, sh_link, sh_info);
     }
-    for (const { segment } of segments()) raise(segment.p_vaddr + segment.p_memsz);
+    for (const { p_vaddr, p_memsz } of segments()) raise(p_vaddr + p_memsz);
     const room = (shown, least, most = 20) => Math.max(Math.ceil(7.6 * Math.min(shown.length, most)) + 1, least);
     const offset = room(hex(file.content.length), 60);
     return { address: room(hex(address), 60), offset, align: room(`${align}`, 36, 10), index: room(`${index}`, 32) };

@@ -6,10 +6,10 @@ import { hex, name_of, NAME, once } from './text.js';
 
 const MOST_NOTES = 100000, MOST_REFUSALS = 20, NHDR = 12;
 const holders = (by) => (by === 'sections'
-    ? sections().filter(({ section }) => section.sh_type === goblin.SHT_NOTE).map(({ index, section }) =>
-        ({ index, title: called(index, section), start: section.sh_offset, item: section }))
-    : segments().filter(({ segment }) => segment.p_type === goblin.PT_NOTE).map(({ index, segment }) =>
-        ({ index, title: `segment ${index}`, start: segment.p_offset, item: segment })));
+    ? sections().filter(({ sh_type }) => sh_type === goblin.SHT_NOTE)
+        .map((item) => ({ index: item.index, title: called(item.index, item), start: item.sh_offset, item }))
+    : segments().filter(({ p_type }) => p_type === goblin.PT_NOTE)
+        .map((item) => ({ index: item.index, title: `segment ${item.index}`, start: item.p_offset, item })));
 
 // Returns a note with its name as text, without the zero byte that ends it. The name may be of any bytes and any size.
 function named({ n_type, name_range, desc_range, next }) {

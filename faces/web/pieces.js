@@ -28,7 +28,7 @@ export function kind_of_segment({ p_type, p_flags }) {
 
 export const title_of_segment = (index, { p_type }) => `segment ${index}, ${segment_type(p_type)}`;
 
-const has_sections = once(() => sections().some(({ section }) => section.sh_type !== goblin.SHT_NULL));
+const has_sections = once(() => sections().some(({ sh_type }) => sh_type !== goblin.SHT_NULL));
 
 // Collects pieces. Each is cut at the end of the file. Those that are cut are collected apart, and so are those that
 // begin past the end.
@@ -55,8 +55,9 @@ function pieces_of_sections() {
         add(e_phoff, segments * size_of('segment'), { title: 'Program headers', kind: 'tables', to: 'segments' });
     const length = read_or(e_shnum, () => file.elf.section_headers().length);
     if (length) add(e_shoff, length * size_of('section'), { title: 'Section headers', kind: 'tables', to: 'sections' });
-    for (const { index, section } of sections()) {
-        const range = read_or({ offset: section.sh_offset, size: section.sh_size }, () => file.elf.range(section));
+    for (const section of sections()) {
+        const { index, sh_offset: offset, sh_size: size } = section;
+        const range = read_or({ offset, size }, () => file.elf.range(section));
         if (range) add(range.offset, range.size, { section: index, kind: kind_of(section), to: `sections/${index}` });
     }
     return collected;
@@ -66,8 +67,8 @@ function pieces_of_sections() {
 // loaded segment has outside of them is mostly padding, and neither code nor data.
 function pieces_of_segments() {
     const { add, ...collected } = collector();
-    for (const { index, segment } of segments()) {
-        const { p_type, p_offset, p_filesz } = segment, is_rest = has_sections();
+    for (const segment of segments()) {
+        const { index, p_type, p_offset, p_filesz } = segment, is_rest = has_sections();
         const kind = is_rest && p_type === goblin.PT_LOAD ? 'other' : kind_of_segment(segment);
         add(p_offset, p_filesz, { title: title_of_segment(index, segment), kind, is_rest, to: `segments/${index}` });
     }

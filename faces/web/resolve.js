@@ -15,7 +15,7 @@ export const symtab_at = once((index) => {
 });
 // Returns the section with the indices of sections from 65,280 on, for the symbols of a table.
 const extended_of = once((table) => sections()
-    .find(({ section }) => section.sh_type === goblin.SHT_SYMTAB_SHNDX && section.sh_link === table)?.section);
+    .find(({ sh_type, sh_link }) => sh_type === goblin.SHT_SYMTAB_SHNDX && sh_link === table));
 
 export function section_of_symbol(table, index, { st_shndx }) {
     if (st_shndx === goblin.SHN_XINDEX) {
@@ -82,7 +82,7 @@ export function address_of_symbol({ st_value, st_info }) {
     const type = goblin.st_type(st_info);
     if (file.elf.header.e_machine === goblin.EM_ARM && type === goblin.STT_FUNC) return st_value & ~1n;
     return type === goblin.STT_TLS && has_addresses()
-        ? (segment_of(goblin.PT_TLS)?.segment.p_vaddr ?? 0n) + st_value : st_value;
+        ? (segment_of(goblin.PT_TLS)?.p_vaddr ?? 0n) + st_value : st_value;
 }
 
 // How many bytes are shown of a symbol of unknown size, and of a relocation, whose number of bytes depends on its type.
@@ -115,19 +115,18 @@ export function place_of_relocation({ sh_info }, { r_offset }) {
 }
 
 const holds = (start, size, address) => start <= address && address < start + size;
-export const segments_of_address = (address) => (has_addresses() ? segments().filter(({ segment }) =>
-    segment.p_type === goblin.PT_LOAD && holds(segment.p_vaddr, segment.p_memsz, address)) : []);
+export const segments_of_address = (address) => (has_addresses() ? segments().filter(({ p_type, p_vaddr, p_memsz }) =>
+    p_type === goblin.PT_LOAD && holds(p_vaddr, p_memsz, address)) : []);
 
 export function section_of_address(address) {
-    const is_in = ({ sh_flags, sh_type }) => sh_flags & goblin.SHF_ALLOC
-        && !(sh_type === goblin.SHT_NOBITS && sh_flags & goblin.SHF_TLS);
-    const found = sections().find(({ section }) => is_in(section) && holds(section.sh_addr, section.sh_size, address));
-    return has_addresses() ? found?.index : undefined;
+    const is_in = ({ sh_flags, sh_type, sh_addr, sh_size }) => sh_flags & goblin.SHF_ALLOC
+        && !(sh_type === goblin.SHT_NOBITS && sh_flags & goblin.SHF_TLS) && holds(sh_addr, sh_size, address);
+    return has_addresses() ? sections().find(is_in)?.index : undefined;
 }
 
 export function offset_of_address(address) {
     const segment = segments_of_address(address)
-        .find(({ segment: { p_vaddr, p_filesz } }) => holds(p_vaddr, p_filesz, address))?.segment;
+        .find(({ p_vaddr, p_filesz }) => holds(p_vaddr, p_filesz, address));
     const index = section_of_address(address), section = index === undefined ? undefined : section_at(index);
     const at = segment ? segment.p_offset + address - segment.p_vaddr
         : section && section.sh_type !== goblin.SHT_NOBITS ? section.sh_offset + address - section.sh_addr : undefined;
@@ -137,8 +136,8 @@ export function offset_of_address(address) {
 export function address_of_offset(offset) {
     const at = BigInt(offset),
         is_there = ({ p_type, p_offset, p_filesz }) => p_type === goblin.PT_LOAD && holds(p_offset, p_filesz, at);
-    const of = has_addresses() ? segments().find(({ segment }) => is_there(segment))?.segment : undefined;
-    return of && of.p_vaddr + at - of.p_offset;
+    const segment = has_addresses() ? segments().find(is_there) : undefined;
+    return segment && segment.p_vaddr + at - segment.p_offset;
 }
 
 /** Returns the symbol for an address: its table, index and name, and the distance from its start; or nothing. */

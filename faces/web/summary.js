@@ -62,8 +62,8 @@ export function kind_in_words() {
     return `${words} for ${MACHINES[e_machine] ?? labels.machine(e_machine)}`;
 }
 
-const debug_sections = once(() => sections()
-    .filter(({ section }) => is_debug(section) && section.sh_type !== SHT_NOBITS));
+const debug_sections = once(() =>
+    sections().filter((section) => is_debug(section) && section.sh_type !== SHT_NOBITS));
 
 /** Returns those of some pieces that are of this file: the segments of a debug file are those of another file. */
 export const of_this_file = (pieces) =>
@@ -73,7 +73,7 @@ export const of_this_file = (pieces) =>
 function damage() {
     const { elf, content } = file, { header } = elf, { past, cut, over } = parts(), end = hex(content.length);
     const { length, 0: first } = sections(), is_far = header.e_shstrndx === 0xffff,
-        names = is_far ? first?.section.sh_link : header.e_shstrndx;
+        names = is_far ? first?.sh_link : header.e_shstrndx;
     const line = (words, links, to) => links.length > 0 && row('', words, ...first_of(links, to));
     const links_to = (pieces) => of_this_file(pieces)
         .map((piece) => ({ text: titled({ ...piece, is_cut: false }).title, to: piece.to }));
@@ -127,14 +127,14 @@ function to_build_id() {
 }
 
 function debug_words() {
-    const size_of_all = (all) => all.reduce((sum, { section }) => sum + section.sh_size, 0n), all = debug_sections();
-    const packed = size_of_all(all.filter(({ section }) => is_compressed(section))), size = size_of_all(all);
+    const size_of_all = (all) => all.reduce((sum, { sh_size }) => sum + sh_size, 0n), all = debug_sections();
+    const packed = size_of_all(all.filter(is_compressed)), size = size_of_all(all);
     const words = packed === size ? ', compressed' : packed ? `, of which ${in_bytes(packed)} are compressed` : '';
     return all.length > 0 ? `${in_bytes(size)}${words}` : 'none in the file';
 }
 
 function how_it_was_built() {
-    const symbols = sections().find(({ section }) => section.sh_type === SHT_SYMTAB), [debug] = debug_sections();
+    const symbols = sections().find(({ sh_type }) => sh_type === SHT_SYMTAB), [debug] = debug_sections();
     const [link, comment] = ['.gnu_debuglink', '.comment'].map(section_called),
         name = link && name_at(file.elf.strtab(link.section), 0);
     return file.elf.header.e_type === ET_CORE ? [] : [
@@ -225,9 +225,9 @@ function largest_sections() {
     const share = ({ sh_type, sh_size }) => (sh_type === SHT_NOBITS ? 'in memory only'
         : `${(100 * Number(sh_size) / file.content.length).toFixed(1)} %`);
     // (the size of section 0 is a number of sections)
-    return sections().slice(1).filter(({ section }) => section.sh_size > 0n)
-        .sort((a, b) => Number(b.section.sh_size - a.section.sh_size)).slice(0, LARGEST)
-        .map(({ index, section }) => row(`${in_bytes(section.sh_size)}, ${share(section)}`, '', to_section(index)));
+    return sections().slice(1).filter(({ sh_size }) => sh_size > 0n)
+        .sort((a, b) => Number(b.sh_size - a.sh_size)).slice(0, LARGEST)
+        .map((section) => row(`${in_bytes(section.sh_size)}, ${share(section)}`, '', to_section(section.index)));
 }
 
 // Returns how much code is in no symbol, and the largest functions. If one has a name of C++, all have a mark.

@@ -35,11 +35,12 @@ async function bytes_of(given) {
 // the others.
 const MOST_TABLES = 200;
 function tables(types, list_of) {
-    const all = all_sections().filter(({ section }) => types.includes(section.sh_type));
-    const found = all.slice(0, MOST_TABLES).map(({ index, section }) => {
+    const all = all_sections().filter(({ sh_type }) => types.includes(sh_type));
+    const found = all.slice(0, MOST_TABLES).map((section) => {
         // (a refusal is shown once the section is chosen)
-        const length = read_or(undefined, () => list_of(section, index).length), is_packed = section.sh_type === RELR;
-        return { index, name: called(index, section), length, is_packed, is_own: typeof index === 'string' };
+        const { index, sh_type } = section, length = read_or(undefined, () => list_of(section).length);
+        return { index, name: called(index, section), length, is_packed: sh_type === RELR,
+            is_own: typeof index === 'string' };
     });
     return { found, all: all.length };
 }
@@ -62,8 +63,8 @@ function past_end() {
 const MOST_LOADED = 1000;
 function map() {
     const { starts, tops, depths } = parts(),
-        loaded = segments().filter(({ segment }) => segment.p_type === 1).slice(0, MOST_LOADED)
-            .map(({ segment: { p_offset, p_filesz, p_flags } }) =>
+        loaded = segments().filter(({ p_type }) => p_type === 1).slice(0, MOST_LOADED)
+            .map(({ p_offset, p_filesz, p_flags }) =>
                 [Number(p_offset), Math.min(Number(p_offset + p_filesz), file.content.length), p_flags & 7]);
     const kinds = Int8Array.from(tops, (top) => (top ? KINDS.indexOf(top.kind) : -1));
     const cuts = Uint8Array.from(tops, (top) => Number(top?.is_cut ?? false));
@@ -87,7 +88,7 @@ function overview() {
         words: [kind_in_words(), labels.file_class(header.ei_class),
             elf.little_endian() ? 'little endian' : 'big endian', labels.file_type(header.e_type),
             labels.machine(header.e_machine), `entry ${hex(header.e_entry)}`],
-        symbols: refused ? { refused } : tables(SYMBOL_TYPES, (section, index) => symtab_at(index)),
+        symbols: refused ? { refused } : tables(SYMBOL_TYPES, ({ index }) => symtab_at(index)),
         relocations: refused ? { refused } : tables(RELOCATION_TYPES, relocations_of),
         notes: { sections: notes_summary('sections', headers.sections),
             segments: notes_summary('segments', headers.segments) },
@@ -95,10 +96,9 @@ function overview() {
     };
 }
 
-// What each list shows: the source, and the indices in their order if it isn't the list's own. And its last request,
-// and that of a search.
+// What each list shows: the source, and the indices in their order if it isn't the list's own. And the last requests.
 const views = {}, runs = {};
-const source_of = (list, of) => (views[list]?.of === of && views[list] ? views[list].source : open_source(list, of));
+const source_of = (list, of) => (views[list]?.of === of && views[list]?.source) || open_source(list, of);
 
 function begin(name) {
     const run = runs[name] = {};
@@ -132,10 +132,12 @@ const calls = {
             views[list] = { source, of, order: [], length: 0 }; // (so nothing of the list before is saved)
             return source ?? { is_none: true };
         }
-        const order = await arranged(shown, { query, column, is_descending, list }, is_wanted);
+        const { length: all } = source.list,
+            order = await arranged(shown, { query, column, is_descending, list }, is_wanted);
         if (!is_wanted()) return { is_over: true };
-        views[list] = { source, of, shown, order, length: order ? order.length : source.list.length };
-        return { length: views[list].length, all: source.list.length };
+        const { length } = order ?? source.list;
+        views[list] = { source, of, shown, order, length };
+        return { length, all };
     },
 
     // Returns the columns of a list, with names and with demangled ones, if it has such. The source is kept.
