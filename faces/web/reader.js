@@ -25,9 +25,9 @@ export class Reader {
 
     #receive(data) {
         if (data.progress) return this.on_progress(data);
-        const { resolve, reject } = this.#waiting.get(data.id), { failed, name } = data;
+        const { resolve, reject } = this.#waiting.get(data.id);
         this.#waiting.delete(data.id);
-        return failed === undefined ? resolve(data.result) : reject(Object.assign(new Error(failed), { name }));
+        return 'error' in data ? reject(data.error) : resolve(data.result);
     }
 
     #fail(error) {

@@ -1,4 +1,4 @@
-// Reads one file for the page. A message { id, call, given } is answered with { id, result } or { id, failed }. A
+// Reads one file for the page. A message { id, call, given } is answered with { id, result } or { id, error }. A
 // refusal of the library is { refused } in `result`. What takes long is done in steps, and ends if the same is
 // requested again.
 import init, * as goblin from './goblin.js';
@@ -204,9 +204,8 @@ const calls = {
 
 onmessage = async ({ data: { id, call, given } }) => {
     try {
-        const result = await calls[call](given);
-        postMessage({ id, result });
+        postMessage({ id, result: await calls[call](given) });
     } catch (error) {
-        postMessage({ id, failed: `${error?.message ?? error}`, name: error?.name });
+        postMessage({ id, error });
     }
 };
