@@ -80,11 +80,8 @@ async function show_place(given) {
 const unchosen = () =>
     ({ title: 'ELF header', kind: 'header', what: 'at the start of the file', blocks: [header_block('bytes')] });
 
-function why_unread({ size }) {
-    if (size === 0) return 'The file is empty: it has 0 bytes.';
-    return size > LIMIT
-        ? `The file has ${in_bytes(size)}. This page reads files of at most ${LIMIT_WORDS}.` : undefined;
-}
+const why_unread = ({ size }) => (size === 0 ? 'The file is empty: it has 0 bytes.'
+    : size > LIMIT && `The file has ${in_bytes(size)}. This page reads files of at most ${LIMIT_WORDS}.`);
 
 // Why the browser does not read a file, by the name of its error.
 const WHY_NOT = {
@@ -97,42 +94,38 @@ async function open(file) {
     loading?.end();
     const wrong = why_unread(file);
     if (wrong) { trouble(file, wrong); return; }
-    const reader = loading = new Reader(), stop = show_loading(file, reader);
+    const reader = loading = new Reader();
+    show_loading(file, reader);
     try {
         const summary = await reader.open(file);
         if (summary.refused) await show_refusal(file, reader, summary); else await show_file(file, reader, summary);
     } catch (error) {
         if (loading === reader) trouble(file, WHY_NOT[error.name] ?? `The file can’t be read: ${error.message}`);
     } finally {
-        stop();
+        if (loading === reader) end_loading();
     }
 }
 
 // Shows that a file is being read, and how much is left, if that takes long. The previous file stays, dimmed.
 function show_loading(file, reader) {
-    const box = get('loading');
     const megabytes = (size) => `${count(Math.ceil(size / 1e6))} MB`;
     let left = file.size, is_soon = true;
     // (meanwhile another file may be opened, or this one be shown, whose lists report their progress, too)
     const show = () => {
         if (loading !== reader || is_soon) return;
         document.body.classList.add('dimmed');
-        put_text(box, `Reading ${file.name}: ${megabytes(left)} of ${megabytes(file.size)} left`);
+        put_text(get('loading'), `Reading ${file.name}: ${megabytes(left)} of ${megabytes(file.size)} left`);
     };
-    document.body.setAttribute('aria-busy', 'true');
-    const timer = setTimeout(() => { is_soon = false; show(); }, SOON);
+    document.body.ariaBusy = 'true';
+    setTimeout(() => { is_soon = false; show(); }, SOON);
     reader.on_progress = ({ done }) => { left = file.size * (1 - done); show(); };
-    return () => {
-        clearTimeout(timer);
-        if (loading === reader) end_loading();
-    };
 }
 
 function end_loading() {
     loading = undefined;
     get('loading').textContent = '';
     document.body.classList.remove('dimmed');
-    document.body.removeAttribute('aria-busy');
+    document.body.ariaBusy = null;
 }
 
 // Shows only one of the page's parts, and the name of its file in the bar.
