@@ -110,19 +110,17 @@ async function summary_panel() {
 }
 
 async function header_panel() {
-    const rows = shown_file.summary.header.map((field) => {
-        const { name, at, size, words } = field, show = () => go(`header/${name}`);
-        const onclick = ({ target }) => { if (!target.closest('a')) show(); };
-        const onkeydown = (event) => {
-            if (event.target !== event.currentTarget || !['Enter', ' '].includes(event.key)) return;
-            event.preventDefault();
-            show();
-        };
-        return row_of(field, { tabindex: '0', 'data-field': name, onclick, onkeydown }, name,
-            make('td', { class: 'words' }, words), make('td', { class: 'dim' }, `${hex(at)}, ${plural(size, 'byte')}`));
-    });
-    const table = table_of(rows, { class: 'fields header', role: 'grid', 'aria-label': 'Fields of the header' });
-    return [make('div', { class: 'scroll' }, table)];
+    const rows = shown_file.summary.header.map((field) => row_of(field, { tabindex: '0', 'data-field': field.name },
+        field.name, make('td', { class: 'words' }, field.words),
+        make('td', { class: 'dim' }, `${hex(field.at)}, ${plural(field.size, 'byte')}`)));
+    const onclick = ({ target }) => { if (!target.closest('a')) go(`header/${target.closest('tr').dataset.field}`); };
+    const onkeydown = (event) => {
+        if (!event.target.matches('tr') || !['Enter', ' '].includes(event.key)) return;
+        event.preventDefault();
+        event.target.click();
+    };
+    const given = { class: 'fields header', role: 'grid', 'aria-label': 'Fields of the header', onclick, onkeydown };
+    return [make('div', { class: 'scroll' }, table_of(rows, given))];
 }
 
 /** Marks a field of the header as chosen, and returns what is shown of it, or nothing if there is no such field. */
