@@ -28,9 +28,10 @@ const to_segment = (type) => {
     return found && { text: `segment ${found.index}`, to: `segments/${found.index}` };
 };
 const section_called = (name) => read_or(undefined, () => file.elf.section_by_name(name));
-// Returns the first links, and one that says how many others there are.
-const first_of = (links, to) => (links.length <= MOST_PLACES ? links
-    : [...links.slice(0, MOST_PLACES), { text: `and ${count(links.length - MOST_PLACES)} more`, to }]);
+// Returns the first items of a list, and what a function returns for the number of others, if there are any.
+const shortened = (items, most, rest) =>
+    (items.length <= most ? items : [...items.slice(0, most), rest(count(items.length - most))]);
+const first_of = (links, to) => shortened(links, MOST_PLACES, (others) => ({ text: `and ${others} more`, to }));
 // Returns names as a text, which says how many are left out.
 const listed = (names, between) => names.slice(0, MOST_NAMES).join(between)
     + (names.length > MOST_NAMES ? ` and ${count(names.length - MOST_NAMES)} more` : '');
@@ -177,9 +178,8 @@ function what_protects_it() {
     ];
 }
 
-// Returns rows, at most a number, and one that says how many others there are.
-const first_rows = (rows, name, to) => (rows.length <= MOST_ROWS ? rows
-    : [...rows.slice(0, MOST_ROWS), own(name, count(rows.length - MOST_ROWS), { text: 'notes', to })]);
+const first_rows = (rows, name, to) =>
+    shortened(rows, MOST_ROWS, (others) => own(name, others, { text: 'notes', to }));
 
 // Returns the rows of a core's threads. Those at the same instruction have one row.
 const POINTERS = new Set(['rip', 'rsp', 'eip', 'esp', 'pc', 'sp']);
