@@ -10,7 +10,7 @@ import { title_of } from './notes.js';
 import { kind_of, kind_of_segment, part_at, parts, pieces_at, title_of_segment } from './pieces.js';
 import { address_of_offset, address_of_symbol, with_offset, bytes_of_symbol, has_addresses, name_of_symbol,
     offset_of_address, place_of_relocation, section_of_address, section_of_symbol, segments_of_address,
-    symbol_of_address, symtab_at, to_address, to_offset, to_section, to_symbol } from './resolve.js';
+    symbol_of_address, symtab_at, title_of_symbol, to_address, to_offset, to_section, to_symbol } from './resolve.js';
 import { count, hex, in_bytes } from './text.js';
 
 const { named, prefixed } = labels;
@@ -53,7 +53,7 @@ function info_link({ sh_type, sh_flags, sh_info, sh_link }) {
 
 function symbol_link(table, index) {
     const symbol = index ? read_or(undefined, () => symtab_at(table)?.get(index)) : undefined;
-    return symbol && to_symbol({ table, index, name: name_of_symbol(table, index, symbol) || `symbol ${index}` });
+    return symbol && to_symbol({ table, index, name: title_of_symbol(table, index, symbol) });
 }
 
 const INFO_WORDS = { [goblin.SHT_SYMTAB]: 'symbols that are local', [goblin.SHT_DYNSYM]: 'symbols that are local' };
@@ -114,19 +114,19 @@ function segment_details(item, index) {
 const in_source = (name) => demangled(name) && field('demangled', demangled(name), 'not proved');
 
 function symbol_details(item, index, table) {
-    const { st_size, st_info, st_other } = item;
+    const { st_size, st_info, st_other } = item, name = name_of_symbol(table, index, item);
     const of = section_of_symbol(table, index, item), place = bytes_of_symbol(table, index, item);
     const bind = goblin.st_bind(st_info), type = goblin.st_type(st_info), visibility = goblin.st_visibility(st_other);
     const address = of === undefined ? undefined : at_address(address_of_symbol(item));
     const info = `${prefixed('STB_', labels.symbol_binding(bind))} (${bind}), `
         + `${prefixed('STT_', labels.symbol_type(type))} (${type})`;
     return {
-        title: name_of_symbol(table, index, item) || `symbol ${index}`,
+        title: title_of_symbol(table, index, item),
         what: `symbol ${count(index)} of ${called(table)}`,
         kind: of === undefined || !section_at(of) ? undefined : kind_of(section_at(of)),
-        link: link_by_name('symbol', name_of_symbol(table, index, item)),
+        link: link_by_name('symbol', name),
         fields: [
-            in_source(name_of_symbol(table, index, item)),
+            in_source(name),
             ...fields_of(item, {
                 st_name: '', st_value: [place?.section ? with_offset(called(of), place.from) : '', address],
                 st_size: in_bytes(st_size), st_info: info,
@@ -161,7 +161,7 @@ function relocation_details(item, index, of) {
         ],
         blocks: [
             ...(place ? [{ ...place, word: from_place(place.section) }] : []),
-            is_packed ? { word: 'all of them', at: Number(section.sh_offset), size: Number(section.sh_size) }
+            is_packed ? block('all of them', () => ({ offset: section.sh_offset, size: section.sh_size }))
                 : entry(of, index, item.r_addend === undefined ? 'rel' : 'rela'),
         ],
     };
@@ -184,15 +184,15 @@ function note_details(item, index, by) {
                 field(register, hex(value), '', is_address(value) ? at_address(value) : undefined)),
         ],
         blocks: [
-            { word: 'descriptor', at: Number(note.desc_range.offset), size: Number(note.desc_range.size) },
+            block('descriptor', () => note.desc_range),
             record('whole note', 'note', start, Math.min(end, file.content.length) - start),
         ],
     };
 }
 
 function part_details(index) {
-    const { starts, depths } = parts(), [top, ...others] = pieces_at(index);
-    const [start, end] = [starts[index], starts[index + 1]], depth = depths[index];
+    const { starts, ends, depths } = parts(), [start, end, depth] = [starts[index], ends[index], depths[index]];
+    const [top, ...others] = pieces_at(index), bytes = top ?? { start, end };
     const link = ({ title, to }) => ({ text: title, to });
     return {
         title: top?.title ?? 'gap', kind: top?.kind,
@@ -201,8 +201,7 @@ function part_details(index) {
             field('from', hex(start), '', at_address(address_of_offset(start) ?? 0n)), field('to', hex(end)),
             top && field('piece', '', '', link(top)), others.length > 0 && field('also', '', '', ...others.map(link)),
         ],
-        blocks: [top ? { word: 'bytes', at: top.start, size: top.end - top.start }
-            : { word: 'bytes', at: start, size: end - start }],
+        blocks: [{ word: 'bytes', at: bytes.start, size: bytes.end - bytes.start }],
     };
 }
 
@@ -211,8 +210,8 @@ const LISTS = { sections: section_details, segments: segment_details, symbols: s
 export const item_details = (source, { list, index, of }) => LISTS[list](source.list.get(index), index, of);
 
 export function offset_details(offset) {
-    const index = part_at(offset), { starts } = parts(), pieces = pieces_at(index);
-    const end = pieces[0]?.end ?? starts[index + 1], address = address_of_offset(offset);
+    const index = part_at(offset), pieces = pieces_at(index);
+    const end = pieces[0]?.end ?? parts().ends[index], address = address_of_offset(offset);
     const inside = pieces.map(({ title, to, start }) => ({ text: with_offset(title, BigInt(offset - start)), to }));
     const symbol = address === undefined ? undefined : symbol_of_address(address);
     return {

@@ -5,7 +5,7 @@ import { demangled } from './demangle.js';
 import { file, read_or, section_at, symbol_tables } from './file.js';
 import { go_over } from './lists.js';
 import { part_at, parts, titled } from './pieces.js';
-import { bytes_of_symbol, name_of_symbol, symtab_at } from './resolve.js';
+import { bytes_of_symbol, symtab_at, title_of_symbol } from './resolve.js';
 import { first_after, visible_ranges } from './spans.js';
 import { count, once } from './text.js';
 
@@ -40,12 +40,11 @@ const find_symbols = once(async () => {
     }
     const apart = (items) => { last = 0; return items.filter(({ start, end }) => start >= last && (last = end)); };
     const symbols = apart(all), functions = apart(all.filter((item) => item.is_function));
-    Object.assign(found, { table, functions, symbols, covered, starts: symbols.map(({ start }) => start),
-        ends: symbols.map(({ end }) => end) });
+    const starts = symbols.map(({ start }) => start), ends = symbols.map(({ end }) => end);
+    Object.assign(found, { table, functions, symbols, covered, starts, ends });
 });
 
-const name_of = ({ index }) => name_of_symbol(found.table, index, symtab_at(found.table).get(index))
-    || `symbol ${index}`;
+const name_of = ({ index }) => title_of_symbol(found.table, index, symtab_at(found.table).get(index));
 
 // Returns a function or variable with its location, and perhaps its name.
 function shown(symbol, has_name = true) {

@@ -32,6 +32,7 @@ const names = once((table) => new Array(symtab_at(table).length));
 
 /** Returns a symbol's name. The symbol of a section has the section's name. */
 export const name_of_symbol = (table, index, symbol) => (names(table)[index] ??= read_name(table, index, symbol));
+export const title_of_symbol = (table, index, symbol) => name_of_symbol(table, index, symbol) || `symbol ${index}`;
 
 // How many names are read at once, and of how many bytes the longest string of their table may be then. (In a damaged
 // table each name may be all of it.)
@@ -148,7 +149,7 @@ export function symbol_of_address(address) {
         if (index === undefined) continue;
         const symbol = symtab_at(table).get(index), start = address_of_symbol(symbol);
         if (address !== start && !holds(start, symbol.st_size, address)) continue;
-        return { table, index, name: name_of_symbol(table, index, symbol) || `symbol ${index}`, from: address - start };
+        return { table, index, name: title_of_symbol(table, index, symbol), from: address - start };
     }
     return undefined;
 }
