@@ -1,31 +1,34 @@
 // Lists of any length, of which only the visible rows are drawn.
 import { button, clamp, make, put_text, visible } from './dom.js';
 
-// The greatest height of an element in all engines. A longer list is scrolled in proportion.
-const HIGHEST = 6e6, BLOCK = 128, KEPT = 64;
-// The space between columns, in pixels.
-const GAP = 12;
+// The greatest height of an element in all engines (a longer list is scrolled in proportion), how many rows are
+// requested at once, how many such blocks are kept, and the space between columns, in pixels.
+const HIGHEST = 6e6, BLOCK = 128, KEPT = 64, GAP = 12;
+const NEXT_ORDER = { none: 'ascending', ascending: 'descending', descending: 'none' };
 let ids = 0;
 
 // A list: columns { title, least, share, is_right, is_dim, hint }, and rows(from, size), which promises the cells of
 // some rows. `chosen` and `opened` are called with the position of a row, and `sorted` with a column and an order.
 export class Grid {
+    length = 0; active = -1; column = 0; version = 0; lines = []; blocks = new Map(); unmeasured = new Set();
+
     constructor(label, columns, { rows, chosen = () => {}, opened = () => {}, sorted, high = 24, kind = '' }) {
-        Object.assign(this, { columns, rows, chosen, opened, sorted, high, length: 0, active: -1, column: 0 });
-        Object.assign(this, { blocks: new Map(), lines: [], version: 0, id: `list-${++ids}` });
-        Object.assign(this, { needs: columns.map(() => 0), unmeasured: new Set() });
+        Object.assign(this, { columns, rows, chosen, opened, sorted, high, needs: columns.map(() => 0) });
         this.body = make('div', {
             class: 'body', role: 'rowgroup', onclick: (event) => this.click(event),
             ondblclick: () => { if (this.active >= 0) this.opened(this.active); },
         });
-        this.head = make('div', { class: 'row', role: 'row', id: `${this.id}-head`, 'aria-rowindex': '1' },
-            ...this.made_heads());
+        const heads = columns.map(({ title, is_right, hint }, column) => make('div',
+            { class: `cell ${is_right ? 'right' : ''}`, role: 'columnheader', 'aria-sort': 'none', title: hint },
+            sorted ? button(title, () => this.sort(column)) : title));
+        const given = { class: 'row', role: 'row', id: `list-${++ids}-head`, 'aria-rowindex': '1' };
+        this.head = make('div', given, ...heads);
         this.unmeasured.add(this.head);
         this.heads = make('div', { class: 'heads' }, this.head);
         const has_heads = columns.some(({ title }) => title);
         this.scroller = make('div', {
             class: 'grid', role: 'grid', tabindex: '0', 'aria-label': label, 'aria-colcount': columns.length,
-            'aria-owns': has_heads && `${this.id}-head`, onkeydown: (event) => this.key(event), onscroll: () => {
+            'aria-owns': has_heads && this.head.id, onkeydown: (event) => this.key(event), onscroll: () => {
                 this.heads.scrollLeft = this.scroller.scrollLeft;
                 this.draw_soon();
             },
@@ -36,15 +39,8 @@ export class Grid {
         this.box.style.setProperty('--high', `${high}px`);
     }
 
-    made_heads() {
-        return this.columns.map(({ title, is_right, hint }, column) => make('div',
-            { class: `cell ${is_right ? 'right' : ''}`, role: 'columnheader', 'aria-sort': 'none', title: hint },
-            this.sorted ? button(title, () => this.sort(column)) : title));
-    }
-
     sort(column) {
-        const before = this.head.children[column].getAttribute('aria-sort');
-        const now = before === 'none' ? 'ascending' : before === 'ascending' ? 'descending' : 'none';
+        const now = NEXT_ORDER[this.head.children[column].ariaSort];
         this.show_order(column, now);
         this.sorted(now === 'none' ? 0 : column, now === 'descending');
     }
