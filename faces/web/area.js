@@ -1,6 +1,6 @@
 // The sizes: the file's pieces, and the functions and variables inside them, as areas. One that is twice as large has
 // twice as many bytes.
-import { count, get, in_bytes, make, plural, put_text, visible } from './dom.js';
+import { count, get, in_bytes, make, put_text, visible } from './dom.js';
 import { ask, shown_file } from './reader.js';
 
 // In pixels: the least area of an item, the heights of the line above and of a piece's title, and the least box
@@ -27,7 +27,7 @@ export async function area_panel() {
         high = Math.max(get('panel').clientHeight - LINE, 120);
     const areas = make('div', { class: 'areas', role: 'group', 'aria-label': 'Sizes' });
     const add = ({ item, ...box }, kind = 'gap', to = 'layout', given = {}) => {
-        const said = `${visible(item.title)}: ${plural(item.size, 'byte')}, `
+        const said = `${visible(item.title)}: ${in_bytes(item.size)}, `
             + `${(100 * item.size / size).toFixed(1)} % of the file`;
         const link = make('a', { href: `#${item.to ?? to}`, 'aria-label': said, tabindex: areas.firstChild ? -1 : 0,
             ...given });

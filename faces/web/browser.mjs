@@ -334,12 +334,12 @@ async function check_needed() {
 
 // A function has one row, whatever its names. What is in no symbol is said, too.
 async function check_functions() {
-    const given = [['a', 0, 8], ['alias', 0, 8], ['inside', 4, 4], ['b', 8, 16], ['other', 8, 12]].map(
+    const given = [['a', 0, 8], ['alias', 0, 8], ['inside', 4, 4], ['b', 8, 16], ['other', 8, 12], ['c', 40, 1]].map(
         ([text, value, size]) => ({ text, info: 2, shndx: 3, value, size }));
     const text = { name: '.text', type: 1, flags: 6, bytes: Buffer.alloc(64, 1) };
     await pick_written('functions', symbols_file(given, text));
     assert.deepEqual((await facts('', 'Largest functions')).map(([name, value]) => `${name}, ${value}`),
-        ['in no symbol, 40 of 64 bytes of code', '16 bytes, b', '8 bytes, a']);
+        ['in no symbol, 39 of 64 bytes of code', '16 bytes, b', '8 bytes, a', '1 byte, c']);
     // (what another section covers is not drawn as code)
     const data = { name: '.data', type: 1, flags: 3, bytes: Buffer.alloc(32, 1) },
         content = symbols_file([{ text: 'all', info: 2, shndx: 3, size: 64 }], text, data);

@@ -1,12 +1,11 @@
 // Elements of the page and their texts. A text of a file is always inserted as text, with invisible characters
 // made visible.
-import { count, shown, UNSEEN } from './text.js';
+import { shown, UNSEEN } from './text.js';
 
 export * from './text.js';
 export const get = (id) => document.getElementById(id);
 export const focus_chosen = () => get('chosen').querySelector('h2')?.focus();
 export const clamp = (value, least, most) => Math.min(Math.max(value, least), most);
-export const plural = (number, word) => `${count(number)} ${word}${number === 1 ? '' : 's'}`;
 
 /** Returns the bytes that an element of the page holds, compressed. */
 export function inflated(id) {

@@ -1,5 +1,5 @@
 // Bytes of the file: a view of any number of them, and the bytes of a refusal.
-import { copy, fill, get, make, plural, put_text, two_digits } from './dom.js';
+import { copy, fill, get, in_bytes, make, put_text, two_digits } from './dom.js';
 import { Grid } from './grid.js';
 import { ask } from './reader.js';
 
@@ -48,7 +48,7 @@ export function hex_view(at, size, each, fields = []) {
 }
 
 export async function copy_hex(at, size) {
-    const bytes = await ask('bytes', [at, Math.min(size, MOST_COPIED)]), what = plural(bytes.length, 'byte');
+    const bytes = await ask('bytes', [at, Math.min(size, MOST_COPIED)]), what = in_bytes(bytes.length);
     await copy(Array.from(bytes, two_digits).join(' '), size > MOST_COPIED ? `the first ${what}` : what);
 }
 

@@ -249,7 +249,7 @@ async function describe(byte) {
     if (map.pointed !== byte || reader !== shown_file.reader) return;
     const { title, kind, symbol, depth, content } = found ?? {}, { start, end } = symbol || found || {};
     const words = found ? [symbol?.title, title, kind ? words_of(kind) : 'in no section or segment',
-        `${hex(start)} to ${hex(end)}`, plural(end - start, 'byte'), depth > 1 && `${depth} pieces overlap`,
+        `${hex(start)} to ${hex(end)}`, in_bytes(end - start), depth > 1 && `${depth} pieces overlap`,
         `${content} at ${hex(byte)}`].filter(Boolean).join(' · ')
         : `${plural(map.kinds.length, 'part')}, drawn to scale; each row has ${in_bytes(map.view.each)}; `
             + 'the wheel zooms, dragging moves';
@@ -267,7 +267,7 @@ export function mark_range(range, title = '') {
     const { start, end } = map.chosen;
     if (map.at < start || map.at >= end) map.at = start;
     canvas.ariaValueNow = part_at(map.at);
-    canvas.ariaValueText = `${visible(title)}: ${hex(start)} to ${hex(end)}, ${plural(range.size, 'byte')}`;
+    canvas.ariaValueText = `${visible(title)}: ${hex(start)} to ${hex(end)}, ${in_bytes(range.size)}`;
     if (is_in_view(map.at)) draw_map(); else move_to(map.at - map.view.each * Math.floor(map.rows / 2));
 }
 

@@ -1,5 +1,5 @@
 // The page: opens files, each in its own worker, and shows the location that the address bar has.
-import { button, count, fill, get, in_bytes, inflated, make, plural, put_text, say, visible } from './dom.js';
+import { button, count, fill, get, in_bytes, inflated, make, put_text, say, visible } from './dom.js';
 import { set_up_goto } from './goto.js';
 import { lines_of, refusal_of } from './hex.js';
 import { mark_range, set_up_map, show_map } from './map.js';
@@ -136,7 +136,7 @@ function show_part(part, file, ...words) {
     document.body.classList.remove('chosen', 'wide');
     document.title = `${visible(file.name)}: goblin`;
     fill(get('file'), put_text(make('b', { title: visible(file.name) }), file.name),
-        ...[plural(file.size, 'byte'), ...words].map((word) => make('span', {}, word)));
+        ...[in_bytes(file.size), ...words].map((word) => make('span', {}, word)));
 }
 
 // Replaces the previous file, whose worker ends.

@@ -1,5 +1,5 @@
 // The side: what is chosen, with its fields, links and bytes.
-import { button, copy, fill, get, hex, joined, make, plural, put_text, visible } from './dom.js';
+import { button, copy, fill, get, hex, in_bytes, joined, make, put_text, visible } from './dom.js';
 import { bytes_in, copy_hex, hex_view, light, refusal_of } from './hex.js';
 import { dot } from './map.js';
 
@@ -23,7 +23,7 @@ const room = () =>
 
 async function content_of({ at, size, refused, fields }) {
     if (refused) return [await refusal_of(refused, SIDE_BYTES)];
-    const lies = at === undefined ? 'no bytes in the file' : `${hex(at)} to ${hex(at + size)}, ${plural(size, 'byte')}`;
+    const lies = at === undefined ? 'no bytes in the file' : `${hex(at)} to ${hex(at + size)}, ${in_bytes(size)}`;
     return [make('p', { class: 'lies' }, lies), size > 0 && hex_view(at, size, shown_each = bytes_in(room()), fields)];
 }
 

@@ -12,7 +12,7 @@ import * as labels from './labels.js';
 import { notes_of } from './notes.js';
 import { is_compressed, parts, titled } from './pieces.js';
 import { has_addresses, symtab_at, to_address, to_section, to_symbol } from './resolve.js';
-import { count, hex, in_bytes, once } from './text.js';
+import { count, hex, in_bytes, once, plural } from './text.js';
 
 const { ET_CORE, ET_REL, SHT_NOBITS, SHT_SYMTAB } = goblin;
 // The most that is shown: of what is largest, of places in a row, of rows of one kind, and of names in a row. And how
@@ -201,7 +201,7 @@ function what_was_running() {
     const of = (type) => notes_of('segments').items.map((item, index) => ({ ...item, to: `notes/segments/${index}` }))
         .filter(({ note }) => note.name === 'CORE' && labels.note_type(note) === type);
     const threads = of('PRSTATUS'), in_words = ([name, { start, ranges }]) =>
-        own('mapped file', `${name}, ${count(ranges)} ${ranges === 1 ? 'range' : 'ranges'} from ${hex(start)} on`);
+        own('mapped file', `${name}, ${plural(ranges, 'range')} from ${hex(start)} on`);
     return [...threads.slice(0, 1).map((item) => own('signal', signal_of(item))),
         ...of('PRPSINFO').map((item) => ({ to: item.to, ...process_of(item) })).filter(({ id }) => id !== undefined)
             .flatMap(({ to, id, words }) => [own('command', words, { text: 'note', to }), own('process', id)]),

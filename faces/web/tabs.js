@@ -1,6 +1,7 @@
 // The tabs: the header's fields, and the lists with their searches.
 import { area_panel } from './area.js';
-import { after_typing, button, copy, count, fill, focus_chosen, get, hex, make, plural, say, visible } from './dom.js';
+import { after_typing, button, copy, count, fill, focus_chosen, get, hex, in_bytes, make, say,
+    visible } from './dom.js';
 import { Grid } from './grid.js';
 import { refusal_of } from './hex.js';
 import { prepare_paper, set_up_paper } from './paper.js';
@@ -112,7 +113,7 @@ async function summary_panel() {
 async function header_panel() {
     const rows = shown_file.summary.header.map((field) => row_of(field, { tabindex: '0', 'data-field': field.name },
         field.name, make('td', { class: 'words' }, field.words),
-        make('td', { class: 'dim' }, `${hex(field.at)}, ${plural(field.size, 'byte')}`)));
+        make('td', { class: 'dim' }, `${hex(field.at)}, ${in_bytes(field.size)}`)));
     const onclick = ({ target }) => { if (!target.closest('a')) go(`header/${target.closest('tr').dataset.field}`); };
     const onkeydown = (event) => {
         if (!event.target.matches('tr') || !['Enter', ' '].includes(event.key)) return;

@@ -44,7 +44,8 @@ export const visible = (text) => text.replace(UNSEEN, shown);
 export const hex = (number) => `0x${number.toString(16)}`;
 export const two_digits = (byte) => byte.toString(16).padStart(2, '0');
 export const count = (number) => number.toLocaleString('en');
-export const in_bytes = (size) => `${count(size)} bytes`;
+export const plural = (number, word) => `${count(number)} ${word}${Number(number) === 1 ? '' : 's'}`;
+export const in_bytes = (size) => plural(size, 'byte');
 
 /** Returns a function of a key, or of nothing, that computes each result once. */
 export function once(find) {
