@@ -117,13 +117,13 @@ function symbol_details(item, index, table) {
     const { st_size, st_info, st_other } = item, name = name_of_symbol(table, index, item);
     const of = section_of_symbol(table, index, item), place = bytes_of_symbol(table, index, item);
     const bind = goblin.st_bind(st_info), type = goblin.st_type(st_info), visibility = goblin.st_visibility(st_other);
-    const address = of === undefined ? undefined : at_address(address_of_symbol(item));
+    const section = section_at(of), address = of === undefined ? undefined : at_address(address_of_symbol(item));
     const info = `${prefixed('STB_', labels.symbol_binding(bind))} (${bind}), `
         + `${prefixed('STT_', labels.symbol_type(type))} (${type})`;
     return {
         title: title_of_symbol(table, index, item),
         what: `symbol ${count(index)} of ${called(table)}`,
-        kind: of === undefined || !section_at(of) ? undefined : kind_of(section_at(of)),
+        kind: section && kind_of(section),
         link: link_by_name('symbol', name),
         fields: [
             in_source(name),
@@ -229,18 +229,16 @@ export const is_address = (address) => segments_of_address(address).length > 0
     || section_of_address(address) !== undefined || symbol_of_address(address) !== undefined;
 
 export function address_details(address) {
-    const inside = segments_of_address(address), section = section_of_address(address),
-        symbol = symbol_of_address(address);
-    const at = offset_of_address(address);
+    const inside = segments_of_address(address), symbol = symbol_of_address(address), at = offset_of_address(address);
+    const index = section_of_address(address), section = section_at(index);
     const to_segment = (segment) => ({ text: with_offset(title_of_segment(segment.index, segment),
         address - segment.p_vaddr), to: `segments/${segment.index}` });
-    const of = section === undefined ? undefined
-        : { text: with_offset(called(section), address - section_at(section).sh_addr), to: `sections/${section}` };
+    const of = section && { ...to_section(index), text: with_offset(called(index), address - section.sh_addr) };
     const pieces = at === undefined ? [] : pieces_at(part_at(at));
     return {
         title: `address ${hex(address)}`,
-        what: symbol ? `in ${symbol.name}` : of ? `in ${called(section)}` : 'in memory',
-        kind: section === undefined ? pieces[0]?.kind : kind_of(section_at(section)),
+        what: symbol ? `in ${symbol.name}` : section ? `in ${called(index)}` : 'in memory',
+        kind: section ? kind_of(section) : pieces[0]?.kind,
         fields: [
             symbol && field('symbol', '', '', to_symbol(symbol)), of && field('section', '', '', of),
             inside.length > 0 && field('segment', '', '', ...inside.map(to_segment)),

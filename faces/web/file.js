@@ -110,9 +110,9 @@ export function digits_of({ offset, size }, most = Infinity) {
 /** The tables that the dynamic section leads to, and no section header, by the name of their tag: as sections, which
  * the page makes. */
 export const own_sections = new Map();
-/** Returns a section, by its index, or one of the page's own, by its name. */
-export const section_at = (index) =>
-    (typeof index === 'string' ? own_sections.get(index) : file.elf.section_header(index));
+/** Returns a section, by its index, or one of the page's own, by its name, or nothing without either. */
+export const section_at = (index) => (typeof index === 'number' ? file.elf.section_header(index)
+    : own_sections.get(index));
 // Returns the items of a list, each with its index, or none if the list is refused.
 const indexed = (list) => read_or([], list).map((item, index) => Object.assign(item, { index }));
 export const sections = once(() => indexed(() => file.elf.section_headers()));

@@ -57,10 +57,6 @@ export function symbol_of_relocation(table, { r_sym }) {
 // Returns a list of a number of items, which a function returns by their indices.
 const list_of = (length, get) => ({ length, get, *from(at = 0) { for (; at < length; at++) yield get(at); } });
 
-// Returns the list of packed relocations, which have nothing but their offsets. A number that is added is in place.
-const packed = (offsets) =>
-    list_of(offsets.length, (at) => ({ r_offset: offsets[at], r_type: 0, r_sym: 0, r_addend: undefined }));
-
 const sources = {
     sections: ({ address, offset, align, index }) => ({
         list: file.elf.section_headers(), place: 30,
@@ -128,8 +124,11 @@ const sources = {
         const type = ({ r_type }) => (is_packed ? 'packed, relative' : labels.relocation_type(r_type));
         const added = { is_right: true, plain: (item) => addend(item).replace('−', '-'),
             number: ({ r_addend = 0n }) => r_addend + half };
+        // (packed relocations have nothing but their offsets)
+        const offsets = is_packed ? packed_offsets(section) : [];
+        const packed = list_of(offsets.length, (at) => ({ r_offset: offsets[at], r_type: 0, r_sym: 0 }));
         return {
-            list: is_packed ? packed(packed_offsets(section)) : file.elf.relocs(section), place: 48,
+            list: is_packed ? packed : file.elf.relocs(section), place: 48,
             columns: [
                 field('Offset', 'r_offset', address, 0.6),
                 column('Type', 'r_type', 165, 0.5, type, { number: ({ r_type }) => r_type }),

@@ -65,7 +65,7 @@ function read_name(table, index, symbol) {
     const name = symbol.st_name ? name_at(symtab_at(table).strtab, symbol.st_name) : '';
     if (name || goblin.st_type(symbol.st_info) !== goblin.STT_SECTION) return name;
     const of = section_of_symbol(table, index, symbol);
-    return of !== undefined && section_at(of) ? called(of) : '';
+    return section_at(of) ? called(of) : '';
 }
 
 const MOST_TRIED = 10000;
@@ -92,8 +92,7 @@ const UNSIZED = 16n, PLACE = 8n;
 // Returns bytes at an address, or in an object file at an offset of a section, cut at the section's end; or nothing if
 // the file lacks them.
 function bytes_at(of, address, size) {
-    const section = of === undefined ? undefined : section_at(of),
-        from = address - (has_addresses() ? section?.sh_addr ?? 0n : 0n);
+    const section = section_at(of), from = address - (has_addresses() ? section?.sh_addr ?? 0n : 0n);
     if (!section) {
         const at = has_addresses() ? offset_of_address(address) : undefined;
         return at === undefined ? undefined : { at, size: Math.min(Number(size), file.content.length - at) };
@@ -128,7 +127,7 @@ export function section_of_address(address) {
 export function offset_of_address(address) {
     const segment = segments_of_address(address)
         .find(({ p_vaddr, p_filesz }) => holds(p_vaddr, p_filesz, address));
-    const index = section_of_address(address), section = index === undefined ? undefined : section_at(index);
+    const section = section_at(section_of_address(address));
     const at = segment ? segment.p_offset + address - segment.p_vaddr
         : section && section.sh_type !== goblin.SHT_NOBITS ? section.sh_offset + address - section.sh_addr : undefined;
     return at < BigInt(file.content.length) ? Number(at) : undefined;

@@ -156,8 +156,7 @@ const calls = {
         });
     },
 
-    // Returns the list that is shown as it is printed, a line for each of at most a number of items, with tabs between
-    // the cells.
+    // Returns the lines of the list that is shown, at most a number, with tabs between the cells.
     async text({ list, most }) {
         const is_wanted = begin('text'), lines = [];
         await over_view(list, 'text', () => is_wanted() && lines.length < most, ({ shown }, item, index) =>
