@@ -3,12 +3,10 @@
 import { count, get, in_bytes, make, put_text, visible } from './dom.js';
 import { ask, shown_file } from './reader.js';
 
-// In pixels: the least area of an item, the heights of the line above and of a piece's title, and the least box
-// for a title.
+// In pixels: an item's least area, the heights of the line above and of a piece's title, and a title's least box.
 const LEAST = 160, LINE = 34, TITLE = 18, WIDE = 34, HIGH = 14;
 
-// Lays items out in a box: it is cut across its longer side into two boxes, each for about half of the bytes,
-// and so on.
+// Lays items out in a box: it is cut across its longer side into two, each for about half of the bytes, and so on.
 function* placed(items, box) {
     if (items.length === 1) yield { item: items[0], ...box };
     if (items.length < 2) return;

@@ -107,8 +107,7 @@ export function digits_of({ offset, size }, most = Infinity) {
     return Array.from(bytes, two_digits).join('') + (size > most ? '…' : '');
 }
 
-/** The tables that the dynamic section leads to, and no section header, by the name of their tag: as sections, which
- * the page makes. */
+/** Tables that the dynamic section leads to, and no section header, as sections, by the names of their tags. */
 export const own_sections = new Map();
 /** Returns a section, by its index, or one of the page's own, by its name, or nothing without either. */
 export const section_at = (index) => (typeof index === 'number' ? file.elf.section_header(index)
@@ -126,8 +125,7 @@ export const is_debug = (section) => !(section.sh_flags & 2n)
 export const symbol_tables = () =>
     all_sections().filter(({ sh_type }) => SYMBOL_TYPES.includes(sh_type)).map(({ index }) => index);
 
-/** Returns the name at an offset of a table, cut if it is long, or an empty text if there is none or the table is
- * refused. */
+/** Returns the name at an offset of a table, cut if it is long, or an empty text without a name or a table. */
 export function name_at(strtab, offset) {
     const bytes = read_or(undefined, () => strtab.get_start(offset, NAME + 1));
     return bytes ? name_of(bytes) : '';

@@ -18,8 +18,7 @@ export function light(name) {
 
 export const bytes_in = (width) => (width >= 1060 ? 32 : width >= 590 ? 16 : 8);
 
-/** Returns a view of bytes of the file, with `each` in a row. Those of a record's fields have the fields' colours
- * and names. */
+/** Returns a view of bytes of the file. Those of a record's fields have the fields' colours and names. */
 export function hex_view(at, size, each, fields = []) {
     const first = Math.floor(at / each) * each;
     const node_of = (text, byte) => {

@@ -20,8 +20,7 @@ function code_in(from, to) {
     return sum;
 }
 
-// Finds the bytes of functions and variables of the table of symbols. Of those that overlap the first one counts, and
-// the longest of these.
+// Finds the bytes of functions and variables. Of those that overlap the first one counts, and the longest of these.
 const find_symbols = once(async () => {
     const tables = symbol_tables(),
         table = tables.find((index) => section_at(index).sh_type === goblin.SHT_SYMTAB) ?? tables[0], all = [];
@@ -70,8 +69,7 @@ const [ZEROS, TEXT, NUMBERS, CODE, RANDOM] = CLASSES.keys();
 const BLOCK = 64, SAMPLES = 128,
     is_text = (byte) => (byte > 0x1f && byte < 0x7f) || byte === 9 || byte === 10 || byte === 13;
 
-// Returns the class of the blocks that hold a range. Random bytes have most of the values that so many random bytes are
-// expected to have.
+// Returns the class of a range's blocks. Random bytes have most of the values that so many are expected to have.
 function class_of(from, to) {
     const { content } = file, start = Math.floor(from / BLOCK) * BLOCK,
         end = Math.min(Math.ceil(to / BLOCK) * BLOCK, content.length);
@@ -91,8 +89,7 @@ function class_of(from, to) {
 // Returns the class of a byte: a zero byte is one of zeros, wherever it is.
 const class_at = (byte) => (file.content[byte] === 0 ? ZEROS : class_of(byte, byte + 1));
 
-/** Returns what a view of the map shows inside the parts: classes of bytes, each byte if it has a column, symbols, and
- * titles that have room. */
+/** Returns what a view of the map shows: classes of bytes, bytes that have a column, symbols, and titles with room. */
 export async function inside({ start, end, step, columns, least, least_named }) {
     await find_symbols();
     const { tops, ...all } = parts(), { symbols } = found, last = Math.min(end, file.content.length),
@@ -120,15 +117,13 @@ export function under(byte) {
 
 const sum_of = (items) => items.reduce((sum, { size }) => sum + size, 0);
 
-// Returns the class, the namespace or the first word of a symbol's name. (A mangled name has the length of each word
-// before it.)
+// Returns the class, namespace or first word of a symbol's name. (In a mangled name its length is before a word.)
 function family_of(name) {
     const [start, size] = /^_ZT?[VTISN]?N?[rVKRO]*(?:St)?(\d+)/.exec(name) ?? [];
     return start ? name.substr(start.length, size) : /^[^\p{L}]*[\p{L}\d]*/u.exec(name)[0];
 }
 
-// Returns the results of a function for items, and groups of those that are smaller than a number of bytes, from the
-// largest on.
+// Returns the results of a function for items, and groups of those below a least size, from the largest on.
 function from_largest(items, least, of, group_of, ...rest) {
     const small = Map.groupBy(items.filter(({ size }) => size < least), group_of), group = (name, all) =>
         ({ title: `${name} (${count(all.length)})`, size: sum_of(all), kind: all[0]?.top?.kind, all });
@@ -140,8 +135,7 @@ function from_largest(items, least, of, group_of, ...rest) {
         .sort((a, b) => b.size - a.size);
 }
 
-/** Returns the pieces of the file by the bytes where they are drawn, from the largest on, each with the functions and
- * variables inside. */
+/** Returns the pieces by the bytes where they are drawn, from the largest on, with functions and variables inside. */
 export async function sizes(least) {
     await find_symbols();
     const { starts, ends, tops } = parts(), pieces = new Map(tops.map((top) => [top, { top, size: 0, inside: [] }]));

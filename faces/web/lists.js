@@ -21,8 +21,7 @@ const number = (title, hint, least, share, of, say = hex, given = { is_number: t
     column(title, hint, least, share, (item) => say(of(item)), { is_right: true, number: of, ...given });
 const field = (title, key, least, share, say) => number(title, key, least, share, (item) => item[key], say);
 
-// Returns the widths of columns of some kinds of numbers, in which those of the file fit, but for some of
-// damaged files.
+// Returns the widths in which the file's numbers of some kinds fit, but for some of damaged files.
 const rooms = once(() => {
     let address = 0n, align = 0n, index = 0;
     const raise = (end) => { if (end > address && end < 1n << 64n) address = end; };
@@ -191,8 +190,7 @@ export const open_source = (list, of) => part(() => (is_there(list, of) ? source
 /** Returns a source as it is shown: with the names, or with the demangled ones in their place. */
 export const as_shown = (source, is_demangled) => (source?.has_demangled
     ? { ...source, columns: source.columns.toSpliced(is_demangled ? 0 : 1, 1) } : source);
-/** Returns the columns of a list, for the page, or none if there is no such list or it is refused. The first is that of
- * the index. */
+/** Returns the columns of a list, after that of the index, which is alone if there is no such list or it is refused. */
 export const columns_of = ({ place = 0, columns = [] } = {}) =>
     [{ title: '#', hint: 'index', least: place, share: 0, is_right: true, is_dim: true }, ...columns]
         .map(({ title, hint, least, share, is_right, is_dim }) => ({ title, hint, least, share, is_right, is_dim }));
@@ -201,8 +199,7 @@ export const cells_of = ({ columns }, item, index) =>
 /** Returns the cells of an item in a saved list, where numbers are plain. */
 export const plain_cells_of = ({ columns }, item, index) =>
     [`${index}`, ...columns.map((column) => (column.plain ?? column.text)(item, index))];
-// How long the worker works before it reads messages, and what waits while it does anything else: what is printed, and
-// what is inside the map's parts.
+// How long the worker works before it reads messages, and what waits while it does anything else.
 const SLICE = 25, PATIENT = ['text', 'symbols inside'];
 let awaited = 0;
 
@@ -231,8 +228,7 @@ export async function go_over(source, list, is_wanted, each) {
     }
 }
 
-/** Returns the indices of the items that a search finds, in their order, or nothing if these are all items in the
- * list's own order. */
+/** Returns the indices of the items that a search finds, in order, or nothing for all in the list's own order. */
 export async function arranged(source, { query, column, is_descending, list }, is_wanted) {
     const { length } = source.list;
     let order;
@@ -250,8 +246,7 @@ export async function arranged(source, { query, column, is_descending, list }, i
     return order.sort((a, b) => sign * compare(a, b) || a - b);
 }
 
-// Returns a function that reports whether a text is in a cell of an item, or the item holds the offset or address that
-// it is.
+// Returns a function that reports whether a text is in a cell of an item, or an offset or address that it holds.
 function finder({ columns, holds }, wanted) {
     const is_number = /^[\da-fx]+$/.test(wanted), value = /^0x[\da-f]{1,16}$/.test(wanted) ? BigInt(wanted) : undefined;
     const finders = columns.filter((item) => is_number || !item.is_number).map(({ text: text_of, finder: own }) =>

@@ -56,8 +56,7 @@ function show_legend() {
         ...map.CLASSES.map((name, i) => line(name, `in-${i}`)), map.segments.length > 0 && line('line below: loaded'));
 }
 
-// Computes the number of rows, which gives the map its share of the window, and the bytes of a row. The whole file is
-// shown if it was before.
+// Gives the map its share of the window, in rows, and a row its bytes. The whole file is shown if it was before.
 function fit() {
     if (!shown_file.summary) return;
     const others = canvas.parentElement.offsetHeight - canvas.offsetHeight, is_whole = !(map.view.each < map.whole);
@@ -106,8 +105,7 @@ function size_canvas() {
     pen.textBaseline = 'middle';
 }
 
-// Draws the map. If bytes have room for their digits, these are in the bars, and the kinds in the strips below, else
-// the other way round.
+// Draws the map: kinds in the bars, and contents in the strips below, or if digits have room, the other way round.
 function draw_map() {
     size_canvas();
     const has_digits = map.inside.bytes.length && map.bar / map.view.each >= DIGITS;
@@ -208,8 +206,7 @@ function draw_segments() {
     }
 }
 
-// Writes the names of functions and variables, and those of the parts where none of these is, once each, if they
-// have room.
+// Writes the names of functions and variables, and of parts where none of these is, once each, if they have room.
 function draw_names(symbols) {
     const drawn = new Set(), put = (item, { x, width, y }, shade) => {
         const text = visible(item.title), wide = pen.measureText(text).width;
@@ -271,8 +268,7 @@ export function mark_range(range, title = '') {
     if (is_in_view(map.at)) draw_map(); else move_to(map.at - map.view.each * Math.floor(map.rows / 2));
 }
 
-// Chooses the function or variable that holds a byte, if it is drawn, else the part. A step chooses one that
-// starts there.
+// Chooses the function or variable that holds a byte, or with a step starts there, if it is drawn, else the part.
 function choose(byte, is_step = false) {
     map.at = byte;
     const is_there = ({ start, end }) => (is_step ? start === byte : start <= byte && byte < end),
@@ -297,8 +293,7 @@ function move_to(start, each = map.view.each) {
 
 const move_by = (rows) => move_to(map.view.start + rows * map.view.each);
 
-// Zooms, so that a byte stays where it is: the one below the pointer, the chosen one if it is shown, or that in
-// the middle.
+// Zooms, so that a byte stays where it is: that below the pointer, the chosen one if it is shown, or the middle.
 function zoom(by, byte = is_in_view(map.at) ? map.at : (map.view.start + end_of_view()) / 2) {
     const { start, each } = map.view, next = clamp(each * by, FEWEST, map.whole);
     move_to(byte - (byte - start) * next / each, next);
@@ -319,8 +314,7 @@ const KEYS = {
     '+': () => zoom(0.5), '-': () => zoom(2),
 };
 
-// What the keyboard, the wheel and the pointer do. The pointer moves the map by whole rows and by parts of one, or
-// chooses what is below it.
+// What keys, the wheel and the pointer do, which moves the map by whole rows and by parts of one, or chooses.
 let turned = 0, from;
 const ACTS = {
     keydown(event) {

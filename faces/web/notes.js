@@ -22,8 +22,7 @@ function named({ n_type, name_range, desc_range, next }) {
 const PARTS = { [goblin.Item.NOTE_HEADER]: 'header', [goblin.Item.NOTE_NAME]: 'name',
     [goblin.Item.NOTE_DESC]: 'descriptor' };
 
-/** Returns the notes of each section or segment up to the first refused one, at most a number: each with its type's
- * name and offset. */
+/** Returns the notes of each section or segment up to the first refused one, at most a number. */
 export const notes_of = once((by) => {
     const items = [], refusals = [];
     let is_cut = false;

@@ -42,8 +42,7 @@ async function item_of({ name, of, field, index }) {
 // Returns the text of an encoded one, or the text itself if it is none.
 const decoded = (text) => { try { return decodeURIComponent(text); } catch { return text; } };
 
-// Returns the location of a section or symbol that a location names, as `symbol=main`: so a link survives that a file
-// is built anew.
+// Returns the location that another one names, as `symbol=main`: so a link survives that a file is built anew.
 async function found_by_name(place) {
     const [, kind, name] = /^(section|symbol)=(.+)$/.exec(place) ?? [];
     if (!kind) return place;

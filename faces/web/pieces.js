@@ -30,8 +30,7 @@ export const title_of_segment = (index, { p_type }) => `segment ${index}, ${segm
 
 const has_sections = once(() => sections().some(({ sh_type }) => sh_type !== goblin.SHT_NULL));
 
-// Collects pieces. Each is cut at the end of the file. Those that are cut are collected apart, and so are those that
-// begin past the end.
+// Collects pieces, which are cut at the file's end: apart those that are, and those that begin past it.
 function collector() {
     const found = [], cut = [], past = [];
     const add = (offset, size, given) => {
@@ -44,8 +43,7 @@ function collector() {
     return { found, cut, past, add };
 }
 
-// Collects the pieces that are drawn first: the header, the tables of headers, and the bytes of sections, also if the
-// library refuses them.
+// Collects the pieces that are drawn first: the headers, and the bytes of sections, also if these are refused.
 function pieces_of_sections() {
     const { add, ...collected } = collector();
     const { e_phoff, e_phnum, e_shoff, e_shnum } = file.elf.header;
@@ -77,8 +75,7 @@ function pieces_of_segments() {
     return collected;
 }
 
-// The pieces that hold a byte, for ascending bytes. The one that starts last is on top, and of those with the same
-// start the shortest.
+// The pieces at ascending bytes. The one that starts last is on top, and of those with the same start the shortest.
 class Cover {
     #in_order; #ends; #stack = []; #opened = 0; #closed = 0;
 
@@ -119,8 +116,7 @@ function padding(start, end) {
     return at === end ? unnamed('padding', 'padding', start, end) : undefined;
 }
 
-// Returns the pieces after all that headers describe. A kernel module's signature ends with the sizes of its parts and
-// a text.
+// Returns the pieces after all others. A kernel module's signature ends with the sizes of its parts and a text.
 const SIGNED = '~Module signature appended~\n', SIGNED_SIZES = 12;
 function appended(from) {
     const { content } = file, end = content.length, sizes = end - SIGNED.length - SIGNED_SIZES;

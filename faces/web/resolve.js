@@ -89,8 +89,7 @@ export function address_of_symbol({ st_value, st_info }) {
 // How many bytes are shown of a symbol of unknown size, and of a relocation, whose number of bytes depends on its type.
 const UNSIZED = 16n, PLACE = 8n;
 
-// Returns bytes at an address, or in an object file at an offset of a section, cut at the section's end; or nothing if
-// the file lacks them.
+// Returns bytes at an address, or at an offset of an object file's section, cut at its end, or nothing.
 function bytes_at(of, address, size) {
     const section = section_at(of), from = address - (has_addresses() ? section?.sh_addr ?? 0n : 0n);
     if (!section) {

@@ -21,8 +21,7 @@ function sum_of({ refused, found, all }) {
     return all > found.length ? `${count(known)}+` : count(known);
 }
 
-// Returns the number of notes of sections, or of segments if these have more, as text, with `+` if there are more,
-// or `refused`.
+// Returns that of the notes of sections, or of segments if these have more.
 function notes_sum({ sections, segments }) {
     if (sections.length === undefined && !segments.length) return 'refused';
     const { length, refusals, is_cut } = (segments.length ?? 0) > (sections.length ?? 0) ? segments : sections;

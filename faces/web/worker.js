@@ -31,8 +31,7 @@ async function bytes_of(given) {
     return bytes;
 }
 
-// Returns the sections that hold a list: the index, name and number of items of the first ones, and the number of
-// the others.
+// Returns the first sections that hold a list, each with its name and number of items, and the number of all.
 const MOST_TABLES = 200;
 function tables(types, list_of) {
     const all = all_sections().filter(({ sh_type }) => types.includes(sh_type));
