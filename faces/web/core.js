@@ -13,8 +13,7 @@ const REGISTERS = {
     '40,1': 'r0 r1 r2 r3 r4 r5 r6 r7 r8 r9 r10 fp ip sp lr pc cpsr orig_r0',
     '243,2': 'pc ra sp gp tp t0 t1 t2 s0 s1 a0 a1 a2 a3 a4 a5 a6 a7 s2 s3 s4 s5 s6 s7 s8 s9 s10 s11 t3 t4 t5 t6',
 };
-const SIGNALS = ['', 'HUP', 'INT', 'QUIT', 'ILL', 'TRAP', 'ABRT', 'BUS', 'FPE', 'KILL', 'USR1', 'SEGV', 'USR2',
-    'PIPE', 'ALRM', 'TERM'];
+const SIGNALS = ' HUP INT QUIT ILL TRAP ABRT BUS FPE KILL USR1 SEGV USR2 PIPE ALRM TERM'.split(' ');
 // The machines whose signals 7, 10 and 12 are others: SPARC, MIPS, PA-RISC and Alpha.
 const OF_THEIR_OWN = [goblin.EM_SPARC, goblin.EM_MIPS, goblin.EM_SPARC32PLUS, goblin.EM_PARISC, goblin.EM_SPARCV9,
     0x9026];

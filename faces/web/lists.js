@@ -37,7 +37,7 @@ const rooms = once(() => {
 });
 
 const within = (start, size, value) => start <= value && value < start + size;
-const is_refused = (range) => read_or(true, () => { range(); return false; });
+const is_refused = (item) => read_or(true, () => { file.elf.range(item); return false; });
 
 const title_of_section = once((of) => (section_at(of) ? called(of) : `${of}`));
 export function section_word(table, index, symbol) {
@@ -68,7 +68,7 @@ const sources = {
             field('Link', 'sh_link', index, 0, String), field('Info', 'sh_info', index, 0, String),
             field('Align', 'sh_addralign', align, 0, String), field('Entry', 'sh_entsize', 36, 0, String),
         ],
-        mark: (item) => is_refused(() => file.elf.range(item)),
+        mark: is_refused,
         holds: ({ sh_addr, sh_offset, sh_size, sh_type, sh_flags }, value) =>
             (sh_flags & 2n && within(sh_addr, sh_size, value))
             || (sh_type !== goblin.SHT_NOBITS && within(sh_offset, sh_size, value)),
@@ -84,7 +84,7 @@ const sources = {
             field('Address', 'p_vaddr', address, 1), field('Memory size', 'p_memsz', Math.max(offset, 80), 0.5),
             field('Physical', 'p_paddr', address, 1), field('Align', 'p_align', 66),
         ],
-        mark: (item) => is_refused(() => file.elf.range(item)),
+        mark: is_refused,
         holds: ({ p_offset, p_filesz, p_vaddr, p_memsz }, value) => within(p_offset, p_filesz, value)
             || within(p_vaddr, p_memsz, value),
     }),
@@ -194,11 +194,9 @@ export const as_shown = (source, is_demangled) => (source?.has_demangled
 export const columns_of = ({ place = 0, columns = [] } = {}) =>
     [{ title: '#', hint: 'index', least: place, share: 0, is_right: true, is_dim: true }, ...columns]
         .map(({ title, hint, least, share, is_right, is_dim }) => ({ title, hint, least, share, is_right, is_dim }));
-export const cells_of = ({ columns }, item, index) =>
-    [`${index}`, ...columns.map((column) => column.text(item, index))];
-/** Returns the cells of an item in a saved list, where numbers are plain. */
-export const plain_cells_of = ({ columns }, item, index) =>
-    [`${index}`, ...columns.map((column) => (column.plain ?? column.text)(item, index))];
+/** Returns the cells of an item, or in the form `plain` those of a saved list, where numbers are plain. */
+export const cells_of = ({ columns }, item, index, form = 'text') =>
+    [`${index}`, ...columns.map((column) => (column[form] ?? column.text)(item, index))];
 // How long the worker works before it reads messages, and what waits while it does anything else.
 const SLICE = 25, PATIENT = ['text', 'symbols inside'];
 let awaited = 0;

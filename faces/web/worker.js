@@ -9,7 +9,7 @@ import { all_sections, called, file, header_refusal, list_refusal, part, read_or
 import { find_own_sections, packed_offsets } from './dynamic.js';
 import { find } from './find.js';
 import * as labels from './labels.js';
-import { arranged, as_shown, cells_of, columns_of, go_over, open_source, plain_cells_of } from './lists.js';
+import { arranged, as_shown, cells_of, columns_of, go_over, open_source } from './lists.js';
 import { notes_of } from './notes.js';
 import { CLASSES, inside, sizes, under } from './inside.js';
 import { KINDS, parts, titled } from './pieces.js';
@@ -174,7 +174,7 @@ const calls = {
     async csv({ list }) {
         const lines = [csv_line(columns_of(views[list].source).map(({ title }) => title))];
         await over_view(list, 'csv', () => true, ({ source }, item, index) =>
-            lines.push(csv_line(plain_cells_of(source, item, index))));
+            lines.push(csv_line(cells_of(source, item, index, 'plain'))));
         return new Blob(lines, { type: 'text/csv' });
     },
 
