@@ -68,6 +68,11 @@ function read_name(table, index, symbol) {
     return section_at(of) ? called(of) : '';
 }
 
+/** Returns the first symbol with each of some names in each table that has one. */
+export const symbols_called = (...names) => symbol_tables().flatMap((table) => names
+    .map((name) => ({ table, name, index: read_or(undefined, () => symtab_at(table).by_name(name)) })))
+    .filter(({ index }) => index !== undefined);
+
 const MOST_TRIED = 10000;
 /** Reports whether a table has a name of C++ that is read, among its first ones. */
 export const has_mangled = once((table) => {

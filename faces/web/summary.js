@@ -6,12 +6,12 @@ import * as goblin from './goblin.js';
 import { mapped_files, process_of, registers_of, signal_of } from './core.js';
 import { value_of, versions } from './dynamic.js';
 import { facts } from './facts.js';
-import { file, is_debug, name_at, read_or, sections, segment_of, size_of, symbol_tables } from './file.js';
+import { file, is_debug, name_at, read_or, sections, segment_of, size_of } from './file.js';
 import { code_without_symbol, largest } from './inside.js';
 import * as labels from './labels.js';
 import { notes_of } from './notes.js';
 import { is_compressed, parts, titled } from './pieces.js';
-import { has_addresses, symtab_at, to_address, to_section, to_symbol } from './resolve.js';
+import { has_addresses, symbols_called, to_address, to_section, to_symbol } from './resolve.js';
 import { count, hex, in_bytes, once, plural } from './text.js';
 
 const { ET_CORE, ET_REL, SHT_NOBITS, SHT_SYMTAB } = goblin;
@@ -152,9 +152,7 @@ function how_it_was_built() {
 
 // Returns the first symbol of a canary without a version.
 const CANARIES = ['__stack_chk_fail', '__stack_chk_fail_local', '__stack_chk_guard'];
-const to_canary = () => symbol_tables().flatMap((table) => CANARIES.map((name) =>
-    ({ table, name, index: read_or(undefined, () => symtab_at(table).by_name(name)) })))
-    .filter(({ index }) => index !== undefined).map(to_symbol)[0];
+const to_canary = () => symbols_called(...CANARIES).map(to_symbol)[0];
 
 const changes_code = () => value_of(goblin.DT_TEXTREL) !== undefined
     || ((value_of(goblin.DT_FLAGS) ?? 0n) & goblin.DF_TEXTREL) !== 0n;

@@ -5,7 +5,7 @@ import init, * as goblin from './goblin.js';
 import { csv_line } from './csv.js';
 import { address_details, header_fields, is_address, item_details, offset_details } from './details.js';
 import { all_sections, called, file, header_refusal, list_refusal, part, read_or, RELOCATION_TYPES, RELR, segments,
-    size_of, SYMBOL_TYPES, symbol_tables } from './file.js';
+    size_of, SYMBOL_TYPES } from './file.js';
 import { find_own_sections, packed_offsets } from './dynamic.js';
 import { find } from './find.js';
 import * as labels from './labels.js';
@@ -13,7 +13,7 @@ import { arranged, as_shown, cells_of, columns_of, go_over, open_source } from '
 import { notes_of } from './notes.js';
 import { CLASSES, inside, sizes, under } from './inside.js';
 import { KINDS, parts, titled } from './pieces.js';
-import { symtab_at } from './resolve.js';
+import { symbols_called, symtab_at, to_symbol } from './resolve.js';
 import { all_facts, kind_in_words, of_this_file, summary } from './summary.js';
 import { hex, visible } from './text.js';
 
@@ -189,13 +189,11 @@ const calls = {
     find: (text) => find(text, begin('find')),
     // Returns the location of the section or symbol with a name. Of symbols the first one that is defined is preferred.
     named([kind, name]) {
-        const found = (of) => read_or(undefined, of),
-            section = kind === 'section' && found(() => file.elf.section_by_name(name));
+        const section = kind === 'section' && read_or(undefined, () => file.elf.section_by_name(name));
         if (kind === 'section') return section && `sections/${section.index}`;
-        const tables = symbol_tables().map((table) => ({ table, index: found(() => symtab_at(table).by_name(name)) }));
-        const all = tables.filter(({ index }) => index !== undefined);
+        const all = symbols_called(name);
         const best = all.find(({ table, index }) => symtab_at(table).get(index).st_shndx) ?? all[0];
-        return best && `symbols/${best.table}/${best.index}`;
+        return best && to_symbol(best).to;
     },
     summary, inside, under, sizes,
 };
