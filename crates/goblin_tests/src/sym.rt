@@ -583,27 +583,38 @@ const ADDRESSED: &[u8; 176] = b"\0\0\0\0\0\0\0\0\0\0\0\0\0\0\0\0\
     \x01\0\0\0\x2c\0\0\0\0\0\0\0\0\0\x01\0\
     \x01\0\0\0\x38\0\0\0\x04\0\0\0\x12\0\xff\xff";
 
-// Addresses, and the index of the symbol of each: the first that contains it, or else a label of its section.
-static ADDRESSES: [(u64, Option<usize>); 19] = [
-    (0, None),
-    (8, Some(8)),
-    (0xb, Some(8)),
-    (0xc, None),
-    (0xf, None),
-    (0x10, Some(1)),
-    (0x13, Some(1)),
-    (0x14, Some(2)),
-    (0x17, Some(2)),
-    (0x18, None),
-    (0x2b, None),
-    (0x2c, Some(9)),
-    (0x2f, Some(9)),
-    (0x30, Some(9)),
-    (0x3b, Some(10)),
-    (0x3c, Some(9)),
-    (0x51, Some(9)),
-    (0x58, None),
-    (18446744073709551615, None),
+// The first and the last of some addresses, and the index of the symbol of all of them.
+type Of = (u64, u64, Option<usize>);
+
+// Reports whether each address of a row has its symbol in a file of a type.
+fn finds(
+    rt: HostRuntime,
+    table: &Symtab<'_>,
+    sections: &Table<'_, SectionHeader, Ctx>,
+    e_type: u16,
+    row: &Of,
+) -> bool {
+    for address in row.0..=row.1 {
+        if !holds(rt, row, is(rt, table.at(address, sections, e_type), row.2)) {
+            return false;
+        }
+    }
+    true
+}
+
+// Addresses, and their symbol: the first that contains them, or else a label of their section.
+static ADDRESSES: [Of; 11] = [
+    (0, 7, None),
+    (8, 0xb, Some(8)),
+    (0xc, 0xf, None),
+    (0x10, 0x13, Some(1)),
+    (0x14, 0x17, Some(2)),
+    (0x18, 0x2b, None),
+    (0x2c, 0x37, Some(9)),
+    (0x38, 0x3b, Some(10)),
+    (0x3c, 0x57, Some(9)),
+    (0x58, 0x5f, None),
+    (18446744073709551615, 18446744073709551615, None),
 ];
 
 #[test]
@@ -611,7 +622,7 @@ fn finds_the_symbol_at_an_address(rt: HostRuntime) {
     let table = table_of(ADDRESSED, 0, 11, LITTLE32);
     let sections = sections_of(ONE_SECTION);
     for row in &ADDRESSES {
-        assert!(rt; holds(rt, row, is(rt, table.at(row.0, &sections, ET_EXEC), row.1)));
+        assert!(rt; finds(rt, &table, &sections, ET_EXEC, row));
     }
     // Without sections only the bytes of symbols count.
     let none = sections_of(&[]);
@@ -630,23 +641,17 @@ const NESTED: &[u8; 128] = b"\0\0\0\0\0\0\0\0\0\0\0\0\0\0\0\0\
     \x01\0\0\0\x50\0\0\0\x04\0\0\0\x11\0\x01\0\
     \x01\0\0\0\x60\0\0\0\x04\0\0\0\x12\0\x01\0";
 
-// Addresses, and the index of the symbol of each.
-static NESTED_ADDRESSES: [(u64, Option<usize>); 15] = [
-    (0xf, None),
-    (0x1f, Some(1)),
-    (0x20, Some(2)),
-    (0x23, Some(2)),
-    (0x24, Some(1)),
-    (0x28, Some(1)),
-    (0x3f, Some(1)),
-    (0x40, Some(3)),
-    (0x4f, Some(3)),
-    (0x50, Some(6)),
-    (0x54, Some(5)),
-    (0x57, Some(5)),
-    (0x58, None),
-    (0x63, Some(7)),
-    (0x64, None),
+static NESTED_ADDRESSES: [Of; 10] = [
+    (0, 0xf, None),
+    (0x10, 0x1f, Some(1)),
+    (0x20, 0x23, Some(2)),
+    (0x24, 0x3f, Some(1)),
+    (0x40, 0x4f, Some(3)),
+    (0x50, 0x53, Some(6)),
+    (0x54, 0x57, Some(5)),
+    (0x58, 0x5f, None),
+    (0x60, 0x63, Some(7)),
+    (0x64, 0x6f, None),
 ];
 
 #[test]
@@ -654,7 +659,7 @@ fn finds_the_symbol_that_contains_an_address(rt: HostRuntime) {
     let table = table_of(NESTED, 0, 8, LITTLE32);
     let sections = sections_of(ONE_SECTION);
     for row in &NESTED_ADDRESSES {
-        assert!(rt; holds(rt, row, is(rt, table.at(row.0, &sections, ET_DYN), row.1)));
+        assert!(rt; finds(rt, &table, &sections, ET_DYN, row));
     }
 }
 
@@ -684,34 +689,19 @@ const SCATTERED: &[u8; 192] = b"\0\0\0\0\0\0\0\0\0\0\0\0\0\0\0\0\
     \x01\0\0\0\0\x08\0\0\0\0\0\0\0\0\x04\0\
     \x01\0\0\0\x50\x10\0\0\0\0\0\0\0\0\x04\0";
 
-// Addresses, and the index of the symbol of each.
-static SCATTERED_ADDRESSES: [(u64, Option<usize>); 26] = [
-    (0x800, None),
-    (0x1000, None),
-    (0x100f, None),
-    (0x1010, Some(1)),
-    (0x101f, Some(1)),
-    (0x1020, Some(2)),
-    (0x102f, Some(2)),
-    (0x1030, None),
-    (0x103f, None),
-    (0x1040, Some(3)),
-    (0x1050, Some(3)),
-    (0x10ef, Some(3)),
-    (0x10f0, Some(9)),
-    (0x10ff, Some(9)),
-    (0x1100, Some(9)),
-    (0x110f, Some(9)),
-    (0x1110, Some(4)),
-    (0x1117, Some(4)),
-    (0x1118, None),
-    (0x1130, None),
-    (0x1160, Some(5)),
-    (0x117f, Some(5)),
-    (0x1180, None),
-    (0x2000, None),
-    (0x2010, None),
-    (0x7fff_ffff_ffff, None),
+static SCATTERED_ADDRESSES: [Of; 12] = [
+    (0x800, 0x100f, None),
+    (0x1010, 0x101f, Some(1)),
+    (0x1020, 0x102f, Some(2)),
+    (0x1030, 0x103f, None),
+    (0x1040, 0x10ef, Some(3)),
+    (0x10f0, 0x110f, Some(9)),
+    (0x1110, 0x1117, Some(4)),
+    (0x1118, 0x115f, None),
+    (0x1160, 0x117f, Some(5)),
+    (0x1180, 0x118f, None),
+    (0x2000, 0x2010, None),
+    (0x7fff_ffff_ffff, 0x7fff_ffff_ffff, None),
 ];
 
 #[test]
@@ -719,7 +709,7 @@ fn finds_labels_in_their_section(rt: HostRuntime) {
     let table = table_of(SCATTERED, 0, 12, LITTLE32);
     let sections = sections_of(FIVE_SECTIONS);
     for row in &SCATTERED_ADDRESSES {
-        assert!(rt; holds(rt, row, is(rt, table.at(row.0, &sections, ET_EXEC), row.1)));
+        assert!(rt; finds(rt, &table, &sections, ET_EXEC, row));
     }
     // In a relocatable file a section that is not in memory holds offsets, too.
     assert!(rt; is(rt, table.at(0x1050, &sections, ET_REL), Some(11)));
@@ -740,37 +730,28 @@ const OFFSETS: &[u8; 96] = b"\0\0\0\0\0\0\0\0\0\0\0\0\0\0\0\0\
     \x01\0\0\0\x20\0\0\0\0\0\0\0\0\0\x02\0\
     \x01\0\0\0\x3c\0\0\0\0\0\0\0\0\0\x02\0";
 
-// Addresses, and the index of the symbol of each in a relocatable file, where the values are offsets in the sections,
-// and in a shared library, where they are addresses.
-static OFFSETS_AND_ADDRESSES: [(u64, Option<usize>, Option<usize>); 17] = [
-    (0xf, None, None),
-    (0x10, Some(1), None),
-    (0x1f, Some(1), None),
-    (0x20, Some(4), Some(4)),
-    (0x2f, Some(4), Some(4)),
-    (0x30, Some(3), Some(3)),
-    (0x37, Some(3), Some(3)),
-    (0x38, None, Some(4)),
-    (0x3c, Some(5), Some(5)),
-    (0x3f, Some(5), Some(5)),
-    (0x40, None, None),
-    (0x50, Some(2), None),
-    (0xff, Some(2), None),
-    (0x100, None, None),
-    (0x1000, None, Some(2)),
-    (0x10ff, None, Some(2)),
-    (0x1100, None, None),
+// The first and the last of some addresses, and the index of the symbol of all of them in a relocatable file, where the
+// values are offsets in the sections, and in a shared library, where they are addresses.
+static OFFSETS_AND_ADDRESSES: [(u64, u64, Option<usize>, Option<usize>); 11] = [
+    (0, 0xf, None, None),
+    (0x10, 0x1f, Some(1), None),
+    (0x20, 0x2f, Some(4), Some(4)),
+    (0x30, 0x37, Some(3), Some(3)),
+    (0x38, 0x3b, None, Some(4)),
+    (0x3c, 0x3f, Some(5), Some(5)),
+    (0x40, 0x4f, None, None),
+    (0x50, 0xff, Some(2), None),
+    (0x100, 0xfff, None, None),
+    (0x1000, 0x10ff, None, Some(2)),
+    (0x1100, 0x110f, None, None),
 ];
 
 #[test]
 fn finds_labels_by_offsets_in_relocatable_files(rt: HostRuntime) {
     let table = table_of(OFFSETS, 0, 6, LITTLE32);
     let sections = sections_of(THREE_SECTIONS);
-    for row in &OFFSETS_AND_ADDRESSES {
-        let found = (
-            table.at(row.0, &sections, ET_REL),
-            table.at(row.0, &sections, ET_DYN),
-        );
-        assert!(rt; holds(rt, row, is(rt, found, (row.1, row.2))));
+    for (first, last, offset, address) in &OFFSETS_AND_ADDRESSES {
+        assert!(rt; finds(rt, &table, &sections, ET_REL, &(*first, *last, *offset)));
+        assert!(rt; finds(rt, &table, &sections, ET_DYN, &(*first, *last, *address)));
     }
 }
