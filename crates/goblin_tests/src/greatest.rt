@@ -1,9 +1,10 @@
 //! The greatest number of every field of every record, in each class and byte order: it fits, is written, and is read
 //! back.
+use crate::compare::returns;
 use crate::container::{BIG32, BIG64, LITTLE32, LITTLE64};
-use crate::record::has_form;
+use crate::note::{has_form32, has_form64};
+use crate::record::{has_form, writes};
 use goblin::elf::header::Header;
-use goblin::elf::note::{Nhdr32, Nhdr64};
 use goblin::elf::program_header::ProgramHeader;
 use goblin::elf::reloc::{Reloc, RelocCtx};
 use goblin::elf::section_header::SectionHeader;
@@ -228,42 +229,10 @@ fn greatest_raw_relocations(rt: HostRuntime) {
     assert!(rt; has_form(rt, raw, LE, MOST64) && has_form(rt, raw, BE, MOST64_BIG));
 }
 
-// Whether a note header of this type is written as all ones and read back from them.
-fn has_nhdr32(order: Endian) -> bool {
-    let header = Nhdr32 {
-        n_namesz: WORD,
-        n_descsz: WORD,
-        n_type: WORD,
-    };
-    let mut bytes = [0; 12];
-    let is_written = header.try_into_ctx(&mut bytes, order).is_ok() && bytes == [0xff; 12];
-    match Nhdr32::try_from_ctx(&ONES, order) {
-        Ok((read, 12)) => {
-            is_written && read.n_namesz == WORD && read.n_descsz == WORD && read.n_type == WORD
-        }
-        _ => false,
-    }
-}
-
-fn has_nhdr64(order: Endian) -> bool {
-    let header = Nhdr64 {
-        n_namesz: LONG,
-        n_descsz: LONG,
-        n_type: LONG,
-    };
-    let mut bytes = [0; 24];
-    let is_written = header.try_into_ctx(&mut bytes, order).is_ok() && bytes == [0xff; 24];
-    match Nhdr64::try_from_ctx(&ONES, order) {
-        Ok((read, 24)) => {
-            is_written && read.n_namesz == LONG && read.n_descsz == LONG && read.n_type == LONG
-        }
-        _ => false,
-    }
-}
-
 #[test]
 fn greatest_note_headers(rt: HostRuntime) {
-    assert!(rt; has_nhdr32(LE) && has_nhdr32(BE) && has_nhdr64(LE) && has_nhdr64(BE));
+    assert!(rt; has_form32(rt, [WORD; 3], LE, &ONES) && has_form32(rt, [WORD; 3], BE, &ONES));
+    assert!(rt; has_form64(rt, [LONG; 3], LE, &ONES) && has_form64(rt, [LONG; 3], BE, &ONES));
 }
 
 // The header with the greatest numbers, of a class and a byte order by their bytes.
@@ -289,52 +258,33 @@ fn header(class: u8, order: u8, word: u64) -> Header {
     }
 }
 
-// Whether bytes begin with the identification of a header.
-fn has_ident(bytes: &[u8; 64], header: &Header) -> bool {
-    bytes[..16] == header.e_ident[..]
+// Whether it fits its class, is written as its identification and ones, and is read back from them; as a raw one too.
+fn has_header(rt: HostRuntime, class: u8, order: u8) -> bool {
+    let (container, word, size) = match class {
+        1 => (Container::Little, u64::from(WORD), 52),
+        _ => (Container::Big, LONG, 64),
+    };
+    let header = header(class, order, word);
+    let mut bytes = ONES;
+    bytes[..16].copy_from_slice(&header.e_ident);
+    header.fits(container)
+        && writes(rt, header, LE, &bytes[..size])
+        && matches!(Header::try_from_ctx(&bytes, BE), Ok((read, len)) if read == header && len == size)
+        && has_raw_header(rt, &header, &bytes)
 }
 
-// Whether it fits its class, is written as its identification and ones, and is read back from them; as a raw one too.
-fn has_header(container: Container, order: u8) -> bool {
-    let (mut bytes, mut again) = ([0; 64], [0; 64]);
-    match container {
-        Container::Little => {
-            let header = header(1, order, u64::from(WORD));
-            let is_written = header.try_into_ctx(&mut bytes, LE).is_ok();
-            let read = matches!(Header::try_from_ctx(&bytes, BE), Ok((read, 52)) if read == header);
-            let raw = elf32::header::Header::from(header);
-            let is_read = matches!(elf32::header::Header::parse(&bytes), Ok(read) if read == raw);
-            let is_same = raw.try_into_ctx(&mut again, LE).is_ok()
-                && again == bytes
-                && has_ident(&bytes, &header);
-            header.fits(container)
-                && is_written
-                && bytes[16..52] == ONES[16..52]
-                && read
-                && is_read
-                && is_same
-        }
-        Container::Big => {
-            let header = header(2, order, LONG);
-            let is_written = header.try_into_ctx(&mut bytes, LE).is_ok();
-            let read = matches!(Header::try_from_ctx(&bytes, BE), Ok((read, 64)) if read == header);
-            let raw = elf64::header::Header::from(header);
-            let is_read = matches!(elf64::header::Header::parse(&bytes), Ok(read) if read == raw);
-            let is_same = raw.try_into_ctx(&mut again, LE).is_ok()
-                && again == bytes
-                && has_ident(&bytes, &header);
-            header.fits(container)
-                && is_written
-                && bytes[16..] == ONES[16..]
-                && read
-                && is_read
-                && is_same
-        }
+fn has_raw_header(rt: HostRuntime, header: &Header, bytes: &[u8; 64]) -> bool {
+    if header.e_ident[4] == 1 {
+        let raw = elf32::header::Header::from(*header);
+        writes(rt, raw, LE, &bytes[..52]) && returns(rt, elf32::header::Header::parse(bytes), raw)
+    } else {
+        let raw = elf64::header::Header::from(*header);
+        writes(rt, raw, LE, bytes) && returns(rt, elf64::header::Header::parse(bytes), raw)
     }
 }
 
 #[test]
 fn greatest_headers(rt: HostRuntime) {
-    assert!(rt; has_header(Container::Little, 1) && has_header(Container::Little, 2));
-    assert!(rt; has_header(Container::Big, 1) && has_header(Container::Big, 2));
+    assert!(rt; has_header(rt, 1, 1) && has_header(rt, 1, 2));
+    assert!(rt; has_header(rt, 2, 1) && has_header(rt, 2, 2));
 }

@@ -26,67 +26,77 @@ const HEADER_LITTLE64: &[u8] = b"\x04\0\0\0\0\0\0\0\x14\0\0\0\0\0\0\0\x03\0\0\0\
 
 const HEADER_BIG64: &[u8] = b"\0\0\0\0\0\0\0\x04\0\0\0\0\0\0\0\x14\0\0\0\0\0\0\0\x03";
 
-const HEADER32: Nhdr32 = Nhdr32 {
-    n_namesz: 4,
-    n_descsz: 20,
-    n_type: 3,
-};
-
-const HEADER64: Nhdr64 = Nhdr64 {
-    n_namesz: 4,
-    n_descsz: 20,
-    n_type: 3,
-};
-
-// Whether the fields of a header are these.
-fn is32(rt: HostRuntime, header: &Nhdr32) -> bool {
-    is(
-        rt,
-        (header.n_namesz, header.n_descsz, header.n_type),
-        (4, 20, 3),
-    )
-}
-
-fn is64(rt: HostRuntime, header: &Nhdr64) -> bool {
-    is(
-        rt,
-        (header.n_namesz, header.n_descsz, header.n_type),
-        (4, 20, 3),
-    )
-}
-
-// Whether the 32-bit header is read from these bytes and written as them.
-fn is_header32(rt: HostRuntime, order: Endian, bytes: &'static [u8]) -> bool {
-    match Nhdr32::try_from_ctx(bytes, order) {
-        Ok((read, size)) => {
-            is32(rt, &read) && is(rt, size, 12) && writes(rt, HEADER32, order, bytes)
-        }
-        Err(e) => differs(rt, &e, &12),
+// The 32-bit header with these numbers, and its numbers.
+fn header32([n_namesz, n_descsz, n_type]: [u32; 3]) -> Nhdr32 {
+    Nhdr32 {
+        n_namesz,
+        n_descsz,
+        n_type,
     }
 }
 
+fn numbers32(header: &Nhdr32) -> [u32; 3] {
+    [header.n_namesz, header.n_descsz, header.n_type]
+}
+
 // The same of the 64-bit one.
-fn is_header64(rt: HostRuntime, order: Endian, bytes: &'static [u8]) -> bool {
+fn header64([n_namesz, n_descsz, n_type]: [u64; 3]) -> Nhdr64 {
+    Nhdr64 {
+        n_namesz,
+        n_descsz,
+        n_type,
+    }
+}
+
+fn numbers64(header: &Nhdr64) -> [u64; 3] {
+    [header.n_namesz, header.n_descsz, header.n_type]
+}
+
+// Whether the 32-bit header with these numbers is read at the start of these bytes, and written as its 12.
+pub(crate) fn has_form32(
+    rt: HostRuntime,
+    numbers: [u32; 3],
+    order: Endian,
+    bytes: &'static [u8],
+) -> bool {
+    match Nhdr32::try_from_ctx(bytes, order) {
+        Ok((read, size)) => {
+            is(rt, (numbers32(&read), size), (numbers, 12))
+                && writes(rt, header32(numbers), order, &bytes[..bytes.len().min(12)])
+        }
+        Err(e) => differs(rt, &e, &numbers),
+    }
+}
+
+// The same of the 64-bit one, which has 24.
+pub(crate) fn has_form64(
+    rt: HostRuntime,
+    numbers: [u64; 3],
+    order: Endian,
+    bytes: &'static [u8],
+) -> bool {
     match Nhdr64::try_from_ctx(bytes, order) {
         Ok((read, size)) => {
-            is64(rt, &read) && is(rt, size, 24) && writes(rt, HEADER64, order, bytes)
+            is(rt, (numbers64(&read), size), (numbers, 24))
+                && writes(rt, header64(numbers), order, &bytes[..bytes.len().min(24)])
         }
-        Err(e) => differs(rt, &e, &24),
+        Err(e) => differs(rt, &e, &numbers),
     }
 }
 
 #[test]
 fn reads_and_writes_note_headers(rt: HostRuntime) {
-    assert!(rt; is_header32(rt, LE, HEADER_LITTLE32));
-    assert!(rt; is_header32(rt, BE, HEADER_BIG32));
-    assert!(rt; is_header64(rt, LE, HEADER_LITTLE64));
-    assert!(rt; is_header64(rt, BE, HEADER_BIG64));
+    assert!(rt; has_form32(rt, [4, 20, 3], LE, HEADER_LITTLE32));
+    assert!(rt; has_form32(rt, [4, 20, 3], BE, HEADER_BIG32));
+    assert!(rt; has_form64(rt, [4, 20, 3], LE, HEADER_LITTLE64));
+    assert!(rt; has_form64(rt, [4, 20, 3], BE, HEADER_BIG64));
 }
 
 #[test]
 fn clones_note_headers(rt: HostRuntime) {
-    assert!(rt; matches!(HEADER32.clone(), Ok(header) if is32(rt, &header)));
-    assert!(rt; matches!(HEADER64.clone(), Ok(header) if is64(rt, &header)));
+    let (small, large) = (header32([4, 20, 3]), header64([4, 20, 3]));
+    assert!(rt; matches!(small.clone(), Ok(header) if is(rt, numbers32(&header), [4, 20, 3])));
+    assert!(rt; matches!(large.clone(), Ok(header) if is(rt, numbers64(&header), [4, 20, 3])));
 }
 
 // The places of the second note.
@@ -114,11 +124,7 @@ fn refuses_cut_note_headers(rt: HostRuntime) {
     assert!(rt; reports(rt, cut, "type is too big (24) for 23"));
     let cut = Nhdr32::try_from_ctx(&HEADER_LITTLE32[..11], LE);
     assert!(rt; reports(rt, cut, "type is too big (12) for 11"));
-    let header = Nhdr64 {
-        n_namesz: u64::MAX,
-        n_descsz: 0,
-        n_type: 0,
-    };
+    let header = header64([u64::MAX, 0, 0]);
     assert!(rt; refuses(rt, header, LE, 23, "type is too big (24) for 23"));
 }
 
