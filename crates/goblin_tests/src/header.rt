@@ -320,16 +320,11 @@ static NAMES_AT: [(u16, Option<u32>, usize); 4] = [
 
 fn names_at(e_shstrndx: u16, link: Option<u32>) -> usize {
     let header = Header { e_shstrndx, ..READ };
-    match link {
-        Some(sh_link) => {
-            let first = SectionHeader {
-                sh_link,
-                ..SectionHeader::new()
-            };
-            header.names_index(Some(&first))
-        }
-        None => header.names_index(None),
-    }
+    let first = link.map(|sh_link| SectionHeader {
+        sh_link,
+        ..SectionHeader::new()
+    });
+    header.names_index(first.as_ref())
 }
 
 #[test]

@@ -376,10 +376,11 @@ fn passes_on_the_names(rt: HostRuntime) {
     assert!(rt; is(rt, section_header::section_header64::SIZEOF_SHDR, 64));
 }
 
-// A section whose name lies at a place.
-fn at(sh_name: usize) -> SectionHeader {
+// A section of a type, whose name lies at a place.
+fn named(sh_name: usize, sh_type: u32) -> SectionHeader {
     SectionHeader {
         sh_name,
+        sh_type,
         ..SectionHeader::default()
     }
 }
@@ -394,7 +395,7 @@ fn found(name: &[u8]) -> [Option<usize>; 2] {
     bytes[40] = 1;
     bytes[80] = 5;
     bytes[120] = 7;
-    let sections = [at(3), at(1), at(5), at(7)];
+    let sections = [named(3, 0), named(1, 0), named(5, 0), named(7, 0)];
     [
         SectionHeader::find(&sections, &Strtab::new(names, 0), name),
         SectionHeader::find_in(&Table::of(&bytes, 4, LITTLE32), names, 0, name),
@@ -444,14 +445,6 @@ fn linked(index: usize) -> [Option<usize>; 2] {
     ]
 }
 
-fn named(sh_name: usize, sh_type: u32) -> SectionHeader {
-    SectionHeader {
-        sh_name,
-        sh_type,
-        ..SectionHeader::default()
-    }
-}
-
 #[test]
 fn links_to_sections_with_bytes(rt: HostRuntime) {
     assert!(rt; is(rt, linked(0), [None; 2]));
@@ -472,16 +465,11 @@ static NAMES_AT: [(u16, Option<u32>, usize); 5] = [
 ];
 
 fn names_at(index: u16, link: Option<u32>) -> usize {
-    match link {
-        Some(sh_link) => {
-            let first = SectionHeader {
-                sh_link,
-                ..section()
-            };
-            SectionHeader::names_index(index, Some(&first))
-        }
-        None => SectionHeader::names_index(index, None),
-    }
+    let first = link.map(|sh_link| SectionHeader {
+        sh_link,
+        ..section()
+    });
+    SectionHeader::names_index(index, first.as_ref())
 }
 
 #[test]

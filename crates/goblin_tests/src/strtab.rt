@@ -89,14 +89,13 @@ fn looks_up(rt: HostRuntime, table: &Strtab<'_>, expected: &[(usize, Option<&str
     true
 }
 
-// The same of the table that these bytes are.
+// The same of a table that must be accepted.
 fn looks_up_in(
     rt: HostRuntime,
-    bytes: &[u8],
-    delim: u8,
+    table: Result<Strtab<'_>>,
     expected: &[(usize, Option<&str>)],
 ) -> bool {
-    match Strtab::new_preparsed(rt.alloc(), bytes, delim) {
+    match table {
         Ok(table) => looks_up(rt, &table, expected),
         Err(e) => differs(rt, &e, &expected),
     }
@@ -104,10 +103,10 @@ fn looks_up_in(
 
 #[test]
 fn looks_up_offsets(rt: HostRuntime) {
-    assert!(rt; looks_up_in(rt, NAMES, 0, IN_NAMES));
+    assert!(rt; looks_up_in(rt, Strtab::new_preparsed(rt.alloc(), NAMES, 0), IN_NAMES));
     assert!(rt; looks_up(rt, &Strtab::new(NAMES, 0), UNPARSED));
-    assert!(rt; looks_up_in(rt, b"a", 0, IN_A));
-    assert!(rt; looks_up_in(rt, FOO, b'\n', IN_FOO));
+    assert!(rt; looks_up_in(rt, Strtab::new_preparsed(rt.alloc(), b"a", 0), IN_A));
+    assert!(rt; looks_up_in(rt, Strtab::new_preparsed(rt.alloc(), FOO, b'\n'), IN_FOO));
 }
 
 // Whether `get`, `get_unsafe` and `index` return this text, in a table of so many bytes.
@@ -332,16 +331,9 @@ fn finds_the_bounds_of_a_range(rt: HostRuntime) {
     assert!(rt; refuses_bounds(rt, 2, 7, outside));
 }
 
-// Whether looking up each offset of a damaged table, read by permissive options, has its answer.
-fn looks_up_in_damaged(rt: HostRuntime, bytes: &[u8], expected: &[(usize, Option<&str>)]) -> bool {
-    let opts = ParseOptions::permissive();
-    match Strtab::parse_with_opts(rt.alloc(), bytes, 0, bytes.len(), 0, &opts) {
-        Ok(table) => looks_up(rt, &table, expected),
-        Err(e) => differs(rt, &e, &expected),
-    }
-}
-
 #[test]
 fn has_nothing_inside_a_character(rt: HostRuntime) {
-    assert!(rt; looks_up_in_damaged(rt, b"\xE1\x80\xC2\xA2", DAMAGED));
+    let (bytes, opts) = (b"\xE1\x80\xC2\xA2", ParseOptions::permissive());
+    let damaged = Strtab::parse_with_opts(rt.alloc(), bytes, 0, 4, 0, &opts);
+    assert!(rt; looks_up_in(rt, damaged, DAMAGED));
 }
