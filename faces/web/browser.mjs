@@ -1105,7 +1105,6 @@ async function check_named_links() {
         assert.equal(await copied('Copy link'), `${url}#${place}`);
     }
     await go('symbol=%', 'ELF header');
-    await go('section=.no', 'ELF header');
 }
 
 // A row of bytes has as many as there is room for. A field of a record shows its bytes, and a byte its field.
@@ -1175,9 +1174,11 @@ async function check_cells() {
 async function check_alone() {
     await browser.resize(1280, 900);
     await pick(program_file);
-    for (const [tab, is_alone] of [['summary', true], ['sizes', true], ['header', false], ['sections', false]]) {
-        await go(tab, 'ELF header');
-        await until(`${one('#panel')}.firstChild && (${one('#panel')}.offsetWidth > 1000) === ${is_alone}`);
+    for (const [tab, panel, is_alone] of [['header', '.fields', false], ['summary', '.summary', true],
+        ['sections', '.grid', false], ['sizes', '.areas', true]]) {
+        await set_place(tab);
+        await until(`${one(`#tab-${tab}`)}.ariaSelected === 'true' && ${one(`#panel ${panel}`)} !== null`);
+        await until(`(${one('#panel')}.offsetWidth > 1000) === ${is_alone}`);
         assert.equal(await is_visible('.side'), !is_alone, tab);
     }
     await go('sizes', 'ELF header');
@@ -1285,9 +1286,10 @@ async function check_widths() {
         assert.ok(bars.length <= 1 && bars.every((name) => name === 'grid'), `${width}: ${bars}`);
         assert.ok(await evaluate(`document.documentElement.scrollWidth <= innerWidth`), `${width}`);
         // The side is beside the list, or replaces it until the user goes back.
+        const { 1: title } = await cells(1);
         await click_row(1);
-        await until(`${one('#chosen')}.offsetParent !== null && ${one('#chosen h2')}.textContent !== 'ei_data'`);
-        assert.equal(await is_visible('#panel'), width > 1000);
+        await until_chosen(title);
+        assert.deepEqual([await is_visible('#chosen'), await is_visible('#panel')], [true, width > 1000]);
         await evaluate('history.back()');
         await until(`document.getElementById('panel').offsetParent !== null`);
     }
