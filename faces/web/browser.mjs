@@ -825,6 +825,8 @@ async function check_search() {
     await focus('#panel input');
     await browser.press('Enter');
     await until_active('#chosen h2');
+    const [first, second] = symbols.filter(({ name }) => name.includes('main'));
+    assert.equal(await fragment(), `${symtab}/${first.index}`);
     await focus('#panel .saving button:last-child');
     await browser.press('Tab');
     assert.equal(await evaluate(`document.activeElement.closest('[role=columnheader]')?.textContent`), '#');
@@ -832,6 +834,7 @@ async function check_search() {
     await until_active('[role=grid]');
     await browser.press('ArrowDown', 'Enter');
     await until_active('#chosen h2');
+    assert.equal(await fragment(), `${symtab}/${second.index}`);
     // (a search in a list that another one replaces before it begins is given up)
     const { index, size } = sections['.dynsym'], box = one('#panel input');
     await evaluate(`void (${box}.value = 'init', ${box}.dispatchEvent(new Event('input')))`);
