@@ -741,13 +741,6 @@ async function check_history() {
     await click('#tab-sections');
     await until_chosen('ELF header');
     assert.equal(await text_of(active_row), null);
-    // (what is not a location leaves a tab open; a failing script would be reported at the end)
-    for (const wrong of ['%', 'sections/x', 'offset/0xffffffffffffffff', 'address/0x',
-        'symbols/99999/1', '__proto__/1']) {
-        await set_place(wrong);
-        await setTimeout(50);
-        assert.equal((await each_of('[role=tab][aria-selected=true]', 'item.id')).length, 1, wrong);
-    }
 }
 
 async function check_relocation_links() {
@@ -1054,9 +1047,11 @@ async function check_sentences() {
     const nothing = (place) => [place, `The page finds nothing at #${place} in this file.`];
     for (const [place, words] of [['symbol=nope', 'This file has no symbol with the name nope. This is its summary.'],
         ['section=.no', 'This file has no section with the name .no. This is its summary.'], nothing('sections/99999'),
-        nothing('header/e_no'), nothing('address/0x'), nothing('nowhere'), nothing(`${symtab}/99999`)]) {
+        ...['header/e_no', 'address/0x', 'nowhere', `${symtab}/99999`, '%', 'sections/x', 'offset/0xffffffffffffffff',
+            'symbols/99999/1', '__proto__/1'].map(nothing)]) {
         await set_place(place);
         await until_text('#said', words);
+        assert.equal((await each_of('[role=tab][aria-selected=true]', 'item.id')).length, 1, place);
     }
     await evaluate(`void (${one('#said')}.textContent = '')`);
     for (const [place, title] of [['header/e_type', 'e_type'], ['sections', 'ELF header'], [main_place, 'main'],
