@@ -1638,8 +1638,8 @@ const checks = [
     check_many_symbols, check_relocation_names, check_section_indices, check_named_links, check_fields, check_low,
     check_plain_words, check_copies, check_formula, check_sentences, check_unseen, check_refused_tables,
     check_demangled, check_words, check_cells, check_alone, check_printed, check_buttons, check_widths, check_map,
-    check_zoom, check_classes, check_sizes, check_narrow, check_themes, check_names, check_keys, check_requests,
-    check_unsupported,
+    check_zoom, check_classes, check_sizes, check_narrow, check_themes, check_names, check_keys, check_unsupported,
+    check_requests,
 ];
 
 async function run_checks() {
