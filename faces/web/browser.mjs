@@ -712,7 +712,7 @@ async function check_section_links() {
     await pick(program_file);
     const links = [['.rela.plt', '.dynsym', '.got'], ['.rela.dyn', '.dynsym'], ['.dynsym', '.dynstr'],
         ['.symtab', '.strtab']];
-    for (const [name, link, info] of links.filter(([name]) => sections[name])) {
+    for (const [name, link, info] of links) {
         await go(`sections/${sections[name].index}`, name);
         assert.match(await field_of('sh_link'), new RegExp(`^\\d+, ${link.replace('.', '\\.')}$`));
         if (info) assert.match(await field_of('sh_info'), /^\d+, \.got/);
@@ -1263,13 +1263,15 @@ async function check_widths() {
         await click('#tab-header');
         await until_there('[data-field=ei_data]');
         await click('#back');
-        assert.deepEqual(await evaluate(`[...document.querySelectorAll('.fields.header span, .fields.header .words')]
-            .flatMap((cell) => [...cell.textContent.matchAll(/\\S+/g)].filter(({ 0: word, index }) => {
+        const words = await evaluate(`[...document.querySelectorAll('.fields.header span, .fields.header .words')]
+            .flatMap((cell) => [...cell.textContent.matchAll(/\\S+/g)].map(({ 0: word, index }) => {
                 const range = new Range();
                 range.setStart(cell.firstChild, index);
                 range.setEnd(cell.firstChild, index + word.length);
-                return range.getClientRects().length > 1;
-            }).map(([word]) => word))`), [], `${width}`);
+                return [word, range.getClientRects().length];
+            }))`);
+        assert.deepEqual(words.filter(([, lines]) => lines > 1), [], `${width}`);
+        assert.ok(words.filter(([, lines]) => lines === 1).length > 40, `${width}: ${words.join(' ')}`);
         for (const [name, widest] of [['sections', 'Name'], ['relocations', 'Symbol'], ['symbols', 'Name']]) {
             await open_tab(name);
             const heads = await each_of('#panel [role=columnheader]', '[item.offsetWidth, item.textContent]');
@@ -1518,7 +1520,10 @@ async function check_colours() {
     const kinds = ['header', 'tables', 'code', 'data', 'constants', 'names', 'relocations', 'notes', 'debug', 'other'];
     const [edge, ground, kind, on] = await evaluate(`(() => {
         const { probe, style } = ${PIXELS},
-            edge = (selector) => probe(getComputedStyle(document.querySelector(selector)).borderTopColor);
+            edge = (selector) => {
+                const { borderTopWidth, borderTopColor } = getComputedStyle(document.querySelector(selector));
+                return parseFloat(borderTopWidth) > 0 && probe(borderTopColor);
+            };
         return [[...${quoted(edges)}.map(edge), style('gap')], ['paper', 'raised'].map(style),
             ${quoted(kinds)}.map(style), ['paper', 'on-kind'].map(style)];
     })()`);
