@@ -1002,10 +1002,13 @@ async function check_formula() {
     const saved_cells = (name) => open_tab(name).then(() => saved_rows(name));
     assert.deepEqual([(await saved_cells('relocations'))[0][4], (await saved_cells('segments'))[0][2]],
         ['-0x10', '0x5']);
-    const parts = (await saved_cells('layout'))
-        .map(([, from, to, size, share]) => [Number(to) - Number(from), Number(size), share]);
-    assert.ok(parts.length > 4);
-    assert.deepEqual(parts, parts.map(([size]) => [size, size, (100 * size / content.length).toFixed(2)]));
+    const parts = await saved_cells('layout');
+    let at = 0;
+    for (const [, from, to, size, share] of parts) {
+        assert.deepEqual([from, to, share], [at, at += Number(size), 100 * Number(size) / content.length]
+            .map((number, i) => (i < 2 ? hex(number) : number.toFixed(2))));
+    }
+    assert.deepEqual([at, parts.length > 4], [content.length, true]);
 }
 
 // Of a refused table nothing can be saved, and by no way another table is. The bytes that say where it is are marked.
