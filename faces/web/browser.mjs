@@ -1470,8 +1470,10 @@ async function check_sizes() {
             area: parseFloat(item.style.width) * parseFloat(item.style.height) / 100 })`);
         const { area, hash, is_inside } =
             areas.find(({ title }) => title.startsWith(`${name}: ${decimal(size)} bytes, `));
-        assert.deepEqual([hash, is_inside || Math.abs(area - 100 * size / whole) < 0.1], [`#${place}`, true],
-            `${name}: ${area} %`);
+        // (what is inside another area has what its title and edges leave)
+        const part = area / (100 * size / whole);
+        assert.ok(is_inside ? part > 0.5 && part < 1 : Math.abs(area - 100 * size / whole) < 0.1, `${name}: ${area} %`);
+        assert.deepEqual([hash, is_inside], [`#${place}`, name === largest.name]);
         assert.ok(Math.abs(areas.reduce((all, item) => all + (item.is_inside ? 0 : item.area), 0) - 100) < 0.1);
         await click(`.areas [href='${hash}']`);
         await until_chosen(name);
