@@ -24,6 +24,7 @@ const stored_files = readdirSync(join(stored, 'made')).filter((name) => !/listed
 const folder = mkdtempSync(join(tmpdir(), 'goblin-'));
 const browser = new { chromium: Chromium, firefox: Firefox }[kind](folder);
 const url = pathToFileURL(page).href, quoted = JSON.stringify;
+const checks = [];
 const evaluate = (expression) => browser.evaluate(expression);
 const until = (expression) => browser.until(expression);
 
@@ -73,6 +74,10 @@ async function pick_written(name, content, tab) {
     if (tab) await open_tab(tab);
     return path;
 }
+
+// Adds a check, which begins in a large window, and one that begins with the program.
+const check = (title, run) => checks.push({ title, run });
+const check_program = (title, run) => check(title, () => pick(program_file).then(run));
 
 async function open_tab(name) {
     await click(`#tab-${name}`);
@@ -165,7 +170,7 @@ const main = symbols.find(({ name }) => name === 'main'), main_place = `${symtab
     main_address = hex(main.value);
 const main_at = main.value - text.address + text.offset;
 
-async function check_all_counts() {
+check('Tabs have the numbers that readelf counts, and sections have its names', async () => {
     const all = {};
     for (const path of stored_files) {
         await pick(path);
@@ -182,7 +187,7 @@ async function check_all_counts() {
         assert.deepEqual(shown, names.slice(0, shown.length), path);
     }
     for (const [name, count] of Object.entries(all)) assert.ok(count > 20, `${count} ${name}`);
-}
+});
 
 async function check_refusal(content, what, ...words) {
     const path = await pick_written('refused', content),
@@ -193,8 +198,14 @@ async function check_refusal(content, what, ...words) {
     assert.deepEqual([said.includes('This is not an ELF file'), await is_hidden('shown')], [words.length > 0, true]);
 }
 
-// A file that is not read: the page shows why, instead of the previous file.
-async function check_trouble() {
+check('A file is refused in the words of C, and by what was read', async () => {
+    const foreign = ['the file header', 'This is not an ELF file'];
+    await check_refusal(content.subarray(0, 40), 'the file header');
+    await check_refusal(Buffer.concat([Buffer.from('MZ'), content.subarray(2)]), ...foreign, '4d 5a 4c 46');
+    await check_refusal(Buffer.from('text\n'), ...foreign, '74 65 78 74 0a');
+});
+
+check('The page shows why a file is not read, instead of the previous file', async () => {
     await pick(made);
     await pick_written('empty', '');
     assert.equal(await text_of('#trouble:not([hidden])'), 'The file is empty: it has 0 bytes.');
@@ -207,10 +218,9 @@ async function check_trouble() {
     const words = 'The file has 2,147,483,649 bytes. This page reads files of at most 2 GiB (2,147,483,648 bytes).';
     assert.deepEqual([await text_of('#trouble:not([hidden])'), await is_hidden('shown')], [words, true]);
     assert.match(await text_of('#start .drop'), /at most 2 GiB/);
-}
+});
 
-// If the section headers are refused, no list that is made from them is shown as empty.
-async function check_unknown() {
+check('If the section headers are refused, no list that is made from them is shown as empty', async () => {
     const cut = Buffer.from(content);
     cut.writeBigUInt64LE(BigInt(content.length), 0x28);
     await pick_written('headers', cut);
@@ -239,11 +249,9 @@ async function check_unknown() {
     assert.deepEqual([await text_of('#tab-notes span'), await cells(2)], ['2+', ['GNU', 'GAU+0000\\xff']]);
     assert.match(await text_of('#panel .refused'),
         /^Refused: .* while reading the descriptor of the note at 0x[0-9a-f]+, of \.note/);
-}
+});
 
-// Packed relocations are listed, and so is what only the dynamic section leads to. The page says that both are outside
-// of what is proved.
-async function check_own_tables() {
+check('Packed relocations and what only the dynamic section leads to are listed, as not proved', async () => {
     const words = [[0x1000, 8], [0b1011, 8], [0b11, 8], [0x2000, 8]],
         wanted = ['0x1000', '0x1008', '0x1018', '0x1200', '0x2000'];
     const file = elf_file({ type: 3, sections: [{ name: '.relr.dyn', type: 19, flags: 2, bytes: packed(...words) }] });
@@ -267,7 +275,7 @@ async function check_own_tables() {
     await is_listed(1, '.dynsym', /^ *\d+: .* (?:UND|ABS|\d+) ?([^@ \n]*)/gm);
     await open_list('relocations/DT_JMPREL', plt);
     await is_listed(3, '.rela.plt', /R_\w+ +[0-9a-f]+ ([^@ ]+)/g);
-}
+});
 
 // Returns the rows of the summary, or of some of its blocks: the name and value of each, and the mark above them.
 async function facts(path, title = '') {
@@ -279,10 +287,9 @@ async function facts(path, title = '') {
 }
 const value_in = (rows, name) => rows.find(([title]) => title === name)?.[1];
 
-// The first tab says in words what readelf lists of a program, in the order of what a person asks. What rests on what
-// the page reads itself is below a mark, one a block. What a cut file lacks is unknown. (test.mjs compares all facts
-// with their table.)
-async function check_summary() {
+// What rests on what the page reads itself is below a mark, one a block. What a cut file lacks is unknown. (test.mjs
+// compares all facts with their table.)
+check('The first tab says in words what readelf lists of a program, in the order of what a person asks', async () => {
     const rows = await facts(program_file), of = (name) => [value_in(rows, name)].filter(Boolean);
     assert.deepEqual(await each_of('#panel .summary h3', 'item.textContent'), ['What it is', 'What protects it',
         'What it needs', 'Why it is large', 'Largest sections', 'Largest functions', 'How it was built']);
@@ -315,12 +322,9 @@ async function check_summary() {
     const { kind: words, 'debug information': debug } = Object.fromEntries(await facts(made));
     const of_object = `An object file for x86-64 of ${decimal(content.length)} bytes, with debug information`;
     assert.deepEqual([words, debug], [of_object, '64 bytes, .debug_info']);
-    await check_needed();
-    await check_functions();
-}
+});
 
-// All libraries are in one row, up to a number. The row says how many there are, and how many are left out.
-async function check_needed() {
+check('All libraries are in one row, up to a number, with how many there are and are left out', async () => {
     for (const [all, more] of [[261, ''], [400, ' and 100 more']]) {
         const names = Array.from({ length: all }, (_, i) => (i < 260 ? `l${i}.so` : `libc.so.${i}`));
         const strings = Buffer.from(`\0${names.map((name) => `${name}\0`).join('')}`);
@@ -330,10 +334,9 @@ async function check_needed() {
             { type: 2, bytes: packed(...entries) }] }));
         assert.equal(value_in(await facts(), 'libraries'), `${all}: ${names.slice(0, 300).join(', ')}${more}`);
     }
-}
+});
 
-// A function has one row, whatever its names. What is in no symbol is said, too.
-async function check_functions() {
+check('A function has one row, whatever its names, and what is in no symbol is said, too', async () => {
     const given = [['a', 0, 8], ['alias', 0, 8], ['inside', 4, 4], ['b', 8, 16], ['other', 8, 12], ['c', 40, 1]].map(
         ([text, value, size]) => ({ text, info: 2, shndx: 3, value, size }));
     const text = { name: '.text', type: 1, flags: 6, bytes: Buffer.alloc(64, 1) };
@@ -348,10 +351,9 @@ async function check_functions() {
     await pick_written('covered', content);
     assert.deepEqual((await facts('', 'Largest functions')).map(([name, value]) => `${name}, ${value}`),
         ['in no symbol, 0 of 32 bytes of code', '64 bytes, all']);
-}
+});
 
-// What is broken is in one row, each with links to its places.
-async function check_broken() {
+check('What is broken is in one row, with links to its places', async () => {
     const section = (name) => ({ name, type: 1, bytes: Buffer.alloc(64, 1) }), far = 1n << 40n;
     const whole = elf_file({ sections: ['.a', '.b', '.c'].map(section), segments: [{ bytes: Buffer.alloc(8) }] });
     const table = header_at(whole, 0), [a, b, c] = [1, 2, 3].map((index) => header_at(whole, index) + 0x18);
@@ -385,10 +387,9 @@ async function check_broken() {
     // (the segments of a debug file are those of another file)
     const of_debug = value_in(await facts(join(stored, 'facts', 'debug_with_sizes')), 'broken');
     assert.deepEqual([of_debug.slice(0, 3), await text_of('#legend .past')], ['no:', null]);
-}
+});
 
-// A kernel module, its signature, compressed debug information, appended bytes and padding are called so.
-async function check_called() {
+check('A module, its signature, compressed debug information, appended bytes and padding are called so', async () => {
     const texts = Buffer.from('depends=crc16,mbcache\0vermagic=6.1.0 SMP \0'), signature = Buffer.alloc(700, 0x30);
     const named = (name, bytes, flags = 0, type = 1) => ({ name, type, flags, bytes });
     const module = elf_file({ sections: [named('.modinfo', texts, 2), named('.gnu.linkonce.this_module', texts, 3),
@@ -413,11 +414,9 @@ async function check_called() {
     const unsaid = Buffer.from('vermagic\0'), names = ['.modinfo', '.gnu.linkonce.this_module'];
     await pick_written('unsaid', elf_file({ sections: names.map((name) => named(name, unsaid)) }));
     assert.equal(value_in(await facts(), 'kernel'), '');
-}
+});
 
-// Of a core the signal, the command, the threads with their registers, and the mapped files, by the layouts of Linux
-// for x86-64.
-async function check_core() {
+check('A core has its signal, command, threads with registers, and mapped files, by the layouts of Linux', async () => {
     const put = (size, ...numbers) =>
         numbers.reduce((all, [at, value, width = 8]) => (all.set(packed([value, width]), at), all), Buffer.alloc(size));
     const thread = (id, rip, rsp) =>
@@ -463,7 +462,7 @@ async function check_core() {
         for (const [name, place] of Object.entries(places))
             assert.equal(await field_of(name), hex(0x1000 + place), name);
     }
-}
+});
 
 // Returns the legend's percentages by their names.
 async function shares() {
@@ -481,9 +480,7 @@ const core_notes = [
     ['GNU', 3, 'GNU_BUILD_ID'],
 ];
 
-// The memory and notes of a core file are pieces, with the number of each thread. So are the segments of a program
-// without section headers.
-async function check_segments() {
+check('Memory and notes of a core with its threads, and segments without sections, are pieces', async () => {
     const notes = core_notes.map(([owner, type, name, thread]) =>
         note(owner, type, name === 'PRSTATUS' ? status(thread) : Buffer.alloc(64)));
     const segments = [{ type: 4, bytes: Buffer.concat(notes) },
@@ -507,10 +504,9 @@ async function check_segments() {
     const covered = all.reduce((sum, { size: bytes }) => sum + bytes, 0), found = await shares();
     const rest = 100 * (stripped.length - covered) / stripped.length - found.padding - found['appended bytes'];
     assert.ok(covered > 0 && Math.abs(rest) < 0.15, `${rest} %`);
-}
+});
 
-// If a file has more segments than its header can say, the first section header says how many.
-async function check_many_segments() {
+check('If a file has more segments than its header can say, the first section header says how many', async () => {
     const many = Buffer.concat([elf_file({ type: 4 }), Buffer.alloc(64 + 56 * 70000)]);
     const numbers = [[0x20, 128, 8], [0x28, 64, 8], [0x38, 0xffff, 2], [0x3a, 64, 2], [0x3c, 1, 2],
         [64 + 44, 70000, 4]];
@@ -518,10 +514,9 @@ async function check_many_segments() {
     await pick_written('many', many, 'segments');
     assert.deepEqual([await text_of('#tab-segments span'), await text_of('#panel output')], ['70,000', '70,000']);
     await go('segments/69999', 'segment 69999, NULL');
-}
+});
 
-// In a file with sections code is what executable sections hold, and not the padding of an executable segment.
-async function check_padding() {
+check('In a file with sections code is what executable sections hold, and no padding of a segment', async () => {
     const content = elf_file({ segments: [{ flags: 5, vaddr: 0x400000, bytes: Buffer.alloc(4096) }],
         sections: [{ name: '.text', type: 1, flags: 6, addr: 0x401000, bytes: Buffer.alloc(4096, 0x90) }] });
     content.writeBigUInt64LE(8192n, 64 + 0x20);
@@ -532,10 +527,9 @@ async function check_padding() {
     const pattern = /^ {2}\[ *\d+\] \S+ +(?!NOBITS)[A-Z_]+ +\S+ \S+ ([0-9a-f]+) \S+ +[WA]*X/gm;
     const held = [...listed(program_file).matchAll(pattern)].reduce((all, [, size]) => all + parseInt(size, 16), 0);
     assert.ok(held > 1000 && Math.abs((await shares()).code - 100 * held / program_bytes.length) < 0.1);
-}
+});
 
-// The part of a segment that a cut file has is named and hatched. It is no gap.
-async function check_cut() {
+check('The part of a segment that a cut file has is named and hatched, and is no gap', async () => {
     const all = segments_of(program_file), last = all.findIndex(({ flags }) => flags === 'R E'),
         { offset: start, size } = all[last];
     const end = start + Math.floor(size / 2), final = hex(end - 1), share = (bytes) => 100 * bytes / end;
@@ -563,10 +557,9 @@ async function check_cut() {
     await pick_written('damaged', damaged, 'layout');
     const text = `.text (cut: ${damaged.length - 64} of 1,099,511,627,776 bytes are here)`;
     assert.deepEqual(await cells(5), ['ELF header', text, '.shstrtab', text, 'Section headers']);
-}
+});
 
-// Names depend on the machine and the owner. Numbers without a name are shown as numbers.
-async function check_labels() {
+check('Names depend on the machine and the owner, and numbers without a name are shown as numbers', async () => {
     const bytes = Buffer.alloc(8), segments = [{ type: 0x70000001, bytes }],
         text = (name, type, flags = 0) => ({ name, type, flags, bytes });
     const notes = { name: '.note', type: 7,
@@ -604,7 +597,7 @@ async function check_labels() {
         ['0x12, STB_GLOBAL (1), STT_FUNC (2)', `${main.size}, ${decimal(main.size)} bytes`,
             `Sections ${counts_of(program_file).sections}`, 'goblin what an ELF file holds']);
     assert.match(await field_of('st_other'), /STV_DEFAULT \(0\)/);
-}
+});
 
 // Names of C++: some of each form that is read, and some that are left alone: with an expression, a lambda, and an
 // older name of Rust.
@@ -616,7 +609,7 @@ const SHORT_FORMS = Array.from({ length: 8 }, (_, i) => `S_IS${i}_S${i}_E`).join
 const LEFT_ALONE = [VERY_LONG, '_Z1fILi1EEvRAT__c', '_ZZ1fvENKUlvE_clEv', '_ZN4core3fmt17h0123456789abcdefE', '_Z',
     '_ZN', 'main', '_Z1fS9_'];
 
-async function check_demangled() {
+check('Names of C++ are demangled as by c++filt, or left alone', async () => {
     const rows = readFileSync(join(stored, 'mangled'), 'utf8').trim().split('\n').map((line) => line.split('\t'));
     const by_filter = Object.fromEntries(rows),
         names = [...READ, ...LEFT_ALONE, ...Object.keys(by_filter).filter((name) => !READ.includes(name))];
@@ -641,10 +634,9 @@ async function check_demangled() {
     assert.deepEqual(found, found.map((text, i) => text && wanted[i]));
     await go('symbols/1/1', names[0]);
     assert.equal(await field_of('demangled'), `${wanted[0]}, not proved`);
-}
+});
 
-// While a large file is read, the previous one stays, with its name, and can be used. The page shows how much is left.
-async function check_loading() {
+check('While a file is read, the previous one stays and can be used, and the page says how much is left', async () => {
     await pick(program_file);
     await open_tab('sections');
     const large = join(folder, 'large'), { memory } = browser.cost();
@@ -672,12 +664,11 @@ async function check_loading() {
     await setTimeout(300);
     await is_undimmed();
     rmSync(large);
-}
+});
 
 const bytes_of = (path, at, size) => readFileSync(path).subarray(at, at + size).toString('hex');
 
-async function check_symbol_links() {
-    await pick(program_file);
+check_program('A symbol has its bytes, and links along which back and forward lead', async () => {
     await go(main_place, 'main');
     const shown = await bytes_shown(), data = sections['.data'];
     assert.ok(shown.length > 40 && bytes_of(program_file, main_at, main.size).startsWith(shown), shown);
@@ -698,18 +689,16 @@ async function check_symbol_links() {
         assert.equal(await fragment(), place);
     }
     await go_in_history('forward', 'main');
-}
+});
 
-// A link to a location leads there once the file is picked.
-async function check_early_link() {
+check('A link to a location leads there once the file is picked', async () => {
     await browser.open(`${url}#sections/${sections['.dynstr'].index}`);
     await pick(program_file);
     await until_chosen('.dynstr');
     assert.equal(await text_of(`${active_row} :nth-child(2)`), '.dynstr');
-}
+});
 
-async function check_section_links() {
-    await pick(program_file);
+check_program('A section has links to those at its sh_link and sh_info', async () => {
     const links = [['.rela.plt', '.dynsym', '.got'], ['.rela.dyn', '.dynsym'], ['.dynsym', '.dynstr'],
         ['.symtab', '.strtab']];
     for (const [name, link, info] of links) {
@@ -718,11 +707,9 @@ async function check_section_links() {
         if (info) assert.match(await field_of('sh_info'), /^\d+, \.got/);
         await follow(link);
     }
-}
+});
 
-// Back goes from row to row. The steps of the arrow keys count as one.
-async function check_history() {
-    await pick(program_file);
+check_program('Back goes from row to row, and the steps of the arrow keys count as one', async () => {
     await open_tab('sections');
     const [, first, second, third] = await cells(1);
     for (const [row, title] of [[1, first], [2, second]]) {
@@ -741,15 +728,14 @@ async function check_history() {
     await click('#tab-sections');
     await until_chosen('ELF header');
     assert.equal(await text_of(active_row), null);
-}
+});
 
-async function check_relocation_links() {
+check_program('A relocation leads to its symbol, and has the bytes that it changes', async () => {
     const [dynamic] = listed(program_file).split(" '.rela.plt' ");
     const all = [...dynamic.matchAll(
         /^([0-9a-f]{16}) +[0-9a-f]{16} (R_\w+) +(?:[0-9a-f]{16} (\w+)(?:@\S+)? \+ )?([0-9a-f]+)$/gm)];
     const at = all.findIndex(([, , type]) => type === 'R_X86_64_GLOB_DAT'), [, digits, , name] = all[at],
         place = parseInt(digits, 16);
-    await pick(program_file);
     await go(`relocations/${sections['.rela.dyn'].index}/${at}`, name);
     const got = Object.values(sections).find(({ address, size, type }) =>
         address > 0 && place >= address && place < address + size && type !== 'NOBITS');
@@ -768,10 +754,9 @@ async function check_relocation_links() {
     await pick_written('object', object);
     await go('relocations/2/0', 'R_X86_64_PC32');
     assert.equal(await bytes_shown(), '3344556677');
-}
+});
 
-async function check_goto() {
-    await pick(program_file);
+check_program('The field goes to an offset, an address and a name, and says how it reads digits', async () => {
     const inside = hex(main.value + 1),
         until_place = (place) => until(`document.querySelector('#chosen h2').textContent.endsWith('${place}')`);
     await go_by_field(' 0x10 ', 'offset 0x10');
@@ -802,12 +787,11 @@ async function check_goto() {
     await pick_written('named', elf_file({ sections: [{ name: 'a1', type: 1, bytes: Buffer.alloc(256) }] }));
     await go_by_field('a1', 'a1');
     await go_by_field('a2', 'offset 0xa2');
-}
+});
 
-async function check_search() {
+check_program('A search finds texts and addresses, and Enter opens what it finds', async () => {
     const all = decimal(symbols.length), at = main.value + 1,
         of_all = (is_found) => `${symbols.filter(is_found).length} of ${all}`;
-    await pick(program_file);
     await open_list(symtab, all);
     await search(`  ${hex(at)} `, of_all(({ value, size }) => value === at || (value < at && at < value + size)));
     assert.ok((await cells(1)).includes('main'));
@@ -836,11 +820,10 @@ async function check_search() {
     await click_row(1);
     await until(`location.hash.startsWith('#symbols/${index}/')`);
     assert.equal(await fragment(), `symbols/${index}/1`);
-}
+});
 
-// Searches and sorts of 184,833 symbols of C++, of which the first ones read the names, take a few seconds of a busy
-// processor, and not one for each 10,000. Meanwhile the page says how much is done.
-async function check_many_symbols() {
+// The first ones read the names. They take a few seconds of a busy processor, and not one for each 10,000.
+check('Searches and sorts of 184,833 symbols of C++ are fast, and say how much is done', async () => {
     const count = 184832, end = 'EEEE4some3mapERKSt6vectorISt4pairIPKcS0_ISsEESaIS6_EEi';
     const value_of = (i) => i * 7919 % 1000003, symbol = (i) =>
         ({ text: `_ZN5spaceINS_5ClassIiLi${i}${end}`, info: 0x12, shndx: 3, value: value_of(i) });
@@ -886,13 +869,12 @@ async function check_many_symbols() {
     await watch('#none');
     await go_by_field('Li777E', all[777].text);
     assert.deepEqual([await evaluate(`signs.includes('searching …')`), await is_hidden('none')], [true, true]);
-}
+});
 
 // Types that have other names in readelf than in the ABI.
 const NAMED_OTHERWISE = { 40: [32, 33, 34, 35, 36, 37, 129, 135], 183: [1028, 1029, 1030] };
 
-// The types of relocations of several machines have readelf's names.
-async function check_relocation_names() {
+check('The types of relocations of several machines have the names that readelf prints', async () => {
     const rows = readFileSync(join(stored, 'relocation_names'), 'utf8').trim().split('\n')
         .map((line) => line.split(' '));
     for (const [machine, least] of [[62, 43], [3, 42], [183, 117], [40, 117], [243, 53], [22, 66], [21, 130]]) {
@@ -913,7 +895,7 @@ async function check_relocation_names() {
     await pick_written('mips',
         elf_file({ machine: 8, sections: [{ name: '.rela', type: 4, entsize: 24, bytes: three }] }), 'relocations');
     assert.deepEqual(await cells(2), ['R_MIPS_GPREL16 R_MIPS_HI16 R_MIPS_SUB']);
-}
+});
 
 // Returns the cells of each line of a saved list but the first.
 const rows_of = (text) => text.trim().split('\r\n').slice(1)
@@ -945,8 +927,7 @@ async function saved(name) {
 }
 const saved_rows = async (name) => rows_of(await saved(name));
 
-// A section's index that does not fit in its symbol, and the symbol of a section.
-async function check_section_indices() {
+check('A symbol names its section by an index that does not fit in it, and a section by its symbol', async () => {
     const others = [4, 5, 6].map((index) => ({ name: `.s${index}`, type: 1, bytes: Buffer.alloc(0) }));
     const indices = { name: '.shndx', type: 18, link: 1, entsize: 4, bytes: packed([0, 4], [0, 4], [6, 4]) };
     const content = symbols_file([{ info: 3, shndx: 5 }, { text: 'past', info: 0x12, shndx: 0xffff }],
@@ -955,7 +936,7 @@ async function check_section_indices() {
     assert.deepEqual([await cells(1), await cells(7)], [['', '.s5', 'past'], ['undefined', '.s5', '.s6']]);
     await go('symbols/1/2', 'past');
     await follow('.s6');
-}
+});
 
 // Returns what a button copies.
 async function copied(button) {
@@ -966,8 +947,7 @@ async function copied(button) {
     return evaluate('globalThis.copied');
 }
 
-async function check_copies() {
-    await pick(program_file);
+check_program('Cells, rows, bytes and whole lists are copied and saved', async () => {
     await go(main_place, 'main');
     await click(`${active_row} :nth-child(2)`);
     await until_chosen('main');
@@ -988,10 +968,9 @@ async function check_copies() {
     assert.deepEqual(rows.map(([number, , value, size]) => [number, value, size].map(Number)),
         symbols.map((item) => [item.index, item.value, item.size]));
     assert.equal(rows[main.index][1], 'main');
-}
+});
 
-// A text that a spreadsheet would run, and one that would end a cell.
-async function check_formula() {
+check('A saved list holds nothing that a spreadsheet would run or that ends a cell, and plain numbers', async () => {
     await pick_written('formula', symbols_file([{ text: '=1+1' }, { text: 'a,"b"' }]), 'symbols');
     const lines = (await saved('symbols')).trim().split('\r\n');
     assert.ok(lines[2].startsWith(`1,"'=1+1",0x0,`) && lines[3].startsWith('2,"a,""b""",0x0,'), lines.join('\n'));
@@ -1009,10 +988,10 @@ async function check_formula() {
             .map((number, i) => (i < 2 ? hex(number) : number.toFixed(2))));
     }
     assert.deepEqual([at, parts.length > 4], [content.length, true]);
-}
+});
 
-// Of a refused table nothing can be saved, and by no way another table is. The bytes that say where it is are marked.
-async function check_refused_tables() {
+// The bytes that say where the table is are marked.
+check('Of a refused table nothing can be saved, and by no way another table is', async () => {
     const bytes = Buffer.alloc(72),
         tables = { symbols: { type: 2, entsize: 24, bytes }, relocations: { type: 4, entsize: 24, bytes } };
     for (const [name, table] of Object.entries(tables)) {
@@ -1034,10 +1013,9 @@ async function check_refused_tables() {
             }
         }
     }
-}
+});
 
-// A sentence says that a folder is dropped, that of two files one is opened, and that a location leads nowhere.
-async function check_sentences() {
+check('A sentence says that a folder is dropped, that of two files one is opened, and what leads nowhere', async () => {
     const inside = join(folder, 'inside');
     mkdirSync(inside);
     await browser.drop(inside);
@@ -1060,10 +1038,9 @@ async function check_sentences() {
     for (const [place, title] of [['header/e_type', 'e_type'], ['sections', 'ELF header'], [main_place, 'main'],
         ['notes/segments', 'ELF header'], ['offset/0x1', 'offset 0x1'], ['summary', 'ELF header']])
         await go(place, title).then(text_of.bind(null, '#said')).then((said) => assert.equal(said, '', place));
-}
+});
 
-// Control characters and those that turn the direction of a text are escaped in lists, titles and saved lists.
-async function check_unseen() {
+check('Control characters and those that turn the direction of a text are escaped, in saved lists, too', async () => {
     const codes = (from, to) => Array.from({ length: to - from + 1 }, (_, i) => from + i);
     const directions = [0x200e, 0x200f, ...codes(0x2028, 0x202e), ...codes(0x2066, 0x2069)],
         groups = [codes(1, 0x1f), codes(0x7f, 0x9f), directions];
@@ -1075,10 +1052,9 @@ async function check_unseen() {
         escapes = names.map((name) => `a${Buffer.from(name.slice(1)).toString('hex').replace(/../g, '\\x$&')}`);
     assert.deepEqual([(await cells(1)).slice(1), saved], [shown, escapes]);
     for (const [i, title] of shown.entries()) await go(`symbols/1/${i + 1}`, title);
-}
+});
 
-// What a file is that is no ELF file, and what a refusal means, in words.
-async function check_plain_words() {
+check('The page says in words what a file is that is no ELF file, and what a refusal means', async () => {
     const others = { '!<arch>\n': 'an archive', '\x1f\x8b': 'by gzip', '#!/': 'a script', MZ: 'DOS (PE)',
         '\xcf\xfa\xed\xfe': 'a Mach-O file' };
     for (const [begin, words] of Object.entries(others)) {
@@ -1094,11 +1070,9 @@ async function check_plain_words() {
     await click('#example');
     await until_text('#file b', 'example');
     assert.match(await text_of('#file'), /program at fixed addresses for x86-64/);
-}
+});
 
-// A link by a name leads to a section or symbol of a file that is built anew, wherever it is there.
-async function check_named_links() {
-    await pick(program_file);
+check_program('A link by a name leads to a section or symbol of a file built anew, wherever it is', async () => {
     for (const [place, name, value] of [['section=.text', 'sh_offset', text.offset],
         ['symbol=main', 'st_value', main.value]]) {
         await go(place, place.split('=')[1]);
@@ -1106,13 +1080,11 @@ async function check_named_links() {
         assert.equal(await copied('Copy link'), `${url}#${place}`);
     }
     await go('symbol=%', 'ELF header');
-}
+});
 
-// A row of bytes has as many as there is room for. A field of a record shows its bytes, and a byte its field.
-async function check_fields() {
+check_program('A row has as many bytes as fit, a field shows its bytes, and a byte its field', async () => {
     const { index, size, offset } = text,
         length = `${one('#chosen .hex .row :nth-child(2)')}?.textContent.trim().split(' ').length`;
-    await pick(program_file);
     for (const [width, each] of [[1600, 16], [1280, 8], [800, 16], [400, 8], [1400, 8]]) {
         await browser.resize(width, 1000);
         await go('header', 'ELF header');
@@ -1137,9 +1109,9 @@ async function check_fields() {
     await evaluate(`${one('#chosen .hex [data-field=sh_offset]')}
         .dispatchEvent(new PointerEvent('pointerover', { bubbles: true }))`);
     await is_lit('sh_offset', offset);
-}
+});
 
-async function check_words() {
+check('The byte order and the heads of columns are words', async () => {
     await pick(made);
     assert.match(await text_of('#file'), /little endian/);
     await pick_written('big', readFileSync(join(made_files, 'big64')), 'segments');
@@ -1147,12 +1119,10 @@ async function check_words() {
     const heads = await each_of('#panel [role=columnheader]', '[item.textContent, item.title]');
     assert.deepEqual(heads.slice(3, 7),
         [['Offset', 'p_offset'], ['File size', 'p_filesz'], ['Address', 'p_vaddr'], ['Memory size', 'p_memsz']]);
-}
+});
 
-// A cut cell has its whole text as a tooltip, and cells of segments are not cut.
-async function check_cells() {
+check_program('A cut cell has its whole text as a tooltip, and cells of segments are not cut', async () => {
     await browser.resize(1280, 900);
-    await pick(program_file);
     const cut = () => evaluate(`[...document.querySelectorAll('#panel .body .cell')].filter((cell) => {
         const [a, b] = [cell, document.querySelector('#panel .grid')].map((box) => box.getBoundingClientRect());
         return cell.scrollWidth > cell.clientWidth || a.left < b.left - 1 || a.right > b.right + 1;
@@ -1169,12 +1139,10 @@ async function check_cells() {
     // (a name takes what the other columns do not need)
     await pick_written('fits', symbols_file([{ text: '_Z'.padEnd(30, 'x') }, { text: '_Z1fv' }]), 'symbols');
     assert.deepEqual(await cut(), []);
-}
+});
 
-// Beside the summary and the sizes is no side that says nothing of them.
-async function check_alone() {
+check_program('Beside the summary and the sizes is no side that says nothing of them', async () => {
     await browser.resize(1280, 900);
-    await pick(program_file);
     for (const [tab, panel, is_alone] of [['header', '.fields', false], ['summary', '.summary', true],
         ['sections', '.grid', false], ['sizes', '.areas', true]]) {
         await set_place(tab);
@@ -1185,7 +1153,7 @@ async function check_alone() {
     await go('sizes', 'ELF header');
     await go('offset/0x10', 'offset 0x10');
     assert.equal(await is_visible('.side'), true);
-}
+});
 
 // Returns the number of sheets of a document, whose objects may be compressed.
 function sheets_of(pdf) {
@@ -1195,8 +1163,7 @@ function sheets_of(pdf) {
     return [text, ...inflated].join('').match(/\/Type *\/Page\b(?!s)/g).length;
 }
 
-// Paper has the summary, and all rows of the open list, over as many sheets as these take.
-async function check_printed() {
+check('Paper has the summary, and all rows of the open list, over as many sheets as these take', async () => {
     const rows = 1500, names = Array.from({ length: rows }, (_, i) => `name_${i}`);
     await pick_written('printed', symbols_file(names.map((text) => ({ text }))), 'symbols');
     const sheets = async () => sheets_of(await browser.print()), shown = async () => {
@@ -1217,11 +1184,9 @@ async function check_printed() {
     assert.match((await shown())[1], /111 of 1,501, with “name_14”$/);
     await go('header', 'ELF header');
     assert.ok(await sheets() < 3 && await text_of('#paper') === null);
-}
+});
 
-// Whatever is pressed is at least 24 pixels high.
-async function check_buttons() {
-    await pick(program_file);
+check_program('Whatever is pressed is at least 24 pixels high', async () => {
     for (const [width, height] of [[1280, 900], [800, 900], [400, 800], [800, 400]]) {
         await browser.resize(width, height);
         for (const [place, title = 'ELF header'] of [['header/e_type', 'e_type'], ['summary'],
@@ -1234,14 +1199,11 @@ async function check_buttons() {
             assert.ok(heights.length > 4, `${place}, ${width}: ${heights.length} buttons`);
         }
     }
-    await browser.resize(1400, 1600);
-}
+});
 
-// In low and narrow windows the first result of a search is in view, and so are the first bytes of what is chosen.
-async function check_low() {
+check_program('In low and narrow windows the first result and the first bytes are in view', async () => {
     const is_seen = (place) => `(({ top, bottom }) => top >= 0 && bottom <= innerHeight)(
         document.querySelector('${place}').getBoundingClientRect())`;
-    await pick(program_file);
     const number = symbols.filter(({ name }) => name.includes('main')).length;
     for (const [width, height] of [[800, 360], [640, 450], [400, 800]]) {
         await browser.resize(width, height);
@@ -1253,13 +1215,10 @@ async function check_low() {
         await until(bytes_drawn);
         assert.ok(await evaluate(is_seen('#chosen .hex .row')), `${width} ${height}`);
     }
-    await browser.resize(1400, 1600);
-}
+});
 
-// In windows of three widths: the map takes at most a third, no word is broken, and the page has no scroll bar but that
-// of the list.
-async function check_widths() {
-    await pick(program_file);
+// In windows of three widths.
+check_program('At most a third is the map, no word is broken, and only the list has a scroll bar', async () => {
     for (const [width, height] of [[1280, 900], [800, 900], [400, 800]]) {
         await browser.resize(width, height);
         await until(`innerWidth === ${width} && document.querySelector('section.map').offsetHeight <= innerHeight / 3`);
@@ -1296,12 +1255,10 @@ async function check_widths() {
         await evaluate('history.back()');
         await until(`document.getElementById('panel').offsetParent !== null`);
     }
-    await browser.resize(1400, 1600);
-}
+});
 
-// What is narrower than a pixel is drawn as a pixel: a file of 65,300 sections, whose number is the size of section 0,
-// and one whose other parts are large.
-async function check_narrow() {
+// A file of 65,300 sections, whose number is the size of section 0, and one whose other parts are large.
+check('What is narrower than a pixel is drawn as a pixel', async () => {
     const bytes = Buffer.alloc(8), count = 65300,
         content = elf_file({ sections: Array(count).fill({ name: '', type: 1, flags: 2, bytes }) });
     const first = header_at(content, 0);
@@ -1323,7 +1280,7 @@ async function check_narrow() {
     assert.deepEqual(await shares(), { 'debug information': 100 });
     assert.match(await text_of('#legend'),
         /each below 0.05 %: ELF header, header tables, symbols and names, notes, padding/);
-}
+});
 
 // The number of bytes of the map's rows, the map's place, the width of a row without its offset, and a wait for the
 // line above the map.
@@ -1360,11 +1317,10 @@ async function pixels_of(kind, line) {
     return (await Promise.all(lines)).flat().filter((is_it) => is_it).length;
 }
 
-async function check_map() {
+check_program('A segment is outlined in each of its rows on the map', async () => {
     const all = segments_of(program_file),
         index = all.findIndex(({ type, flags }) => type === 'LOAD' && flags === 'R E');
     const { offset: start, size } = all[index], rows = [];
-    await pick(program_file);
     const each = await each_row(), high = (await canvas_box()).height - 28;
     await check_colours();
     // A segment is outlined in each of its rows.
@@ -1374,7 +1330,7 @@ async function check_map() {
     const first = Math.floor(start / each), last = Math.floor((start + size - 1) / each);
     assert.ok(last > first);
     assert.deepEqual(rows, Array.from({ length: last - first + 1 }, (_, i) => first + i));
-}
+});
 
 // Points at the map, whose line above says what is below the pointer, until that leaves. Returns the line, and the
 // offset that it names.
@@ -1395,10 +1351,8 @@ async function spots_of(path, ...offsets) {
         [left + width - 7 - bar + bar * (at % each) / each, top + 15 + 24 * Math.floor(at / each)]);
 }
 
-// The wheel zooms to what is below the pointer, dragging moves it, and keys do both. Zooming shows functions, which are
-// links, then bytes.
-async function check_zoom() {
-    await pick(program_file);
+// Zooming shows functions, which are links, then bytes.
+check_program('The wheel zooms to what is below the pointer, dragging moves it, and keys do both', async () => {
     const [spot] = await spots_of(program_file, main_at), bar = await bar_of(program_bytes.length),
         whole = await each_row();
     const { left, top } = await canvas_box(), [x, y] = [left + 500, top + 40], { byte } = await pointed(x, y);
@@ -1437,10 +1391,9 @@ async function check_zoom() {
         [last, after] = await pick_written('function', file).then((path) => spots_of(path, at + 7, at + 8));
     assert.match((await pointed(...last)).text, new RegExp(`^a · \\.text · .* at ${hex(at + 7)}$`));
     assert.match((await pointed(...after)).text, new RegExp(`^\\.text · .* at ${hex(at + 8)}$`));
-}
+});
 
-// The strip below a row says what the bytes are like.
-async function check_classes() {
+check('The strip below a row says what the bytes are like', async () => {
     const size = 8192, code = program_bytes.subarray(text.offset, text.offset + size);
     const numbers = Buffer.from(Uint32Array.from({ length: size / 4 }, (_, i) => i).buffer),
         words = Buffer.alloc(size, 'What is below a row? ');
@@ -1454,14 +1407,12 @@ async function check_classes() {
         const bytes = await pixels_of(`in-${i}`, 24) * each / bar;
         assert.ok(Math.abs(bytes - size) < 0.12 * size, `class ${i}: ${bytes}`);
     }
-}
+});
 
-// An area is as large as the share of its section in the file. A click on a function leads to its symbol, and on a
-// section to it.
-async function check_sizes() {
+// A click on a function leads to its symbol.
+check_program('An area is as large as the share of its section in the file, and leads to it', async () => {
     const [largest] = functions, whole = program_bytes.length;
     const section = (name) => ({ name, ...sections[name], place: `sections/${sections[name].index}` });
-    await pick(program_file);
     for (const { name, size, place } of [...['.text', '.rodata', '.symtab'].map(section),
         { ...largest, place: `${symtab}/${largest.index}` }]) {
         await Promise.all([click('#tab-sizes'), until_there('.areas a')]);
@@ -1496,7 +1447,7 @@ async function check_sizes() {
     await focus('.areas a');
     await browser.press(...Array(steps).fill('ArrowRight'));
     await until(is_said);
-}
+});
 
 const linear = (colour) =>
     colour.map((part) => (part <= 10.31475 ? part / 255 / 12.92 : ((part / 255 + 0.055) / 1.055) ** 2.4));
@@ -1542,14 +1493,14 @@ async function check_colours() {
         .forEach((other, j) => assert.ok(apart(i, j) >= 0.07, `${name} and ${other}: ${apart(i, j)}`)));
 }
 
-async function check_themes() {
+check('The colours of both themes differ', async () => {
     for (const theme of browser.theme ? ['dark', 'light'] : []) {
         await browser.theme(theme);
         await until(`matchMedia('(prefers-color-scheme: ${theme})').matches`);
         await pick(program_file);
         await check_colours();
     }
-}
+});
 
 // Returns the made file with other bytes instead of a name.
 function renamed(content, name, bytes) {
@@ -1558,7 +1509,7 @@ function renamed(content, name, bytes) {
     return Buffer.concat([content.subarray(0, at), bytes, content.subarray(at + bytes.length)]);
 }
 
-async function check_names() {
+check('No name is markup', async () => {
     const markup = '<img src onerror=a>', others = { weak_undefined_data: markup, zeros: '\x80\u2028',
         weak_function: '<img src=abc>', data: [0xff, 0x41, 0x1b, 0x0a] };
     const named = Object.entries(others)
@@ -1573,10 +1524,9 @@ async function check_names() {
     await go_by_field('onerror', markup);
     await Promise.all([click('#tab-sizes'), until_there('.areas [aria-label^="<img"]')]);
     assert.equal(await text_of('img'), null);
-}
+});
 
-// The keyboard reaches the map's parts, which are also described in words, a row of a list, and the next tab.
-async function check_keys() {
+check('The keyboard reaches the described parts of the map, a row of a list, and the next tab', async () => {
     await pick(made);
     await open_tab('sections');
     await focus('#canvas');
@@ -1595,10 +1545,9 @@ async function check_keys() {
     await focus('#tab-sections');
     await browser.press('ArrowRight');
     await until_active('#tab-segments[aria-selected=true]');
-}
+});
 
-// If the engine lacks what the library needs, the page says so, and reads no file.
-async function check_unsupported() {
+check('If the engine lacks what the library needs, the page says so, and reads no file', async () => {
     for (const hidden of ['WebAssembly.validate = () => false;', 'delete globalThis.WebAssembly;']) {
         const show = await browser.before_pages(hidden);
         await browser.open(`${url}?${hidden.length}`);
@@ -1609,7 +1558,7 @@ async function check_unsupported() {
     }
     await browser.open(url);
     assert.deepEqual([await is_hidden('unsupported'), await is_hidden('drop')], [true, false]);
-}
+});
 
 // Tests that the test sees the requests of an empty page. Else it would miss the page's.
 async function check_hearing() {
@@ -1619,7 +1568,7 @@ async function check_hearing() {
     browser.requests.length = browser.refusals.length = 0;
 }
 
-async function check_requests() {
+check('The page asks for nothing, and no script fails', async () => {
     const blocked = await evaluate(`new Promise((resolve) => {
         document.addEventListener('securitypolicyviolation', ({ blockedURI }) => resolve(blockedURI));
         fetch('http://127.0.0.1:9/asked').catch(() => setTimeout(() => resolve('not refused by the policy'), 500));
@@ -1631,26 +1580,7 @@ async function check_requests() {
     const others = browser.requests.filter((request) => request.split(/[?#]/)[0] !== url
         && !/^(blob:|data:|about:blank$)/.test(request));
     assert.deepEqual([others, browser.faults], [[], []]);
-}
-
-async function check_refusals() {
-    const foreign = ['the file header', 'This is not an ELF file'];
-    await check_refusal(content.subarray(0, 40), 'the file header');
-    await check_refusal(Buffer.concat([Buffer.from('MZ'), content.subarray(2)]), ...foreign, '4d 5a 4c 46');
-    await check_refusal(Buffer.from('text\n'), ...foreign, '74 65 78 74 0a');
-}
-
-const checks = [
-    check_all_counts, check_refusals, check_trouble, check_unknown, check_own_tables, check_summary, check_broken,
-    check_called, check_core,
-    check_segments, check_many_segments, check_padding, check_cut, check_labels, check_loading, check_symbol_links,
-    check_early_link, check_section_links, check_history, check_relocation_links, check_goto, check_search,
-    check_many_symbols, check_relocation_names, check_section_indices, check_named_links, check_fields, check_low,
-    check_plain_words, check_copies, check_formula, check_sentences, check_unseen, check_refused_tables,
-    check_demangled, check_words, check_cells, check_alone, check_printed, check_buttons, check_widths, check_map,
-    check_zoom, check_classes, check_sizes, check_narrow, check_themes, check_names, check_keys, check_unsupported,
-    check_requests,
-];
+});
 
 async function run_checks() {
     await check_hearing();
@@ -1658,20 +1588,22 @@ async function run_checks() {
         console.log(`${browser.constructor.title} has no 64-bit memories, so the page is not tested in it`);
         return;
     }
-    await browser.resize(1400, 1600);
     await browser.open(url);
     await until(`document.getElementById('unmade')?.hidden`);
-    for (current of checks) await current();
+    for (current of checks) {
+        await browser.resize(1400, 1600);
+        await current.run();
+    }
     console.log(`${browser.constructor.title}: the page passes ${checks.length} checks over ${stored_files.length}`
         + ' files, and over those that they write, and asks for nothing');
 }
 
-let current = check_hearing;
+let current = { title: 'The test sees requests' };
 try {
     await browser.start(program);
     await run_checks();
 } catch (error) {
-    console.log(`${browser.constructor.title}: ${current.name}`);
+    console.log(`${browser.constructor.title}: ${current.title}`);
     throw error;
 } finally {
     await browser.end();
