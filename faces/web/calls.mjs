@@ -5,7 +5,7 @@
 import assert from 'node:assert/strict';
 import { existsSync, readdirSync, readFileSync } from 'node:fs';
 import { join, resolve } from 'node:path';
-import { fileURLToPath, pathToFileURL } from 'node:url';
+import { pathToFileURL } from 'node:url';
 import { runInNewContext } from 'node:vm';
 import { elf_file, note, packed, symbol } from './elves.mjs';
 import { import_goblin } from './tested.mjs';
@@ -855,53 +855,35 @@ function check_segments() {
     assert.deepEqual(found, wanted.map((held) => Array.from(held, (digit) => digit === '1')));
 }
 
-// Returns the library's constants, each as a BigInt or a list of BigInts. The name of a constant of one class starts
-// with its module.
+// Returns lines of the library's constants with their values, which a proved program prints, and of others. Only the name
+// of a constant of one class begins with its module.
 function constants_of_library() {
-    const all = new Map(), of = (module, name) => all.get(`${module}.${name}`) ?? all.get(name);
-    const folders = ['goblin_headers', 'goblin_records', 'goblin_dynamic']
-        .map((crate) => fileURLToPath(new URL(`../../crates/${crate}/src`, import.meta.url)));
-    const sources = folders.flatMap((folder) => readdirSync(folder).filter((name) => name.endsWith('.rt'))
-        .map((name) => join(folder, name)));
-    sources.push(fileURLToPath(new URL('../other_constants.rs', import.meta.url)));
-    // (those of both classes first, since the others are made from them)
-    for (const path of sources.sort((a, b) => b.includes('constants_') - a.includes('constants_'))) {
-        const module = /\/(\w+\d\d)\.rt$/.exec(path)?.[1], source = readFileSync(path, 'utf8');
-        for (const [, name, value] of source.matchAll(/^pub const (\w+): [^=]+ = ([^;]+);/gm)) {
-            const bytes = /^b"(.*)"$/.exec(value)?.[1]
-                .replace(/\\x(..)/g, (_, digits) => String.fromCharCode(parseInt(digits, 16)));
-            const term = (word) => (/^\d/.test(word) ? BigInt(word.replaceAll('_', '')) : of(module, word));
-            const sum = (text) => text.split(' + ').map((part) => part.split(' << ').map(term).reduce((a, b) => a << b))
-                .reduce((a, b) => a + b);
-            const list = bytes === undefined ? /^\[(.*)\]$/s.exec(value)?.[1].split(',').map((item) => item.trim())
-                .filter((item) => item) : Array.from(bytes, (sign) => `${sign.charCodeAt(0)}`);
-            all.set(module ? `${module}.${name}` : name, list ? list.map(sum) : sum(value));
-        }
-        assert.equal([...source.matchAll(/^pub const /gm)].length,
-            [...source.matchAll(/^pub const \w+: [^=]+ = [^;]+;/gm)].length, path);
-    }
-    return all;
+    const read = (name) => readFileSync(new URL(`../../${name}`, import.meta.url), 'utf8');
+    const of_library = Array.from(read('crates/goblin_names/stdout').matchAll(/^(\w+)::(\w+ .*)$/gm),
+        ([, module, line]) => (/\d\d$/.test(module) ? `${module}.${line}` : line));
+    const others = Array.from(read('faces/other_constants.rs').matchAll(/^pub const (\w+): \w+ = (\w+);$/gm),
+        ([, name, value]) => `${name} ${Number(value.replaceAll('_', ''))}`);
+    return [...of_library, ...others];
 }
 
 async function check_constants() {
-    const { VERSION, ...of_records } = await import(pathToFileURL(resolve(web, 'constants.js'))), found = new Map();
+    const { VERSION, ...of_records } = await import(pathToFileURL(resolve(web, 'constants.js'))), found = [];
     assert.equal(goblin.VERSION, VERSION);
     for (const [name, value] of Object.entries(of_records)) {
         assert.equal(goblin[name], value);
         if (typeof value === 'object') assert.ok(Object.isFrozen(value), name);
-        if (Array.isArray(value)) found.set(name, value.map(BigInt));
+        if (Array.isArray(value)) found.push(`${name} [${value.join(', ')}]`);
         else if (typeof value === 'object')
-            Object.entries(value).forEach(([field, number]) => found.set(`${name}.${field}`, BigInt(number)));
-        else found.set(name, BigInt(value));
+            found.push(...Object.entries(value).map(([field, number]) => `${name}.${field} ${number}`));
+        else found.push(`${name} ${value}`);
         // its type must be that of the field that holds it
         const is_big = /^(SH[FN]|D[TF])_/.test(name) && name !== 'SHF_NUM_REGULAR_FLAGS';
         if (typeof value !== 'object') assert.equal(typeof value, is_big ? 'bigint' : 'number', name);
     }
     const wanted = constants_of_library();
-    assert.ok(wanted.size >= 374);
-    const sorted = (all) => Object.fromEntries([...all].sort(([a], [b]) => (a < b ? -1 : 1)));
-    assert.deepEqual(sorted(found), sorted(wanted));
-    return `${wanted.size} constants`;
+    assert.ok(wanted.length >= 374);
+    assert.deepEqual(found.sort(), wanted.sort());
+    return `${wanted.length} constants`;
 }
 
 // Returns the declarations for TypeScript: for each type the names and types of its members.
