@@ -24,12 +24,15 @@ files.push(noted);
 
 const WITHOUT_EXPORTS = Uint8Array.of(0, 0x61, 0x73, 0x6d, 1, 0, 0, 0);
 
+// Adds a check, which may return what it counts.
+const checks = [], check = (title, run) => checks.push({ title, run });
+
 // Returns what reading throws.
 const error_of = (read) => { try { return read(); } catch (error) { return error; } };
 const is_refusal = (kind, offset) => (error) => error instanceof GoblinError
     && (kind === undefined || error.kind === kind) && (offset === undefined || error.offset === offset);
 
-async function check_missing_memories() {
+check('Without 64-bit memories an error says which engines have them', async () => {
     assert.throws(() => Elf.parse(own), /not ready/);
     assert.throws(() => goblin.et_to_str(1), /not ready/);
     const { validate } = WebAssembly;
@@ -37,7 +40,7 @@ async function check_missing_memories() {
     const words = ['memory64', '--experimental-wasm-memory64', 'Chromium 133', 'Firefox 134', 'Node.js 24'];
     await assert.rejects(goblin.default(), ({ message }) => words.every((word) => message.includes(word)));
     WebAssembly.validate = validate;
-}
+});
 
 // Returns a module with another name for one of its exports. Their names, each after its length, come before those of
 // all functions.
@@ -48,8 +51,7 @@ function without(module, name) {
     return copy;
 }
 
-// A module of another interface or without an export is not accepted, and does not replace one that is loaded.
-async function check_modules() {
+check('A module of another interface or without an export is refused, and replaces none', async () => {
     const module = readFileSync(join(web, 'goblin_c.wasm')),
         exported = WebAssembly.Module.exports(new WebAssembly.Module(module));
     const refused = async (source, words) => {
@@ -68,10 +70,11 @@ async function check_modules() {
     await goblin.default(new WebAssembly.Module(module));
     await assert.rejects(goblin.default(WITHOUT_EXPORTS));
     assert.equal(Elf.parse(own).section_headers().length, own.readUInt16LE(60));
+    await goblin.default();
     return `${exported.length} exports`;
-}
+});
 
-function check_bytes() {
+check('A file may be in bytes of each kind, and nothing else', () => {
     const length = own.length + 8 - own.length % 8, whole = new ArrayBuffer(length + 16),
         shared = new SharedArrayBuffer(length);
     const within = new Uint8Array(whole, 16, length);
@@ -112,7 +115,7 @@ function check_bytes() {
     assert.deepEqual([parts.length, own.equals(elf.bytes), own.equals(wanted.bytes), names(Elf.parse(parts))],
         [0, true, true, names(wanted)]);
     return `${Object.keys(given).length} kinds of bytes`;
-}
+});
 
 // Returns the items that a function returns for the indices of a list, or for all up to the first without an item.
 const of_each = ({ length }, by_index) => Array.from({ length }, (_, index) => by_index(index));
@@ -237,9 +240,7 @@ function lists_of(whole) {
     return made;
 }
 
-// Tests the lists of each file, cut to all lengths or to some: the call that makes a list throws, or the list has
-// all items.
-function check_lists() {
+check('The call that makes a list of a cut file throws, or the list has all items', () => {
     let refused = 0, made = 0;
     for (const content of files) {
         const lists = lists_of(Elf.parse(content)), step = Math.ceil(content.length / 2000);
@@ -263,10 +264,9 @@ function check_lists() {
     }
     assert.ok(refused > 10000 && made > 10000, `${refused} lists are refused, and ${made} are made`);
     return `${made} lists that have each item, ${refused} that are refused where they are made`;
-}
+});
 
-// The headers that are inside a file are all that `whole` has.
-function check_whole() {
+check('The headers that are inside a file are all that `whole` has', () => {
     let cut = 0;
     for (const content of files) {
         const elf = Elf.parse(content), { e_shoff, e_phoff } = elf.header,
@@ -297,10 +297,9 @@ function check_whole() {
         [0, 0n, undefined]);
     assert.ok(cut > 100, `${cut} lists are cut`);
     return `${cut} lists that are cut`;
-}
+});
 
-// If e_phnum is 0xffff, the first section has the number of segments.
-function check_number_of_segments() {
+check('If e_phnum is 0xffff, the first section has the number of segments', () => {
     const bytes = new Uint8Array(own), elf = Elf.parse(bytes), segments = [...elf.program_headers()],
         first = elf.section_header(0);
     const writer = elf.writer(bytes);
@@ -322,10 +321,10 @@ function check_number_of_segments() {
     of_core.put_number(64 + 44, 4, 70000);
     const list = Elf.parse(core).program_headers();
     assert.deepEqual([list.length, list.get(69999)?.p_type, list.get(70000)], [70000, 0, undefined]);
-}
+});
 
-// A writer says whether there is such an item. What is refused changes no bytes. (test.mjs compares what is written.)
-function check_writer() {
+// (test.mjs compares what is written with what C writes.)
+check('A writer says whether there is such an item, and what is refused changes no bytes', () => {
     const { BAD_OFFSET, DATA, INTEGER_FIT, INVALID_CLASS, SECTION_TYPE } = Kind;
     let written = 0;
     for (const content of files.slice(0, -1)) {
@@ -382,11 +381,9 @@ function check_writer() {
     }
     assert.ok(written > 50, `${written} records`);
     return `${written} records that are written`;
-}
+});
 
-// If one section of several ends past the end of the file, its list throws, and so does each list that includes it.
-// Others do not.
-function check_moved_sections() {
+check('A section past the end is refused, with each list that includes it, and others are not', () => {
     const calls = { 2: ['symtab', 'syms'], 11: ['symtab', 'dynsyms'], 4: ['relocs', 'shdr_relocs'],
         9: ['relocs', 'shdr_relocs'], 7: ['notes', 'iter_note_sections'] };
     let moved = 0;
@@ -405,10 +402,9 @@ function check_moved_sections() {
     }
     assert.ok(moved >= 10, `${moved} sections`);
     return `${moved} sections that pass the end`;
-}
+});
 
-// A section links to the one at its sh_link, unless that is 0, past the end or without bytes in the file.
-function check_linked_sections() {
+check('A section links to the one at sh_link, unless that is 0, past the end or without bytes', () => {
     let linked = 0;
     for (const content of files) {
         const elf = Elf.parse(content), sections = [...elf.section_headers()];
@@ -425,9 +421,9 @@ function check_linked_sections() {
     }
     assert.ok(linked > files.length, `${linked} sections`);
     return `${linked} linked sections`;
-}
+});
 
-function check_types_of_sections() {
+check('Sections of other types hold no symbols or relocations', () => {
     let found = 0;
     for (const content of files) {
         const elf = Elf.parse(content);
@@ -442,9 +438,9 @@ function check_types_of_sections() {
         }
     }
     return `${found} sections by their types`;
-}
+});
 
-function check_notes() {
+check('Notes are those of a section and a segment, up to one that is refused', () => {
     const elf = Elf.parse(noted),
         said = (notes) => notes.map(({ name, n_type, desc }) => [name, n_type, Buffer.from(desc).toString()]);
     for (const [holder, of_all] of [[elf.section('.note'), 'iter_note_sections'],
@@ -465,10 +461,9 @@ function check_notes() {
     }
     assert.equal(goblin.note_type_to_str({ name: 'GNU', n_type: 99 }), 'NT_UNKNOWN');
     return `${2 * NOTES.length} notes`;
-}
+});
 
-// Notes as bytes have whole names, need not be UTF-8, and must be inside their range.
-function check_notes_as_bytes() {
+check('Notes as bytes have whole names, need not be UTF-8, and must be inside their range', () => {
     const elf = Elf.parse(noted), section = elf.section('.note'), segment = elf.program_header(0),
         start = Number(section.sh_offset);
     const fields_of = (notes) => notes.map(({ name, n_type, desc }) =>
@@ -493,7 +488,7 @@ function check_notes_as_bytes() {
     assert.equal(elf.readable_notes_bytes(section, 1).notes.length, 1);
     assert.throws(() => elf.notes_bytes({ ...section, sh_addralign: 16n }),
         ({ kind, item }) => kind === Kind.NOTE_ALIGN && item === 0);
-}
+});
 
 // Returns an item as JSON has it, by the type of each of its fields.
 const as_json = (item) =>
@@ -514,7 +509,7 @@ function some_items() {
     };
 }
 
-function check_json() {
+check('Items are plain objects, and JSON has all their numbers', () => {
     const items = Object.values(some_items());
     for (const item of items) {
         assert.equal(Object.getPrototypeOf(item), Object.prototype);
@@ -536,9 +531,9 @@ function check_json() {
     assert.deepEqual([name, message, kind, numbers],
         ['GoblinError', refused.message, Kind.TOO_BIG, ['64', '20', '0', '0']]);
     return `${items.length} items as JSON`;
-}
+});
 
-function check_arguments() {
+check('Arguments of other types and ranges are refused', () => {
     const elf = Elf.parse(own);
     const text = elf.section('.text'), segment = elf.program_header(0), bytes = new Uint8Array(own),
         writer = elf.writer(bytes);
@@ -566,11 +561,11 @@ function check_arguments() {
     assert.equal(elf.section('.none'), undefined);
     const symbols = elf.syms(), main = symbols.by_name('main'), { st_value } = symbols.get(main);
     assert.equal(symbols.name(symbols.get(symbols.by_address(st_value))), 'main');
-}
+});
 
 const END = (1n << 64n) - 1n;
 
-function check_readable_data() {
+check('Readable data ends with the file', () => {
     const elf = Elf.parse(own), length = BigInt(own.length), text = elf.section('.text'), code = elf.program_header(0);
     for (const section of elf.section_headers())
         assert.deepEqual(elf.readable_data(section), elf.section_data(section));
@@ -585,9 +580,9 @@ function check_readable_data() {
         assert.equal(elf.readable_data({ ...section, sh_type: goblin.SHT_NOBITS }), undefined);
         assert.equal(elf.readable_data({ ...segment, p_filesz: 0n }), undefined);
     }
-}
+});
 
-function check_numbers_in() {
+check('Numbers in a section or a segment are inside it', () => {
     const elf = Elf.parse(own), text = elf.section('.text'),
         code = elf.program_headers().find(({ p_offset }) => p_offset > 0n);
     const little = (at, size) => BigInt(own.readUIntLE(Number(at), size));
@@ -598,9 +593,9 @@ function check_numbers_in() {
         assert.throws(() => elf.number_in(holder, size, 1), is_refusal(Kind.BAD_OFFSET));
         assert.throws(() => elf.number_in(holder, size - 3n, 4), is_refusal(Kind.TOO_BIG));
     }
-}
+});
 
-function check_addresses() {
+check('Addresses have offsets in the file', () => {
     const elf = Elf.parse(own), text = elf.section('.text');
     for (const { p_offset, p_vaddr, p_filesz } of elf.program_headers()
         .filter(({ p_type }) => p_type === goblin.PT_LOAD)) {
@@ -610,11 +605,11 @@ function check_addresses() {
     assert.equal(elf.address_to_offset(elf.header.e_entry), elf.header.e_entry - text.sh_addr + text.sh_offset);
     assert.equal(elf.address_to_offset(END), undefined);
     assert.throws(() => Elf.parse(own.subarray(0, 64)).address_to_offset(0), is_refusal(Kind.BUFFER_TOO_SHORT));
-}
+});
 
 // The type of the file is at offset 16, and the address of its entry at 24 (the files for this machine are
 // little endian).
-function check_header() {
+check('The entry and whether a file is a library are those of its header', () => {
     assert.equal(Elf.parse(own).entry(), own.readBigUInt64LE(24));
     for (const [type, is_lib] of [[1, false], [2, false], [3, true], [4, false], [0x300, false]]) {
         const copy = Buffer.from(own);
@@ -623,9 +618,9 @@ function check_header() {
         const elf = Elf.parse(copy);
         assert.deepEqual([elf.is_lib(), elf.entry()], [is_lib, END]);
     }
-}
+});
 
-function check_names() {
+check('Sections and symbols are found by names, from an index on', () => {
     const content = elf_file({ sections: ['a', 'b', 'a', 'a']
         .map((name, index) => ({ name, type: 1, bytes: Buffer.from([index]) })) });
     const elf = Elf.parse(content), found = (name, first) => elf.section_by_name(name, first)?.index;
@@ -648,10 +643,9 @@ function check_names() {
     assert.throws(() => symbols.symbol_by_name('main', -1), RangeError);
     const cut = Elf.parse(content.subarray(0, content.length - 1));
     assert.throws(() => cut.section_by_name('a'), is_refusal(Kind.TOO_BIG));
-}
+});
 
-// Strings that are compared, that a zero byte closes, and that are found many at once.
-function check_strings() {
+check('Strings are compared, closed by a zero byte, and found many at once', () => {
     const text = Buffer.from('\0main\0\xff\xfe\0end', 'latin1');
     const elf = Elf.parse(Buffer.concat([own, text])), sh_offset = BigInt(own.length);
     const table = (sh_size) => elf.strtab({ sh_type: 3, sh_offset, sh_size }), names = table(12n);
@@ -676,11 +670,10 @@ function check_strings() {
     for (const wrong of [-1, 2n ** 64n]) assert.throws(() => names.get_all_bytes([wrong]), RangeError);
     for (const wrong of [undefined, 5, ['m']])
         assert.throws(() => names.is(1, wrong), { name: 'TypeError', message: /^bytes must be / });
-}
+});
 
-// The dynamic section is that of a segment, or without program headers a section. Its entries, of which several are
-// read at a time, end before DT_NULL.
-function check_dynamic() {
+// Its entries, of which several are read at a time, end before DT_NULL.
+check('The dynamic section is that of a segment, or without program headers a section', () => {
     const { DT_NULL, DT_NEEDED, DT_STRTAB, DT_SONAME, DT_STRSZ } = goblin, text = Buffer.from('\0liba\0libb\0');
     const bytes_of = (entries) => packed(...entries.flat().map((number) => [number, 8]));
     const with_segment = (entries) => elf_file({ type: 3,
@@ -717,10 +710,9 @@ function check_dynamic() {
             assert.throws(() => elf[read](1), is_refusal(Kind.TOO_BIG));
     assert.throws(() => Elf.parse(with_segment([[DT_STRTAB, 0x1000n], [DT_STRSZ, 999n]])).dynamic_strings(),
         is_refusal(Kind.TOO_BIG));
-}
+});
 
-// Where errors begin in the file, and where their numbers count from, as the comments of `offset` and `Kind` say.
-function check_offsets_of_errors() {
+check('Errors begin, and their numbers count from, where the comments of `offset` and `Kind` say', () => {
     const why = (read) => (({ kind, numbers, offset }) => [kind, ...numbers.slice(0, 2), offset])(error_of(read));
     const { TOO_BIG, BAD_OFFSET, NOTE_ALIGN } = Kind, whole = Elf.parse(own), list = whole.header.e_shoff,
         header_5 = list + 5n * 64n;
@@ -751,10 +743,9 @@ function check_offsets_of_errors() {
         assert.deepEqual(why(() => elf.notes({ ...section, sh_addralign: alignment })),
             [NOTE_ALIGN, alignment, 0n, first]);
     }
-}
+});
 
-// A map finds what `by_address` finds.
-function check_address_map() {
+check('A map finds what `by_address` finds', () => {
     let found = 0;
     const symbols_of = (made, type = 1, ...others) => Elf.parse(elf_file({ type,
         sections: [{ name: '.symtab', type: 2, bytes: Buffer.concat(made.map(symbol)) }, ...others] })).syms();
@@ -798,9 +789,9 @@ function check_address_map() {
     }
     assert.ok(found > 5000, `${found} addresses`);
     return `${found} addresses in maps`;
-}
+});
 
-function check_segments() {
+check('A segment holds sections by their ranges, addresses, types and flags', () => {
     const { PT_DYNAMIC, PT_GNU_EH_FRAME, PT_GNU_RELRO, PT_GNU_STACK, PT_INTERP, PT_LOAD, PT_NOTE,
         PT_PHDR, PT_TLS } = goblin;
     const { SHF_ALLOC, SHF_TLS, SHT_NOBITS, SHT_NOTE, SHT_PROGBITS } = goblin;
@@ -834,7 +825,7 @@ function check_segments() {
     ];
     const wanted = ['11000010', '100', '000001', '001', '11100', '100', '001', '111', '100'];
     assert.deepEqual(found, wanted.map((held) => Array.from(held, (digit) => digit === '1')));
-}
+});
 
 // Returns lines of the constants of the library, which a proved program prints, and of others. Only the name
 // of a constant of one class begins with its module.
@@ -847,7 +838,7 @@ function constants_of_library() {
     return [...of_library, ...others];
 }
 
-async function check_constants() {
+check('Constants are those that the library prints, in the types of the fields that hold them', async () => {
     const { VERSION, ...of_records } = await import(pathToFileURL(resolve(web, 'constants.js'))), found = [];
     assert.equal(goblin.VERSION, VERSION);
     for (const [name, value] of Object.entries(of_records)) {
@@ -865,7 +856,7 @@ async function check_constants() {
     assert.ok(wanted.length >= 374);
     assert.deepEqual(found.sort(), wanted.sort());
     return `${wanted.length} constants`;
-}
+});
 
 // Returns the declarations for TypeScript: for each type the names and types of its members.
 function declared_members(declared, word) {
@@ -875,7 +866,7 @@ function declared_members(declared, word) {
             .map(([, member, type]) => [member, type]))]));
 }
 
-function check_declarations() {
+check('The declarations have all that goblin.js exports', () => {
     const declared = readFileSync(join(web, 'goblin.d.ts'), 'utf8');
     const names = [...declared.matchAll(/^export (?:const|function|class) (\w+)/gm)].map(([, name]) => name);
     assert.deepEqual(names.sort(), Object.keys(goblin).filter((name) => name !== 'default').sort());
@@ -912,9 +903,9 @@ function check_declarations() {
         assert.deepEqual(Object.keys(members).filter((member) => member !== 'constructor').sort(), wanted.sort(), name);
     }
     return `${names.length} declared names`;
-}
+});
 
-function check_package() {
+check('The package lists all of its files', () => {
     const { types, exports, engines, files: listed } = JSON.parse(readFileSync(join(web, 'package.json')));
     assert.deepEqual(exports['.'], { types, default: './goblin.js' });
     const passed_on = Object.entries(exports).filter(([name]) => name !== '.');
@@ -927,16 +918,15 @@ function check_package() {
     // (an earlier node needs a flag)
     const has_flag = process.execArgv.includes('--experimental-wasm-memory64');
     assert.ok(has_flag || Number(process.versions.node.split('.')[0]) >= Number(least));
-}
+});
 
-await check_missing_memories();
-const modules = await check_modules();
-await goblin.default();
-const tested = [
-    modules, check_bytes(), check_lists(), check_whole(), check_writer(), check_moved_sections(),
-    check_linked_sections(), check_types_of_sections(), check_notes(), check_json(), await check_constants(),
-    check_address_map(), check_declarations(), check_arguments(), check_header(), check_readable_data(),
-    check_numbers_in(), check_addresses(), check_names(), check_offsets_of_errors(), check_number_of_segments(),
-    check_notes_as_bytes(), check_segments(), check_strings(), check_dynamic(), check_package(),
-];
-console.log(`goblin.js does what its comments say: ${tested.filter((said) => said).join(', ')}`);
+const said = [];
+for (const { title, run } of checks) {
+    try {
+        said.push(await run());
+    } catch (error) {
+        console.log(`calls.mjs: ${title}`);
+        throw error;
+    }
+}
+console.log(`goblin.js does what its comments say: ${said.filter(Boolean).join(', ')}`);
