@@ -52,6 +52,7 @@ const active_row = '#panel .row[aria-selected=true]';
 const fragment = () => evaluate('location.hash.slice(1)');
 const side = () => text_of('#chosen');
 const cells = (column) => each_of('#panel .body .row', `item.children[${column}].textContent`);
+const press = (selector, ...keys) => focus(selector).then(() => browser.press(...keys));
 const click_row = (row) => evaluate(`document.querySelectorAll('#panel .body .row')[${row}].children[1].click()`);
 const field_of = (name) => evaluate(`[...document.querySelectorAll('#chosen tr')]
     .find((row) => row.firstChild.textContent === ${quoted(name)})?.lastChild.innerText`);
@@ -90,8 +91,16 @@ async function open_list(place, said) {
     await until(`${one('#panel output')}?.textContent === '${said}' && (${drawn} || ${/[a-z]/.test(said)})`);
 }
 
+// Asserts that each text, which a function returns of a name, is another one or matches a pattern.
+async function has_texts(wanted, read = text_of) {
+    for (const [name, text] of Object.entries(wanted))
+        (text instanceof RegExp ? assert.match : assert.equal)(await read(name), text, name);
+}
+
 // Goes to a location, back or forward, or to that of a link, and waits until the title of what is chosen has a text.
-const go = (place, title) => set_place(place).then(() => until_chosen(title));
+// There fields have texts.
+const go = (place, title, fields = {}) =>
+    set_place(place).then(() => until_chosen(title)).then(() => has_texts(fields, field_of));
 const go_in_history = (way, title) => evaluate(`history.${way}()`).then(() => until_chosen(title));
 const follow = (text, title = text) => evaluate(`${with_text('#chosen a', text)}.click()`)
     .then(() => until_chosen(title));
@@ -246,9 +255,9 @@ check('If the section headers are refused, no list that is made from them is sho
     await search('a', 'none');
     // (a note whose owner is not UTF-8 is read; a cut one is refused, and those after it are not read)
     await open_tab('notes');
-    assert.deepEqual([await text_of('#tab-notes span'), await cells(2)], ['2+', ['GNU', 'GAU+0000\\xff']]);
-    assert.match(await text_of('#panel .refused'),
-        /^Refused: .* while reading the descriptor of the note at 0x[0-9a-f]+, of \.note/);
+    assert.deepEqual(await cells(2), ['GNU', 'GAU+0000\\xff']);
+    await has_texts({ '#tab-notes span': '2+',
+        '#panel .refused': /^Refused: .* while reading the descriptor of the note at 0x[0-9a-f]+, of \.note/ });
 });
 
 check('Packed relocations and what only the dynamic section leads to are listed, as not proved', async () => {
@@ -256,18 +265,15 @@ check('Packed relocations and what only the dynamic section leads to are listed,
         wanted = ['0x1000', '0x1008', '0x1018', '0x1200', '0x2000'];
     const file = elf_file({ type: 3, sections: [{ name: '.relr.dyn', type: 19, flags: 2, bytes: packed(...words) }] });
     await pick_written('packed', file, 'relocations');
-    assert.deepEqual([await cells(1), await text_of('#tab-relocations span')], [wanted, '5']);
-    assert.deepEqual((await saved_rows('relocations')).map(([, offset]) => offset), wanted);
-    assert.match(await text_of('#panel .others'), /packed relocations .* outside of what is proved/i);
-    await go('relocations/1/3', 'packed relocation 3');
-    assert.match(await field_of('r_offset'), /^0x1200/);
+    await has_texts({ '#tab-relocations span': '5',
+        '#panel .others': /packed relocations .* outside of what is proved/i });
+    assert.deepEqual([await cells(1), (await saved_rows('relocations')).map(([, offset]) => offset)], [wanted, wanted]);
+    await go('relocations/1/3', 'packed relocation 3', { r_offset: /^0x1200/ });
     const output = listed(program_file);
     await pick_written('headless', Buffer.from(program_bytes).fill(0, 0x28, 0x30).fill(0, 0x3a, 0x40), 'symbols');
     const [symbols, dyn, plt] = ['.dynsym', '.rela.dyn', '.rela.plt'].map((name) => sections[name].size / 24);
-    assert.deepEqual([await text_of('#tab-symbols span'), await text_of('#tab-relocations span')],
-        [`${symbols}`, `${dyn + plt}`]);
-    assert.match(await text_of('#panel .others'),
-        /the entries of the dynamic section, whose meaning is outside of what is proved/);
+    await has_texts({ '#tab-symbols span': `${symbols}`, '#tab-relocations span': `${dyn + plt}`,
+        '#panel .others': /the entries of the dynamic section, whose meaning is outside of what is proved/ });
     const is_listed = async (column, table, pattern) => {
         const names = [...output.split(` '${table}' `)[1].split('\n\n')[0].matchAll(pattern)].map(([, name]) => name);
         assert.deepEqual((await cells(column)).slice(0, 20), names.slice(0, 20));
@@ -451,16 +457,13 @@ check('A core has its signal, command, threads with registers, and mapped files,
             .slice(0, 3), ['signal', signal, name]);
     }
     await pick(join(folder, 'process'));
-    await go('notes/segments/0', 'CORE PRSTATUS, thread 71');
-    assert.deepEqual([await field_of('rax'), await field_of('rip')], ['0x77', '0x401234']);
-    assert.match(await field_of('registers'), /not proved/);
+    await go('notes/segments/0', 'CORE PRSTATUS, thread 71', { rax: '0x77', rip: '0x401234', registers: /not proved/ });
     for (const [machine, places] of [[183, { x0: 0, sp: 31, pc: 32 }], [243, { pc: 0, sp: 2, t6: 31 }]]) {
         const status = note('CORE', 1,
-            put(480, ...Object.values(places).map((place) => [112 + 8 * place, 0x1000 + place])));
+            put(480, ...Object.values(places).map((place) => [112 + 8 * place, 0x1000 + place]))),
+            registers = Object.entries(places).map(([name, place]) => [name, hex(0x1000 + place)]);
         await pick_written(`core${machine}`, elf_file({ type: 4, machine, segments: [{ type: 4, bytes: status }] }));
-        await go('notes/segments/0', 'CORE PRSTATUS, thread 0');
-        for (const [name, place] of Object.entries(places))
-            assert.equal(await field_of(name), hex(0x1000 + place), name);
+        await go('notes/segments/0', 'CORE PRSTATUS, thread 0', Object.fromEntries(registers));
     }
 });
 
@@ -590,13 +593,11 @@ check('Names depend on the machine and the owner, and numbers without a name are
     await facts();
     assert.match(await text_of('#panel .others'), /the relocations of Alpha and .* SPARC’s symbol type STT_REGISTER/);
     await pick(program_file);
-    await go(main_place, 'main');
     // (what belongs together is apart in the text, too, which is copied and read aloud)
-    assert.deepEqual(
-        [await field_of('st_info'), await field_of('st_size'), await text_of('#tab-sections'), await text_of('h1')],
-        ['0x12, STB_GLOBAL (1), STT_FUNC (2)', `${main.size}, ${decimal(main.size)} bytes`,
-            `Sections ${counts_of(program_file).sections}`, 'goblin what an ELF file holds']);
-    assert.match(await field_of('st_other'), /STV_DEFAULT \(0\)/);
+    await go(main_place, 'main', { st_info: '0x12, STB_GLOBAL (1), STT_FUNC (2)', st_other: /STV_DEFAULT \(0\)/,
+        st_size: `${main.size}, ${decimal(main.size)} bytes` });
+    await has_texts({ '#tab-sections': `Sections ${counts_of(program_file).sections}`,
+        h1: 'goblin what an ELF file holds' });
 });
 
 // Names of C++: some of each form that is read, and some that are left alone: with an expression, a lambda, and an
@@ -632,8 +633,7 @@ check('Names of C++ are demangled as by c++filt, or left alone', async () => {
     const read = found.filter(Boolean).length;
     assert.ok(read > 0.95 * (names.length - LEFT_ALONE.length), `${read} of ${names.length}`);
     assert.deepEqual(found, found.map((text, i) => text && wanted[i]));
-    await go('symbols/1/1', names[0]);
-    assert.equal(await field_of('demangled'), `${wanted[0]}, not proved`);
+    await go('symbols/1/1', names[0], { demangled: `${wanted[0]}, not proved` });
 });
 
 check('While a file is read, the previous one stays and can be used, and the page says how much is left', async () => {
@@ -699,12 +699,10 @@ check('A link to a location leads there once the file is picked', async () => {
 });
 
 check_program('A section has links to those at its sh_link and sh_info', async () => {
-    const links = [['.rela.plt', '.dynsym', '.got'], ['.rela.dyn', '.dynsym'], ['.dynsym', '.dynstr'],
-        ['.symtab', '.strtab']];
-    for (const [name, link, info] of links) {
-        await go(`sections/${sections[name].index}`, name);
-        assert.match(await field_of('sh_link'), new RegExp(`^\\d+, ${link.replace('.', '\\.')}$`));
-        if (info) assert.match(await field_of('sh_info'), /^\d+, \.got/);
+    const links = [['.rela.plt', '.dynsym', { sh_info: /^\d+, \.got/ }], ['.rela.dyn', '.dynsym'],
+        ['.dynsym', '.dynstr'], ['.symtab', '.strtab']];
+    for (const [name, link, fields = {}] of links) {
+        await go(`sections/${sections[name].index}`, name, { sh_link: `${sections[link].index}, ${link}`, ...fields });
         await follow(link);
     }
 });
@@ -716,8 +714,7 @@ check_program('Back goes from row to row, and the steps of the arrow keys count 
         await click_row(row);
         await until_chosen(title);
     }
-    await focus('#panel .grid');
-    await browser.press('ArrowDown');
+    await press('#panel .grid', 'ArrowDown');
     await until_chosen(third);
     await go_in_history('back', first);
     assert.equal(await text_of(`${active_row} :nth-child(2)`), first);
@@ -736,11 +733,10 @@ check_program('A relocation leads to its symbol, and has the bytes that it chang
         /^([0-9a-f]{16}) +[0-9a-f]{16} (R_\w+) +(?:[0-9a-f]{16} (\w+)(?:@\S+)? \+ )?([0-9a-f]+)$/gm)];
     const at = all.findIndex(([, , type]) => type === 'R_X86_64_GLOB_DAT'), [, digits, , name] = all[at],
         place = parseInt(digits, 16);
-    await go(`relocations/${sections['.rela.dyn'].index}/${at}`, name);
+    await go(`relocations/${sections['.rela.dyn'].index}/${at}`, name, { r_type: /R_X86_64_GLOB_DAT/ });
     const got = Object.values(sections).find(({ address, size, type }) =>
         address > 0 && place >= address && place < address + size && type !== 'NOBITS');
     assert.equal(await bytes_shown(), bytes_of(program_file, place - got.address + got.offset, 8));
-    assert.match(await field_of('r_type'), /R_X86_64_GLOB_DAT/);
     await follow('address', `address ${hex(place)}`);
     await go_in_history('back', name);
     await follow(name);
@@ -799,15 +795,13 @@ check_program('A search finds texts and addresses, and Enter opens what it finds
     await search('FILE', of_all(({ type, name }) => type === 'FILE' || /file/i.test(name)));
     // Enter opens the first result, and a row of the list, whose column heads are before it.
     await search('main', of_all(({ name }) => name.includes('main')));
-    await focus('#panel input');
-    await browser.press('Enter');
+    await press('#panel input', 'Enter');
     await until_active('#chosen h2');
     const [first, second] = symbols.filter(({ name }) => name.includes('main'));
     assert.equal(await fragment(), `${symtab}/${first.index}`);
-    await focus('#panel .saving button:last-child');
-    await browser.press('Tab');
+    await press('#panel .saving button:last-child', 'Tab');
     assert.equal(await evaluate(`document.activeElement.closest('[role=columnheader]')?.textContent`), '#');
-    for (let column = 0; column < 8; column++) await browser.press('Tab');
+    await browser.press(...Array(8).fill('Tab'));
     await until_active('[role=grid]');
     await browser.press('ArrowDown', 'Enter');
     await until_active('#chosen h2');
@@ -1075,8 +1069,7 @@ check('The page says in words what a file is that is no ELF file, and what a ref
 check_program('A link by a name leads to a section or symbol of a file built anew, wherever it is', async () => {
     for (const [place, name, value] of [['section=.text', 'sh_offset', text.offset],
         ['symbol=main', 'st_value', main.value]]) {
-        await go(place, place.split('=')[1]);
-        assert.match(await field_of(name), new RegExp(`^${hex(value)}\\b`));
+        await go(place, place.split('=')[1], { [name]: new RegExp(`^${hex(value)}\\b`) });
         assert.equal(await copied('Copy link'), `${url}#${place}`);
     }
     await go('symbol=%', 'ELF header');
@@ -1363,8 +1356,7 @@ check_program('The wheel zooms to what is below the pointer, dragging moves it, 
     await is_near(x);
     await browser.drag([x, y], [x + 90, y]);
     await is_near(x + 90);
-    await focus('#canvas');
-    await browser.press('PageDown');
+    await press('#canvas', 'PageDown');
     assert.ok((await pointed(x, y)).byte > byte + whole / 2);
     await browser.press('0');
     await zoomed(whole);
@@ -1444,8 +1436,7 @@ check_program('An area is as large as the share of its section in the file, and 
     await until(is_said);
     await browser.point(5, 5);
     await until(`(${tip}) === ''`);
-    await focus('.areas a');
-    await browser.press(...Array(steps).fill('ArrowRight'));
+    await press('.areas a', ...Array(steps).fill('ArrowRight'));
     await until(is_said);
 });
 
@@ -1529,11 +1520,9 @@ check('No name is markup', async () => {
 check('The keyboard reaches the described parts of the map, a row of a list, and the next tab', async () => {
     await pick(made);
     await open_tab('sections');
-    await focus('#canvas');
-    await browser.press('ArrowRight');
+    await press('#canvas', 'ArrowRight');
     await until_there('#canvas[aria-valuetext^="ELF header: "]');
-    await focus('#panel .grid');
-    await browser.press('ArrowDown', 'ArrowDown', 'ArrowDown', 'ArrowUp');
+    await press('#panel .grid', 'ArrowDown', 'ArrowDown', 'ArrowDown', 'ArrowUp');
     await until_chosen('.text');
     const active = `document.activeElement.getAttribute('aria-activedescendant')`;
     assert.equal(await evaluate(`document.getElementById(${active}).children[1].textContent`), '.text');
@@ -1542,8 +1531,7 @@ check('The keyboard reaches the described parts of the map, a row of a list, and
     await until_there('body:has(#keys:popover-open) .fields.header[role=grid]');
     await evaluate(`${one('#keys')}.hidePopover()`);
     await click('#tab-sections');
-    await focus('#tab-sections');
-    await browser.press('ArrowRight');
+    await press('#tab-sections', 'ArrowRight');
     await until_active('#tab-segments[aria-selected=true]');
 });
 
