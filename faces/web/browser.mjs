@@ -13,7 +13,7 @@ import { setTimeout } from 'node:timers/promises';
 import { pathToFileURL } from 'node:url';
 import { inflateSync } from 'node:zlib';
 import { Chromium, Firefox, PATIENCE, waited } from './browsers.mjs';
-import { elf_file, note, packed, rela, symbols_file } from './elves.mjs';
+import { code, elf_file, note, noted_file, packed, relocations, symbols_file } from './elves.mjs';
 
 const [, , kind, program, page, dump, made_files, stored_folder] = process.argv, stored = resolve(stored_folder);
 const made = join(made_files, 'little64'), content = readFileSync(made),
@@ -345,7 +345,7 @@ check('All libraries are in one row, up to a number, with how many there are and
 check('A function has one row, whatever its names, and what is in no symbol is said, too', async () => {
     const given = [['a', 0, 8], ['alias', 0, 8], ['inside', 4, 4], ['b', 8, 16], ['other', 8, 12], ['c', 40, 1]].map(
         ([text, value, size]) => ({ text, info: 2, shndx: 3, value, size }));
-    const text = { name: '.text', type: 1, flags: 6, bytes: Buffer.alloc(64, 1) };
+    const text = code(Buffer.alloc(64, 1));
     await pick_written('functions', symbols_file(given, text));
     assert.deepEqual((await facts('', 'Largest functions')).map(([name, value]) => `${name}, ${value}`),
         ['in no symbol, 39 of 64 bytes of code', '16 bytes, b', '8 bytes, a', '1 byte, c']);
@@ -436,7 +436,7 @@ check('A core has its signal, command, threads with registers, and mapped files,
     const others = Array.from({ length: 299 }, (_, i) => thread(100 + i, 0x402000, 0x7ffd00));
     const notes = [thread(71, 0x401234, 0x7fff00), note('CORE', 3, process), note('CORE', 0x46494c45, mapped),
         thread(72, 0x401300, 0x7ffe00), ...others];
-    await pick_written('process', elf_file({ type: 4, segments: [{ type: 4, bytes: Buffer.concat(notes) }] }));
+    await pick_written('process', noted_file(notes));
     assert.deepEqual(await facts('', 'What was running'), [['signal', '11, SIGSEGV'],
         ['command', './program --all, note'], ['process', '70'], ['thread 71', 'rip 0x401234, rsp 0x7fff00, note'],
         ['thread 72', 'rip 0x401300, rsp 0x7ffe00, note'],
@@ -444,15 +444,14 @@ check('A core has its signal, command, threads with registers, and mapped files,
         ['mapped file', '/bin/a, 2 ranges from 0x400000 on'],
         ['mapped file', '/lib/b c, 1 range from 0x7f0000 on']].map((row) => [...row, 'not proved']));
     const apart = Array.from({ length: 25 }, (_, i) => thread(i, 0x401000 + i, 0x7f0000));
-    await pick_written('apart', elf_file({ type: 4, segments: [{ type: 4, bytes: Buffer.concat(apart) }] }));
+    await pick_written('apart', noted_file(apart));
     assert.deepEqual((await facts('', 'What was running')).slice(-2).map(([name, value]) => `${name}: ${value}`),
         ['thread 19: rip 0x401013, rsp 0x7f0000, note', 'other places of threads: 5, notes']);
     // (some machines have other signals by these numbers; and a note may be too short to have a number)
     for (const [machine, bytes, signal, name] of [[62, put(336, [12, 10, 2]), '10, SIGUSR1', 'thread 0'],
         [8, put(336, [12, 10, 2]), '10', 'thread 0'], [43, put(336, [12, 10, 2]), '10', 'thread 0'],
         [62, Buffer.alloc(8, 1), 'unknown', 'thread unknown']]) {
-        const segment = { type: 4, bytes: Buffer.concat([note('CORE', 1, bytes), note('CORE', 6, process)]) };
-        await pick_written('signal', elf_file({ type: 4, machine, segments: [segment] }));
+        await pick_written('signal', noted_file([note('CORE', 1, bytes), note('CORE', 6, process)], { machine }));
         assert.deepEqual((await facts('', 'What was running')).slice(0, 2).flatMap(([title, value]) => [title, value])
             .slice(0, 3), ['signal', signal, name]);
     }
@@ -462,7 +461,7 @@ check('A core has its signal, command, threads with registers, and mapped files,
         const status = note('CORE', 1,
             put(480, ...Object.values(places).map((place) => [112 + 8 * place, 0x1000 + place]))),
             registers = Object.entries(places).map(([name, place]) => [name, hex(0x1000 + place)]);
-        await pick_written(`core${machine}`, elf_file({ type: 4, machine, segments: [{ type: 4, bytes: status }] }));
+        await pick_written(`core${machine}`, noted_file([status], { machine }));
         await go('notes/segments/0', 'CORE PRSTATUS, thread 0', Object.fromEntries(registers));
     }
 });
@@ -486,13 +485,12 @@ const core_notes = [
 check('Memory and notes of a core with its threads, and segments without sections, are pieces', async () => {
     const notes = core_notes.map(([owner, type, name, thread]) =>
         note(owner, type, name === 'PRSTATUS' ? status(thread) : Buffer.alloc(64)));
-    const segments = [{ type: 4, bytes: Buffer.concat(notes) },
-        { flags: 5, vaddr: 0x400000, bytes: Buffer.alloc(4096, 1) },
-        { flags: 6, vaddr: 0x600000, bytes: Buffer.alloc(8192, 2) }];
-    const path = await pick_written('core', elf_file({ type: 4, segments }), 'notes');
-    const { code, data, notes: of_notes, padding: between = 0 } = await shares(), size = readFileSync(path).length;
-    assert.deepEqual([code, data, of_notes],
-        [4096, 8192, Buffer.concat(notes).length].map((held) => Math.round(1000 * held / size) / 10));
+    const file = noted_file(notes, { segments: [{ flags: 5, vaddr: 0x400000, bytes: Buffer.alloc(4096, 1) },
+        { flags: 6, vaddr: 0x600000, bytes: Buffer.alloc(8192, 2) }] });
+    await pick_written('core', file, 'notes');
+    const legend = await shares(), { padding: between = 0 } = legend;
+    assert.deepEqual([legend.code, legend.data, legend.notes],
+        [4096, 8192, Buffer.concat(notes).length].map((held) => Math.round(1000 * held / file.length) / 10));
     assert.ok(between < 0.2, `padding ${between} %`);
     const shown = core_notes.map(([, , name, thread = '']) => [name, `${thread}`]), threads = await cells(4);
     assert.deepEqual((await cells(3)).map((name, i) => [name, threads[i]]), shown);
@@ -521,11 +519,12 @@ check('If a file has more segments than its header can say, the first section he
 
 check('In a file with sections code is what executable sections hold, and no padding of a segment', async () => {
     const content = elf_file({ segments: [{ flags: 5, vaddr: 0x400000, bytes: Buffer.alloc(4096) }],
-        sections: [{ name: '.text', type: 1, flags: 6, addr: 0x401000, bytes: Buffer.alloc(4096, 0x90) }] });
+        sections: [code(Buffer.alloc(4096, 0x90), { addr: 0x401000 })] });
     content.writeBigUInt64LE(8192n, 64 + 0x20);
     await pick_written('padding', content);
-    const { code, padding } = await shares(), share = (bytes) => Math.round(1000 * bytes / content.length) / 10;
-    assert.deepEqual([code, padding], [share(4096), share(4096 + 7)]); // (the names of sections have 17 bytes)
+    const legend = await shares(), share = (bytes) => Math.round(1000 * bytes / content.length) / 10;
+    // (the names of sections have 17 bytes)
+    assert.deepEqual([legend.code, legend.padding], [share(4096), share(4096 + 7)]);
     await pick(program_file);
     const pattern = /^ {2}\[ *\d+\] \S+ +(?!NOBITS)[A-Z_]+ +\S+ \S+ ([0-9a-f]+) \S+ +[WA]*X/gm;
     const held = [...listed(program_file).matchAll(pattern)].reduce((all, [, size]) => all + parseInt(size, 16), 0);
@@ -555,7 +554,7 @@ check('The part of a segment that a cut file has is named and hatched, and is no
         `${marked}, ${is_code.lastIndexOf(true)}`);
     assert.match(await text_of('#legend .past'),
         new RegExp(`^past the end: Section headers at ${headers}, segment \\d+, `));
-    const damaged = elf_file({ sections: [{ name: '.text', type: 1, flags: 6, bytes: Buffer.alloc(64) }] });
+    const damaged = elf_file({ sections: [code(Buffer.alloc(64))] });
     damaged.writeBigUInt64LE(1n << 40n, header_at(damaged, 1) + 0x20);
     await pick_written('damaged', damaged, 'layout');
     const text = `.text (cut: ${damaged.length - 64} of 1,099,511,627,776 bytes are here)`;
@@ -583,13 +582,12 @@ check('Names depend on the machine and the owner, and numbers without a name are
     await click('#tab-header');
     await until(`document.querySelector('[data-field=ei_osabi]')?.textContent.includes('ELFOSABI_GNU')`);
     // (numbers that the page does not name are in its closing list)
-    const register = symbols_file([{ text: '%g2', info: 13 }]), table = { name: '.rela', type: 4, entsize: 24 };
+    const register = symbols_file([{ text: '%g2', info: 13 }]);
     register.writeUInt16LE(43, 0x12);
     await pick_written('register', register, 'symbols');
-    const types = await cells(4);
-    const alpha = elf_file({ machine: 0x9026, sections: [{ ...table, bytes: rela({ type: 2 }) }] });
-    await pick_written('alpha', alpha, 'relocations');
-    assert.deepEqual([types, await cells(2)], [['NOTYPE', '13'], ['2']]);
+    assert.deepEqual(await cells(4), ['NOTYPE', '13']);
+    await pick_written('alpha', elf_file({ machine: 0x9026, sections: [relocations({ type: 2 })] }), 'relocations');
+    assert.deepEqual(await cells(2), ['2']);
     await facts();
     assert.match(await text_of('#panel .others'), /the relocations of Alpha and .* SPARC’s symbol type STT_REGISTER/);
     await pick(program_file);
@@ -743,11 +741,8 @@ check_program('A relocation leads to its symbol, and has the bytes that it chang
     await until(`location.hash.startsWith('#symbols/${sections['.dynsym'].index}/')`);
     await until(`${with_text('#chosen th', 'st_info')} !== undefined`);
     // an object file, whose relocations have offsets in the section at sh_info
-    const bytes = Buffer.from('0011223344556677', 'hex'),
-        table = { name: '.rela.text', type: 4, link: 0, info: 1, entsize: 24 };
-    const object = elf_file(
-        { sections: [{ name: '.text', type: 1, flags: 6, bytes }, { ...table, bytes: rela({ offset: 3, type: 2 }) }] });
-    await pick_written('object', object);
+    const text = code(Buffer.from('0011223344556677', 'hex')), table = relocations({ offset: 3, type: 2 });
+    await pick_written('object', elf_file({ sections: [text, { ...table, info: 1 }] }));
     await go('relocations/2/0', 'R_X86_64_PC32');
     assert.equal(await bytes_shown(), '3344556677');
 });
@@ -822,8 +817,7 @@ check('Searches and sorts of 184,833 symbols of C++ are fast, and say how much i
     const value_of = (i) => i * 7919 % 1000003, symbol = (i) =>
         ({ text: `_ZN5spaceINS_5ClassIiLi${i}${end}`, info: 0x12, shndx: 3, value: value_of(i) });
     const all = Array.from({ length: count }, (_, i) => symbol(i)), [, second] = all.map(({ text }) => text).sort();
-    const path = await pick_written('symbols', symbols_file(all,
-        { name: '.text', type: 1, flags: 6, bytes: Buffer.alloc(64) }), 'symbols');
+    const path = await pick_written('symbols', symbols_file(all, code(Buffer.alloc(64))), 'symbols');
     const timed = async (act) => {
         const { seconds } = browser.cost();
         await act();
@@ -872,9 +866,8 @@ check('The types of relocations of several machines have the names that readelf 
     const rows = readFileSync(join(stored, 'relocation_names'), 'utf8').trim().split('\n')
         .map((line) => line.split(' '));
     for (const [machine, least] of [[62, 43], [3, 42], [183, 117], [40, 117], [243, 53], [22, 66], [21, 130]]) {
-        const bytes = Buffer.concat(Array.from({ length: 1040 }, (_, type) => rela({ type })));
-        await pick_written(`types${machine}`,
-            elf_file({ machine, sections: [{ name: '.rela', type: 4, entsize: 24, bytes }] }));
+        const each_type = relocations(...Array.from({ length: 1040 }, (_, type) => ({ type })));
+        await pick_written(`types${machine}`, elf_file({ machine, sections: [each_type] }));
         const names = new Map(rows.filter(([of]) => Number(of) === machine)
             .map(([, type, name]) => [Number(type), name]));
         await open_list('relocations/1', '1,040');
@@ -884,10 +877,9 @@ check('The types of relocations of several machines have the names that readelf 
         assert.ok(own.size >= least, `${own.size} names of machine ${machine}`);
     }
     // (in 64-bit files for MIPS a relocation has three types, the first one in the last byte)
-    const three = rela({ type: 0 });
-    three.set([0, 24, 5, 7], 12);
-    await pick_written('mips',
-        elf_file({ machine: 8, sections: [{ name: '.rela', type: 4, entsize: 24, bytes: three }] }), 'relocations');
+    const three = relocations({ type: 0 });
+    three.bytes.set([0, 24, 5, 7], 12);
+    await pick_written('mips', elf_file({ machine: 8, sections: [three] }), 'relocations');
     assert.deepEqual(await cells(2), ['R_MIPS_GPREL16 R_MIPS_HI16 R_MIPS_SUB']);
 });
 
@@ -970,7 +962,7 @@ check('A saved list holds nothing that a spreadsheet would run or that ends a ce
     assert.ok(lines[2].startsWith(`1,"'=1+1",0x0,`) && lines[3].startsWith('2,"a,""b""",0x0,'), lines.join('\n'));
     // (numbers that the page shows as words and signs are saved as numbers)
     const content = elf_file({ segments: [{ flags: 5, bytes: Buffer.alloc(4096) }],
-        sections: [{ name: '.rela', type: 4, entsize: 24, bytes: rela({ type: 2, addend: (1n << 64n) - 16n }) }] });
+        sections: [relocations({ type: 2, addend: (1n << 64n) - 16n })] });
     await pick_written('numbers', content);
     const saved_cells = (name) => open_tab(name).then(() => saved_rows(name));
     assert.deepEqual([(await saved_cells('relocations'))[0][4], (await saved_cells('segments'))[0][2]],
@@ -1264,8 +1256,7 @@ check('What is narrower than a pixel is drawn as a pixel', async () => {
     await click('#tab-sections');
     const wanted = await bar_of(content.length) * count * 8 / await each_row(), many = await pixels_of('constants', 12);
     assert.ok(wanted > 500 && Math.abs(many - wanted) < 5, `${many} pixels, not ${wanted}`);
-    await pick_written('large',
-        elf_file({ sections: [{ name: '.text', type: 1, flags: 6, bytes: Buffer.alloc(1 << 22) }] }));
+    await pick_written('large', elf_file({ sections: [code(Buffer.alloc(1 << 22))] }));
     assert.deepEqual([await pixels_of('header', 12), await pixels_of('code', 12) > 500], [1, true]);
     const debug = { name: '.debug_info', type: 1, bytes: Buffer.alloc(1 << 20) },
         noted = { name: '.note', type: 7, bytes: note('GNU', 3, bytes) };

@@ -38,9 +38,14 @@ export function symbols_file(symbols, ...others) {
     ] });
 }
 
-/** Returns a relocation with an addend. */
-export const rela = ({ offset = 0, sym = 0, type, addend = 0 }) =>
-    packed([offset, 8], [type, 4], [sym, 4], [addend, 8]);
+/** Returns a section of relocations with addends, and one of code. */
+export const relocations = (...all) => ({ name: '.rela', type: 4, entsize: 24, bytes: Buffer.concat(all.map(
+    ({ offset = 0, sym = 0, type, addend = 0 }) => packed([offset, 8], [type, 4], [sym, 4], [addend, 8]))) });
+export const code = (bytes, given) => ({ name: '.text', type: 1, flags: 6, bytes, ...given });
+
+/** Returns a file whose segments are notes and perhaps others. It is a core, unless another type is given. */
+export const noted_file = (notes, { segments = [], ...given } = {}) =>
+    elf_file({ type: 4, segments: [{ type: 4, bytes: Buffer.concat(notes) }, ...segments], ...given });
 
 /** Returns a file with sections and segments, of the fields below. The section at index 0 and the section names at the
  * end are added. */
@@ -55,8 +60,8 @@ export function elf_file({ type = 1, machine = 62, osabi = 0, sections = [], seg
     };
     const heads = segments.map(({ type: p_type = 1, flags = 4, vaddr = 0, bytes }) => packed([p_type, 4], [flags, 4],
         [put(bytes), 8], [vaddr, 8], [vaddr, 8], [bytes.length, 8], [bytes.length, 8], [4, 8]));
-    if (sections.length === 0)
-        return Buffer.concat([header({ type, machine, osabi, segments: heads.length }), ...heads, ...parts]);
+    const head = { type, machine, osabi, segments: heads.length };
+    if (sections.length === 0) return Buffer.concat([header(head), ...heads, ...parts]);
     const all = [{ type: 0, name: '', bytes: Buffer.alloc(0) }, ...sections, { name: '.shstrtab', type: 3 }];
     const names = Buffer.from(all.map(({ name }) => `${name}\0`).join(''));
     all.at(-1).bytes = names;
@@ -66,8 +71,7 @@ export function elf_file({ type = 1, machine = 62, osabi = 0, sections = [], seg
             packed([name_at(name), 4], [sh_type, 4], [flags, 8], [addr, 8], [index ? put(bytes) : 0, 8],
                 [bytes.length, 8], [link, 4], [info, 4], [4, 8], [entsize, 8]));
     const shoff = put(Buffer.concat(table));
-    return Buffer.concat([header({ type, machine, osabi, segments: heads.length, shoff, sections: all.length }),
-        ...heads, ...parts]);
+    return Buffer.concat([header({ ...head, shoff, sections: all.length }), ...heads, ...parts]);
 }
 
 function header({ type, machine, osabi, segments, shoff = 0, sections = 0 }) {

@@ -8,7 +8,7 @@ import { tmpdir } from 'node:os';
 import { join } from 'node:path';
 import { csv_line } from './csv.js';
 import { demangled, may_hold } from './demangle.js';
-import { elf_file, note, packed, symbols_file } from './elves.mjs';
+import { elf_file, note, noted_file, packed, symbols_file } from './elves.mjs';
 import { import_goblin } from './tested.mjs';
 
 const COPIES = 150, FEW = 3, WHOLE = 20, FIRST = 16;
@@ -70,7 +70,8 @@ async function check_facts() {
 
 // A fact is known up to what is read, and unknown past it: one more byte, entry, note or name.
 function check_bounds(of) {
-    const of_segments = (...segments) => of(elf_file({ type: 3, segments }));
+    const of_segments = (...segments) => of(elf_file({ type: 3, segments })),
+        of_notes = (...notes) => of(noted_file(notes, { type: 3 }));
     const repeat = (count, part) => Buffer.concat(Array.from({ length: count }, () => part));
     const id = note('GNU', 3, Buffer.from('id..')), other = note('ABC', 1, Buffer.alloc(0));
     const marks = (size) => note('GNU', 5, Buffer.concat([packed([0xc0000002, 4], [4, 4], [1, 4]),
@@ -82,11 +83,9 @@ function check_bounds(of) {
     for (const [fact, read, most, known] of [
         ['interpreter', (size) => of_segments({ type: 3, bytes: Buffer.alloc(size + 1).fill('a', 0, size) }), 4095,
             'a'.repeat(4095)],
-        ['build_id', (size) => of_segments({ type: 4, bytes: note('GNU', 3, Buffer.alloc(size, 171)) }), 64,
-            'ab'.repeat(64)],
-        ['build_id', (count) => of_segments({ type: 4, bytes: Buffer.concat([repeat(count, other), id]) }), 65534,
-            '69642e2e'],
-        ['control_flow', (size) => of_segments({ type: 4, bytes: marks(size) }), 65536, ['IBT']],
+        ['build_id', (size) => of_notes(note('GNU', 3, Buffer.alloc(size, 171))), 64, 'ab'.repeat(64)],
+        ['build_id', (count) => of_notes(repeat(count, other), id), 65534, '69642e2e'],
+        ['control_flow', (size) => of_notes(marks(size)), 65536, ['IBT']],
         ['pie', (count) => of_segments({ type: 2, bytes: repeat(count, packed([21, 8], [1, 8])) }), 4096, true],
         ['compilers', comment, 65536, ['a']], ['canary', canaries, 64, true],
     ]) {
@@ -126,7 +125,7 @@ function check_made_facts(of) {
     const marks = packed([0xc0008002, 4], [4, 4], [1, 8], [0xc0000002, 4], [4, 4], [2, 8]);
     const notes = [note('GNX', 3, marks), note('x'.repeat(1 << 20), 3, marks), note('GNU', 3, Buffer.from('id..')),
         note('GNU', 5, marks)];
-    const noted = of(elf_file({ type: 2, segments: [{ type: 4, bytes: Buffer.concat(notes) }] }));
+    const noted = of(noted_file(notes, { type: 2 }));
     assert.deepEqual([noted.build_id, noted.control_flow], ['69642e2e', ['SHSTK']]);
     const debug = elf_file({ type: 2, sections: [{ name: '.text', type: 8, flags: 6, bytes: marks }],
         segments: [{ bytes: marks }] });
