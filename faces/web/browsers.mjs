@@ -95,7 +95,9 @@ class Browser {
         });
     }
 
-    answer({ id, result, error, message }) {
+    /** Takes a message of the browser: an answer, or an event, which `heard` takes. */
+    receive({ id, method, params, result, error, message }) {
+        if (!id) { this.heard(method, params); return; }
         const { resolve, reject } = this.#waiting[id - 1];
         if (error) reject(new Error(message ?? error.message)); else resolve(result);
     }
@@ -140,7 +142,7 @@ export class Chromium extends Browser {
         this.process.stdio[4].on('data', (data) => {
             const parts = (rest + data).split('\0');
             rest = parts.pop();
-            parts.map((part) => JSON.parse(part)).forEach((message) => this.#receive(message));
+            parts.forEach((part) => this.receive(JSON.parse(part)));
         });
         const { targetId } = await this.#ask('Target.createTarget', { url: 'about:blank' }, undefined);
         this.tab = (await this.#ask('Target.attachToTarget', { targetId, flatten: true }, undefined)).sessionId;
@@ -151,9 +153,7 @@ export class Chromium extends Browser {
 
     #ask(method, params = {}, sessionId = this.tab) { return this.call({ method, params, sessionId }); }
 
-    #receive(message) {
-        const { id, method, params } = message;
-        if (id) this.answer(message);
+    heard(method, params) {
         if (method === 'Network.requestWillBeSent') this.requests.push(params.request.url);
         if (method === 'Runtime.exceptionThrown')
             this.faults.push(params.exceptionDetails.exception?.description ?? params.exceptionDetails.text);
@@ -254,7 +254,7 @@ export class Firefox extends Browser {
             this.profile, 'about:blank'];
         this.process = spawn(program, options,
             { stdio: ['ignore', 'ignore', 'pipe'], env: { ...process.env, HOME: this.profile } });
-        const socket = new Socket((text) => this.#receive(JSON.parse(text)));
+        const socket = new Socket((text) => this.receive(JSON.parse(text)));
         await socket.connect(`${await this.#address()}/session`);
         this.send = (message) => socket.send(JSON.stringify(message));
         await this.#ask('session.new', { capabilities: {} });
@@ -277,9 +277,7 @@ export class Firefox extends Browser {
 
     #ask(method, params = {}) { return this.call({ method, params }); }
 
-    #receive(message) {
-        const { id, method, params } = message;
-        if (id) this.answer(message);
+    heard(method, params) {
         if (method === 'network.beforeRequestSent') this.requests.push(params.request.url);
         if (method !== 'log.entryAdded' || params.type !== 'javascript' || params.level !== 'error') return;
         (params.text.startsWith('Content-Security-Policy') ? this.refusals : this.faults).push(params.text);
