@@ -440,13 +440,16 @@ check('Sections of other types hold no symbols or relocations', () => {
     return `${found} sections by their types`;
 });
 
+// Returns the name, the type and the descriptor of each note, whose name is a text or bytes.
+const texts_of = (notes) =>
+    notes.map(({ name, n_type, desc }) => [Buffer.from(name).toString(), n_type, Buffer.from(desc).toString()]);
+
 check('Notes are those of a section and a segment, up to one that is refused', () => {
-    const elf = Elf.parse(noted),
-        said = (notes) => notes.map(({ name, n_type, desc }) => [name, n_type, Buffer.from(desc).toString()]);
+    const elf = Elf.parse(noted);
     for (const [holder, of_all] of [[elf.section('.note'), 'iter_note_sections'],
         [elf.program_header(0), 'iter_note_headers']]) {
         const notes = elf.notes(holder);
-        assert.deepEqual([said(notes), said(elf[of_all]())], [NOTES, NOTES]);
+        assert.deepEqual([texts_of(notes), texts_of(elf[of_all]())], [NOTES, NOTES]);
         assert.deepEqual(notes.map((item) => goblin.note_type_to_str(item)), ['NT_GNU_BUILD_ID', 'NT_UNKNOWN']);
         assert.deepEqual(elf.readable_notes(holder), { notes, refusal: undefined });
         assert.deepEqual(elf.readable_notes(holder, 1), { notes: notes.slice(0, 1), refusal: undefined });
@@ -454,7 +457,7 @@ check('Notes are those of a section and a segment, up to one that is refused', (
             const copy = Buffer.from(noted);
             copy[Number(name_range.offset)] = 0xff; // (which is not UTF-8)
             const damaged = Elf.parse(copy), found = damaged.readable_notes(holder);
-            assert.deepEqual([said(found.notes), found.refusal.kind], [NOTES.slice(0, before), Kind.BAD_INPUT]);
+            assert.deepEqual([texts_of(found.notes), found.refusal.kind], [NOTES.slice(0, before), Kind.BAD_INPUT]);
             for (const read of [() => damaged.notes(holder), () => damaged[of_all]()])
                 assert.throws(read, is_refusal(Kind.BAD_INPUT));
         });
@@ -466,10 +469,8 @@ check('Notes are those of a section and a segment, up to one that is refused', (
 check('Notes as bytes have whole names, need not be UTF-8, and must be inside their range', () => {
     const elf = Elf.parse(noted), section = elf.section('.note'), segment = elf.program_header(0),
         start = Number(section.sh_offset);
-    const fields_of = (notes) => notes.map(({ name, n_type, desc }) =>
-        [Buffer.from(name).toString('latin1'), n_type, Buffer.from(desc).toString()]);
     const wanted = NOTES.map(([name, n_type, desc]) => [`${name}\0`, n_type, desc]);
-    assert.deepEqual([fields_of(elf.notes_bytes(section)), fields_of(elf.notes_bytes(segment))], [wanted, wanted]);
+    assert.deepEqual([texts_of(elf.notes_bytes(section)), texts_of(elf.notes_bytes(segment))], [wanted, wanted]);
     const copy = Buffer.from(noted);
     copy[start + 32] = 0xff; // (which is not UTF-8)
     assert.deepEqual(Elf.parse(copy).notes_bytes(section).map(({ name }) => name[0]), [0x47, 0xff]);
@@ -481,7 +482,7 @@ check('Notes as bytes have whole names, need not be UTF-8, and must be inside th
         for (const cut of [{ ...section, sh_size: BigInt(size) },
             { ...segment, p_offset: BigInt(start), p_filesz: BigInt(size) }]) {
             const { notes, refusal } = elf.readable_notes_bytes(cut);
-            assert.deepEqual([fields_of(notes), refused(refusal)], [wanted.slice(0, before), true]);
+            assert.deepEqual([texts_of(notes), refused(refusal)], [wanted.slice(0, before), true]);
             assert.throws(() => elf.notes_bytes(cut), refused);
         }
     }
