@@ -80,6 +80,7 @@ async function pick_written(name, content, tab) {
 const check = (title, run) => checks.push({ title, run });
 const check_program = (title, run) => check(title, () => pick(program_file).then(run));
 
+const open_sizes = (area = 'a') => click('#tab-sizes').then(() => until_there(`.areas ${area}`));
 async function open_tab(name) {
     await click(`#tab-${name}`);
     await until(`document.querySelector('#panel .grid[aria-label=${name}]') && (${drawn})`);
@@ -198,20 +199,21 @@ check('Tabs have the numbers that readelf counts, and sections have its names', 
     for (const [name, count] of Object.entries(all)) assert.ok(count > 20, `${count} ${name}`);
 });
 
-async function check_refusal(content, what, ...words) {
-    const path = await pick_written('refused', content),
-        [, words_of_c] = /^goblin_header kind=.* offset=\w+ (.+)$/m.exec(spawnSync(dump, [path]).stdout);
-    const said = await text_of('#refused');
-    assert.equal(await text_of('#refused:not([hidden]) h3'), `Refused: ${words_of_c}`);
-    for (const word of [what, ...words]) assert.ok(said.includes(word), said);
-    assert.deepEqual([said.includes('This is not an ELF file'), await is_hidden('shown')], [words.length > 0, true]);
-}
-
-check('A file is refused in the words of C, and by what was read', async () => {
-    const foreign = ['the file header', 'This is not an ELF file'];
-    await check_refusal(content.subarray(0, 40), 'the file header');
-    await check_refusal(Buffer.concat([Buffer.from('MZ'), content.subarray(2)]), ...foreign, '4d 5a 4c 46');
-    await check_refusal(Buffer.from('text\n'), ...foreign, '74 65 78 74 0a');
+check('A file is refused in the words of C, and the page says what was read or what it is', async () => {
+    const head = 'the file header', others = { '!<arch>\n': 'an archive', '\x1f\x8b': 'by gzip', '#!/': 'a script',
+        MZ: 'DOS (PE)', '\xcf\xfa\xed\xfe': 'a Mach-O file' };
+    for (const [is_elf, bytes, ...words] of [
+        [true, content.subarray(0, 40), head],
+        [false, Buffer.concat([Buffer.from('MZ'), content.subarray(2)]), head, '4d 5a 4c 46'],
+        [false, Buffer.from('text\n'), head, '74 65 78 74 0a'],
+        ...Object.entries(others).map(([begin, what]) => [false, Buffer.from(begin.padEnd(80, ' '), 'latin1'), what]),
+    ]) {
+        const { stdout } = spawnSync(dump, [await pick_written('refused', bytes)]), said = await text_of('#refused');
+        const [, words_of_c] = /^goblin_header kind=.* offset=\w+ (.+)$/m.exec(stdout);
+        assert.equal(await text_of('#refused:not([hidden]) h3'), `Refused: ${words_of_c}`);
+        for (const word of words) assert.ok(said.includes(word), said);
+        assert.deepEqual([said.includes('This is not an ELF file'), await is_hidden('shown')], [!is_elf, true]);
+    }
 });
 
 check('The page shows why a file is not read, instead of the previous file', async () => {
@@ -291,6 +293,7 @@ async function facts(path, title = '') {
     return each_of(`#panel .summary [aria-label${title && `^='${title}'`}] tr`, `[...[...item.children].map(
         ({ textContent }) => textContent), item.closest('table').ariaLabel.split(', ')[1] ?? '']`);
 }
+const lines_of = (title) => facts('', title).then((rows) => rows.map(([name, value]) => `${name}, ${value}`));
 const value_in = (rows, name) => rows.find(([title]) => title === name)?.[1];
 
 // What rests on what the page reads itself is below a mark, one a block. What a cut file lacks is unknown. (test.mjs
@@ -347,16 +350,15 @@ check('A function has one row, whatever its names, and what is in no symbol is s
         ([text, value, size]) => ({ text, info: 2, shndx: 3, value, size }));
     const text = code(Buffer.alloc(64, 1));
     await pick_written('functions', symbols_file(given, text));
-    assert.deepEqual((await facts('', 'Largest functions')).map(([name, value]) => `${name}, ${value}`),
+    assert.deepEqual(await lines_of('Largest functions'),
         ['in no symbol, 39 of 64 bytes of code', '16 bytes, b', '8 bytes, a', '1 byte, c']);
     // (what another section covers is not drawn as code)
-    const data = { name: '.data', type: 1, flags: 3, bytes: Buffer.alloc(32, 1) },
+    const data = code(Buffer.alloc(32, 1), { name: '.data', flags: 3 }),
         content = symbols_file([{ text: 'all', info: 2, shndx: 3, size: 64 }], text, data);
     const [of_text, of_data] = [3, 4].map((index) => header_at(content, index) + 0x18);
     content.writeBigUInt64LE(content.readBigUInt64LE(of_text) + 32n, of_data);
     await pick_written('covered', content);
-    assert.deepEqual((await facts('', 'Largest functions')).map(([name, value]) => `${name}, ${value}`),
-        ['in no symbol, 0 of 32 bytes of code', '64 bytes, all']);
+    assert.deepEqual(await lines_of('Largest functions'), ['in no symbol, 0 of 32 bytes of code', '64 bytes, all']);
 });
 
 check('What is broken is in one row, with links to its places', async () => {
@@ -445,15 +447,15 @@ check('A core has its signal, command, threads with registers, and mapped files,
         ['mapped file', '/lib/b c, 1 range from 0x7f0000 on']].map((row) => [...row, 'not proved']));
     const apart = Array.from({ length: 25 }, (_, i) => thread(i, 0x401000 + i, 0x7f0000));
     await pick_written('apart', noted_file(apart));
-    assert.deepEqual((await facts('', 'What was running')).slice(-2).map(([name, value]) => `${name}: ${value}`),
-        ['thread 19: rip 0x401013, rsp 0x7f0000, note', 'other places of threads: 5, notes']);
+    assert.deepEqual((await lines_of('What was running')).slice(-2),
+        ['thread 19, rip 0x401013, rsp 0x7f0000, note', 'other places of threads, 5, notes']);
     // (some machines have other signals by these numbers; and a note may be too short to have a number)
     for (const [machine, bytes, signal, name] of [[62, put(336, [12, 10, 2]), '10, SIGUSR1', 'thread 0'],
         [8, put(336, [12, 10, 2]), '10', 'thread 0'], [43, put(336, [12, 10, 2]), '10', 'thread 0'],
         [62, Buffer.alloc(8, 1), 'unknown', 'thread unknown']]) {
         await pick_written('signal', noted_file([note('CORE', 1, bytes), note('CORE', 6, process)], { machine }));
-        assert.deepEqual((await facts('', 'What was running')).slice(0, 2).flatMap(([title, value]) => [title, value])
-            .slice(0, 3), ['signal', signal, name]);
+        const [first, [thread]] = await facts('', 'What was running');
+        assert.deepEqual([...first.slice(0, 2), thread], ['signal', signal, name]);
     }
     await pick(join(folder, 'process'));
     await go('notes/segments/0', 'CORE PRSTATUS, thread 71', { rax: '0x77', rip: '0x401234', registers: /not proved/ });
@@ -1040,12 +1042,7 @@ check('Control characters and those that turn the direction of a text are escape
     for (const [i, title] of shown.entries()) await go(`symbols/1/${i + 1}`, title);
 });
 
-check('The page says in words what a file is that is no ELF file, and what a refusal means', async () => {
-    const others = { '!<arch>\n': 'an archive', '\x1f\x8b': 'by gzip', '#!/': 'a script', MZ: 'DOS (PE)',
-        '\xcf\xfa\xed\xfe': 'a Mach-O file' };
-    for (const [begin, words] of Object.entries(others)) {
-        await check_refusal(Buffer.from(begin.padEnd(80, ' '), 'latin1'), words, 'This is not an ELF file');
-    }
+check('The page says in words what a refusal means, and has an example', async () => {
     await pick_written('short', content.subarray(0, 0x1000));
     await click('#tab-sections');
     await until_there('#panel .plainly');
@@ -1306,8 +1303,6 @@ check_program('A segment is outlined in each of its rows on the map', async () =
         index = all.findIndex(({ type, flags }) => type === 'LOAD' && flags === 'R E');
     const { offset: start, size } = all[index], rows = [];
     const each = await each_row(), high = (await canvas_box()).height - 28;
-    await check_colours();
-    // A segment is outlined in each of its rows.
     await go(`segments/${index}`, `segment ${index}, LOAD`);
     for (let y = 7; y < high; y += 24)
         if ((await row_of('ink', y)).filter((is_it) => is_it).length > 20) rows.push((y - 7) / 24);
@@ -1398,7 +1393,7 @@ check_program('An area is as large as the share of its section in the file, and 
     const section = (name) => ({ name, ...sections[name], place: `sections/${sections[name].index}` });
     for (const { name, size, place } of [...['.text', '.rodata', '.symtab'].map(section),
         { ...largest, place: `${symtab}/${largest.index}` }]) {
-        await Promise.all([click('#tab-sizes'), until_there('.areas a')]);
+        await open_sizes();
         const areas = await each_of('.areas a', `({ hash: item.hash, title: item.ariaLabel,
             is_inside: item.className === 'inside',
             area: parseFloat(item.style.width) * parseFloat(item.style.height) / 100 })`);
@@ -1413,7 +1408,7 @@ check_program('An area is as large as the share of its section in the file, and 
         await until_chosen(name);
     }
     // (a box without a name is named by the keyboard and below the pointer)
-    await Promise.all([click('#tab-sizes'), until_there('.areas a')]);
+    await open_sizes();
     const [steps, place, x, y] = await evaluate(`(() => {
         const boxes = [...document.querySelectorAll('.areas a')], at = boxes.findIndex((box) => box.textContent === ''
             && box.hash.startsWith('#${symtab}/') && box.clientWidth > 5 && box.clientHeight > 5);
@@ -1449,38 +1444,34 @@ const without_green = (colour) => [
     [[0.2104543, 0.7936178, -0.0040720], [1.9779985, -2.4285922, 0.4505937], [0.0259040, 0.7827718, -0.8086758]],
 ].reduce((seen, matrix, i) => times(matrix, i === 2 ? seen.map(Math.cbrt) : seen), linear(colour));
 
-// Edges of what can be used, gaps and names on the map have a contrast of at least 3 to 1. An eye without green sees
-// that kinds differ.
-async function check_colours() {
-    assert.ok(await pixels_of('gap', 14) > 100);
-    await open_tab('sections');
+// An eye without green sees that kinds differ. (The test can set the theme of Chromium alone.)
+check('Edges of what can be used, gaps and names on the map have a contrast of at least 3 to 1', async () => {
     const edges = ['#goto', '.bar .button', '#out', '#canvas', '#legend i', '#panel input', '#panel .saving button'];
     const kinds = ['header', 'tables', 'code', 'data', 'constants', 'names', 'relocations', 'notes', 'debug', 'other'];
-    const [edge, ground, kind, on] = await evaluate(`(() => {
-        const { probe, style } = ${PIXELS},
-            edge = (selector) => {
-                const { borderTopWidth, borderTopColor } = getComputedStyle(document.querySelector(selector));
-                return parseFloat(borderTopWidth) > 0 && probe(borderTopColor);
-            };
-        return [[...${quoted(edges)}.map(edge), style('gap')], ['paper', 'raised'].map(style),
-            ${quoted(kinds)}.map(style), ['paper', 'on-kind'].map(style)];
-    })()`);
-    const differs = (a, b, name) => assert.ok(contrast(a, b) >= 3, `${name}: ${contrast(a, b)}`);
-    edge.forEach((colour, i) => ground.forEach((other) => differs(colour, other, edges[i])));
-    kind.forEach((colour, i) => differs(colour, on[Number(i > 0)], kinds[i]));
-    for (const [a, b] of [[2, 5], [3, 6]]) assert.ok(contrast(kind[a], kind[b]) >= 1.4, `${kinds[a]} and ${kinds[b]}`);
-    const seen = kind.map(without_green),
-        apart = (i, j) => Math.hypot(...seen[i].map((value, k) => value - seen[j][k]));
-    kinds.forEach((name, i) => kinds.slice(0, i)
-        .forEach((other, j) => assert.ok(apart(i, j) >= 0.07, `${name} and ${other}: ${apart(i, j)}`)));
-}
-
-check('The colours of both themes differ', async () => {
-    for (const theme of browser.theme ? ['dark', 'light'] : []) {
-        await browser.theme(theme);
+    for (const theme of browser.theme ? ['dark', 'light'] : ['light']) {
+        await browser.theme?.(theme);
         await until(`matchMedia('(prefers-color-scheme: ${theme})').matches`);
         await pick(program_file);
-        await check_colours();
+        assert.ok(await pixels_of('gap', 14) > 100);
+        await open_tab('sections');
+        const [edge, ground, kind, on] = await evaluate(`(() => {
+            const { probe, style } = ${PIXELS},
+                edge = (selector) => {
+                    const { borderTopWidth, borderTopColor } = getComputedStyle(document.querySelector(selector));
+                    return parseFloat(borderTopWidth) > 0 && probe(borderTopColor);
+                };
+            return [[...${quoted(edges)}.map(edge), style('gap')], ['paper', 'raised'].map(style),
+                ${quoted(kinds)}.map(style), ['paper', 'on-kind'].map(style)];
+        })()`);
+        const differs = (a, b, name) => assert.ok(contrast(a, b) >= 3, `${name}: ${contrast(a, b)}`);
+        edge.forEach((colour, i) => ground.forEach((other) => differs(colour, other, edges[i])));
+        kind.forEach((colour, i) => differs(colour, on[Number(i > 0)], kinds[i]));
+        for (const [a, b] of [[2, 5], [3, 6]])
+            assert.ok(contrast(kind[a], kind[b]) >= 1.4, `${kinds[a]} and ${kinds[b]}`);
+        const seen = kind.map(without_green),
+            apart = (i, j) => Math.hypot(...seen[i].map((value, k) => value - seen[j][k]));
+        kinds.forEach((name, i) => kinds.slice(0, i)
+            .forEach((other, j) => assert.ok(apart(i, j) >= 0.07, `${name} and ${other}: ${apart(i, j)}`)));
     }
 });
 
@@ -1504,7 +1495,7 @@ check('No name is markup', async () => {
     await search('ONERROR', '1 of 21');
     assert.deepEqual(await cells(1), [markup]);
     await go_by_field('onerror', markup);
-    await Promise.all([click('#tab-sizes'), until_there('.areas [aria-label^="<img"]')]);
+    await open_sizes('[aria-label^="<img"]');
     assert.equal(await text_of('img'), null);
 });
 
@@ -1586,5 +1577,5 @@ try {
     throw error;
 } finally {
     await browser.end();
-    rmSync(folder, { recursive: true, force: true });
+    rmSync(folder, { recursive: true, force: true, maxRetries: 9 }); // (processes of the browser may still end)
 }
