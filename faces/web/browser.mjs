@@ -783,10 +783,10 @@ check_program('The field goes to an offset, an address and a name, and says how 
 });
 
 check_program('A search finds texts and addresses, and Enter opens what it finds', async () => {
-    const all = decimal(symbols.length), at = main.value + 1,
-        of_all = (is_found) => `${symbols.filter(is_found).length} of ${all}`;
+    const all = decimal(symbols.length), of_all = (is_found) => `${symbols.filter(is_found).length} of ${all}`;
     await open_list(symtab, all);
-    await search(`  ${hex(at)} `, of_all(({ value, size }) => value === at || (value < at && at < value + size)));
+    for (const at of [main.value + main.size, main.value + 1])
+        await search(`  ${hex(at)} `, of_all(({ value, size }) => value === at || (value < at && at < value + size)));
     assert.ok((await cells(1)).includes('main'));
     assert.ok(symbols.some(({ type }) => type === 'SECTION' || type === 'FILE'));
     await search('FILE', of_all(({ type, name }) => type === 'FILE' || /file/i.test(name)));
