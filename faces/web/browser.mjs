@@ -658,10 +658,12 @@ check('While a file is read, the previous one stays and can be used, and the pag
     await is_undimmed();
     // (the file is in the memory once)
     await waited('no second copy of the file is kept', () => browser.cost().memory - memory < 1.6 * 4e8);
-    // (a file that another one replaces before it is read does not dim that one)
+    // (a file that another one replaces before it is read does not dim that one; timers are late, as that one may be)
+    await evaluate(`void (globalThis.timer = setTimeout,
+        globalThis.setTimeout = (run, wait) => timer(run, 10 * wait))`);
     await browser.pick('#pick', large);
     await pick(made);
-    await setTimeout(300);
+    await evaluate(`new Promise((resolve) => timer(resolve, 2100)).then(() => void (globalThis.setTimeout = timer))`);
     await is_undimmed();
     rmSync(large);
 });
