@@ -159,6 +159,7 @@ function check_csv() {
 function check_may_hold() {
     const rows = readFileSync(new URL('../../checks/files/mangled', import.meta.url), 'utf8').trim().split('\n')
         .filter((row) => demangled(row.split('\t')[0]));
+    assert.ok(rows.length > 100, `${rows.length} names`);
     for (const [name, text] of rows.map((row) => row.toLowerCase().split('\t')))
         for (const [word] of text.matchAll(/[\w:]+/g)) assert.ok(may_hold(word)(name), `${word} in ${name}`);
     assert.deepEqual([may_hold('std::vector')('_z3foov'), may_hold('foo(')('_z3foov')], [false, true]);
@@ -202,11 +203,13 @@ class Dump {
     // Adds the lines of a call, one for each of some values.
     ask_each(what, values, read, put) { for (const value of values) this.ask(what, () => read(value), put); }
 
-    // Adds the lines of some numbers of a range.
-    numbers_in(size, read) {
+    // Adds the lines of the bytes of a section or a segment, and of some numbers in them.
+    part(elf, kind, part, size) {
         const last = BigInt.asUintN(64, size - 1n);
+        this.ask(`goblin_${kind}_bytes`, () => elf.range(part));
+        this.ask('goblin_range_in_file', () => elf.readable_data(part), size_and_first);
         this.ask_each('goblin_number_in', [[0, 8], [size / 2n, 2], [last, 1]],
-            ([offset, width]) => read(offset, width));
+            ([offset, width]) => elf.number_in(part, offset, width));
     }
 
     string(strtab, offset) {
@@ -297,9 +300,7 @@ class Dump {
         for (const [index, segment] of list.entries()) {
             const { p_vaddr, p_filesz } = segment, half = p_filesz / 2n;
             this.ask('goblin_segment', () => segment, (item) => `${fields(item)} ${goblin.pt_to_str(item.p_type)}`);
-            this.ask('goblin_segment_bytes', () => elf.range(segment));
-            this.ask('goblin_range_in_file', () => elf.readable_data(segment), size_and_first);
-            this.numbers_in(p_filesz, (offset, width) => elf.number_in(segment, offset, width));
+            this.part(elf, 'segment', segment, p_filesz);
             const addresses = [0n, half, 2n * half].map((before) => BigInt.asUintN(64, p_vaddr + before));
             this.ask_each('goblin_address_to_offset', addresses, (address) => elf.address_to_offset(address));
             this.notes(elf, segment);
@@ -333,10 +334,7 @@ class Dump {
             this.ask_each('goblin_section_by_name', firsts, (first) => elf.section_by_name(name, first), found);
             this.ask_each('goblin_section_by_type', [index >> 1, index + 1],
                 (first) => elf.section_by_type(sh_type, first), found);
-            this.ask('goblin_section_bytes', () => elf.range(section));
-            this.ask('goblin_range_in_file', () => elf.readable_data(section), size_and_first);
-            this.numbers_in(as_type(section, sh_type).sh_size,
-                (offset, width) => elf.number_in(section, offset, width));
+            this.part(elf, 'section', section, as_type(section, sh_type).sh_size);
             this.symbols(elf, section);
             this.relocs(elf, section);
             this.notes(elf, section);
