@@ -13,7 +13,7 @@ import { setTimeout } from 'node:timers/promises';
 import { pathToFileURL } from 'node:url';
 import { inflateSync } from 'node:zlib';
 import { Chromium, Firefox, PATIENCE, waited } from './browsers.mjs';
-import { code, elf_file, note, noted_file, packed, relocations, symbols_file } from './elves.mjs';
+import { code, elf_file, note, noted_file, packed, patched, relocations, symbols_file } from './elves.mjs';
 
 const [, , kind, program, page, dump, made_files, stored_folder] = process.argv, stored = resolve(stored_folder);
 const made = join(made_files, 'little64'), content = readFileSync(made),
@@ -232,9 +232,7 @@ check('The page shows why a file is not read, instead of the previous file', asy
 });
 
 check('If the section headers are refused, no list that is made from them is shown as empty', async () => {
-    const cut = Buffer.from(content);
-    cut.writeBigUInt64LE(BigInt(content.length), 0x28);
-    await pick_written('headers', cut);
+    await pick_written('headers', patched(content, [0x28, content.length]));
     const words = [];
     for (const name of ['sections', 'symbols', 'relocations', 'notes']) {
         assert.equal(await text_of(`#tab-${name} span`), 'refused', name);
@@ -356,17 +354,16 @@ check('A function has one row, whatever its names, and what is in no symbol is s
     const data = code(Buffer.alloc(32, 1), { name: '.data', flags: 3 }),
         content = symbols_file([{ text: 'all', info: 2, shndx: 3, size: 64 }], text, data);
     const [of_text, of_data] = [3, 4].map((index) => header_at(content, index) + 0x18);
-    content.writeBigUInt64LE(content.readBigUInt64LE(of_text) + 32n, of_data);
-    await pick_written('covered', content);
+    await pick_written('covered', patched(content, [of_data, content.readBigUInt64LE(of_text) + 32n]));
     assert.deepEqual(await lines_of('Largest functions'), ['in no symbol, 0 of 32 bytes of code', '64 bytes, all']);
 });
 
 check('What is broken is in one row, with links to its places', async () => {
     const section = (name) => ({ name, type: 1, bytes: Buffer.alloc(64, 1) }), far = 1n << 40n;
-    const whole = elf_file({ sections: ['.a', '.b', '.c'].map(section), segments: [{ bytes: Buffer.alloc(8) }] });
-    const table = header_at(whole, 0), [a, b, c] = [1, 2, 3].map((index) => header_at(whole, index) + 0x18);
+    const made_file = elf_file({ sections: ['.a', '.b', '.c'].map(section), segments: [{ bytes: Buffer.alloc(8) }] });
+    const table = header_at(made_file, 0), whole = patched(made_file, [table + 0x20, far], [table + 0x28, 9, 4]);
+    const [a, b, c] = [1, 2, 3].map((index) => header_at(whole, index) + 0x18);
     const cut = 'cut at the file’s end at', end = hex(whole.length), farthest = (1n << 63n) + 1n;
-    packed([far, 8], [9, 4]).copy(whole, table + 0x20); // (the sh_size and sh_link of section 0)
     for (const [[at, value, width = 8, size], words, ...places] of [
         [[0, 0x7f, 1], 'no: tables, sections and segments lie in the file, and no sections overlap'],
         [[0x34, 52, 2], 'yes: wrong in the header: e_ehsize is 52, not 64', 'header/e_ehsize'],
@@ -384,9 +381,7 @@ check('What is broken is in one row, with links to its places', async () => {
         [[0, 0x7f, 1, table], `yes: past the file’s end at ${hex(table)}: Section headers`, 'sections'],
         [[c, farthest], `yes: past the file’s end at ${end}: .c`, 'sections/3'],
     ]) {
-        const content = Buffer.from(whole.subarray(0, size));
-        packed([value, width]).copy(content, at);
-        await pick_written('broken', content);
+        await pick_written('broken', patched(whole.subarray(0, size), [at, value, width]));
         const found = value_in(await facts(), 'broken'), links = await each_of('#panel .summary tr',
             `item.textContent.startsWith('broken') ? [...item.querySelectorAll('a')].map(({ hash }) => hash) : []`);
         assert.deepEqual([found, links.flat()], [words, places.map((place) => `#${place}`)]);
@@ -425,8 +420,7 @@ check('A module, its signature, compressed debug information, appended bytes and
 });
 
 check('A core has its signal, command, threads with registers, and mapped files, by the layouts of Linux', async () => {
-    const put = (size, ...numbers) =>
-        numbers.reduce((all, [at, value, width = 8]) => (all.set(packed([value, width]), at), all), Buffer.alloc(size));
+    const put = (size, ...numbers) => patched(Buffer.alloc(size), ...numbers);
     const thread = (id, rip, rsp) =>
         note('CORE', 1, put(336, [12, 11, 2], [32, id, 4], [112 + 80, 0x77], [112 + 128, rip], [112 + 152, rsp]));
     const process = put(136, [24, 70, 4]);
@@ -511,18 +505,16 @@ check('Memory and notes of a core with its threads, and segments without section
 
 check('If a file has more segments than its header can say, the first section header says how many', async () => {
     const many = Buffer.concat([elf_file({ type: 4 }), Buffer.alloc(64 + 56 * 70000)]);
-    const numbers = [[0x20, 128, 8], [0x28, 64, 8], [0x38, 0xffff, 2], [0x3a, 64, 2], [0x3c, 1, 2],
-        [64 + 44, 70000, 4]];
-    for (const [at, value, width] of numbers) packed([value, width]).copy(many, at);
-    await pick_written('many', many, 'segments');
+    const file = patched(many, [0x20, 128], [0x28, 64], [0x38, 0xffff, 2], [0x3a, 64, 2], [0x3c, 1, 2],
+        [64 + 44, 70000, 4]);
+    await pick_written('many', file, 'segments');
     assert.deepEqual([await text_of('#tab-segments span'), await text_of('#panel output')], ['70,000', '70,000']);
     await go('segments/69999', 'segment 69999, NULL');
 });
 
 check('In a file with sections code is what executable sections hold, and no padding of a segment', async () => {
-    const content = elf_file({ segments: [{ flags: 5, vaddr: 0x400000, bytes: Buffer.alloc(4096) }],
-        sections: [code(Buffer.alloc(4096, 0x90), { addr: 0x401000 })] });
-    content.writeBigUInt64LE(8192n, 64 + 0x20);
+    const content = patched(elf_file({ segments: [{ flags: 5, vaddr: 0x400000, bytes: Buffer.alloc(4096) }],
+        sections: [code(Buffer.alloc(4096, 0x90), { addr: 0x401000 })] }), [64 + 0x20, 8192]);
     await pick_written('padding', content);
     const legend = await shares(), share = (bytes) => Math.round(1000 * bytes / content.length) / 10;
     // (the names of sections have 17 bytes)
@@ -557,8 +549,7 @@ check('The part of a segment that a cut file has is named and hatched, and is no
     assert.match(await text_of('#legend .past'),
         new RegExp(`^past the end: Section headers at ${headers}, segment \\d+, `));
     const damaged = elf_file({ sections: [code(Buffer.alloc(64))] });
-    damaged.writeBigUInt64LE(1n << 40n, header_at(damaged, 1) + 0x20);
-    await pick_written('damaged', damaged, 'layout');
+    await pick_written('damaged', patched(damaged, [header_at(damaged, 1) + 0x20, 1n << 40n]), 'layout');
     const text = `.text (cut: ${damaged.length - 64} of 1,099,511,627,776 bytes are here)`;
     assert.deepEqual(await cells(5), ['ELF header', text, '.shstrtab', text, 'Section headers']);
 });
@@ -585,8 +576,7 @@ check('Names depend on the machine and the owner, and numbers without a name are
     await until(`document.querySelector('[data-field=ei_osabi]')?.textContent.includes('ELFOSABI_GNU')`);
     // (numbers that the page does not name are in its closing list)
     const register = symbols_file([{ text: '%g2', info: 13 }]);
-    register.writeUInt16LE(43, 0x12);
-    await pick_written('register', register, 'symbols');
+    await pick_written('register', patched(register, [0x12, 43, 2]), 'symbols');
     assert.deepEqual(await cells(4), ['NOTYPE', '13']);
     await pick_written('alpha', elf_file({ machine: 0x9026, sections: [relocations({ type: 2 })] }), 'relocations');
     assert.deepEqual(await cells(2), ['2']);
@@ -987,8 +977,8 @@ check('Of a refused table nothing can be saved, and by no way another table is',
     for (const [name, table] of Object.entries(tables)) {
         const content = elf_file({ sections: [{ name: '.read', ...table }, { name: '.refused', ...table },
             { name: '.data', type: 1, bytes }] });
-        const place = packed([64 + 72, 8],
-            [1n << 40n, 8]); // (the offset of section 2, after the header and section 1, and its size)
+        // (the offset of section 2, after the header and section 1, and its size)
+        const place = packed([64 + 72, 8], [1n << 40n, 8]);
         place.copy(content, header_at(content, 2) + 0x18);
         for (const opened of [[2], [1, 2], [1, 3]]) {
             await pick_written(`refused-${name}`, content);
@@ -1246,9 +1236,8 @@ check('What is narrower than a pixel is drawn as a pixel', async () => {
     const bytes = Buffer.alloc(8), count = 65300,
         content = elf_file({ sections: Array(count).fill({ name: '', type: 1, flags: 2, bytes }) });
     const first = header_at(content, 0);
-    for (const [at, value, width] of [[0x3c, 0, 2], [0x3e, 0xffff, 2], [first + 0x20, count + 2, 8],
-        [first + 0x28, count + 1, 4]]) packed([value, width]).copy(content, at);
-    await pick_written('many', content);
+    await pick_written('many', patched(content, [0x3c, 0, 2], [0x3e, 0xffff, 2], [first + 0x20, count + 2],
+        [first + 0x28, count + 1, 4]));
     const [[largest, name], second] = await facts('', 'Largest sections');
     assert.deepEqual([largest.startsWith('65,311 bytes, '), name, ...second.slice(0, 2)],
         [true, '.shstrtab', '8 bytes, 0.0 %', 'section 1']);

@@ -13,6 +13,13 @@ export function packed(...fields) {
     return bytes;
 }
 
+/** Returns a copy of bytes with other numbers, each with its offset and its width in bytes. */
+export function patched(bytes, ...numbers) {
+    const copy = Buffer.from(bytes);
+    for (const [at, value, width = 8] of numbers) packed([value, width]).copy(copy, at);
+    return copy;
+}
+
 /** Returns a note of an owner, each character of which is a byte. */
 export function note(owner, type, descriptor) {
     const name = Buffer.from(`${owner}\0`, 'latin1');

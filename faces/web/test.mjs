@@ -8,7 +8,7 @@ import { tmpdir } from 'node:os';
 import { join } from 'node:path';
 import { csv_line } from './csv.js';
 import { demangled, may_hold } from './demangle.js';
-import { elf_file, note, noted_file, packed, symbols_file } from './elves.mjs';
+import { elf_file, note, noted_file, packed, patched, symbols_file } from './elves.mjs';
 import { import_goblin } from './tested.mjs';
 
 const COPIES = 150, FEW = 3, WHOLE = 20, FIRST = 16;
@@ -110,9 +110,9 @@ function check_made_facts(of) {
     const with_name = (end) => symbols_file([{ text: 'main' }, { text: `__stack_chk_${end}` }]);
     assert.deepEqual([...canaries, ...others].map((end) => of(with_name(end)).canary),
         [...canaries.map(() => true), ...others.map(() => false)]);
-    const cut = with_name('fail_');
-    cut.writeBigUInt64LE(1n << 40n, Number(cut.readBigUInt64LE(0x28)) + 2 * 64 + 0x20); // (the size of its names)
-    assert.deepEqual([of(cut).canary, of(cut).unknown, of(cut).cut], [null, ['canary'], true]);
+    const file = with_name('fail_'), size_of_names = Number(file.readBigUInt64LE(0x28)) + 2 * 64 + 0x20;
+    const { canary, unknown, cut } = of(patched(file, [size_of_names, 1n << 40n]));
+    assert.deepEqual([canary, unknown, cut], [null, ['canary'], true]);
     const stacks = (...all) => all.map((flags) => ({ type: 0x6474e551, flags, bytes: Buffer.alloc(0) }));
     assert.deepEqual([[6], [7, 6], [6, 7], []].map((flags) => of(elf_file({ type: 2, segments: stacks(...flags) })).nx),
         [true, false, false, false]);
@@ -129,8 +129,8 @@ function check_made_facts(of) {
     assert.deepEqual([noted.build_id, noted.control_flow], ['69642e2e', ['SHSTK']]);
     const debug = elf_file({ type: 2, sections: [{ name: '.text', type: 8, flags: 6, bytes: marks }],
         segments: [{ bytes: marks }] });
-    debug.writeBigUInt64LE(1n << 40n, 64 + 0x20); // (the size of its segment)
-    assert.deepEqual([of(debug).kind, of(debug).cut], ['debug file', false]);
+    const of_debug = of(patched(debug, [64 + 0x20, 1n << 40n])); // (the size of its segment)
+    assert.deepEqual([of_debug.kind, of_debug.cut], ['debug file', false]);
 }
 
 // Cells that a spreadsheet would run as formulas if it splits lines at commas or at semicolons, and characters that
