@@ -519,6 +519,10 @@ check('In a file with sections code is what executable sections hold, and no pad
     const legend = await shares(), share = (bytes) => Math.round(1000 * bytes / content.length) / 10;
     // (the names of sections have 17 bytes)
     assert.deepEqual([legend.code, legend.padding], [share(4096), share(4096 + 7)]);
+    // (bytes in no section are a gap, unless they are all the same)
+    const hole = elf_file({ sections: [code(Buffer.alloc(4096, 'gap'))] });
+    await pick_written('hole', patched(hole, [header_at(hole, 1) + 0x20, 96]));
+    assert.equal((await shares()).gap, Math.round(1000 * 4000 / hole.length) / 10);
     await pick(program_file);
     const pattern = /^ {2}\[ *\d+\] \S+ +(?!NOBITS)[A-Z_]+ +\S+ \S+ ([0-9a-f]+) \S+ +[WA]*X/gm;
     const held = [...listed(program_file).matchAll(pattern)].reduce((all, [, size]) => all + parseInt(size, 16), 0);
