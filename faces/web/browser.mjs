@@ -757,6 +757,14 @@ check_program('The field goes to an offset, an address and a name, and says how 
     await until_active('#chosen h2');
     await go_by_field('main', 'main');
     assert.equal(await fragment(), main_place);
+    // (Enter waits for a search that has begun)
+    await evaluate(`(() => {
+        const field = document.getElementById('goto');
+        field.value = '.dynstr';
+        field.onfocus();
+        field.dispatchEvent(new KeyboardEvent('keydown', { key: 'Enter' }));
+    })()`);
+    await until_chosen('.dynstr');
     await go_by_field('there is no such name');
     await until_text('#none:not([hidden])',
         'The file has nothing at that offset or address, and nothing with that name.');

@@ -4,7 +4,7 @@ import { ask } from './reader.js';
 import { go } from './route.js';
 import { link_to } from './side.js';
 
-let found = [], active = 0, asked = '';
+let found = [], active = 0, asked = '', shown;
 
 function show(places) {
     found = places;
@@ -44,10 +44,8 @@ function close() {
     asked = '';
 }
 
-// Searches for the text in the field, and returns whether the results are shown.
-async function look() {
-    const text = get('goto').value.trim();
-    if (text === asked) return true;
+// Searches for a text, and returns whether the results are shown.
+async function search(text) {
     asked = text;
     if (!text) { close(); return false; }
     const slow = setTimeout(() => { if (asked === text) report('searching …'); }, SOON);
@@ -57,6 +55,13 @@ async function look() {
     show(places);
     report(places.length > 0 ? '' : NONE);
     return true;
+}
+
+// Searches for the text in the field, unless that has begun, and promises whether the results are shown.
+function look() {
+    const text = get('goto').value.trim();
+    if (text !== asked) shown = search(text);
+    return shown;
 }
 
 async function press(event) {
