@@ -17,16 +17,12 @@ fn error_of(kind: &str) -> Option<Error> {
         "Memory" => Some(Error::Memory(AllocError)),
         "TooBig" => Some(Error::Scroll(scroll::Error::TooBig { size: 56, len: 24 })),
         "BadOffset" => Some(Error::Scroll(scroll::Error::BadOffset(64))),
-        "BadInput" => Some(bad_input()),
+        "BadInput" => Some(Error::Scroll(scroll::Error::BadInput {
+            size: 3,
+            msg: "invalid utf8",
+        })),
         _ => Some(Error::Malformed(fault_of(kind)?)),
     }
-}
-
-fn bad_input() -> Error {
-    Error::Scroll(scroll::Error::BadInput {
-        size: 3,
-        msg: "invalid utf8",
-    })
 }
 
 // Faults of headers, notes and numbers.
@@ -63,26 +59,18 @@ fn fault_of_table(kind: &str) -> Option<Fault> {
             len: 6,
             overflow: false,
         }),
-        "SectionOffset" => Some(section_offset()),
-        "SectionAddr" => Some(section_addr()),
+        "SectionOffset" => Some(Fault::SectionOffset {
+            name: 3,
+            size: 8,
+            offset: 9,
+            overflow: false,
+        }),
+        "SectionAddr" => Some(Fault::SectionAddr {
+            name: 3,
+            size: u64::MAX,
+            addr: 9,
+            overflow: true,
+        }),
         _ => None,
-    }
-}
-
-fn section_offset() -> Fault {
-    Fault::SectionOffset {
-        name: 3,
-        size: 8,
-        offset: 9,
-        overflow: false,
-    }
-}
-
-fn section_addr() -> Fault {
-    Fault::SectionAddr {
-        name: 3,
-        size: u64::MAX,
-        addr: 9,
-        overflow: true,
     }
 }

@@ -2,9 +2,13 @@
 //! memory.
 use crate::answer::Answer;
 use goblin::container::{Container, Ctx, Endian};
-use goblin::elf::program_header::{ProgramHeader, program_header32, program_header64};
+use goblin::elf::program_header::ProgramHeader;
+use goblin::elf::program_header::program_header32::ProgramHeader as ProgramHeader32;
+use goblin::elf::program_header::program_header64::ProgramHeader as ProgramHeader64;
 use goblin::elf::reloc::{Reloc, RelocSection, reloc64};
-use goblin::elf::section_header::{SectionHeader, section_header32, section_header64};
+use goblin::elf::section_header::SectionHeader;
+use goblin::elf::section_header::section_header32::SectionHeader as SectionHeader32;
+use goblin::elf::section_header::section_header64::SectionHeader as SectionHeader64;
 use goblin::elf::sym::{Sym, Symtab};
 use goblin::error::{Error, Result};
 use goblin::options::{ParseMode, ParseOptions};
@@ -54,8 +58,8 @@ fn hold<T: Drop, F: Fn(usize) -> Option<T>>(alloc: Global, count: usize, list: &
 // Lists of headers of either class.
 fn headers(alloc: Global, bytes: &[u8], form: &str) -> Option<bool> {
     let segments = |n| ProgramHeader::parse(alloc, bytes, 0, n, CTX).ok();
-    let segments32 = |n| program_header32::ProgramHeader::parse(alloc, bytes, 0, n, LE).ok();
-    let segments64 = |n| program_header64::ProgramHeader::parse(alloc, bytes, 0, n, LE).ok();
+    let segments32 = |n| ProgramHeader32::parse(alloc, bytes, 0, n, LE).ok();
+    let segments64 = |n| ProgramHeader64::parse(alloc, bytes, 0, n, LE).ok();
     let sections = |n| SectionHeader::parse(alloc, bytes, 64, n, CTX).ok();
     let sections_from = |n| SectionHeader::parse_from(alloc, bytes, 0, n, CTX).ok();
     match form {
@@ -71,26 +75,10 @@ fn headers(alloc: Global, bytes: &[u8], form: &str) -> Option<bool> {
 // Lists of raw headers from the start of the bytes.
 fn raw_headers(alloc: Global, bytes: &[u8], form: &str) -> Option<bool> {
     let most = bytes.len() / 64;
-    let segments32 = |n: usize| program_header32::ProgramHeader::from_bytes(
-        alloc,
-        bytes,
-        n.min(most),
-    ).ok();
-    let segments64 = |n: usize| program_header64::ProgramHeader::from_bytes(
-        alloc,
-        bytes,
-        n.min(most),
-    ).ok();
-    let sections32 = |n: usize| section_header32::SectionHeader::from_bytes(
-        alloc,
-        bytes,
-        n.min(most),
-    ).ok();
-    let sections64 = |n: usize| section_header64::SectionHeader::from_bytes(
-        alloc,
-        bytes,
-        n.min(most),
-    ).ok();
+    let segments32 = |n: usize| ProgramHeader32::from_bytes(alloc, bytes, n.min(most)).ok();
+    let segments64 = |n: usize| ProgramHeader64::from_bytes(alloc, bytes, n.min(most)).ok();
+    let sections32 = |n: usize| SectionHeader32::from_bytes(alloc, bytes, n.min(most)).ok();
+    let sections64 = |n: usize| SectionHeader64::from_bytes(alloc, bytes, n.min(most)).ok();
     match form {
         "segments_bytes32" => Some(hold(alloc, RECORDS, &segments32)),
         "segments_bytes64" => Some(hold(alloc, RECORDS, &segments64)),
