@@ -1,116 +1,52 @@
 //! Runs over cut files, and over readers and writers that fail at each of their calls.
-use crate::run::{Interrupted, PERMISSIVE, STRICT, SYMBOLS, SYMBOLS_TEXT, bytes_of, ends};
+use crate::run::{
+    BIG, BIG_TEXT, NO_MAGIC, PERMISSIVE, STRICT, SYMBOLS, SYMBOLS_TEXT, TOO_LONG, TOO_SMALL, ZEROS,
+    bytes_of, ends, outcome_of,
+};
+use crate::streams::{Balk, FAILURES, Halting, INTERRUPTIONS, Interrupted, Parts};
 use goblin::options::ParseOptions;
 use goblin_text::counted::Counted;
 use goblin_text::input::{Input, input_within};
 use goblin_text::run::{Outcome, run};
 use std::alloc::Global;
-use std::io;
-use std::io::{Cursor, ErrorKind, Read, Write};
+use std::io::{Cursor, ErrorKind};
 
-// How files of `from` to `to` bytes are refused: with this text, and after it, if there is a
-// `base`, the number of bytes that they have from there on.
-struct Cut {
-    from: usize,
-    to: usize,
-    text: &'static str,
-    base: Option<usize>,
-}
-
-// The file with symbols, cut: in its header, before its section headers, and in each of them.
-const CUTS: [Cut; 8] = [
-    Cut {
-        from: 0,
-        to: 15,
-        text: "Malformed entity: Too small",
-        base: None,
-    },
-    Cut {
-        from: 16,
-        to: 51,
-        text: "type is too big (52) for ",
-        base: Some(0),
-    },
-    Cut {
-        from: 52,
-        to: 88,
-        text: "bad offset 88",
-        base: None,
-    },
-    Cut {
-        from: 89,
-        to: 127,
-        text: "type is too big (40) for ",
-        base: Some(88),
-    },
-    Cut {
-        from: 128,
-        to: 128,
-        text: "bad offset 128",
-        base: None,
-    },
-    Cut {
-        from: 129,
-        to: 167,
-        text: "type is too big (40) for ",
-        base: Some(128),
-    },
-    Cut {
-        from: 168,
-        to: 168,
-        text: "bad offset 168",
-        base: None,
-    },
-    Cut {
-        from: 169,
-        to: 207,
-        text: "type is too big (40) for ",
-        base: Some(168),
-    },
+// How the file with symbols is refused if it is cut to less than so many bytes, and to no less than those of the row
+// before: with this text, and after it, if an offset is given, the number of bytes from there on. It is cut in its
+// header, before its section headers, and in each of them.
+const CUTS: [(usize, &str, Option<usize>); 8] = [
+    (16, "Malformed entity: Too small", None),
+    (52, "type is too big (52) for ", Some(0)),
+    (89, "bad offset 88", None),
+    (128, "type is too big (40) for ", Some(88)),
+    (129, "bad offset 128", None),
+    (168, "type is too big (40) for ", Some(128)),
+    (169, "bad offset 168", None),
+    (208, "type is too big (40) for ", Some(168)),
 ];
 
-// The line of a file that is cut to so many bytes.
-fn line_of(alloc: Global, cut: &Cut, length: usize) -> Option<String> {
-    match cut.base {
-        Some(base) => {
-            let left = length.checked_sub(base)?;
-            format!(in alloc; "refused: {}{left}\n", cut.text).ok()
+// The line of the file that is cut to so many bytes.
+fn line_of(alloc: Global, length: usize) -> Option<String> {
+    match CUTS.iter().find(|(end, _, _)| length < *end)? {
+        (_, text, Some(base)) => {
+            let left = length.saturating_sub(*base);
+            format!(in alloc; "refused: {text}{left}\n").ok()
         }
-        None => format!(in alloc; "refused: {}\n", cut.text).ok(),
-    }
-}
-
-// Whether the file, cut to so many bytes, is refused with this cut's line.
-fn is_refused(alloc: Global, opts: &ParseOptions, file: &[u8], cut: &Cut, length: usize) -> bool {
-    match (file.get(..length), line_of(alloc, cut, length)) {
-        (Some(bytes), Some(line)) => {
-            ends(
-                alloc,
-                opts,
-                Cursor::new(bytes),
-                Outcome::Refused,
-                line.as_str(),
-            )
-        }
-        _ => false,
+        (_, text, None) => format!(in alloc; "refused: {text}\n").ok(),
     }
 }
 
 // Whether the file with symbols is refused so at each length below its own.
 fn are_refused(alloc: Global, opts: &ParseOptions) -> bool {
-    let Some(bytes) = bytes_of(alloc, SYMBOLS) else {
-        return false;
-    };
-    let mut length = 0;
-    for cut in &CUTS {
-        for at in cut.from..=cut.to {
-            if at != length || !is_refused(alloc, opts, bytes.as_slice(), cut, at) {
-                return false;
+    bytes_of(alloc, SYMBOLS).is_some_and(|bytes| {
+        let cuts_are_refused = (0..208).all(|length| {
+            match (bytes.get(..length), line_of(alloc, length)) {
+                (Some(cut), Some(line)) => ends(alloc, opts, Cursor::new(cut), line.as_str()),
+                _ => false,
             }
-            length += 1;
-        }
-    }
-    length == bytes.len()
+        });
+        bytes.len() == 208 && cuts_are_refused
+    })
 }
 
 #[test]
@@ -119,166 +55,97 @@ fn refuses_cut_files(rt: HostRuntime) {
     assert!(rt; are_refused(rt.alloc(), &PERMISSIVE));
 }
 
-// An error, by its kind or by its number in the system.
-#[derive(Clone, Copy)]
-enum IoError {
-    Kind(ErrorKind),
-    Number(i32),
-}
-
-impl IoError {
-    fn error(self) -> io::Error {
-        match self {
-            IoError::Kind(kind) => io::Error::from(kind),
-            IoError::Number(number) => io::Error::from_raw_os_error(number),
-        }
-    }
-}
-
-// Errors that are no interruption: 5 is a device's, 9 a closed file's, 21 a folder's.
-const FAILURES: [IoError; 15] = [
-    IoError::Kind(ErrorKind::NotFound),
-    IoError::Kind(ErrorKind::PermissionDenied),
-    IoError::Kind(ErrorKind::ConnectionReset),
-    IoError::Kind(ErrorKind::BrokenPipe),
-    IoError::Kind(ErrorKind::InvalidInput),
-    IoError::Kind(ErrorKind::InvalidData),
-    IoError::Kind(ErrorKind::TimedOut),
-    IoError::Kind(ErrorKind::WriteZero),
-    IoError::Kind(ErrorKind::WouldBlock),
-    IoError::Kind(ErrorKind::UnexpectedEof),
-    IoError::Kind(ErrorKind::OutOfMemory),
-    IoError::Kind(ErrorKind::Other),
-    IoError::Number(5),
-    IoError::Number(9),
-    IoError::Number(21),
-];
-
-// Interruptions, by kind and by the system's number.
-const INTERRUPTIONS: [IoError; 2] = [IoError::Kind(ErrorKind::Interrupted), IoError::Number(4)];
-
-// A reader that returns few bytes at once, and this error at one call.
-#[derive(Drop)]
-struct Parts<'a> {
-    left: &'a [u8],
-    calls: usize,
-    error_at: usize,
-    error: IoError,
-}
-
-impl Read for Parts<'_> {
-    fn read(&mut self, buf: &mut [u8]) -> io::Result<usize> {
-        self.calls = self.calls.saturating_add(1);
-        if self.calls == self.error_at {
-            return Err(self.error.error());
-        }
-        let count = buf.len().min(self.left.len()).min(16);
-        let (given, left) = self.left.split_at(count);
-        buf[..count].copy_from_slice(given);
-        self.left = left;
-        Ok(count)
-    }
-}
-
-// Whether a run over these bytes fails and writes nothing, where any of so many read calls returns
+// Whether a run over these bytes, so many at once, fails and writes nothing where any of so many read calls returns
 // this error, and writes this text where the next one would.
-fn heeds_reads(alloc: Global, bytes: &[u8], error: IoError, calls: usize, text: &str) -> bool {
-    for error_at in 1..calls.saturating_add(1) {
-        let reader = Parts {
-            left: bytes,
-            calls: 0,
-            error_at,
-            error,
-        };
-        if !ends(alloc, &STRICT, reader, Outcome::Failed, "") {
-            return false;
-        }
-    }
-    let reader = Parts {
-        left: bytes,
-        calls: 0,
-        error_at: calls.saturating_add(1),
-        error,
-    };
-    ends(alloc, &STRICT, reader, Outcome::Shown, text)
-}
-
-// Whether that is so for each error that is no interruption.
-fn heeds_failures(alloc: Global) -> bool {
-    let Some(bytes) = bytes_of(alloc, SYMBOLS) else {
-        return false;
-    };
-    for error in FAILURES {
-        // 13 parts of 16 bytes, and the end.
-        if !heeds_reads(alloc, bytes.as_slice(), error, 14, SYMBOLS_TEXT) {
-            return false;
-        }
-    }
-    true
+fn heeds_reads(
+    alloc: Global,
+    bytes: &[u8],
+    at_once: usize,
+    calls: u32,
+    error: Balk,
+    text: &str,
+) -> bool {
+    let next = calls.saturating_add(1);
+    (1..next).all(|call| ends(alloc, &STRICT, Parts::new(bytes, at_once, call, error), ""))
+        && ends(
+            alloc,
+            &STRICT,
+            Parts::new(bytes, at_once, next, error),
+            text,
+        )
 }
 
 #[test]
 fn fails_where_any_read_does(rt: HostRuntime) {
-    assert!(rt; heeds_failures(rt.alloc()));
-}
-
-// A reader that is interrupted at each other call.
-#[derive(Drop)]
-struct Halting<R> {
-    inner: R,
-    is_next: bool,
-    error: IoError,
-}
-
-impl<R: Read> Read for Halting<R> {
-    fn read(&mut self, buf: &mut [u8]) -> io::Result<usize> {
-        let is_now = self.is_next;
-        self.is_next = !is_now;
-        if is_now {
-            return Err(self.error.error());
-        }
-        self.inner.read(buf)
-    }
-}
-
-// Whether a run over these bytes, interrupted at each other call, ends so.
-fn goes_on(alloc: Global, bytes: &[u8], error: IoError, outcome: Outcome, text: &str) -> bool {
-    for is_next in [false, true] {
-        let inner = Parts {
-            left: bytes,
-            calls: 0,
-            error_at: 0,
-            error,
-        };
-        let reader = Halting {
-            inner,
-            is_next,
-            error,
-        };
-        if !ends(alloc, &STRICT, reader, outcome, text) {
-            return false;
-        }
-    }
-    true
-}
-
-fn goes_on_over(alloc: Global, file: &str, outcome: Outcome, text: &str) -> bool {
-    let Some(bytes) = bytes_of(alloc, file) else {
-        return false;
-    };
-    for error in INTERRUPTIONS {
-        if !goes_on(alloc, bytes.as_slice(), error, outcome, text) {
-            return false;
-        }
-    }
-    true
+    let alloc = rt.alloc();
+    // 13 parts of 16 bytes, and the end.
+    assert!(rt;
+        bytes_of(alloc, SYMBOLS).is_some_and(|bytes| FAILURES.iter().all(|error| {
+            heeds_reads(alloc, bytes.as_slice(), 16, 14, *error, SYMBOLS_TEXT)
+        }))
+    );
+    // 100,000 bytes, which take three read calls.
+    assert!(rt;
+        FAILURES.iter().all(|error| {
+            heeds_reads(alloc, &ZEROS[..100_000], usize::MAX, 3, *error, NO_MAGIC)
+        })
+    );
 }
 
 #[test]
-fn reads_on_after_each_other_call(rt: HostRuntime) {
-    assert!(rt; goes_on_over(rt.alloc(), SYMBOLS, Outcome::Shown, SYMBOLS_TEXT));
-    let line = "refused: Malformed entity: Too small\n";
-    assert!(rt; goes_on_over(rt.alloc(), "", Outcome::Refused, line));
+fn tries_an_interrupted_read_again(rt: HostRuntime) {
+    assert!(rt;
+        (1..5).all(|call| {
+            let reader = Parts::new(&ZEROS[..100_000], usize::MAX, call, INTERRUPTIONS[0]);
+            ends(rt.alloc(), &STRICT, reader, NO_MAGIC)
+        })
+    );
+}
+
+// Whether a run over a file, interrupted at each other read call, writes this text.
+fn reads_on(alloc: Global, file: &str, balk: Balk, is_next: bool, text: &str) -> bool {
+    bytes_of(alloc, file).is_some_and(|bytes| {
+        let inner = Parts::new(bytes.as_slice(), 16, 0, balk);
+        ends(
+            alloc,
+            &STRICT,
+            Halting {
+                inner,
+                is_next,
+                balk,
+            },
+            text,
+        )
+    })
+}
+
+// Whether a run over a file, with each other write an interruption, writes this text.
+fn writes_on(alloc: Global, file: &str, balk: Balk, is_next: bool, text: &str) -> bool {
+    bytes_of(alloc, file).is_some_and(|bytes| {
+        let inner = Parts::new(Vec::new(alloc), 7, 0, balk);
+        let mut reader = Counted::new(Cursor::new(bytes.as_slice()));
+        let mut writer = Counted::new(Halting {
+            inner,
+            is_next,
+            balk,
+        });
+        run(alloc, &mut reader, &mut writer, &STRICT) == outcome_of(text)
+            && writer.into_inner().inner.bytes.as_slice() == text.as_bytes()
+    })
+}
+
+// Whether both are so for each interruption, from the first call on and from the second one on.
+fn goes_on(alloc: Global, file: &str, text: &str) -> bool {
+    INTERRUPTIONS.iter().all(|balk| [false, true].iter().all(|is_next| {
+        reads_on(alloc, file, *balk, *is_next, text)
+            && writes_on(alloc, file, *balk, *is_next, text)
+    }))
+}
+
+#[test]
+fn goes_on_after_each_other_call(rt: HostRuntime) {
+    assert!(rt; goes_on(rt.alloc(), SYMBOLS, SYMBOLS_TEXT));
+    assert!(rt; goes_on(rt.alloc(), "", TOO_SMALL));
 }
 
 // Whether a reader that is interrupted at each of its first calls is asked as often as the limit
@@ -308,35 +175,18 @@ fn asks_as_many_times_as_the_limit(rt: HostRuntime) {
     }
 }
 
-// A reader that reads a zero at each call.
-#[derive(Drop)]
-struct Drops {
-    given: u32,
-}
-
-impl Read for Drops {
-    fn read(&mut self, buf: &mut [u8]) -> io::Result<usize> {
-        let Some(first) = buf.first_mut() else {
-            return Ok(0);
-        };
-        *first = 0;
-        self.given = self.given.saturating_add(1);
-        Ok(1)
-    }
-}
-
-// Whether reading such a reader comes to no end if each other call is an interruption, and the last
-// call reads a zero: whether it read so many.
+// Whether reading zeros one by one comes to no end if each other call is an interruption, and the last call reads a
+// zero: whether it read so many.
 fn comes_to_no_end(alloc: Global, limit: u64, given: u32) -> bool {
-    let inner = Drops { given: 0 };
-    let error = IoError::Kind(ErrorKind::Interrupted);
+    let balk = Balk::Kind(ErrorKind::Interrupted);
+    let inner = Parts::new(ZEROS.as_slice(), 1, 0, balk);
     let mut reader = Counted::new(Halting {
         inner,
         is_next: true,
-        error,
+        balk,
     });
     matches!(input_within(alloc, &mut reader, limit), Input::Failed)
-        && reader.into_inner().inner.given == given
+        && reader.into_inner().inner.calls == given
 }
 
 #[test]
@@ -345,181 +195,75 @@ fn takes_no_zeros_without_end(rt: HostRuntime) {
     assert!(rt; comes_to_no_end(rt.alloc(), 200_000, 100_000));
 }
 
-// What a writer does in the place of taking some bytes.
-#[derive(Clone, Copy)]
-enum Balk {
-    Fails(IoError),
-    TakesNone,
+// Whether a run over these bytes fails if this call balks, of a writer that takes so many bytes at once, and makes no
+// further one.
+fn fails_at(alloc: Global, bytes: &[u8], at_once: usize, balk: Balk, call: u32) -> bool {
+    let mut reader = Counted::new(Cursor::new(bytes));
+    let mut writer = Counted::new(Parts::new(Vec::new(alloc), at_once, call, balk));
+    run(alloc, &mut reader, &mut writer, &STRICT) == Outcome::Failed
+        && writer.into_inner().calls == call
 }
 
-// A writer that takes few bytes at once, and balks at one write.
-#[derive(Drop)]
-struct Balking {
-    held: Vec<u8>,
-    writes: u32,
-    balk_at: u32,
-    balk: Balk,
+// Whether a run over these bytes writes this text to such a writer by so many calls.
+fn takes_calls(alloc: Global, bytes: &[u8], at_once: usize, calls: u32, text: &str) -> bool {
+    let mut reader = Counted::new(Cursor::new(bytes));
+    let mut writer = Counted::new(Parts::new(Vec::new(alloc), at_once, 0, Balk::TakesNone));
+    let outcome = run(alloc, &mut reader, &mut writer, &STRICT);
+    let written = writer.into_inner();
+    outcome == outcome_of(text)
+        && written.calls == calls
+        && written.bytes.as_slice() == text.as_bytes()
 }
 
-impl Write for Balking {
-    fn write(&mut self, buf: &[u8]) -> io::Result<usize> {
-        self.writes = self.writes.saturating_add(1);
-        if self.writes == self.balk_at {
-            return match self.balk {
-                Balk::Fails(error) => Err(error.error()),
-                Balk::TakesNone => Ok(0),
-            };
-        }
-        let count = buf.len().min(7);
-        self.held.extend_from_slice(&buf[..count])?;
-        Ok(count)
-    }
-
-    fn flush(&mut self) -> io::Result<()> {
-        Ok(())
-    }
+// Whether a run over these bytes makes so many write calls and then a flush, writes this text, and fails if any of the
+// calls does or any write takes no bytes. An interrupted flush isn't tried again.
+fn heeds(alloc: Global, bytes: &[u8], at_once: usize, writes: u32, text: &str) -> bool {
+    let flush = writes.saturating_add(1);
+    let fails = |balk, call| fails_at(alloc, bytes, at_once, balk, call);
+    takes_calls(alloc, bytes, at_once, flush, text)
+        && FAILURES
+            .iter()
+            .all(|balk| (1..=flush).all(|call| fails(*balk, call)))
+        && (1..flush).all(|call| fails(Balk::TakesNone, call))
+        && INTERRUPTIONS.iter().all(|balk| fails(*balk, flush))
 }
 
-// Whether a run over these bytes fails where any write balks so, and tries no further one, up to
-// the first run that meets no such write, which ends so and writes this text.
-fn heeds_writes(alloc: Global, bytes: &[u8], balk: Balk, outcome: Outcome, text: &str) -> bool {
-    for balk_at in 1..1000 {
-        let held = Vec::new(alloc);
-        let mut reader = Counted::new(Cursor::new(bytes));
-        let mut writer = Counted::new(Balking {
-            held,
-            writes: 0,
-            balk_at,
-            balk,
-        });
-        let ended = run(alloc, &mut reader, &mut writer, &STRICT);
-        let written = writer.into_inner();
-        if written.writes < balk_at {
-            return ended == outcome && written.held.as_slice() == text.as_bytes();
-        }
-        if ended != Outcome::Failed || written.writes > balk_at {
-            return false;
-        }
-    }
-    false
-}
-
-fn heeds_balks(alloc: Global, file: &str, outcome: Outcome, text: &str) -> bool {
-    let Some(bytes) = bytes_of(alloc, file) else {
-        return false;
-    };
-    for error in FAILURES {
-        if !heeds_writes(alloc, bytes.as_slice(), Balk::Fails(error), outcome, text) {
-            return false;
-        }
-    }
-    heeds_writes(alloc, bytes.as_slice(), Balk::TakesNone, outcome, text)
+fn heeds_over(alloc: Global, file: &str, at_once: usize, writes: u32, text: &str) -> bool {
+    bytes_of(alloc, file).is_some_and(|bytes| heeds(alloc, bytes.as_slice(), at_once, writes, text))
 }
 
 #[test]
-fn fails_where_any_write_does(rt: HostRuntime) {
-    assert!(rt; heeds_balks(rt.alloc(), SYMBOLS, Outcome::Shown, SYMBOLS_TEXT));
-    let line = "refused: Malformed entity: Too small\n";
-    assert!(rt; heeds_balks(rt.alloc(), "", Outcome::Refused, line));
+fn fails_where_a_write_or_the_flush_does(rt: HostRuntime) {
+    // A text or a refusal is written by one call, if the writer takes it.
+    assert!(rt; heeds_over(rt.alloc(), BIG, 1_000, 1, BIG_TEXT));
+    assert!(rt; heeds_over(rt.alloc(), SYMBOLS, 1_000, 1, SYMBOLS_TEXT));
+    assert!(rt; heeds_over(rt.alloc(), "", 1_000, 1, TOO_SMALL));
+    // 310 bytes in parts of 7, and 37 bytes in parts of 7 and of 3.
+    assert!(rt; heeds_over(rt.alloc(), SYMBOLS, 7, 45, SYMBOLS_TEXT));
+    assert!(rt; heeds_over(rt.alloc(), "", 7, 6, TOO_SMALL));
+    assert!(rt; heeds_over(rt.alloc(), "", 3, 13, TOO_SMALL));
 }
 
-// A writer that fails where it is flushed.
-#[derive(Drop)]
-struct Unflushed {
-    error: IoError,
-}
-
-impl Write for Unflushed {
-    fn write(&mut self, buf: &[u8]) -> io::Result<usize> {
-        Ok(buf.len())
-    }
-
-    fn flush(&mut self) -> io::Result<()> {
-        Err(self.error.error())
-    }
-}
-
-// Whether a run over these bytes fails if the flush returns any of these errors.
-fn heeds_flushes(alloc: Global, file: &str, errors: &[IoError]) -> bool {
-    let Some(bytes) = bytes_of(alloc, file) else {
-        return false;
-    };
-    for error in errors {
-        let mut reader = Counted::new(Cursor::new(bytes.as_slice()));
-        let mut writer = Counted::new(Unflushed { error: *error });
-        if run(alloc, &mut reader, &mut writer, &STRICT) != Outcome::Failed {
-            return false;
+// Whether a run over so many zeros writes this text by so many calls, and fails if any of them does.
+fn heeds_over_zeros(alloc: Global, count: usize, calls: u32, text: &str) -> bool {
+    match vec![in alloc; 0; count] {
+        Ok(zeros) => {
+            takes_calls(alloc, zeros.as_slice(), 1_000, calls, text)
+                && (1..=calls).all(|call| fails_at(
+                    alloc,
+                    zeros.as_slice(),
+                    1_000,
+                    FAILURES[3],
+                    call,
+                ))
         }
+        Err(_) => false,
     }
-    true
 }
 
 #[test]
-fn fails_where_the_flush_does(rt: HostRuntime) {
-    assert!(rt; heeds_flushes(rt.alloc(), SYMBOLS, &FAILURES));
-    assert!(rt; heeds_flushes(rt.alloc(), "", &FAILURES));
-    // An interrupted flush isn't tried again.
-    assert!(rt; heeds_flushes(rt.alloc(), SYMBOLS, &INTERRUPTIONS));
-    assert!(rt; heeds_flushes(rt.alloc(), "", &INTERRUPTIONS));
-}
-
-impl<W: Write> Write for Halting<W> {
-    fn write(&mut self, buf: &[u8]) -> io::Result<usize> {
-        let is_now = self.is_next;
-        self.is_next = !is_now;
-        if is_now {
-            return Err(self.error.error());
-        }
-        self.inner.write(buf)
-    }
-
-    fn flush(&mut self) -> io::Result<()> {
-        self.inner.flush()
-    }
-}
-
-// Whether a run over these bytes ends so and writes this text, where each other write is an
-// interruption.
-fn writes_on(alloc: Global, bytes: &[u8], error: IoError, outcome: Outcome, text: &str) -> bool {
-    for is_next in [false, true] {
-        let held = Vec::new(alloc);
-        let inner = Balking {
-            held,
-            writes: 0,
-            balk_at: 0,
-            balk: Balk::TakesNone,
-        };
-        let mut reader = Counted::new(Cursor::new(bytes));
-        let mut writer = Counted::new(Halting {
-            inner,
-            is_next,
-            error,
-        });
-        if run(alloc, &mut reader, &mut writer, &STRICT) != outcome {
-            return false;
-        }
-        if writer.into_inner().inner.held.as_slice() != text.as_bytes() {
-            return false;
-        }
-    }
-    true
-}
-
-fn writes_on_over(alloc: Global, file: &str, outcome: Outcome, text: &str) -> bool {
-    let Some(bytes) = bytes_of(alloc, file) else {
-        return false;
-    };
-    for error in INTERRUPTIONS {
-        if !writes_on(alloc, bytes.as_slice(), error, outcome, text) {
-            return false;
-        }
-    }
-    true
-}
-
-#[test]
-fn writes_on_after_each_other_write(rt: HostRuntime) {
-    assert!(rt; writes_on_over(rt.alloc(), SYMBOLS, Outcome::Shown, SYMBOLS_TEXT));
-    let line = "refused: Malformed entity: Too small\n";
-    assert!(rt; writes_on_over(rt.alloc(), "", Outcome::Refused, line));
+fn takes_as_many_bytes_as_the_limit(rt: HostRuntime) {
+    assert!(rt; heeds_over_zeros(rt.alloc(), 16_777_216, 2, NO_MAGIC));
+    // The refusal of too many bytes is three writes and a flush.
+    assert!(rt; heeds_over_zeros(rt.alloc(), 16_777_217, 4, TOO_LONG));
 }

@@ -9,3 +9,5 @@ mod hostile;
 mod refusals;
 #[cfg(test)]
 mod run;
+#[cfg(test)]
+mod streams;
