@@ -43,6 +43,25 @@ macro_rules! called {
 
 pub(crate) use called;
 
+// The same of a call that searches, with the index that it stores after the status.
+macro_rules! searched {
+    ($call:ident($($given:expr),*), $mark:expr) => {{
+        let (mut index, mut found, mut why) = (9, $mark, marked_layout().refusal);
+        let status = $call($($given,)* &mut index, &mut found, &mut why);
+        (status, index, found, why)
+    }};
+}
+
+pub(crate) use searched;
+
+// The answer for a number: the number, or the first number of the refusal and where it begins.
+pub fn number_shown((status, found, why): (u32, u64, GoblinRefusal)) -> (u32, u64, u64) {
+    if status > 1 {
+        return (status, why.first, why.offset);
+    }
+    (status, found, 0)
+}
+
 // The file's header, or one of marks where it is refused.
 pub fn header() -> GoblinHeader {
     called!(goblin_header(FILE), marked_layout().header).1
@@ -51,12 +70,10 @@ pub fn header() -> GoblinHeader {
 #[test]
 fn reads_the_header(rt: HostRuntime) {
     let found = header();
-    assert!(rt;
-        found.e_type == 3 && found.e_shoff == 88 && found.e_shnum == 3 && found.e_ehsize == 52
-    );
-    assert!(rt;
-        found.ei_class == 1 && found.ei_data == 1 && found.ei_version == 1 && found.ei_osabi == 0
-    );
+    assert!(rt; found.e_type == 3 && found.e_shoff == 88);
+    assert!(rt; found.e_shnum == 3 && found.e_ehsize == 52);
+    assert!(rt; found.ei_class == 1 && found.ei_data == 1);
+    assert!(rt; found.ei_version == 1 && found.ei_osabi == 0);
 }
 
 // Whether a header is refused, by this kind with these numbers.
@@ -118,11 +135,7 @@ fn segment_types(first: u64) -> (u32, u64, [u32; 3]) {
     (header.e_phoff, header.e_phnum) = (52, 2);
     let mut found = [marked_layout().segment; 3];
     let (status, filled, _) = called!(goblin_segments(FILE, &header, first, &mut found), 9);
-    (
-        status,
-        filled,
-        [found[0].p_type, found[1].p_type, found[2].p_type],
-    )
+    (status, filled, found.map(|segment| segment.p_type))
 }
 
 #[test]
@@ -157,35 +170,22 @@ fn reads_symbols(rt: HostRuntime) {
 
 // Where a name is found from an index on: the answer, the index and the symbol's value.
 fn finds_symbol(name: &[u8], first: u64) -> (u32, u64, u64) {
-    let (mut index, mut symbol, mut why) = (9, marked_layout().symbol, marked_layout().refusal);
-    let status = goblin_symbol_by_name(
-        FILE,
-        &header(),
-        &SYMBOLS,
-        &STRINGS,
-        name,
-        first,
-        &mut index,
-        &mut symbol,
-        &mut why,
+    let mark = marked_layout().symbol;
+    let (status, index, found, _) = searched!(
+        goblin_symbol_by_name(FILE, &header(), &SYMBOLS, &STRINGS, name, first),
+        mark
     );
-    (status, index, symbol.st_value)
+    (status, index, found.st_value)
 }
 
 // The same for a section, with its type.
 fn finds_section(name: &[u8], first: u64) -> (u32, u64, u32) {
-    let (mut index, mut section, mut why) = (9, marked_layout().section, marked_layout().refusal);
-    let status = goblin_section_by_name(
-        FILE,
-        &header(),
-        &STRINGS,
-        name,
-        first,
-        &mut index,
-        &mut section,
-        &mut why,
+    let mark = marked_layout().section;
+    let (status, index, found, _) = searched!(
+        goblin_section_by_name(FILE, &header(), &STRINGS, name, first),
+        mark
     );
-    (status, index, section.sh_type)
+    (status, index, found.sh_type)
 }
 
 const UNREAD: u64 = 0x0202_0202_0202_0202;
@@ -193,9 +193,8 @@ const UNREAD: u64 = 0x0202_0202_0202_0202;
 #[test]
 fn finds_names(rt: HostRuntime) {
     assert!(rt; finds_symbol(b"f", 0) == (0, 1, 0x1000) && finds_symbol(b"f", 1) == (0, 1, 0x1000));
-    assert!(rt;
-        finds_symbol(b"f", 2) == (1, 9, UNREAD) && finds_symbol(b"f", u64::MAX) == (1, 9, UNREAD)
-    );
+    assert!(rt; finds_symbol(b"f", 2) == (1, 9, UNREAD));
+    assert!(rt; finds_symbol(b"f", u64::MAX) == (1, 9, UNREAD));
     assert!(rt; finds_symbol(b"g", 0) == (1, 9, UNREAD));
     assert!(rt; finds_symbol(b"f\0", 0) == (1, 9, UNREAD));
     assert!(rt; finds_symbol(b"", 0) == (0, 0, 0) && finds_symbol(b"", 1) == (1, 9, UNREAD));
@@ -338,23 +337,16 @@ static LONG: &[u8; 71] = b"abcdefghijklmnopq\0\
 // The answer for a string of these, with its size or the refusal's first number.
 fn long_string(offset: u64) -> (u32, u64) {
     let (status, found, why) = called!(goblin_string(LONG, &range(0, 71), offset), STRINGS);
-    if status > 1 {
-        return (status, why.first);
-    }
-    (status, found.size)
+    (status, if status > 1 { why.first } else { found.size })
 }
 
 #[test]
 fn places_long_strings(rt: HostRuntime) {
-    assert!(rt;
-        long_string(0) == (0, 17) && long_string(1) == (0, 16) && long_string(17) == (0, 0)
-    );
-    assert!(rt;
-        long_string(18) == (0, 18) && long_string(55) == (0, 16) && long_string(70) == (0, 1)
-    );
-    assert!(rt;
-        long_string(37) == (5, 34) && long_string(40) == (5, 31) && long_string(53) == (5, 18)
-    );
+    assert!(rt; long_string(0) == (0, 17) && long_string(1) == (0, 16));
+    assert!(rt; long_string(17) == (0, 0) && long_string(18) == (0, 18));
+    assert!(rt; long_string(55) == (0, 16) && long_string(70) == (0, 1));
+    assert!(rt; long_string(37) == (5, 34) && long_string(40) == (5, 31));
+    assert!(rt; long_string(53) == (5, 18));
 }
 
 // What is stored for the strings at offsets of these: the answer, their number, and the sizes in a buffer of at most
@@ -365,11 +357,7 @@ fn long_strings(offsets: &[u64], places: usize) -> (u32, u64, [u64; 3]) {
         goblin_strings(LONG, &range(0, 71), offsets, &mut found[..places.min(3)]),
         9
     );
-    (
-        status,
-        filled,
-        [found[0].size, found[1].size, found[2].size],
-    )
+    (status, filled, found.map(|part| part.size))
 }
 
 #[test]
@@ -564,93 +552,80 @@ fn writes_names(rt: HostRuntime) {
     assert!(rt; goblin_version() == 7);
 }
 
-// Whether this is the text of a refusal of a kind with these numbers.
-fn says(kind: u32, item: u32, numbers: [u64; 4], text: &[u8]) -> bool {
+// Whether these words and this text are the text of a refusal of a kind with these numbers.
+fn says_after(words: &str, kind: u32, item: u32, numbers: [u64; 4], text: &str) -> bool {
     let mut room = [0; 160];
+    let [first, second, third, fourth] = numbers;
     let why = GoblinRefusal {
         kind,
         item,
-        first: numbers[0],
-        second: numbers[1],
-        third: numbers[2],
-        fourth: numbers[3],
+        first,
+        second,
+        third,
+        fourth,
         offset: 17,
     };
     let len = goblin_refusal_to_str(&why, &mut room) as usize;
-    len == text.len() && len <= 160 && &room[..len] == text
+    let written = room
+        .get(..len)
+        .and_then(|written| written.strip_prefix(words.as_bytes()));
+    written.is_some_and(|written| written == text.as_bytes())
+}
+
+fn says(kind: u32, item: u32, numbers: [u64; 4], text: &str) -> bool {
+    says_after("", kind, item, numbers, text)
 }
 
 #[test]
 fn writes_refusals(rt: HostRuntime) {
-    let magic = b"Invalid magic number: 0x3736353433323130";
-    assert!(rt; says(2, 0, [0x3736_3534_3332_3130, 0, 0, 0], magic));
-    assert!(rt; says(3, 0, [64, 52, 0, 0], b"type is too big (64) for 52"));
-    assert!(rt; says(4, 0, [88, 0, 0, 0], b"bad offset 88"));
-    assert!(rt; says(5, 1, [2, 0, 0, 0], b"bad input invalid utf8 (2)"));
-    let segments = b"Buffer is too short for 2 program headers";
+    let magic = [0x3736_3534_3332_3130, 0, 0, 0];
+    assert!(rt; says(2, 0, magic, "Invalid magic number: 0x3736353433323130"));
+    assert!(rt; says(3, 0, [64, 52, 0, 0], "type is too big (64) for 52"));
+    assert!(rt; says(4, 0, [88, 0, 0, 0], "bad offset 88"));
+    assert!(rt; says(5, 1, [2, 0, 0, 0], "bad input invalid utf8 (2)"));
+    let segments = "Buffer is too short for 2 program headers";
     assert!(rt; says(6, 3, [2, 0, 0, 0], segments));
-    let sections = b"Buffer is too short for 2 section headers";
+    let sections = "Buffer is too short for 2 section headers";
     assert!(rt; says(6, 2, [2, 0, 0, 0], sections));
-    assert!(rt; says(7, 0, [0, 0, 0, 0], b"Out of memory"));
-    assert!(rt; says(9, 0, [1, 2, 3, 4], b"") && says(u32::MAX, 0, [1, 2, 3, 4], b""));
+    assert!(rt; says(7, 0, [0; 4], "Out of memory"));
+    assert!(rt; says(9, 0, [1, 2, 3, 4], "") && says(u32::MAX, 0, [1, 2, 3, 4], ""));
+}
+
+fn says_fault(kind: u32, numbers: [u64; 4], text: &str) -> bool {
+    says_after("Malformed entity: ", kind, 0, numbers, text)
 }
 
 #[test]
 fn writes_faults_of_headers(rt: HostRuntime) {
-    let class = b"Malformed entity: Invalid class in Header: 7";
-    assert!(rt; says(10, 0, [7, 0, 0, 0], class));
-    let order = b"Malformed entity: Invalid endianness in Header: 7";
-    assert!(rt; says(11, 0, [7, 0, 0, 0], order));
-    assert!(rt; says(12, 0, [0, 0, 0, 0], b"Malformed entity: Too small"));
-    assert!(rt;
-        says(
-            13,
-            0,
-            [31, 0, 0, 0],
-            b"Malformed entity: invalid ELF class 1f"
-        )
-    );
-    let read = b"Malformed entity: invalid ELF endianness DATA type 1f";
-    assert!(rt; says(14, 0, [31, 0, 0, 0], read));
-    assert!(rt;
-        says(
-            15,
-            0,
-            [31, 0, 0, 0],
-            b"Malformed entity: invalid ELF DATA type 1f"
-        )
-    );
-}
-
-#[test]
-fn writes_faults_of_sections(rt: HostRuntime) {
-    let place = b"Malformed entity: Section 9 size (31) + offset (5) is out of bounds. \
-        Overflowed: false";
-    assert!(rt; says(22, 0, [9, 31, 5, 0], place));
-    let address = b"Malformed entity: Section 9 size (31) + addr (5) is out of bounds. \
-        Overflowed: true";
-    assert!(rt; says(23, 0, [9, 31, 5, 1], address));
-    let number = b"Malformed entity: Integer do not fit: out of range integral type conversion \
-        attempted";
-    assert!(rt; says(24, 0, [0, 0, 0, 0], number));
+    assert!(rt; says_fault(10, [7, 0, 0, 0], "Invalid class in Header: 7"));
+    assert!(rt; says_fault(11, [7, 0, 0, 0], "Invalid endianness in Header: 7"));
+    assert!(rt; says_fault(12, [0; 4], "Too small"));
+    assert!(rt; says_fault(13, [31, 0, 0, 0], "invalid ELF class 1f"));
+    assert!(rt; says_fault(14, [31, 0, 0, 0], "invalid ELF endianness DATA type 1f"));
+    assert!(rt; says_fault(15, [31, 0, 0, 0], "invalid ELF DATA type 1f"));
 }
 
 #[test]
 fn writes_faults(rt: HostRuntime) {
-    let notes = b"Malformed entity: Notes has unimplemented alignment requirement: 0x1f";
-    assert!(rt; says(16, 0, [31, 0, 0, 0], notes));
-    let place = b"Malformed entity: Symbol table offset (31) is beyond file boundary (5)";
-    assert!(rt; says(17, 0, [31, 5, 0, 0], place));
-    let many = b"Malformed entity: Too many ELF symbols (offset 0x1f, count 31)";
-    assert!(rt; says(18, 0, [31, 31, 0, 0], many));
-    let symbols = b"Malformed entity: Symbol table extends beyond file boundary \
-        (requested: 72, available: 48)";
-    assert!(rt; says(19, 0, [72, 48, 0, 0], symbols));
-    let strings = b"Malformed entity: String table offset (5) is beyond file boundary (4)";
-    assert!(rt; says(20, 0, [5, 4, 0, 0], strings));
-    let range = b"Malformed entity: Strtable size (18446744073709551615) + offset (1) is out of \
-        bounds for 4 #bytes. Overflowed: true";
-    assert!(rt; says(21, 0, [u64::MAX, 1, 4, 1], range));
+    let notes = "Notes has unimplemented alignment requirement: 0x1f";
+    assert!(rt; says_fault(16, [31, 0, 0, 0], notes));
+    let place = "Symbol table offset (31) is beyond file boundary (5)";
+    assert!(rt; says_fault(17, [31, 5, 0, 0], place));
+    let many = "Too many ELF symbols (offset 0x1f, count 31)";
+    assert!(rt; says_fault(18, [31, 31, 0, 0], many));
+    let symbols = "Symbol table extends beyond file boundary (requested: 72, available: 48)";
+    assert!(rt; says_fault(19, [72, 48, 0, 0], symbols));
+    let strings = "String table offset (5) is beyond file boundary (4)";
+    assert!(rt; says_fault(20, [5, 4, 0, 0], strings));
+    let range = "Strtable size (18446744073709551615) + offset (1) is out of bounds for 4 #bytes. \
+        Overflowed: true";
+    assert!(rt; says_fault(21, [u64::MAX, 1, 4, 1], range));
+    let place = "Section 9 size (31) + offset (5) is out of bounds. Overflowed: false";
+    assert!(rt; says_fault(22, [9, 31, 5, 0], place));
+    let address = "Section 9 size (31) + addr (5) is out of bounds. Overflowed: true";
+    assert!(rt; says_fault(23, [9, 31, 5, 1], address));
+    let number = "Integer do not fit: out of range integral type conversion attempted";
+    assert!(rt; says_fault(24, [0; 4], number));
 }
 
 // The text written into a buffer of eight bytes, of which all are 9 before.

@@ -3,7 +3,7 @@
 //! without addends, the bytes 1 to 8, and four section headers. The first program header and the first section
 //! header have type 0, so their sizes don't count. The third section has no bytes. The fourth ends past the file.
 use crate::layout::marked_layout;
-use crate::tests::{called, range};
+use crate::tests::{called, number_shown, range, searched};
 use crate::types::{GoblinHeader, GoblinRange, GoblinRefusal};
 use crate::*;
 
@@ -63,16 +63,11 @@ fn refuses_symbols_at_the_end(rt: HostRuntime) {
 
 // The answer and the index of the first section of a type, from an index on, and where its bytes begin.
 fn of_type(sh_type: u32, first: u64) -> (u32, u64, u64) {
-    let (mut index, mut section, mut why) = (9, marked_layout().section, marked_layout().refusal);
-    section.file.offset = 9;
-    let status = goblin_section_by_type(
-        FILE,
-        &header(),
-        sh_type,
-        first,
-        &mut index,
-        &mut section,
-        &mut why,
+    let mut mark = marked_layout().section;
+    mark.file.offset = 9;
+    let (status, index, section, _) = searched!(
+        goblin_section_by_type(FILE, &header(), sh_type, first),
+        mark
     );
     (status, index, section.file.offset)
 }
@@ -246,18 +241,10 @@ fn strings_begin() -> bool {
 }
 
 fn searches_begin(symbols: &GoblinRange, names: &GoblinRange) -> u64 {
-    let mut found = (9, marked_layout().symbol);
-    let mut why = marked_layout().refusal;
-    let status = goblin_symbol_by_name(
-        FILE,
-        &header(),
-        symbols,
-        names,
-        b"ab",
-        0,
-        &mut found.0,
-        &mut found.1,
-        &mut why,
+    let mark = marked_layout().symbol;
+    let (status, found, _, why) = searched!(
+        goblin_symbol_by_name(FILE, &header(), symbols, names, b"ab", 0),
+        mark
     );
     begins((status, found, why))
 }
@@ -266,19 +253,12 @@ fn searches_begin(symbols: &GoblinRange, names: &GoblinRange) -> u64 {
 fn section_searches_begin(e_shoff: u64, names: &GoblinRange) -> u64 {
     let mut header = header();
     header.e_shoff = e_shoff;
-    let mut found = (9, marked_layout().section);
-    let mut why = marked_layout().refusal;
-    let status = goblin_section_by_name(
-        FILE,
-        &header,
-        names,
-        b"ab",
-        0,
-        &mut found.0,
-        &mut found.1,
-        &mut why,
+    let mark = marked_layout().section;
+    let (status, found, _, why) = searched!(
+        goblin_section_by_name(FILE, &header, names, b"ab", 0),
+        mark
     );
-    begins((status, found.0, why))
+    begins((status, found, why))
 }
 
 fn headers_begin() -> bool {
@@ -316,38 +296,22 @@ fn says_where_what_is_refused_begins(rt: HostRuntime) {
     assert!(rt; section_searches_begin(header().e_shoff, &range(300, 9)) == 300);
 }
 
-// Reads a number of `width` bytes at an offset, big endian or little endian. Returns the status with the number, or
-// with the first value of the refusal.
-fn number_at(offset: u64, width: u64, order: u8) -> (u32, u64) {
+// The answer for a number of `width` bytes at an offset, big endian or little endian.
+fn number_at(offset: u64, width: u64, order: u8) -> (u32, u64, u64) {
     let mut header = header();
     header.ei_data = order;
-    let (status, value, why) = called!(goblin_number(FILE, &header, offset, width), 9);
-    if status > 1 {
-        return (status, why.first);
-    }
-    (status, value)
+    number_shown(called!(goblin_number(FILE, &header, offset, width), 9))
 }
 
 #[test]
 fn reads_numbers(rt: HostRuntime) {
-    assert!(rt; number_at(140, 1, 2) == (0, 1) && number_at(140, 2, 2) == (0, 0x0102));
-    assert!(rt;
-        number_at(140, 4, 2) == (0, 0x0102_0304)
-            && number_at(140, 8, 2) == (0, 0x0102_0304_0506_0708)
-    );
-    assert!(rt; number_at(141, 1, 1) == (0, 2) && number_at(140, 2, 1) == (0, 0x0201));
-    assert!(rt;
-        number_at(140, 4, 1) == (0, 0x0403_0201)
-            && number_at(140, 8, 1) == (0, 0x0807_0605_0403_0201)
-    );
-    assert!(rt;
-        number_at(140, 0, 2) == (1, 9)
-            && number_at(140, 3, 2) == (1, 9)
-            && number_at(400, 16, 2) == (1, 9)
-    );
-    assert!(rt;
-        number_at(308, 1, 2) == (4, 308)
-            && number_at(305, 4, 2) == (3, 4)
-            && number_at(304, 4, 2) == (0, 0)
-    );
+    assert!(rt; number_at(140, 1, 2) == (0, 1, 0) && number_at(140, 2, 2) == (0, 0x0102, 0));
+    assert!(rt; number_at(140, 4, 2) == (0, 0x0102_0304, 0));
+    assert!(rt; number_at(140, 8, 2) == (0, 0x0102_0304_0506_0708, 0));
+    assert!(rt; number_at(141, 1, 1) == (0, 2, 0) && number_at(140, 2, 1) == (0, 0x0201, 0));
+    assert!(rt; number_at(140, 4, 1) == (0, 0x0403_0201, 0));
+    assert!(rt; number_at(140, 8, 1) == (0, 0x0807_0605_0403_0201, 0));
+    assert!(rt; number_at(140, 0, 2) == (1, 9, 0) && number_at(140, 3, 2) == (1, 9, 0));
+    assert!(rt; number_at(400, 16, 2) == (1, 9, 0) && number_at(308, 1, 2) == (4, 308, 308));
+    assert!(rt; number_at(305, 4, 2) == (3, 4, 305) && number_at(304, 4, 2) == (0, 0, 0));
 }

@@ -76,18 +76,12 @@ fn finds_values_before_the_end(rt: HostRuntime) {
 
 // The status, the number of entries, and the tags of three, from an index on, of a buffer with a capacity.
 fn entries(first: u64, capacity: usize) -> (u32, u64, [u64; 3]) {
-    let (mut all, mut filled, mut why) = ([marked_layout().entry; 3], 9, marked_layout().refusal);
-    let header = with_segments(0);
-    let status = goblin_dynamic_entries(
-        BYTES,
-        &header,
-        &DYNAMIC,
-        first,
-        &mut all[..capacity.min(3)],
-        &mut filled,
-        &mut why,
+    let (mut all, header) = ([marked_layout().entry; 3], with_segments(0));
+    let (status, filled, _) = called!(
+        goblin_dynamic_entries(BYTES, &header, &DYNAMIC, first, &mut all[..capacity.min(3)]),
+        9
     );
-    (status, filled, [all[0].d_tag, all[1].d_tag, all[2].d_tag])
+    (status, filled, all.map(|entry| entry.d_tag))
 }
 
 // The tag of an entry that is not written.

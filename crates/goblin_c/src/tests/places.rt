@@ -1,16 +1,8 @@
 //! Numbers in a range, offsets of addresses, and ranges that are cut to the file, on the file of `tests`.
 use crate::layout::marked_layout;
-use crate::tests::{FILE, STRINGS, called, header, range};
-use crate::types::{GoblinRange, GoblinRefusal};
+use crate::tests::{FILE, STRINGS, called, header, number_shown, range};
+use crate::types::GoblinRange;
 use crate::*;
-
-// The answer for a number: the number, or the first number of the refusal and where it begins.
-fn number_shown((status, found, why): (u32, u64, GoblinRefusal)) -> (u32, u64, u64) {
-    if status > 1 {
-        return (status, why.first, why.offset);
-    }
-    (status, found, 0)
-}
 
 fn number_in(part: GoblinRange, offset: u64, width: u64) -> (u32, u64, u64) {
     number_shown(called!(goblin_number_in(FILE, &header(), &part, offset, width), 9))

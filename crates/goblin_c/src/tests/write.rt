@@ -21,6 +21,16 @@ fn has_at(file: &[u8], offset: usize, own: &[u8], old: &[u8]) -> bool {
     &file[offset..end] == own && file[..offset] == old[..offset] && file[end..] == old[end..]
 }
 
+// What a call that puts into a copy of these bytes returned, and whether the copy then has some bytes at an offset, and
+// no other changed.
+macro_rules! put {
+    ($call:ident($old:expr $(, $given:expr)*), $offset:expr, $own:expr) => {{
+        let (mut file, mut why) = (*$old, marked_layout().refusal);
+        let status = $call(&mut file, $($given,)* &mut why);
+        ((status, why.first, why.offset), has_at(&file, $offset, $own, $old))
+    }};
+}
+
 // A header that names a class and a byte order, and no headers.
 fn names(class: u8, order: u8) -> GoblinHeader {
     let mut header = marked_layout().header;
@@ -51,15 +61,21 @@ static SECTION: &[u8; 40] =
 // value and where the field lies.
 type Answer = (u32, u64, u64);
 
-// Puts a section at an index of the file. Returns the answer, and whether the file then has these bytes at an offset,
-// and no other changed.
+// Puts a section at an index of the file, by the file's header but for the number of sections.
+fn puts_section_of(
+    count: u16,
+    s: &GoblinSection,
+    index: u64,
+    offset: usize,
+    own: &[u8],
+) -> (Answer, bool) {
+    let mut header = header();
+    header.e_shnum = count;
+    put!(goblin_put_section(FILE, &header, index, s), offset, own)
+}
+
 fn puts_section(s: &GoblinSection, index: u64, offset: usize, own: &[u8]) -> (Answer, bool) {
-    let (mut file, mut why) = (*FILE, unread());
-    let status = goblin_put_section(&mut file, &header(), index, s, &mut why);
-    (
-        (status, why.first, why.offset),
-        has_at(&file, offset, own, FILE),
-    )
+    puts_section_of(3, s, index, offset, own)
 }
 
 const MARK: u64 = 0x0707_0707_0707_0707;
@@ -82,15 +98,8 @@ fn puts_sections(rt: HostRuntime) {
     wide = section();
     wide.sh_entsize = u64::MAX;
     assert!(rt; puts_section(&wide, 0, 0, b"") == ((24, u64::MAX, 88 + 36), true));
-}
-
-#[test]
-fn refuses_sections_that_are_not_there(rt: HostRuntime) {
-    let (mut file, mut why) = (*FILE, unread());
-    let mut past = header();
-    past.e_shnum = 4;
-    let status = goblin_put_section(&mut file, &past, 0, &section(), &mut why);
-    assert!(rt; status == 4 && why.offset == 88 && has_at(&file, 0, b"", FILE));
+    // Of a fourth section header there is no byte.
+    assert!(rt; puts_section_of(4, &section(), 0, 0, b"") == ((4, 208, 88), true));
 }
 
 fn segment() -> GoblinSegment {
@@ -110,28 +119,22 @@ static SEGMENT: &[u8; 56] =
     b"\0\0\x0d\x0e\0\0\x0f\x10\0\0\0\0\0\0\x01\x02\0\0\0\0\0\0\x05\x06\0\0\0\0\0\0\x07\x08\
     \0\0\0\0\0\0\x03\x04\0\0\0\0\0\0\x09\x0a\0\0\0\0\0\0\x0b\x0c";
 
-fn puts_segment(s: &GoblinSegment, class: u8, index: u64) -> (Answer, bool, bool) {
-    let (mut file, mut why) = (*FILE, unread());
+fn puts_segment(s: &GoblinSegment, class: u8, index: u64, own: &[u8]) -> (Answer, bool) {
     let mut header = names(class, 2);
     (header.e_phoff, header.e_phnum) = (8, 2);
-    let status = goblin_put_segment(&mut file, &header, index, s, &mut why);
-    (
-        (status, why.first, why.offset),
-        has_at(&file, 64, SEGMENT, FILE),
-        has_at(&file, 0, b"", FILE),
-    )
+    put!(goblin_put_segment(FILE, &header, index, s), 64, own)
 }
 
 #[test]
 fn puts_segments(rt: HostRuntime) {
-    assert!(rt; puts_segment(&segment(), 2, 1) == (DONE, true, false));
-    assert!(rt; puts_segment(&segment(), 2, 2) == (NONE, false, true));
+    assert!(rt; puts_segment(&segment(), 2, 1, SEGMENT) == (DONE, true));
+    assert!(rt; puts_segment(&segment(), 2, 2, b"") == (NONE, true));
     let mut wide = segment();
     wide.p_align = u64::MAX;
-    assert!(rt; puts_segment(&wide, 2, 0).0 == DONE);
-    assert!(rt; puts_segment(&wide, 1, 0) == ((24, u64::MAX, 8 + 28), false, true));
+    assert!(rt; puts_segment(&wide, 2, 0, b"") == (DONE, false));
+    assert!(rt; puts_segment(&wide, 1, 0, b"") == ((24, u64::MAX, 8 + 28), true));
     wide.p_memsz = 1 << 40;
-    assert!(rt; puts_segment(&wide, 1, 1) == ((24, 1 << 40, 40 + 20), false, true));
+    assert!(rt; puts_segment(&wide, 1, 1, b"") == ((24, 1 << 40, 40 + 20), true));
 }
 
 fn symbol() -> GoblinSymbol {
@@ -146,11 +149,10 @@ fn symbol() -> GoblinSymbol {
 }
 
 fn puts_symbol(s: &GoblinSymbol, index: u64, offset: usize, own: &[u8]) -> (Answer, bool) {
-    let (mut file, mut why) = (*FILE, unread());
-    let status = goblin_put_symbol(&mut file, &header(), &SYMBOLS, index, s, &mut why);
-    (
-        (status, why.first, why.offset),
-        has_at(&file, offset, own, FILE),
+    put!(
+        goblin_put_symbol(FILE, &header(), &SYMBOLS, index, s),
+        offset,
+        own
     )
 }
 
@@ -187,11 +189,10 @@ fn puts_reloc(
     offset: usize,
     own: &[u8],
 ) -> (Answer, bool) {
-    let (mut file, mut why) = (*NOTHING, unread());
-    let status = goblin_put_reloc(&mut file, h, &range(0, 48), is_rela, 1, r, &mut why);
-    (
-        (status, why.first, why.offset),
-        has_at(&file, offset, own, NOTHING),
+    put!(
+        goblin_put_reloc(NOTHING, h, &range(0, 48), is_rela, 1, r),
+        offset,
+        own
     )
 }
 
@@ -202,14 +203,10 @@ fn puts_relocations(rt: HostRuntime) {
     assert!(rt; puts_reloc(&names(1, 1), false, &reloc(2, 1, 0, 0), 8, &own[..8]) == (DONE, true));
     let wide = b"\0\0\0\0\0\0\0\x10\0\0\0\x02\0\0\x01\x01\xff\xff\xff\xff\xff\xff\xff\xfc";
     assert!(rt; puts_reloc(&names(2, 2), true, &reloc(2, 0x101, -4, 1), 24, wide) == (DONE, true));
-    assert!(rt;
-        puts_reloc(&names(1, 1), true, &reloc(2, 0x101, -4, 1), 0, b"")
-            == ((24, 0x101, 12 + 4), true)
-    );
-    assert!(rt;
-        puts_reloc(&names(1, 1), true, &reloc(2, 1, 1 << 31, 1), 0, b"")
-            == ((24, 1 << 31, 12 + 8), true)
-    );
+    let refused = puts_reloc(&names(1, 1), true, &reloc(2, 0x101, -4, 1), 0, b"");
+    assert!(rt; refused == ((24, 0x101, 12 + 4), true));
+    let refused = puts_reloc(&names(1, 1), true, &reloc(2, 1, 1 << 31, 1), 0, b"");
+    assert!(rt; refused == ((24, 1 << 31, 12 + 8), true));
 }
 
 #[test]
@@ -278,33 +275,25 @@ fn puts_numbers_in_ranges(rt: HostRuntime) {
     assert!(rt; puts_number_in(range(u64::MAX, 1), u64::MAX, 1, 0) == (4, u64::MAX, *b"...."));
 }
 
-fn are(bytes: &[u8], own: &[u8]) -> bool {
-    bytes == own
-}
-
-// Puts a header over bytes that are all 0xaa. Returns the status.
-fn puts_header(h: &GoblinHeader, bytes: &mut [u8]) -> u32 {
-    goblin_put_header(bytes, h, &mut unread())
-}
+// A big-endian header over bytes that are all 0xaa: those after its first nine, up to the type, are not changed.
+static HEADER: &[u8; 53] = b"\x7fELF\x01\x02\x01\x03\x04\xaa\xaa\xaa\xaa\xaa\xaa\xaa\
+    \0\x03\0\0\0\0\0\x01\x12\x34\x56\x78\0\0\0\0\0\0\0\x58\0\0\0\0\
+    \0\x34\0\x20\0\0\0\x28\0\x03\0\0\xaa";
 
 #[test]
 fn puts_headers(rt: HostRuntime) {
     let mut bytes = [0xaa; 53];
     let mut own = header();
     (own.ei_osabi, own.ei_abiversion, own.ei_data, own.e_entry) = (3, 4, 2, 0x1234_5678);
-    assert!(rt; puts_header(&own, &mut bytes) == 0);
-    assert!(rt; are(&bytes[..9], b"\x7fELF\x01\x02\x01\x03\x04"));
-    assert!(rt; are(&bytes[9..16], b"\xaa\xaa\xaa\xaa\xaa\xaa\xaa"));
-    assert!(rt; are(&bytes[16..28], b"\0\x03\0\0\0\0\0\x01\x12\x34\x56\x78"));
-    assert!(rt; are(&bytes[28..40], b"\0\0\0\0\0\0\0\x58\0\0\0\0"));
-    assert!(rt; are(&bytes[40..53], b"\0\x34\0\x20\0\0\0\x28\0\x03\0\0\xaa"));
+    assert!(rt; goblin_put_header(&mut bytes, &own, &mut unread()) == 0);
+    assert!(rt; bytes == *HEADER);
 }
 
 fn refuses_header(class: u8, order: u8, len: usize, entry: u64) -> (u32, bool) {
     let mut bytes = [0xaa; 64];
     let mut own = header();
     (own.ei_class, own.ei_data, own.e_entry) = (class, order, entry);
-    let status = puts_header(&own, &mut bytes[..len.min(64)]);
+    let status = goblin_put_header(&mut bytes[..len.min(64)], &own, &mut unread());
     (status, bytes.iter().all(|byte| *byte == 0xaa))
 }
 
@@ -319,12 +308,10 @@ fn refuses_offsets(e_phoff: u64, e_shoff: u64) -> Answer {
 #[test]
 fn refuses_headers_that_are_put(rt: HostRuntime) {
     assert!(rt; refuses_header(3, 3, 0, 0) == (10, true));
-    assert!(rt;
-        refuses_header(1, 3, 0, 0) == (15, true) && refuses_header(2, 0, 64, 0) == (15, true)
-    );
-    assert!(rt;
-        refuses_header(2, 1, 63, 0) == (3, true) && refuses_header(1, 1, 0, 0) == (4, true)
-    );
+    assert!(rt; refuses_header(1, 3, 0, 0) == (15, true));
+    assert!(rt; refuses_header(2, 0, 64, 0) == (15, true));
+    assert!(rt; refuses_header(2, 1, 63, 0) == (3, true));
+    assert!(rt; refuses_header(1, 1, 0, 0) == (4, true));
     assert!(rt; refuses_header(1, 1, 52, 1 << 32) == (24, true));
     assert!(rt; refuses_header(2, 1, 64, 1 << 32) == (0, false));
     assert!(rt; refuses_offsets(1 << 32, 1 << 33) == (24, 1 << 32, 28));
