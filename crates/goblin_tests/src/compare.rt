@@ -11,6 +11,15 @@ macro_rules! rows {
 
 pub(crate) use rows;
 
+// Whether something holds of each row of a table. One of which it doesn't is shown.
+macro_rules! each_row {
+    ($rt:expr; $row:ident in $rows:expr => $holds:expr) => {
+        $rows.iter().all(|$row| $crate::compare::holds($rt, $row, $holds))
+    };
+}
+
+pub(crate) use each_row;
+
 // Shows what was found and what was expected, and reports that they differ.
 pub(crate) fn differs<A: Debug, B: Debug>(rt: HostRuntime, found: &A, expected: &B) -> bool {
     let _ = eprintln!(rt; "found:    {found:?}\nexpected: {expected:?}");

@@ -1,5 +1,5 @@
 //! The calls of counted bytes, each by itself, with the looks that it takes.
-use crate::compare::{differs, holds, is};
+use crate::compare::{differs, each_row, is};
 use crate::entries::{Shown, shows};
 use goblin_base::counted_bytes::CountedBytes;
 
@@ -43,9 +43,7 @@ fn finds(rt: HostRuntime, row: &Found) -> bool {
 
 #[test]
 fn finds_first_bytes(rt: HostRuntime) {
-    for row in FOUND {
-        assert!(rt; holds(rt, row, finds(rt, row)));
-    }
+    assert!(rt; each_row!(rt; row in FOUND => finds(rt, row)));
 }
 
 // A zero byte at 20, among 50 bytes.
@@ -88,9 +86,7 @@ fn finds_each(rt: HostRuntime, bytes: &[u8]) -> bool {
 
 #[test]
 fn finds_last_bytes(rt: HostRuntime) {
-    for row in FOUND_LAST {
-        assert!(rt; holds(rt, row, finds_last(rt, row)));
-    }
+    assert!(rt; each_row!(rt; row in FOUND_LAST => finds_last(rt, row)));
     let all = b"0123456789abcdefghijklmnopqrstuvwxyzABCDEFGHIJKLMNOPQRSTUVWXYZ";
     assert!(rt; finds_each(rt, all));
 }

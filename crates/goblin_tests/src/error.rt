@@ -1,5 +1,5 @@
 //! Cases with their results: texts of errors.
-use crate::compare::{differs, has_message, holds, is, rows};
+use crate::compare::{differs, each_row, has_message, holds, is, rows};
 use goblin_base::error::{Error, Fault};
 use goblin_base::scroll;
 use std::alloc::{AllocError, AllocFailed};
@@ -96,9 +96,7 @@ fn has_messages(rt: HostRuntime, error: &Error, text: &str) -> bool {
 
 #[test]
 fn returns_the_messages_of_errors(rt: HostRuntime) {
-    for (error, text) in &ERRORS {
-        assert!(rt; holds(rt, text, has_messages(rt, error, text)));
-    }
+    assert!(rt; each_row!(rt; row in ERRORS => has_messages(rt, &row.0, row.1)));
 }
 
 // A writer that takes some texts and refuses all after them.
@@ -145,33 +143,22 @@ fn ends_where_refused(rt: HostRuntime, error: &Error, takes: usize) -> bool {
 #[test]
 fn writes_nothing_after_a_refusal(rt: HostRuntime) {
     for (error, text) in &ERRORS {
-        for takes in 0..12 {
-            assert!(rt; holds(rt, text, ends_where_refused(rt, error, takes)));
-        }
+        assert!(rt; (0..12).all(|takes| holds(rt, text, ends_where_refused(rt, error, takes))));
     }
-}
-
-// Whether an error that was made of another has this message.
-fn is_made(rt: HostRuntime, error: Error, text: &str) -> bool {
-    has_messages(rt, &error, text)
 }
 
 #[test]
 fn makes_errors_of_others(rt: HostRuntime) {
-    assert!(rt;
-        is_made(
-            rt,
-            Error::from(scroll::Error::BadOffset(20)),
-            "bad offset 20"
-        )
-    );
+    let past = scroll::Error::BadOffset(20);
+    assert!(rt; has_messages(rt, &Error::from(past), "bad offset 20"));
     let long = scroll::Error::TooBig { size: 64, len: 52 };
-    assert!(rt; is_made(rt, Error::from(long), "type is too big (64) for 52"));
+    assert!(rt; has_messages(rt, &Error::from(long), "type is too big (64) for 52"));
     let (size, msg) = (30, "invalid utf8");
     let no_text = scroll::Error::BadInput { size, msg };
-    assert!(rt; is_made(rt, Error::from(no_text), "bad input invalid utf8 (30)"));
-    assert!(rt; is_made(rt, Error::from(AllocError), "Out of memory"));
-    assert!(rt; is_made(rt, Error::from(AllocFailed { value: 5u8 }), "Out of memory"));
+    assert!(rt; has_messages(rt, &Error::from(no_text), "bad input invalid utf8 (30)"));
+    assert!(rt; has_messages(rt, &Error::from(AllocError), "Out of memory"));
+    let failed = AllocFailed { value: 5u8 };
+    assert!(rt; has_messages(rt, &Error::from(failed), "Out of memory"));
 }
 
 // Whether the error of a conversion that fails has its message, made by `From` and as a fault.
@@ -179,7 +166,7 @@ fn misfits(rt: HostRuntime, text: &str) -> bool {
     match (u8::try_from(256u16), u8::try_from(256u16)) {
         (Err(one), Err(other)) => {
             let fault = Error::Malformed(Fault::IntegerFit(other));
-            is_made(rt, Error::from(one), text) && is_made(rt, fault, text)
+            has_messages(rt, &Error::from(one), text) && has_messages(rt, &fault, text)
         }
         (one, other) => differs(rt, &one, &other),
     }
@@ -288,27 +275,7 @@ fn errors_say_about(rt: HostRuntime, n: u64) -> bool {
     errors_say(rt, n.wrapping_sub(1)) && errors_say(rt, n) && errors_say(rt, n.wrapping_add(1))
 }
 
-// Whether each error of a byte has its message, whatever the byte.
-fn errors_of_bytes_say(rt: HostRuntime) -> bool {
-    for n in 0..=u8::MAX {
-        if !holds(rt, &n, errors_of_a_byte_say(rt, n)) {
-            return false;
-        }
-    }
-    true
-}
-
-// Whether each error has its message with each of the first numbers.
-fn errors_of_first_numbers_say(rt: HostRuntime) -> bool {
-    for n in 0..5_001 {
-        if !errors_say(rt, n) {
-            return false;
-        }
-    }
-    true
-}
-
-// The same about each power of two and of ten. About the first one, 1, the number 0 is.
+// Whether each error has its message about each power of two and of ten. About the first one, 1, the number 0 is.
 fn errors_of_powers_say(rt: HostRuntime) -> bool {
     let mut two = 1_u64;
     let mut ten = 1_u64;
@@ -325,7 +292,7 @@ fn errors_of_powers_say(rt: HostRuntime) -> bool {
 // A message that was refused by out of memory for a single number would stand in no row above.
 #[test]
 fn returns_the_messages_of_many_numbers(rt: HostRuntime) {
-    assert!(rt; errors_of_bytes_say(rt));
-    assert!(rt; errors_of_first_numbers_say(rt));
+    assert!(rt; (0..=u8::MAX).all(|n| holds(rt, &n, errors_of_a_byte_say(rt, n))));
+    assert!(rt; (0..5_001).all(|n| errors_say(rt, n)));
     assert!(rt; errors_of_powers_say(rt));
 }

@@ -1,5 +1,5 @@
 //! Cases with their results: headers in their three forms, new headers, and names.
-use crate::compare::{are_unchanged, differs, has_written, holds, is, reports, returns};
+use crate::compare::{are_unchanged, differs, each_row, has_written, holds, is, reports, returns};
 use crate::container::{BIG64, LITTLE32};
 use crate::record::{is_apart, reads, with_each_default, writes};
 use goblin_base::container::{BE, Container, Ctx, Endian, LE};
@@ -184,9 +184,7 @@ fn refuses(rt: HostRuntime, row: &Refused) -> bool {
 
 #[test]
 fn refuses_headers_in_order(rt: HostRuntime) {
-    for row in &REFUSED {
-        assert!(rt; holds(rt, row, refuses(rt, row)));
-    }
+    assert!(rt; each_row!(rt; row in REFUSED => refuses(rt, row)));
 }
 
 #[test]
@@ -287,9 +285,7 @@ fn refuses_to_write(rt: HostRuntime, row: &Unwritten) -> bool {
 
 #[test]
 fn refuses_to_write_in_order(rt: HostRuntime) {
-    for row in &UNWRITTEN {
-        assert!(rt; holds(rt, row, refuses_to_write(rt, row)));
-    }
+    assert!(rt; each_row!(rt; row in UNWRITTEN => refuses_to_write(rt, row)));
 }
 
 fn reads_back(rt: HostRuntime, ctx: Ctx) -> bool {
@@ -329,9 +325,7 @@ fn names_at(e_shstrndx: u16, link: Option<u32>) -> usize {
 
 #[test]
 fn finds_the_section_of_the_names(rt: HostRuntime) {
-    for row in &NAMES_AT {
-        assert!(rt; holds(rt, row, is(rt, names_at(row.0, row.1), row.2)));
-    }
+    assert!(rt; each_row!(rt; row in NAMES_AT => is(rt, names_at(row.0, row.1), row.2)));
 }
 
 // The functions that the modules of the classes pass on are these.

@@ -2,7 +2,7 @@
 ghost use Rattle.std.specs.Prelude.{◌≡◌, length};
 ghost use Rattle.goblin.specs.Notes.{items_left};
 
-use crate::compare::{are_alike, differs, holds, is, number, reports, returns, rows};
+use crate::compare::{are_alike, differs, each_row, holds, is, number, reports, returns, rows};
 use crate::container::{BIG32, LITTLE64};
 use crate::record::{is_apart, refuses, with_each_default, writes};
 use goblin::elf::note::{
@@ -182,9 +182,7 @@ fn is_read(rt: HostRuntime, row: &Read) -> bool {
 
 #[test]
 fn reads_notes(rt: HostRuntime) {
-    for row in READ {
-        assert!(rt; is_read(rt, row));
-    }
+    assert!(rt; each_row!(rt; row in READ => is_read(rt, row)));
 }
 
 // Whether the note of a program at an offset lies at these places.
@@ -324,9 +322,7 @@ const RANGES: &[(&[(usize, usize)], usize, &[u32])] = &[
 #[test]
 fn returns_the_notes_of_ranges(rt: HostRuntime) {
     assert!(rt; has_types(rt, range(THREE, 0, 132, 4), &[1, 3, 5]));
-    for row in RANGES {
-        assert!(rt; holds(rt, row, ranges_have_types(rt, row.0, row.1, row.2)));
-    }
+    assert!(rt; each_row!(rt; row in RANGES => ranges_have_types(rt, row.0, row.1, row.2)));
 }
 
 // Whether the first item of a range is the fault of this text, the last one, and moves the offset to
@@ -352,9 +348,9 @@ const FAULTS: &[(&[u8], usize, usize, usize, &str)] = &rows![
 
 #[test]
 fn ends_a_range_with_its_fault(rt: HostRuntime) {
-    for row in FAULTS {
-        assert!(rt; ends_with(rt, range(row.0, row.1, row.2, row.3), row.4));
-    }
+    assert!(rt;
+        each_row!(rt; row in FAULTS => ends_with(rt, range(row.0, row.1, row.2, row.3), row.4))
+    );
 }
 
 // How many items a range has.
@@ -588,7 +584,5 @@ const HOSTILE: &[(&[u8], Ctx)] = &[
 
 #[test]
 fn returns_the_naive_notes_of_hostile_ranges(rt: HostRuntime) {
-    for notes in HOSTILE {
-        assert!(rt; agree(rt, notes.0, notes.1));
-    }
+    assert!(rt; each_row!(rt; notes in HOSTILE => agree(rt, notes.0, notes.1)));
 }

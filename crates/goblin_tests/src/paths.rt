@@ -71,89 +71,43 @@ fn leads_to_the_records_of_either_class(rt: HostRuntime) {
     assert!(rt; reads::<elf::reloc::Reloc, elf::reloc::RelocCtx>(rt, &zeros, pair, 16));
 }
 
+// Whether a call returns this by its path below `elf`, `elf32` and `elf64`.
+macro_rules! is_on_each_path {
+    ($rt:expr; $module:ident::$call:ident($($given:expr),*) => $expected:expr) => {
+        is($rt, elf::$module::$call($($given),*), $expected)
+            && is($rt, elf32::$module::$call($($given),*), $expected)
+            && is($rt, elf64::$module::$call($($given),*), $expected)
+    };
+}
+
 #[test]
 fn leads_to_the_names_of_headers(rt: HostRuntime) {
-    let classes = [
-        elf::header::class_to_str(2),
-        elf32::header::class_to_str(2),
-        elf64::header::class_to_str(2),
-    ];
-    let types = [
-        elf::header::et_to_str(2),
-        elf32::header::et_to_str(2),
-        elf64::header::et_to_str(2),
-    ];
-    let machines = [
-        elf::header::machine_to_str(62),
-        elf32::header::machine_to_str(62),
-        elf64::header::machine_to_str(62),
-    ];
-    let names = [["ELF64"; 3], ["EXEC"; 3], ["X86_64"; 3]];
-    assert!(rt; is(rt, [classes, types, machines], names));
+    assert!(rt; is_on_each_path!(rt; header::class_to_str(2) => "ELF64"));
+    assert!(rt; is_on_each_path!(rt; header::et_to_str(2) => "EXEC"));
+    assert!(rt; is_on_each_path!(rt; header::machine_to_str(62) => "X86_64"));
 }
 
 #[test]
 fn leads_to_the_names_of_segments_and_sections(rt: HostRuntime) {
-    let segments = [
-        elf::program_header::pt_to_str(1),
-        elf32::program_header::pt_to_str(1),
-        elf64::program_header::pt_to_str(1),
-    ];
-    let sections = [
-        elf::section_header::sht_to_str(4),
-        elf32::section_header::sht_to_str(4),
-        elf64::section_header::sht_to_str(4),
-    ];
-    let flags = [
-        elf::section_header::shf_to_str(4),
-        elf32::section_header::shf_to_str(4),
-        elf64::section_header::shf_to_str(4),
-    ];
-    let names = [["PT_LOAD"; 3], ["SHT_RELA"; 3], ["SHF_EXECINSTR"; 3]];
-    assert!(rt; is(rt, [segments, sections, flags], names));
+    assert!(rt; is_on_each_path!(rt; program_header::pt_to_str(1) => "PT_LOAD"));
+    assert!(rt; is_on_each_path!(rt; section_header::sht_to_str(4) => "SHT_RELA"));
+    assert!(rt; is_on_each_path!(rt; section_header::shf_to_str(4) => "SHF_EXECINSTR"));
 }
 
 #[test]
 fn leads_to_the_names_of_symbols(rt: HostRuntime) {
-    let either = [
-        elf::sym::bind_to_str(2),
-        elf::sym::type_to_str(3),
-        elf::sym::visibility_to_str(1),
-        elf::sym::get_type(0x23),
-    ];
-    let small = [
-        elf32::sym::bind_to_str(2),
-        elf32::sym::type_to_str(3),
-        elf32::sym::visibility_to_str(1),
-        elf32::sym::get_type(0x23),
-    ];
-    let large = [
-        elf64::sym::bind_to_str(2),
-        elf64::sym::type_to_str(3),
-        elf64::sym::visibility_to_str(1),
-        elf64::sym::get_type(0x23),
-    ];
-    let names = ["WEAK", "SECTION", "INTERNAL", "SECTION"];
-    assert!(rt; is(rt, [either, small, large], [names; 3]));
+    assert!(rt; is_on_each_path!(rt; sym::bind_to_str(2) => "WEAK"));
+    assert!(rt; is_on_each_path!(rt; sym::type_to_str(3) => "SECTION"));
+    assert!(rt; is_on_each_path!(rt; sym::visibility_to_str(1) => "INTERNAL"));
+    assert!(rt; is_on_each_path!(rt; sym::get_type(0x23) => "SECTION"));
 }
 
 #[test]
 fn leads_to_the_parts_of_symbols(rt: HostRuntime) {
-    use elf::sym;
-    use elf32::sym as sym32;
-    use elf64::sym as sym64;
-    let infos = [
-        (sym::st_bind(0x23), sym::st_type(0x23)),
-        (sym32::st_bind(0x23), sym32::st_type(0x23)),
-        (sym64::st_bind(0x23), sym64::st_type(0x23)),
-    ];
-    assert!(rt; is(rt, infos, [(2, 3); 3]));
-    let others = [
-        (sym::st_visibility(0x1b), sym::is_import(0x12, 0)),
-        (sym32::st_visibility(0x1b), sym32::is_import(0x12, 0)),
-        (sym64::st_visibility(0x1b), sym64::is_import(0x12, 0)),
-    ];
-    assert!(rt; is(rt, others, [(3, true); 3]));
+    assert!(rt; is_on_each_path!(rt; sym::st_bind(0x23) => 2));
+    assert!(rt; is_on_each_path!(rt; sym::st_type(0x23) => 3));
+    assert!(rt; is_on_each_path!(rt; sym::st_visibility(0x1b) => 3));
+    assert!(rt; is_on_each_path!(rt; sym::is_import(0x12, 0) => true));
 }
 
 #[test]

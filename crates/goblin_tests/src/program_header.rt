@@ -1,5 +1,5 @@
 //! Cases with their results: program headers.
-use crate::compare::{holds, is, returns, returns_list};
+use crate::compare::{each_row, is, returns, returns_list};
 use crate::container::{BIG64, LITTLE32};
 use crate::record::{SHORT, has_form, is_apart, lacks_room, lists, reads, with_each_default};
 use goblin_base::container::{BE, Container, Ctx, LE};
@@ -185,9 +185,7 @@ fn is_listed(rt: HostRuntime, row: &Listed) -> bool {
 
 #[test]
 fn reads_program_headers_at_once(rt: HostRuntime) {
-    for row in &LISTED {
-        assert!(rt; holds(rt, row, is_listed(rt, row)));
-    }
+    assert!(rt; each_row!(rt; row in LISTED => is_listed(rt, row)));
 }
 
 // 16 bytes of something else, and one program header.
@@ -296,7 +294,5 @@ static OFFSETS: [(u64, Option<usize>); 8] = [
 
 #[test]
 fn finds_offsets_by_addresses(rt: HostRuntime) {
-    for row in &OFFSETS {
-        assert!(rt; holds(rt, row, returns(rt, loaded_from(rt, row.0), row.1)));
-    }
+    assert!(rt; each_row!(rt; row in OFFSETS => returns(rt, loaded_from(rt, row.0), row.1)));
 }

@@ -1,5 +1,7 @@
 //! Cases with their results: relocations in their forms, the parts of an `r_info`, and relocation sections.
-use crate::compare::{differs, has_written, holds, is, reports, returns, returns_list, rows};
+use crate::compare::{
+    differs, each_row, has_written, holds, is, reports, returns, returns_list, rows,
+};
 use crate::container::{BIG32, BIG64, LITTLE32, LITTLE64};
 use crate::record::{counts, has_form, is_apart, reads, refuses, with_each_default, writes};
 use crate::table::yields;
@@ -100,9 +102,7 @@ const WITH_ADDENDS: &[(Ctx, &[u8])] = &[
 
 #[test]
 fn reads_and_writes_a_relocation_of_each_class_and_order(rt: HostRuntime) {
-    for (ctx, bytes) in WITH_ADDENDS {
-        assert!(rt; has_form(rt, CALL, (true, *ctx), bytes));
-    }
+    assert!(rt; each_row!(rt; row in WITH_ADDENDS => has_form(rt, CALL, (true, row.0), row.1)));
     let none = Reloc::try_from_ctx(b"", (true, LITTLE32));
     assert!(rt; reports(rt, none, "bad offset 0"));
     let mut buffer = [0xaa; 13];
@@ -219,9 +219,7 @@ static TURNED: [(u64, u64); 4] = [
 #[test]
 fn turns_an_info_of_mips64el(rt: HostRuntime) {
     let turn = reloc64::mips64el_r_info;
-    for row in &TURNED {
-        assert!(rt; holds(rt, row, is(rt, turn(row.0), row.1)));
-    }
+    assert!(rt; each_row!(rt; row in TURNED => is(rt, reloc64::mips64el_r_info(row.0), row.1)));
     let info = 0x0102030400000005;
     assert!(rt; is(rt, turn(turn(turn(turn(info)))), info));
     let back = reloc64::mips64el_r_info_inverse(0x0000000504030201);
@@ -368,9 +366,7 @@ fn is_mips(rt: HostRuntime, machine: u16, ctx: Ctx, wanted: bool) -> bool {
 
 #[test]
 fn knows_a_mips64el_file(rt: HostRuntime) {
-    for row in &MACHINES {
-        assert!(rt; holds(rt, row, is_mips(rt, row.0, row.1, row.2)));
-    }
+    assert!(rt; each_row!(rt; row in MACHINES => is_mips(rt, row.0, row.1, row.2)));
     let mut header = Header::new(LITTLE64);
     header.e_machine = EM_MIPS;
     header.e_ident[EI_CLASS] = 3;

@@ -1,5 +1,5 @@
 //! Cases with their results: section headers.
-use crate::compare::{has_written, holds, is, reports, returns_list};
+use crate::compare::{each_row, has_written, holds, is, reports, returns_list};
 use crate::container::{BIG64, LITTLE32};
 use crate::record::{SHORT, has_form, is_apart, lacks_room, lists, reads, with_each_default};
 use goblin_base::container::{BE, Ctx, LE};
@@ -144,9 +144,7 @@ fn asks(rt: HostRuntime, row: &(u64, [bool; 3])) -> bool {
 
 #[test]
 fn asks_for_flags(rt: HostRuntime) {
-    for row in &FLAGS {
-        assert!(rt; asks(rt, row));
-    }
+    assert!(rt; each_row!(rt; row in FLAGS => asks(rt, row)));
 }
 
 fn of_type(sh_type: u32) -> SectionHeader {
@@ -232,9 +230,7 @@ fn checks(rt: HostRuntime, row: &(u32, u64, u64, &str)) -> bool {
 
 #[test]
 fn checks_sizes(rt: HostRuntime) {
-    for row in &CHECKED {
-        assert!(rt; holds(rt, row, checks(rt, row)));
-    }
+    assert!(rt; each_row!(rt; row in CHECKED => checks(rt, row)));
 }
 
 #[test]
@@ -293,9 +289,7 @@ fn is_listed(rt: HostRuntime, row: &Listed) -> bool {
 
 #[test]
 fn reads_section_headers_at_once(rt: HostRuntime) {
-    for row in &LISTED {
-        assert!(rt; holds(rt, row, is_listed(rt, row)));
-    }
+    assert!(rt; each_row!(rt; row in LISTED => is_listed(rt, row)));
 }
 
 // 16 bytes of something else, and two section headers, of which the first has the size 2.
@@ -474,7 +468,5 @@ fn names_at(index: u16, link: Option<u32>) -> usize {
 
 #[test]
 fn finds_the_section_of_the_names(rt: HostRuntime) {
-    for row in &NAMES_AT {
-        assert!(rt; holds(rt, row, is(rt, names_at(row.0, row.1), row.2)));
-    }
+    assert!(rt; each_row!(rt; row in NAMES_AT => is(rt, names_at(row.0, row.1), row.2)));
 }

@@ -1,7 +1,7 @@
 //! Cases of string tables with their results.
 ghost use Rattle.std.specs.Prelude.{◌≤◌};
 
-use crate::compare::{differs, holds, is, reports, returns, returns_list, rows};
+use crate::compare::{differs, each_row, is, reports, returns, returns_list, rows};
 use goblin_base::error::Result;
 use goblin_base::options::{ParseMode, ParseOptions};
 use goblin_base::strtab::{
@@ -81,12 +81,7 @@ const IN_FOO: &[(usize, Option<&str>)] = &[
 
 // Whether looking up each offset of a table has its result.
 fn looks_up(rt: HostRuntime, table: &Strtab<'_>, expected: &[(usize, Option<&str>)]) -> bool {
-    for row in expected {
-        if !holds(rt, row, is(rt, table.get_at(row.0), row.1)) {
-            return false;
-        }
-    }
-    true
+    each_row!(rt; row in expected => is(rt, table.get_at(row.0), row.1))
 }
 
 // The same of a table that must be accepted.
@@ -182,9 +177,7 @@ fn has_name(offset: usize, name: &[u8]) -> [bool; 3] {
 
 #[test]
 fn compares_strings_with_names(rt: HostRuntime) {
-    for row in NAMED {
-        assert!(rt; holds(rt, row, is(rt, has_name(row.0, row.1), [row.2; 3])));
-    }
+    assert!(rt; each_row!(rt; row in NAMED => is(rt, has_name(row.0, row.1), [row.2; 3])));
 }
 
 // Ranges of four bytes that are no tables, by offset and length, and why.
@@ -247,9 +240,7 @@ fn is_itself_alone(len: usize) -> bool
 
 #[test]
 fn compares_texts_of_each_length(rt: HostRuntime) {
-    for len in 1..131 {
-        assert!(rt; is_itself_alone(len));
-    }
+    assert!(rt; (1..131).all(|len| is_itself_alone(len)));
 }
 
 // Whether these bytes are refused as a table with this line.
@@ -270,9 +261,7 @@ fn refuses_range(rt: HostRuntime, offset: usize, len: usize, line: &str) -> bool
 
 #[test]
 fn refuses_a_range_past_the_file(rt: HostRuntime) {
-    for row in REFUSED {
-        assert!(rt; holds(rt, row, refuses_range(rt, row.0, row.1, row.2)));
-    }
+    assert!(rt; each_row!(rt; row in REFUSED => refuses_range(rt, row.0, row.1, row.2)));
     assert!(rt; has_strings(rt, Strtab::parse(rt.alloc(), ZEROS, 4, 0, 0), &[]));
     assert!(rt; refuses_table(rt, b"\x80\x80", 0, 2, "bad input invalid utf8 (2)"));
     let data = bytes_in_range(NAMES, 7, 5, ParseMode::Strict);

@@ -1,6 +1,6 @@
 //! Cases with their results: symbols in their forms, lists and tables of them, their parts and names, and the symbol
 //! for an address.
-use crate::compare::{differs, has_written, holds, is, reports, returns_list};
+use crate::compare::{differs, each_row, has_written, holds, is, reports, returns_list};
 use crate::container::{BIG32, BIG64, LITTLE32, LITTLE64};
 use crate::record::{
     SHORT, has_form, is_apart, lacks_room, lists, refuses, with_each_default, writes,
@@ -75,9 +75,7 @@ fn is_function_in(rt: HostRuntime, ctx: Ctx, bytes: &'static [u8]) -> bool {
 
 #[test]
 fn reads_and_writes_a_symbol(rt: HostRuntime) {
-    for (ctx, bytes) in FORMS {
-        assert!(rt; is_function_in(rt, *ctx, bytes));
-    }
+    assert!(rt; each_row!(rt; row in FORMS => is_function_in(rt, row.0, row.1)));
     let mut written = [0xaa; 25];
     FUNCTION.into_ctx(&mut written, BIG64);
     assert!(rt; has_written(rt, &written, IN_BIG64));
@@ -189,9 +187,7 @@ fn parsed(rt: HostRuntime, offset: usize, count: usize) -> Result<Vec<Sym>> {
 
 #[test]
 fn parses_or_refuses(rt: HostRuntime) {
-    for row in &READ {
-        assert!(rt; holds(rt, row, lists(rt, parsed(rt, row.0, row.1), &row.2)));
-    }
+    assert!(rt; each_row!(rt; row in READ => lists(rt, parsed(rt, row.0, row.1), &row.2)));
     assert!(rt; returns_list(rt, parsed(rt, 0, 2), &[ZERO, ZERO]));
     assert!(rt; returns_list(rt, parsed(rt, 24, 1), &[ZERO]));
 }
@@ -274,9 +270,7 @@ const IMPORTS: &[(u8, u64, bool)] = &[
 
 #[test]
 fn finds_imports(rt: HostRuntime) {
-    for row in IMPORTS {
-        assert!(rt; holds(rt, row, imports(rt, row.0, row.1, row.2)));
-    }
+    assert!(rt; each_row!(rt; row in IMPORTS => imports(rt, row.0, row.1, row.2)));
     // The free function counts global symbols alone.
     let imports = [is_import(0x12, 0), sym64::is_import(0x10, 0)];
     assert!(rt; is(rt, imports, [true; 2]));
@@ -305,9 +299,7 @@ fn is_in_section(st_shndx: usize) -> bool {
 
 #[test]
 fn reports_symbols_in_sections(rt: HostRuntime) {
-    for row in &SECTION_INDICES {
-        assert!(rt; holds(rt, row, is(rt, is_in_section(row.0), row.1)));
-    }
+    assert!(rt; each_row!(rt; row in SECTION_INDICES => is(rt, is_in_section(row.0), row.1)));
 }
 
 #[test]
@@ -318,23 +310,12 @@ fn names_types_of_symbols(rt: HostRuntime) {
 
 // Whether both classes name this number as a symbol of either class does, as binding, type and visibility.
 fn names_alike(number: u8) -> bool {
-    let names = [
-        bind_to_str(number),
-        type_to_str(number),
-        visibility_to_str(number),
-    ];
-    names
-        == [
-            sym32::bind_to_str(number),
-            sym32::type_to_str(number),
-            sym32::visibility_to_str(number),
-        ]
-        && names
-            == [
-                sym64::bind_to_str(number),
-                sym64::type_to_str(number),
-                sym64::visibility_to_str(number),
-            ]
+    let (bind, typ) = (bind_to_str(number), type_to_str(number));
+    let visibility = visibility_to_str(number);
+    [sym32::bind_to_str(number), sym64::bind_to_str(number)] == [bind; 2]
+        && [sym32::type_to_str(number), sym64::type_to_str(number)] == [typ; 2]
+        && sym32::visibility_to_str(number) == visibility
+        && sym64::visibility_to_str(number) == visibility
 }
 
 #[test]
@@ -502,9 +483,9 @@ fn values(ctx: Ctx) -> u64 {
 
 #[test]
 fn returns_the_symbols_in_three_ways(rt: HostRuntime) {
-    for (ctx, _) in FORMS {
-        assert!(rt; has_both(rt, *ctx) && is(rt, values(*ctx), 0x1000));
-    }
+    assert!(rt;
+        each_row!(rt; row in FORMS => has_both(rt, row.0) && is(rt, values(row.0), 0x1000))
+    );
     let zeros = table_of(&ZEROS, 0, 2, LITTLE64);
     assert!(rt; returns_list(rt, zeros.to_vec(rt.alloc()), &[ZERO, ZERO]));
 }
@@ -594,12 +575,7 @@ fn finds(
     e_type: u16,
     row: &Of,
 ) -> bool {
-    for address in row.0..=row.1 {
-        if !holds(rt, row, is(rt, table.at(address, sections, e_type), row.2)) {
-            return false;
-        }
-    }
-    true
+    (row.0..=row.1).all(|address| is(rt, table.at(address, sections, e_type), row.2))
 }
 
 // Addresses, and their symbol: the first that contains them, or else a label of their section.
@@ -621,9 +597,7 @@ static ADDRESSES: [Of; 11] = [
 fn finds_the_symbol_at_an_address(rt: HostRuntime) {
     let table = table_of(ADDRESSED, 0, 11, LITTLE32);
     let sections = sections_of(ONE_SECTION);
-    for row in &ADDRESSES {
-        assert!(rt; finds(rt, &table, &sections, ET_EXEC, row));
-    }
+    assert!(rt; each_row!(rt; row in ADDRESSES => finds(rt, &table, &sections, ET_EXEC, row)));
     // Without sections only the bytes of symbols count.
     let none = sections_of(&[]);
     assert!(rt; is(rt, table.at(0x14, &none, ET_EXEC), Some(2)));
@@ -658,9 +632,9 @@ static NESTED_ADDRESSES: [Of; 10] = [
 fn finds_the_symbol_that_contains_an_address(rt: HostRuntime) {
     let table = table_of(NESTED, 0, 8, LITTLE32);
     let sections = sections_of(ONE_SECTION);
-    for row in &NESTED_ADDRESSES {
-        assert!(rt; finds(rt, &table, &sections, ET_DYN, row));
-    }
+    assert!(rt;
+        each_row!(rt; row in NESTED_ADDRESSES => finds(rt, &table, &sections, ET_DYN, row))
+    );
 }
 
 // The null section, code at 0x1000 of 0x100 bytes, constants of 0x80 bytes after it, variables of 0x10 bytes at 0x2000,
@@ -708,9 +682,9 @@ static SCATTERED_ADDRESSES: [Of; 12] = [
 fn finds_labels_in_their_section(rt: HostRuntime) {
     let table = table_of(SCATTERED, 0, 12, LITTLE32);
     let sections = sections_of(FIVE_SECTIONS);
-    for row in &SCATTERED_ADDRESSES {
-        assert!(rt; finds(rt, &table, &sections, ET_EXEC, row));
-    }
+    assert!(rt;
+        each_row!(rt; row in SCATTERED_ADDRESSES => finds(rt, &table, &sections, ET_EXEC, row))
+    );
     // In a relocatable file a section that is not in memory holds offsets, too.
     assert!(rt; is(rt, table.at(0x1050, &sections, ET_REL), Some(11)));
 }
@@ -750,8 +724,10 @@ static OFFSETS_AND_ADDRESSES: [(u64, u64, Option<usize>, Option<usize>); 11] = [
 fn finds_labels_by_offsets_in_relocatable_files(rt: HostRuntime) {
     let table = table_of(OFFSETS, 0, 6, LITTLE32);
     let sections = sections_of(THREE_SECTIONS);
-    for (first, last, offset, address) in &OFFSETS_AND_ADDRESSES {
-        assert!(rt; finds(rt, &table, &sections, ET_REL, &(*first, *last, *offset)));
-        assert!(rt; finds(rt, &table, &sections, ET_DYN, &(*first, *last, *address)));
+    for row in &OFFSETS_AND_ADDRESSES {
+        let (first, last, offset, address) = *row;
+        let by_offset = finds(rt, &table, &sections, ET_REL, &(first, last, offset));
+        let by_address = finds(rt, &table, &sections, ET_DYN, &(first, last, address));
+        assert!(rt; holds(rt, row, by_offset && by_address));
     }
 }

@@ -2,7 +2,7 @@
 //! bytes and of `usize`, each result against its rule, which is written out over u128.
 ghost use Rattle.std.specs.Prelude.{◌≡◌, ◌≤◌, length};
 
-use crate::compare::{are_alike, differs, holds, is, number, reports, returns_list};
+use crate::compare::{are_alike, differs, each_row, holds, is, number, reports, returns_list};
 use crate::container::{CONTEXTS, LITTLE64};
 use crate::sym::{FUNCTION, WIDE, ZERO};
 use goblin::elf::program_header::{ProgramHeader, program_header32, program_header64};
@@ -93,9 +93,7 @@ fn tabulates(rt: HostRuntime, ctx: Ctx) -> bool {
 
 #[test]
 fn returns_symbols_by_index_as_a_vector_and_in_turn(rt: HostRuntime) {
-    for ctx in &CONTEXTS {
-        assert!(rt; tabulates(rt, *ctx));
-    }
+    assert!(rt; each_row!(rt; ctx in CONTEXTS => tabulates(rt, *ctx)));
     // The laws of all records hold of these too.
     read_back::<Sym, Ctx>();
     same_range::<Sym, Ctx>();
@@ -220,32 +218,20 @@ fn lists_headers(rt: HostRuntime, count: usize) -> bool
 // Each count up to 1,010, and those about 4,096. (`rt try` takes longer for these than for others: `--seconds 300`.)
 #[test]
 fn lists_each_count_of_headers(rt: HostRuntime) {
-    for count in 0..1_011 {
-        assert!(rt; lists_headers(rt, count));
-    }
-    for count in 4_095..4_098 {
-        assert!(rt; lists_headers(rt, count));
-    }
+    assert!(rt; (0..1_011).all(|count| lists_headers(rt, count)));
+    assert!(rt; (4_095..4_098).all(|count| lists_headers(rt, count)));
 }
 
 #[test]
 fn lists_each_count_of_symbols(rt: HostRuntime) {
-    for count in 0..1_011 {
-        assert!(rt; lists_records(rt, count));
-    }
-    for count in 4_095..4_098 {
-        assert!(rt; lists_records(rt, count));
-    }
+    assert!(rt; (0..1_011).all(|count| lists_records(rt, count)));
+    assert!(rt; (4_095..4_098).all(|count| lists_records(rt, count)));
 }
 
 #[test]
 fn lists_each_count_of_strings(rt: HostRuntime) {
-    for count in 0..1_011 {
-        assert!(rt; lists_strings(rt, count));
-    }
-    for count in 4_095..4_098 {
-        assert!(rt; lists_strings(rt, count));
-    }
+    assert!(rt; (0..1_011).all(|count| lists_strings(rt, count)));
+    assert!(rt; (4_095..4_098).all(|count| lists_strings(rt, count)));
 }
 
 // Bytes that differ at each place, and ASCII. A 2 stands in the sh_size of the section headers at the offsets 0 and 1,
@@ -489,15 +475,9 @@ fn is_as_expected<R: Record<C> + PartialEq + Debug + Drop, C: Copy>(
 fn segments(rt: HostRuntime, case: &Case) -> bool {
     let (bytes, offset, count, ctx) = *case;
     let size = size_in(case, 32, 56);
+    let expected = counted(case, size, "program headers");
     let answer = ProgramHeader::parse(rt.alloc(), bytes, offset, count, ctx);
-    is_as_expected(
-        rt,
-        answer,
-        counted(case, size, "program headers"),
-        case,
-        size,
-        ctx,
-    )
+    is_as_expected(rt, answer, expected, case, size, ctx)
 }
 
 fn segments32(rt: HostRuntime, case: &Case) -> bool {
@@ -540,18 +520,12 @@ fn symbols(rt: HostRuntime, case: &Case) -> bool {
 
 fn symtab(rt: HostRuntime, case: &Case, table: Result<Symtab<'_>>, is_cut: bool) -> bool {
     let size = size_in(case, 16, 24);
+    let expected = symbol_table(case, size, is_cut);
     let answer = match table {
         Ok(table) => table.to_vec(rt.alloc()),
         Err(e) => Err(e),
     };
-    is_as_expected(
-        rt,
-        answer,
-        symbol_table(case, size, is_cut),
-        case,
-        size,
-        case.3,
-    )
+    is_as_expected(rt, answer, expected, case, size, case.3)
 }
 
 fn symtab_of<'a>(case: &Case<'a>) -> Result<Symtab<'a>> {
@@ -572,15 +546,9 @@ fn reloc_size(case: &Case, is_rela: bool) -> usize {
 
 fn relocs(rt: HostRuntime, case: &Case, is_rela: bool) -> bool {
     let size = reloc_size(case, is_rela);
+    let expected = relocation_section(case, size);
     let answer = relocs_of(rt, case, is_rela);
-    is_as_expected(
-        rt,
-        answer,
-        relocation_section(case, size),
-        case,
-        size,
-        (is_rela, case.3),
-    )
+    is_as_expected(rt, answer, expected, case, size, (is_rela, case.3))
 }
 
 fn relocs_of(rt: HostRuntime, case: &Case, is_rela: bool) -> Result<Vec<Reloc>> {
@@ -641,47 +609,41 @@ fn strtab(rt: HostRuntime, case: &Case, is_cut: bool) -> bool {
     }
 }
 
-// The calls: symbols and strings that are cut to the file or not, relocations with addends or not.
-#[derive(Clone, Copy)]
-enum Call {
-    Segments,
-    Segments32,
-    Segments64,
-    Sections,
-    SectionsFrom,
-    Symbols,
-    Symtab,
-    SymtabBy(bool),
-    Relocs(bool),
-    MipsRelocs(bool),
-    Strtab(bool),
+// Whether each of these holds. One that doesn't is shown by its name.
+macro_rules! all_hold {
+    ($rt:expr; $($name:literal => $holds:expr;)+) => {
+        $(holds($rt, &$name, $holds))&&+
+    };
 }
 
-// Whether a call returns what its rule says.
-fn agrees(rt: HostRuntime, call: Call, case: &Case) -> bool {
-    match call {
-        Call::Segments => segments(rt, case),
-        Call::Segments32 => segments32(rt, case),
-        Call::Segments64 => segments64(rt, case),
-        Call::Sections => sections(rt, case),
-        Call::SectionsFrom => sections_from(rt, case),
-        Call::Symbols => symbols(rt, case),
-        Call::Symtab => symtab(rt, case, symtab_of(case), false),
-        Call::SymtabBy(is_cut) => symtab(rt, case, symtab_by(case, is_cut), is_cut),
-        Call::Relocs(is_rela) => relocs(rt, case, is_rela),
-        Call::MipsRelocs(is_rela) => mips_relocs(rt, case, is_rela),
-        Call::Strtab(is_cut) => strtab(rt, case, is_cut),
-    }
+// Whether each call returns for a case what its rule says.
+fn agree(rt: HostRuntime, case: &Case) -> bool {
+    all_hold![rt;
+        "segments" => segments(rt, case);
+        "32-bit segments" => segments32(rt, case);
+        "64-bit segments" => segments64(rt, case);
+        "sections" => sections(rt, case);
+        "sections from the first" => sections_from(rt, case);
+        "symbols" => symbols(rt, case);
+        "a symbol table" => symtab(rt, case, symtab_of(case), false);
+        "a strict symbol table" => symtab(rt, case, symtab_by(case, false), false);
+        "a permissive symbol table" => symtab(rt, case, symtab_by(case, true), true);
+        "relocations" => relocs(rt, case, false);
+        "relocations with addends" => relocs(rt, case, true);
+        "relocations of MIPS64" => mips_relocs(rt, case, false);
+        "relocations of MIPS64 with addends" => mips_relocs(rt, case, true);
+        "a strict string table" => strtab(rt, case, false);
+        "a permissive string table" => strtab(rt, case, true);
+    ]
 }
 
 // The same for each offset and count that is tried with these bytes.
-fn agrees_at_ends(rt: HostRuntime, name: &str, call: Call, bytes: &[u8], ctx: Ctx) -> bool {
+fn agree_at_ends(rt: HostRuntime, bytes: &[u8], ctx: Ctx) -> bool {
     let ends = ends_of(bytes.len());
     for offset in &ends {
         for count in &ends {
-            let case = (bytes, *offset, *count, ctx);
-            let row = (name, bytes.len(), *offset, *count, ctx);
-            if !holds(rt, &row, agrees(rt, call, &case)) {
+            let row = (bytes.len(), *offset, *count, ctx);
+            if !holds(rt, &row, agree(rt, &(bytes, *offset, *count, ctx))) {
                 return false;
             }
         }
@@ -689,44 +651,17 @@ fn agrees_at_ends(rt: HostRuntime, name: &str, call: Call, bytes: &[u8], ctx: Ct
     true
 }
 
-// The same for each length, class and byte order.
-fn keeps_its_rule(rt: HostRuntime, name: &str, call: Call) -> bool {
-    for len in &LENGTHS {
-        let Some(bytes) = BYTES.get(..*len) else {
-            return false;
-        };
-        for ctx in &CONTEXTS {
-            if !agrees_at_ends(rt, name, call, bytes, *ctx) {
-                return false;
-            }
-        }
+// The same of so many bytes in each class and byte order.
+fn agree_on(rt: HostRuntime, len: usize) -> bool {
+    match BYTES.get(..len) {
+        Some(bytes) => CONTEXTS.iter().all(|ctx| agree_at_ends(rt, bytes, *ctx)),
+        None => false,
     }
-    true
 }
-
-const CALLS: &[(&str, Call)] = &[
-    ("segments", Call::Segments),
-    ("32-bit segments", Call::Segments32),
-    ("64-bit segments", Call::Segments64),
-    ("sections", Call::Sections),
-    ("sections from the first", Call::SectionsFrom),
-    ("symbols", Call::Symbols),
-    ("a symbol table", Call::Symtab),
-    ("a strict symbol table", Call::SymtabBy(false)),
-    ("a permissive symbol table", Call::SymtabBy(true)),
-    ("relocations", Call::Relocs(false)),
-    ("relocations with addends", Call::Relocs(true)),
-    ("relocations of MIPS64", Call::MipsRelocs(false)),
-    ("relocations of MIPS64 with addends", Call::MipsRelocs(true)),
-    ("a strict string table", Call::Strtab(false)),
-    ("a permissive string table", Call::Strtab(true)),
-];
 
 #[test]
 fn keep_their_rules(rt: HostRuntime) {
-    for (name, call) in CALLS {
-        assert!(rt; keeps_its_rule(rt, name, *call));
-    }
+    assert!(rt; each_row!(rt; len in LENGTHS => agree_on(rt, *len)));
 }
 
 // Whether so many symbols at an offset of 48 zeros are refused with this text.

@@ -1,6 +1,6 @@
 //! Cases of the walk and the search with their counts, and all short strings against a plain walk that tries
 //! the whole piece at every byte.
-use crate::compare::{differs, holds, is, rows};
+use crate::compare::{differs, each_row, holds, is, rows};
 use goblin_base::entries::{Entries, Looked, Probes};
 use goblin_base::error::{Error, Result};
 use goblin_base::find::find;
@@ -24,12 +24,7 @@ fn are_entries(rt: HostRuntime, entries: &Entries<'_>, want: &[(usize, &str)]) -
     if !is(rt, entries.len(), want.len()) {
         return false;
     }
-    for i in 0..want.len() {
-        if !is_entry(rt, entries, i, want[i]) {
-            return false;
-        }
-    }
-    true
+    (0..want.len()).all(|i| is_entry(rt, entries, i, want[i]))
 }
 
 // Whether so many looks or probes are within the most.
@@ -77,9 +72,7 @@ const DAMAGED: &[(&[u8], u8, u128, &[(usize, &str)])] = &rows![
 
 #[test]
 fn walks_damaged_pieces(rt: HostRuntime) {
-    for row in DAMAGED {
-        assert!(rt; holds(rt, row, walks(rt, row.0, row.1, row.2, row.3)));
-    }
+    assert!(rt; each_row!(rt; row in DAMAGED => walks(rt, row.0, row.1, row.2, row.3)));
     assert!(rt; refuses(rt, b"a\xFFb\0", 0, 4));
     assert!(rt; refuses(rt, b"\xE2\x82\xAC", 0x82, 3));
 }
@@ -133,12 +126,7 @@ fn finds_within(rt: HostRuntime, bytes: &[u8], delim: u8, most: u64) -> bool {
     let Ok(entries) = walk(rt.alloc(), &mut view, delim, ParseMode::Permissive) else {
         return differs(rt, &"no entries", &most);
     };
-    for offset in 0..=bytes.len() {
-        if !finds_one_within(rt, &entries, offset, most) {
-            return false;
-        }
-    }
-    true
+    (0..=bytes.len()).all(|offset| finds_one_within(rt, &entries, offset, most))
 }
 
 // Whether a search among no entries finds none and takes no probe.
@@ -176,12 +164,7 @@ fn looks_up_each(rt: HostRuntime, byte: u8, count: usize, opts: &ParseOptions) -
     let Ok(table) = Strtab::parse_with_opts(rt.alloc(), &bytes, 0, bytes.len(), 0, opts) else {
         return differs(rt, &"no table", &count);
     };
-    for offset in 0..count {
-        if !is(rt, table.get_at(offset), Some("")) {
-            return false;
-        }
-    }
-    true
+    (0..count).all(|offset| is(rt, table.get_at(offset), Some("")))
 }
 
 #[test]
@@ -329,12 +312,7 @@ fn finds_plainly(rt: HostRuntime, bytes: &[u8], delim: u8, want: &[(usize, &str)
     let Ok(entries) = walk(rt.alloc(), &mut view, delim, ParseMode::Permissive) else {
         return differs(rt, &"no entries", &want);
     };
-    for offset in 0..=bytes.len() {
-        if !finds_one_plainly(rt, &entries, offset, want) {
-            return false;
-        }
-    }
-    true
+    (0..=bytes.len()).all(|offset| finds_one_plainly(rt, &entries, offset, want))
 }
 
 // Whether all of this holds of the bytes.
@@ -377,22 +355,12 @@ fn spelled(number: usize) -> [u8; 4] {
 fn agrees_on(rt: HostRuntime, number: usize, len: usize) -> bool {
     let bytes = spelled(number);
     let bytes = bytes.get(..len).unwrap_or(&[]);
-    for delim in &DELIMITERS {
-        if !holds(rt, &(bytes, *delim), agrees(rt, bytes, *delim)) {
-            return false;
-        }
-    }
-    true
+    DELIMITERS.iter().all(|delim| holds(rt, &(bytes, *delim), agrees(rt, bytes, *delim)))
 }
 
 // Whether no string of this length, of which there are so many, shows a difference.
 fn agrees_on_all(rt: HostRuntime, len: usize, count: usize) -> bool {
-    for number in 0..count {
-        if !agrees_on(rt, number, len) {
-            return false;
-        }
-    }
-    true
+    (0..count).all(|number| agrees_on(rt, number, len))
 }
 
 #[test]
