@@ -1,47 +1,17 @@
 //! A `Counted` alone, over readers and writers that are interrupted, fail, and give one byte a call.
+use crate::run::ZEROS;
+use crate::streams::{Balk, Parts};
 use goblin_text::counted::Counted;
 use goblin_text::streams::{Sink, Source};
+use std::alloc::Global;
 use std::io;
 use std::io::{ErrorKind, Read, Write};
 
-// A reader that reads one zero a call, so many, and a writer that takes one byte a call.
-#[derive(Drop)]
-struct Single {
-    left: u64,
-    writes: u64,
-}
-
-impl Read for Single {
-    fn read(&mut self, buf: &mut [u8]) -> io::Result<usize> {
-        match buf.first_mut() {
-            Some(first) if self.left > 0 => {
-                *first = 0;
-                self.left -= 1;
-                Ok(1)
-            }
-            _ => Ok(0),
-        }
-    }
-}
-
-impl Write for Single {
-    fn write(&mut self, buf: &[u8]) -> io::Result<usize> {
-        self.writes = self.writes.saturating_add(1);
-        Ok(buf.len().min(1))
-    }
-
-    fn flush(&mut self) -> io::Result<()> {
-        Ok(())
-    }
-}
-
-// Whether each read call reads a zero and is counted by itself, up to the one that reports the end.
-fn counts_reads(bytes: u64) -> bool {
-    let mut counted = Counted::new(Single {
-        left: bytes,
-        writes: 0,
-    });
-    for call in 0..bytes {
+// Whether each read call reads one byte and is counted by itself, up to the one that reports the end.
+fn counts_reads(bytes: &[u8]) -> bool {
+    let mut counted = Counted::new(Parts::new(bytes, 1, 0, Balk::TakesNone));
+    let count = bytes.len() as u64;
+    for call in 0..count {
         let is_one = matches!(Source::read(&mut counted, &mut [1; 8]), Ok(1));
         if !is_one || counted.read_calls() != call.saturating_add(1) || counted.reported_end() {
             return false;
@@ -52,16 +22,18 @@ fn counts_reads(bytes: u64) -> bool {
         && counted.reported_end()
         && !counted.reported_error()
         && !counted.reported_failure()
-        && counted.read_calls() == bytes.saturating_add(1)
+        && counted.read_calls() == count.saturating_add(1)
 }
 
-// Whether all bytes are written, one a call, and no read call is counted.
-fn writes_all(bytes: &[u8]) -> bool {
-    let mut counted = Counted::new(Single { left: 0, writes: 0 });
+// Whether all bytes are written, one a call, and flushed by one more of so many calls, and no read call is counted.
+fn writes_all(alloc: Global, bytes: &[u8], calls: u32) -> bool {
+    let mut counted = Counted::new(Parts::new(Vec::new(alloc), 1, 0, Balk::TakesNone));
     let is_written = Sink::write_all(&mut counted, bytes).is_ok();
     let is_flushed = Sink::flush(&mut counted).is_ok();
     let is_marked = counted.reported_error() || counted.read_calls() > 0;
-    is_written && is_flushed && !is_marked && counted.into_inner().writes == bytes.len() as u64
+    let written = counted.into_inner();
+    let is_each_written = written.bytes.as_slice() == bytes && written.calls == calls;
+    is_written && is_flushed && !is_marked && is_each_written
 }
 
 // A reader and writer whose calls return in turn an interruption, a failure and one byte. It counts its calls.
@@ -141,6 +113,6 @@ fn passes_each_result_on(rt: HostRuntime) {
 
 #[test]
 fn counts_calls_one_by_one(rt: HostRuntime) {
-    assert!(rt; counts_reads(0) && counts_reads(1) && counts_reads(40));
-    assert!(rt; writes_all(b"") && writes_all(b"0123456789"));
+    assert!(rt; counts_reads(b"") && counts_reads(b"0") && counts_reads(&ZEROS[..40]));
+    assert!(rt; writes_all(rt.alloc(), b"", 1) && writes_all(rt.alloc(), b"0123456789", 11));
 }

@@ -1,15 +1,15 @@
 //! Runs over cut files, and over readers and writers that fail at each of their calls.
 use crate::run::{
     BIG, BIG_TEXT, NO_MAGIC, PERMISSIVE, STRICT, SYMBOLS, SYMBOLS_TEXT, TOO_LONG, TOO_SMALL, ZEROS,
-    bytes_of, ends, outcome_of,
+    ends, outcome_of,
 };
-use crate::streams::{Balk, FAILURES, Halting, INTERRUPTIONS, Interrupted, Parts};
+use crate::streams::{Balk, FAILURES, INTERRUPTIONS, Interrupted, Parts};
 use goblin::options::ParseOptions;
 use goblin_text::counted::Counted;
 use goblin_text::input::{Input, input_within};
 use goblin_text::run::{Outcome, run};
 use std::alloc::Global;
-use std::io::{Cursor, ErrorKind};
+use std::io::Cursor;
 
 // How the file with symbols is refused if it is cut to less than so many bytes, and to no less than those of the row
 // before: with this text, and after it, if an offset is given, the number of bytes from there on. It is cut in its
@@ -38,14 +38,9 @@ fn line_of(alloc: Global, length: usize) -> Option<String> {
 
 // Whether the file with symbols is refused so at each length below its own.
 fn are_refused(alloc: Global, opts: &ParseOptions) -> bool {
-    bytes_of(alloc, SYMBOLS).is_some_and(|bytes| {
-        let cuts_are_refused = (0..208).all(|length| {
-            match (bytes.get(..length), line_of(alloc, length)) {
-                (Some(cut), Some(line)) => ends(alloc, opts, Cursor::new(cut), line.as_str()),
-                _ => false,
-            }
-        });
-        bytes.len() == 208 && cuts_are_refused
+    (0..SYMBOLS.len()).all(|length| match (SYMBOLS.get(..length), line_of(alloc, length)) {
+        (Some(cut), Some(line)) => ends(alloc, opts, Cursor::new(cut), line.as_str()),
+        _ => false,
     })
 }
 
@@ -55,41 +50,22 @@ fn refuses_cut_files(rt: HostRuntime) {
     assert!(rt; are_refused(rt.alloc(), &PERMISSIVE));
 }
 
-// Whether a run over these bytes, so many at once, fails and writes nothing where any of so many read calls returns
-// this error, and writes this text where the next one would.
-fn heeds_reads(
-    alloc: Global,
-    bytes: &[u8],
-    at_once: usize,
-    calls: u32,
-    error: Balk,
-    text: &str,
-) -> bool {
-    let next = calls.saturating_add(1);
-    (1..next).all(|call| ends(alloc, &STRICT, Parts::new(bytes, at_once, call, error), ""))
-        && ends(
-            alloc,
-            &STRICT,
-            Parts::new(bytes, at_once, next, error),
-            text,
-        )
+// Whether a run over these bytes, so many at once, fails and writes nothing where any of so many read calls fails, and
+// writes this text where the next one would.
+fn heeds_reads(alloc: Global, bytes: &[u8], at_once: usize, calls: u32, text: &str) -> bool {
+    FAILURES.iter().all(|error| {
+        let parts = |call| Parts::new(bytes, at_once, call, *error);
+        (1..=calls).all(|call| ends(alloc, &STRICT, parts(call), ""))
+            && ends(alloc, &STRICT, parts(calls.saturating_add(1)), text)
+    })
 }
 
 #[test]
 fn fails_where_any_read_does(rt: HostRuntime) {
-    let alloc = rt.alloc();
     // 13 parts of 16 bytes, and the end.
-    assert!(rt;
-        bytes_of(alloc, SYMBOLS).is_some_and(|bytes| FAILURES.iter().all(|error| {
-            heeds_reads(alloc, bytes.as_slice(), 16, 14, *error, SYMBOLS_TEXT)
-        }))
-    );
+    assert!(rt; heeds_reads(rt.alloc(), SYMBOLS, 16, 14, SYMBOLS_TEXT));
     // 100,000 bytes, which take three read calls.
-    assert!(rt;
-        FAILURES.iter().all(|error| {
-            heeds_reads(alloc, &ZEROS[..100_000], usize::MAX, 3, *error, NO_MAGIC)
-        })
-    );
+    assert!(rt; heeds_reads(rt.alloc(), &ZEROS[..100_000], usize::MAX, 3, NO_MAGIC));
 }
 
 #[test]
@@ -102,50 +78,33 @@ fn tries_an_interrupted_read_again(rt: HostRuntime) {
     );
 }
 
-// Whether a run over a file, interrupted at each other read call, writes this text.
-fn reads_on(alloc: Global, file: &str, balk: Balk, is_next: bool, text: &str) -> bool {
-    bytes_of(alloc, file).is_some_and(|bytes| {
-        let inner = Parts::new(bytes.as_slice(), 16, 0, balk);
-        ends(
-            alloc,
-            &STRICT,
-            Halting {
-                inner,
-                is_next,
-                balk,
-            },
-            text,
-        )
-    })
+// How many calls a run over these bytes makes to a writer, if it writes this text.
+fn written(alloc: Global, bytes: &[u8], writer: Parts<Vec<u8>>, text: &str) -> Option<u32> {
+    let mut reader = Counted::new(Cursor::new(bytes));
+    let mut writer = Counted::new(writer);
+    let outcome = run(alloc, &mut reader, &mut writer, &STRICT);
+    let written = writer.into_inner();
+    let is_text = outcome == outcome_of(text) && written.bytes.as_slice() == text.as_bytes();
+    is_text.then_some(written.calls)
 }
 
-// Whether a run over a file, with each other write an interruption, writes this text.
-fn writes_on(alloc: Global, file: &str, balk: Balk, is_next: bool, text: &str) -> bool {
-    bytes_of(alloc, file).is_some_and(|bytes| {
-        let inner = Parts::new(Vec::new(alloc), 7, 0, balk);
-        let mut reader = Counted::new(Cursor::new(bytes.as_slice()));
-        let mut writer = Counted::new(Halting {
-            inner,
-            is_next,
-            balk,
-        });
-        run(alloc, &mut reader, &mut writer, &STRICT) == outcome_of(text)
-            && writer.into_inner().inner.bytes.as_slice() == text.as_bytes()
-    })
+// Whether a run over these bytes writes this text if it is interrupted at each other read call, and if it is at each
+// other write, from the first call on or from the second one on.
+fn goes_on(alloc: Global, bytes: &[u8], balk: Balk, first: u32, text: &str) -> bool {
+    let writer = Parts::halting(Vec::new(alloc), 7, first, balk);
+    ends(alloc, &STRICT, Parts::halting(bytes, 16, first, balk), text)
+        && written(alloc, bytes, writer, text).is_some()
 }
 
-// Whether both are so for each interruption, from the first call on and from the second one on.
-fn goes_on(alloc: Global, file: &str, text: &str) -> bool {
-    INTERRUPTIONS.iter().all(|balk| [false, true].iter().all(|is_next| {
-        reads_on(alloc, file, *balk, *is_next, text)
-            && writes_on(alloc, file, *balk, *is_next, text)
-    }))
+// Whether it does for each interruption, from either call on.
+fn goes_on_from_either(alloc: Global, bytes: &[u8], text: &str) -> bool {
+    INTERRUPTIONS.iter().all(|balk| (1..3).all(|first| goes_on(alloc, bytes, *balk, first, text)))
 }
 
 #[test]
 fn goes_on_after_each_other_call(rt: HostRuntime) {
-    assert!(rt; goes_on(rt.alloc(), SYMBOLS, SYMBOLS_TEXT));
-    assert!(rt; goes_on(rt.alloc(), "", TOO_SMALL));
+    assert!(rt; goes_on_from_either(rt.alloc(), SYMBOLS, SYMBOLS_TEXT));
+    assert!(rt; goes_on_from_either(rt.alloc(), b"", TOO_SMALL));
 }
 
 // Whether a reader that is interrupted at each of its first calls is asked as often as the limit
@@ -177,16 +136,11 @@ fn asks_as_many_times_as_the_limit(rt: HostRuntime) {
 
 // Whether reading zeros one by one comes to no end if each other call is an interruption, and the last call reads a
 // zero: whether it read so many.
-fn comes_to_no_end(alloc: Global, limit: u64, given: u32) -> bool {
-    let balk = Balk::Kind(ErrorKind::Interrupted);
-    let inner = Parts::new(ZEROS.as_slice(), 1, 0, balk);
-    let mut reader = Counted::new(Halting {
-        inner,
-        is_next: true,
-        balk,
-    });
+fn comes_to_no_end(alloc: Global, limit: u64, given: usize) -> bool {
+    let zeros = Parts::halting(ZEROS.as_slice(), 1, 1, INTERRUPTIONS[0]);
+    let mut reader = Counted::new(zeros);
     matches!(input_within(alloc, &mut reader, limit), Input::Failed)
-        && reader.into_inner().inner.calls == given
+        && ZEROS.len().saturating_sub(reader.into_inner().bytes.len()) == given
 }
 
 #[test]
@@ -206,13 +160,8 @@ fn fails_at(alloc: Global, bytes: &[u8], at_once: usize, balk: Balk, call: u32) 
 
 // Whether a run over these bytes writes this text to such a writer by so many calls.
 fn takes_calls(alloc: Global, bytes: &[u8], at_once: usize, calls: u32, text: &str) -> bool {
-    let mut reader = Counted::new(Cursor::new(bytes));
-    let mut writer = Counted::new(Parts::new(Vec::new(alloc), at_once, 0, Balk::TakesNone));
-    let outcome = run(alloc, &mut reader, &mut writer, &STRICT);
-    let written = writer.into_inner();
-    outcome == outcome_of(text)
-        && written.calls == calls
-        && written.bytes.as_slice() == text.as_bytes()
+    let writer = Parts::new(Vec::new(alloc), at_once, 0, Balk::TakesNone);
+    written(alloc, bytes, writer, text) == Some(calls)
 }
 
 // Whether a run over these bytes makes so many write calls and then a flush, writes this text, and fails if any of the
@@ -228,37 +177,25 @@ fn heeds(alloc: Global, bytes: &[u8], at_once: usize, writes: u32, text: &str) -
         && INTERRUPTIONS.iter().all(|balk| fails(*balk, flush))
 }
 
-fn heeds_over(alloc: Global, file: &str, at_once: usize, writes: u32, text: &str) -> bool {
-    bytes_of(alloc, file).is_some_and(|bytes| heeds(alloc, bytes.as_slice(), at_once, writes, text))
-}
-
 #[test]
 fn fails_where_a_write_or_the_flush_does(rt: HostRuntime) {
     // A text or a refusal is written by one call, if the writer takes it.
-    assert!(rt; heeds_over(rt.alloc(), BIG, 1_000, 1, BIG_TEXT));
-    assert!(rt; heeds_over(rt.alloc(), SYMBOLS, 1_000, 1, SYMBOLS_TEXT));
-    assert!(rt; heeds_over(rt.alloc(), "", 1_000, 1, TOO_SMALL));
+    assert!(rt; heeds(rt.alloc(), BIG, 1_000, 1, BIG_TEXT));
+    assert!(rt; heeds(rt.alloc(), SYMBOLS, 1_000, 1, SYMBOLS_TEXT));
+    assert!(rt; heeds(rt.alloc(), b"", 1_000, 1, TOO_SMALL));
     // 310 bytes in parts of 7, and 37 bytes in parts of 7 and of 3.
-    assert!(rt; heeds_over(rt.alloc(), SYMBOLS, 7, 45, SYMBOLS_TEXT));
-    assert!(rt; heeds_over(rt.alloc(), "", 7, 6, TOO_SMALL));
-    assert!(rt; heeds_over(rt.alloc(), "", 3, 13, TOO_SMALL));
+    assert!(rt; heeds(rt.alloc(), SYMBOLS, 7, 45, SYMBOLS_TEXT));
+    assert!(rt; heeds(rt.alloc(), b"", 7, 6, TOO_SMALL));
+    assert!(rt; heeds(rt.alloc(), b"", 3, 13, TOO_SMALL));
 }
 
 // Whether a run over so many zeros writes this text by so many calls, and fails if any of them does.
 fn heeds_over_zeros(alloc: Global, count: usize, calls: u32, text: &str) -> bool {
-    match vec![in alloc; 0; count] {
-        Ok(zeros) => {
-            takes_calls(alloc, zeros.as_slice(), 1_000, calls, text)
-                && (1..=calls).all(|call| fails_at(
-                    alloc,
-                    zeros.as_slice(),
-                    1_000,
-                    FAILURES[3],
-                    call,
-                ))
-        }
-        Err(_) => false,
-    }
+    vec![in alloc; 0; count].is_ok_and(|zeros| {
+        let bytes = zeros.as_slice();
+        takes_calls(alloc, bytes, 1_000, calls, text)
+            && (1..=calls).all(|call| fails_at(alloc, bytes, 1_000, FAILURES[3], call))
+    })
 }
 
 #[test]

@@ -1,6 +1,6 @@
 //! Refusals of files for many numbers, with ample memory. Each line is what std's formatting makes of its numbers:
 //! where the program is out of memory for a single number, it writes another line.
-use crate::run::{PERMISSIVE, STRICT, bytes_of, ends};
+use crate::run::{PERMISSIVE, STRICT, ends};
 use goblin::options::ParseOptions;
 use goblin_text::counted::Counted;
 use goblin_text::file_bytes::FileBytes;
@@ -10,13 +10,14 @@ use std::io::Cursor;
 
 // A 64-bit file of 208 bytes: a header, 16 bytes, and two section headers. The second section has the type of
 // relocations, all 16 bytes, and the names.
-const FILE: &str = "7F454C46 02010100 0000000000000000 0300 3E00 01000000 0000000000000000
-    0000000000000000 5000000000000000 00000000 4000 3800 0000 4000 0200 0100
-    00000000 00000000 00000000 00000000
-    00000000 00000000 0000000000000000 0000000000000000 0000000000000000
-    0000000000000000 00000000 00000000 0000000000000000 0000000000000000
-    00000000 09000000 0000000000000000 0000000000000000 4000000000000000
-    1000000000000000 00000000 00000000 0000000000000000 0000000000000000";
+static FILE: &[u8; 208] = b"\x7fELF\x02\x01\x01\0\0\0\0\0\0\0\0\0\
+    \x03\0\x3e\0\x01\0\0\0\0\0\0\0\0\0\0\0\0\0\0\0\0\0\0\0\x50\0\0\0\0\0\0\0\
+    \0\0\0\0\x40\0\x38\0\0\0\x40\0\x02\0\x01\0\
+    \0\0\0\0\0\0\0\0\0\0\0\0\0\0\0\0\
+    \0\0\0\0\0\0\0\0\0\0\0\0\0\0\0\0\0\0\0\0\0\0\0\0\0\0\0\0\0\0\0\0\
+    \0\0\0\0\0\0\0\0\0\0\0\0\0\0\0\0\0\0\0\0\0\0\0\0\0\0\0\0\0\0\0\0\
+    \0\0\0\0\x09\0\0\0\0\0\0\0\0\0\0\0\0\0\0\0\0\0\0\0\x40\0\0\0\0\0\0\0\
+    \x10\0\0\0\0\0\0\0\0\0\0\0\0\0\0\0\0\0\0\0\0\0\0\0\0\0\0\0\0\0\0\0";
 
 // Its length.
 const LEN: u64 = 208;
@@ -55,12 +56,12 @@ fn put(bytes: &mut [u8], field: (usize, usize), number: u64) {
 }
 
 // The file with some numbers changed.
-fn changed(alloc: Global, changes: Changes<'_>) -> Option<Vec<u8>> {
-    let mut bytes = bytes_of(alloc, FILE)?;
+fn changed(changes: Changes<'_>) -> [u8; 208] {
+    let mut bytes = *FILE;
     for (field, number) in changes {
         put(&mut bytes, *field, *number);
     }
-    Some(bytes)
+    bytes
 }
 
 // The line that refuses a file with this text.
@@ -82,7 +83,7 @@ fn refuses_bytes(alloc: Global, opts: &ParseOptions, bytes: &[u8], text: Formatt
 
 // The same of the file with some numbers changed.
 fn refuses(alloc: Global, opts: &ParseOptions, changes: Changes<'_>, text: Formatted) -> bool {
-    changed(alloc, changes).is_some_and(|bytes| refuses_bytes(alloc, opts, bytes.as_slice(), text))
+    refuses_bytes(alloc, opts, &changed(changes), text)
 }
 
 // Whether each class, each byte order and each length of a header is refused that is none.
@@ -97,19 +98,17 @@ fn refuses_headers(alloc: Global) -> bool {
 }
 
 fn refuses_cut_headers(alloc: Global) -> bool {
-    changed(alloc, &[]).is_some_and(|bytes| (16..64).all(|len| {
+    (16..64).all(|len| {
         let text = format!(in alloc; "type is too big (64) for {len}");
-        refuses_bytes(alloc, &STRICT, bytes.get(..len).unwrap_or(b""), text)
-    }))
+        refuses_bytes(alloc, &STRICT, FILE.get(..len).unwrap_or(b""), text)
+    })
 }
 
 // Whether a file that begins with a number is refused for it. Each of the following does so for a number of the file,
 // if it is one that is refused.
 fn refuses_a_magic_number(alloc: Global, n: u64) -> bool {
-    let mut bytes = [0; 16];
-    put(&mut bytes, (0, 8), n);
     let text = format!(in alloc; "Invalid magic number: 0x{n:x}");
-    refuses_bytes(alloc, &STRICT, &bytes, text)
+    refuses_bytes(alloc, &STRICT, &u128::from(n).to_le_bytes(), text)
 }
 
 fn refuses_section_headers(alloc: Global, n: u64) -> bool {
@@ -196,11 +195,13 @@ fn refuses_with_powers(alloc: Global, base: u64) -> bool {
 fn refuses_bad_names(alloc: Global, n: u64) -> bool {
     let text = format!(in alloc; "bad input invalid utf8 ({n})");
     let size = n.saturating_add(1);
-    changed(alloc, &[(OFFSET, LEN), (SIZE, size)]).is_some_and(|mut bytes| {
-        let is_resized = bytes.resize(LEN.saturating_add(size) as usize, 0).is_ok();
-        put(bytes.as_mut_slice(), (209, 1), 0xff);
-        is_resized && refuses_bytes(alloc, &STRICT, bytes.as_slice(), text)
-    })
+    changed(&[(OFFSET, LEN), (SIZE, size)])
+        .to_vec(alloc)
+        .is_ok_and(|mut bytes| {
+            let is_resized = bytes.resize(LEN.saturating_add(size) as usize, 0).is_ok();
+            put(bytes.as_mut_slice(), (209, 1), 0xff);
+            is_resized && refuses_bytes(alloc, &STRICT, bytes.as_slice(), text)
+        })
 }
 
 #[test]
@@ -211,12 +212,13 @@ fn reports_a_header_of_any_byte(rt: HostRuntime) {
 
 // Whether a run over a file that begins with this number is refused for it.
 fn run_refuses_a_magic_number(alloc: Global, n: u64) -> bool {
-    let mut bytes = [0; 16];
-    put(&mut bytes, (0, 8), n);
-    match line_of(alloc, format!(in alloc; "Invalid magic number: 0x{n:x}")) {
-        Ok(line) => ends(alloc, &STRICT, Cursor::new(bytes.as_slice()), line.as_str()),
-        Err(_) => false,
-    }
+    let bytes = u128::from(n).to_le_bytes();
+    line_of(alloc, format!(in alloc; "Invalid magic number: 0x{n:x}")).is_ok_and(|line| ends(
+        alloc,
+        &STRICT,
+        Cursor::new(bytes.as_slice()),
+        line.as_str(),
+    ))
 }
 
 #[test]

@@ -20,17 +20,18 @@ pub(crate) const PERMISSIVE: ParseOptions = ParseOptions {
 };
 
 // A 64-bit header in big byte order.
-pub(crate) const BIG: &str = "7F454C46 02020100 0000000000000000 0002 003E 00000001 0000000000401000
-    0000000000000000 0000000000000000 00000000 0040 0038 000D 0040 0000 0000";
+pub(crate) static BIG: &[u8; 64] = b"\x7fELF\x02\x02\x01\0\0\0\0\0\0\0\0\0\
+    \0\x02\0\x3e\0\0\0\x01\0\0\0\0\0\x40\x10\0\0\0\0\0\0\0\0\0\0\0\0\0\0\0\0\0\
+    \0\0\0\0\0\x40\0\x38\0\x0d\0\x40\0\0\0\0";
 
 pub(crate) const BIG_TEXT: &str = "header ELF64 big EXEC X86_64 entry 0x401000 phnum 13 shnum 0\n";
 
 // A 32-bit file of 136 bytes: a header, the section names' table and two section headers.
-const NAMES: &str = "7F454C46 01010100 0000000000000000 0300 0000 01000000 00000000 00000000
-    38000000 00000000 3400 2000 0000 2800 0200 0100
-    002E7300
-    0000000000000000000000000000000000000000 0000000000000000000000000000000000000000
-    01000000 03000000 00000000 00000000 34000000 04000000 00000000 00000000 00000000 00000000";
+static NAMES: &[u8; 136] = b"\x7fELF\x01\x01\x01\0\0\0\0\0\0\0\0\0\
+    \x03\0\0\0\x01\0\0\0\0\0\0\0\0\0\0\0\x38\0\0\0\0\0\0\0\x34\0\x20\0\0\0\x28\0\x02\0\x01\0\
+    \0.s\0\
+    \0\0\0\0\0\0\0\0\0\0\0\0\0\0\0\0\0\0\0\0\0\0\0\0\0\0\0\0\0\0\0\0\0\0\0\0\0\0\0\0\
+    \x01\0\0\0\x03\0\0\0\0\0\0\0\0\0\0\0\x34\0\0\0\x04\0\0\0\0\0\0\0\0\0\0\0\0\0\0\0\0\0\0\0";
 
 // The text of a 32-bit file with so many sections, by what is shown after the first one.
 macro_rules! sections {
@@ -49,14 +50,13 @@ const NAMES_TEXT: &str = sections!("2", "section 1 SHT_STRTAB offset 0x34 size 4
 const NO_NAMES_TEXT: &str = sections!("2", "section 1 SHT_STRTAB offset 0x34 size 4 name=\n");
 
 // A 32-bit file of 208 bytes: a header, a string table, a symbol table and three section headers.
-pub(crate) const SYMBOLS: &str =
-    "7F454C46 01010100 0000000000000000 0300 0000 01000000 00000000 00000000
-    58000000 00000000 3400 2000 0000 2800 0300 0000
-    00660000
-    00000000000000000000000000000000 01000000 00100000 05000000 12 00 0100
-    0000000000000000000000000000000000000000 0000000000000000000000000000000000000000
-    00000000 03000000 00000000 00000000 34000000 04000000 00000000 00000000 00000000 00000000
-    00000000 02000000 00000000 00000000 38000000 20000000 01000000 00000000 00000000 00000000";
+pub(crate) static SYMBOLS: &[u8; 208] = b"\x7fELF\x01\x01\x01\0\0\0\0\0\0\0\0\0\
+    \x03\0\0\0\x01\0\0\0\0\0\0\0\0\0\0\0\x58\0\0\0\0\0\0\0\x34\0\x20\0\0\0\x28\0\x03\0\0\0\
+    \0f\0\0\
+    \0\0\0\0\0\0\0\0\0\0\0\0\0\0\0\0\x01\0\0\0\0\x10\0\0\x05\0\0\0\x12\0\x01\0\
+    \0\0\0\0\0\0\0\0\0\0\0\0\0\0\0\0\0\0\0\0\0\0\0\0\0\0\0\0\0\0\0\0\0\0\0\0\0\0\0\0\
+    \0\0\0\0\x03\0\0\0\0\0\0\0\0\0\0\0\x34\0\0\0\x04\0\0\0\0\0\0\0\0\0\0\0\0\0\0\0\0\0\0\0\
+    \0\0\0\0\x02\0\0\0\0\0\0\0\0\0\0\0\x38\0\0\0\x20\0\0\0\x01\0\0\0\0\0\0\0\0\0\0\0\0\0\0\0";
 
 pub(crate) const SYMBOLS_TEXT: &str = sections!(
     "3",
@@ -67,11 +67,11 @@ pub(crate) const SYMBOLS_TEXT: &str = sections!(
 );
 
 // A 32-bit file of 144 bytes: a header, a relocation with an addend, 40 zeros and a section header.
-const ADDEND: &str = "7F454C46 01010100 0000000000000000 0300 0000 01000000 00000000 00000000
-    40000000 00000000 3400 2000 0000 2800 0200 0000
-    10000000 01020000 FCFFFFFF
-    0000000000000000000000000000000000000000 0000000000000000000000000000000000000000
-    00000000 04000000 00000000 00000000 34000000 0C000000 00000000 00000000 00000000 00000000";
+static ADDEND: &[u8; 144] = b"\x7fELF\x01\x01\x01\0\0\0\0\0\0\0\0\0\
+    \x03\0\0\0\x01\0\0\0\0\0\0\0\0\0\0\0\x40\0\0\0\0\0\0\0\x34\0\x20\0\0\0\x28\0\x02\0\0\0\
+    \x10\0\0\0\x01\x02\0\0\xfc\xff\xff\xff\
+    \0\0\0\0\0\0\0\0\0\0\0\0\0\0\0\0\0\0\0\0\0\0\0\0\0\0\0\0\0\0\0\0\0\0\0\0\0\0\0\0\
+    \0\0\0\0\x04\0\0\0\0\0\0\0\0\0\0\0\x34\0\0\0\x0c\0\0\0\0\0\0\0\0\0\0\0\0\0\0\0\0\0\0\0";
 
 const ADDEND_TEXT: &str = sections!(
     "2",
@@ -80,13 +80,14 @@ const ADDEND_TEXT: &str = sections!(
 );
 
 // A 64-bit file of 208 bytes: a header, a relocation of MIPS64 and two section headers.
-const PAIR: &str = "7F454C46 02010100 0000000000000000 0300 0800 01000000 0000000000000000
-    0000000000000000 5000000000000000 00000000 4000 3800 0000 4000 0200 0000
-    F050010000000000 0000000000001203
-    00000000 00000000 0000000000000000 0000000000000000 0000000000000000
-    0000000000000000 00000000 00000000 0000000000000000 0000000000000000
-    00000000 09000000 0000000000000000 0000000000000000 4000000000000000
-    1000000000000000 00000000 00000000 0000000000000000 0000000000000000";
+static PAIR: &[u8; 208] = b"\x7fELF\x02\x01\x01\0\0\0\0\0\0\0\0\0\
+    \x03\0\x08\0\x01\0\0\0\0\0\0\0\0\0\0\0\0\0\0\0\0\0\0\0\x50\0\0\0\0\0\0\0\
+    \0\0\0\0\x40\0\x38\0\0\0\x40\0\x02\0\0\0\
+    \xf0\x50\x01\0\0\0\0\0\0\0\0\0\0\0\x12\x03\
+    \0\0\0\0\0\0\0\0\0\0\0\0\0\0\0\0\0\0\0\0\0\0\0\0\0\0\0\0\0\0\0\0\
+    \0\0\0\0\0\0\0\0\0\0\0\0\0\0\0\0\0\0\0\0\0\0\0\0\0\0\0\0\0\0\0\0\
+    \0\0\0\0\x09\0\0\0\0\0\0\0\0\0\0\0\0\0\0\0\0\0\0\0\x40\0\0\0\0\0\0\0\
+    \x10\0\0\0\0\0\0\0\0\0\0\0\0\0\0\0\0\0\0\0\0\0\0\0\0\0\0\0\0\0\0\0";
 
 const PAIR_TEXT: &str = "header ELF64 little DYN MIPS entry 0x0 phnum 0 shnum 2\n\
     section 0 SHT_NULL offset 0x0 size 0 name=\n\
@@ -101,34 +102,9 @@ pub(crate) const TOO_LONG: &str = "refused: input is longer than 16777216 bytes\
 
 pub(crate) static ZEROS: &[u8; 200_000] = &[0; 200_000];
 
-// The digit that a character of a hexadecimal text stands for, if it is one.
-fn digit_of(c: u8) -> Option<u8> {
-    match c {
-        b'0'..=b'9' => Some(c - b'0'),
-        b'A'..=b'F' => Some(c - b'A' + 10),
-        _ => None,
-    }
-}
-
-// The bytes that a hexadecimal text spells, where there is memory.
-pub(crate) fn bytes_of(alloc: Global, text: &str) -> Option<Vec<u8>> {
-    let mut bytes = Vec::new(alloc);
-    let mut high = None;
-    for digit in text.as_bytes().iter().copied().filter_map(digit_of) {
-        match high {
-            None => high = Some(digit),
-            Some(first) => {
-                bytes.push((first & 0xf) << 4 | (digit & 0xf)).ok()?;
-                high = None;
-            }
-        }
-    }
-    Some(bytes)
-}
-
-// The same with other bytes at some places.
-fn changed(alloc: Global, text: &str, changes: &[(usize, u8)]) -> Option<Vec<u8>> {
-    let mut bytes = bytes_of(alloc, text)?;
+// A file with other bytes at some places, where there is memory.
+fn changed(alloc: Global, file: &[u8], changes: &[(usize, u8)]) -> Option<Vec<u8>> {
+    let mut bytes = file.to_vec(alloc).ok()?;
     for (place, byte) in changes {
         *bytes.get_mut(*place)? = *byte;
     }
@@ -167,38 +143,21 @@ fn is_written(alloc: Global, opts: &ParseOptions, bytes: &[u8], text: &str) -> b
 }
 
 // The same of a file with these changes, by a strict run and by a permissive one.
-fn strict(alloc: Global, file: &str, changes: &[(usize, u8)], text: &str) -> bool {
-    changed(alloc, file, changes).is_some_and(|bytes| is_written(
-        alloc,
-        &STRICT,
-        bytes.as_slice(),
-        text,
-    ))
+fn strict(alloc: Global, file: &[u8], changes: &[(usize, u8)], text: &str) -> bool {
+    let bytes = changed(alloc, file, changes);
+    bytes.is_some_and(|bytes| is_written(alloc, &STRICT, bytes.as_slice(), text))
 }
 
-fn permissive(alloc: Global, file: &str, changes: &[(usize, u8)], text: &str) -> bool {
-    changed(alloc, file, changes).is_some_and(|bytes| is_written(
-        alloc,
-        &PERMISSIVE,
-        bytes.as_slice(),
-        text,
-    ))
+fn permissive(alloc: Global, file: &[u8], changes: &[(usize, u8)], text: &str) -> bool {
+    let bytes = changed(alloc, file, changes);
+    bytes.is_some_and(|bytes| is_written(alloc, &PERMISSIVE, bytes.as_slice(), text))
 }
 
-// Whether a file with these changes ends so, after so many looks that were taken to find and to test names.
-fn takes(
-    alloc: Global,
-    opts: &ParseOptions,
-    file: &str,
-    changes: &[(usize, u8)],
-    outcome: Outcome,
-    looks: u128,
-) -> bool {
-    changed(alloc, file, changes).is_some_and(|bytes| {
-        let mut file = FileBytes::new(bytes.as_slice());
-        let mut writer = Counted::new(Vec::new(alloc));
-        show_file(alloc, &mut writer, &mut file, opts) == outcome && file.names.count() == looks
-    })
+// Whether a file ends so, after so many looks that were taken to find and to test names.
+fn takes(alloc: Global, opts: &ParseOptions, bytes: &[u8], outcome: Outcome, looks: u128) -> bool {
+    let mut file = FileBytes::new(bytes);
+    let mut writer = Counted::new(Vec::new(alloc));
+    show_file(alloc, &mut writer, &mut file, opts) == outcome && file.names.count() == looks
 }
 
 // A strict table of four bytes takes four looks. A name in it takes one at its first byte, one at each byte up to and
@@ -206,21 +165,13 @@ fn takes(
 // at from the fault back to the zero byte before its last string.
 #[test]
 fn counts_the_looks_of_a_file(rt: HostRuntime) {
-    assert!(rt; takes(rt.alloc(), &STRICT, NAMES, &[], Outcome::Shown, 4 + 2 + 6));
-    assert!(rt; takes(rt.alloc(), &PERMISSIVE, NAMES, &[], Outcome::Shown, 2 + 6));
-    assert!(rt; takes(rt.alloc(), &STRICT, SYMBOLS, &[], Outcome::Shown, 4 + 2 + 4));
-    let bad = [(54, 0xff)];
-    assert!(rt;
-        takes(
-            rt.alloc(),
-            &STRICT,
-            SYMBOLS,
-            &bad,
-            Outcome::Refused,
-            4 + 4 + 2
-        )
-    );
-    assert!(rt; takes(rt.alloc(), &STRICT, BIG, &[], Outcome::Shown, 0));
+    assert!(rt; takes(rt.alloc(), &STRICT, NAMES, Outcome::Shown, 4 + 2 + 6));
+    assert!(rt; takes(rt.alloc(), &PERMISSIVE, NAMES, Outcome::Shown, 2 + 6));
+    assert!(rt; takes(rt.alloc(), &STRICT, SYMBOLS, Outcome::Shown, 4 + 2 + 4));
+    let mut bad = *SYMBOLS;
+    bad[54] = 0xff;
+    assert!(rt; takes(rt.alloc(), &STRICT, &bad, Outcome::Refused, 4 + 4 + 2));
+    assert!(rt; takes(rt.alloc(), &STRICT, BIG, Outcome::Shown, 0));
 }
 
 #[test]
@@ -340,15 +291,11 @@ fn refuses_relocations_in_both_modes(rt: HostRuntime) {
 
 #[test]
 fn reports_why_a_header_is_refused(rt: HostRuntime) {
-    assert!(rt; strict(rt.alloc(), "", &[], TOO_SMALL));
+    assert!(rt; strict(rt.alloc(), b"", &[], TOO_SMALL));
     let line = "refused: Invalid magic number: 0x3736353433323130\n";
-    let digits = "30313233343536373839616263646566";
-    assert!(rt; strict(rt.alloc(), digits, &[], line));
+    assert!(rt; strict(rt.alloc(), b"0123456789abcdef", &[], line));
     let line = "refused: type is too big (64) for 52\n";
-    let cut = |bytes: Vec<u8>| {
-        is_written(rt.alloc(), &STRICT, bytes.get(..52).unwrap_or(b""), line)
-    };
-    assert!(rt; bytes_of(rt.alloc(), BIG).is_some_and(cut));
+    assert!(rt; is_written(rt.alloc(), &STRICT, &BIG[..52], line));
     let line = "refused: Malformed entity: invalid ELF class 3\n";
     assert!(rt; permissive(rt.alloc(), BIG, &[(4, 3), (5, 0)], line));
     let line = "refused: Malformed entity: invalid ELF endianness DATA type 0\n";
@@ -418,14 +365,8 @@ fn shows_names_longer_than_what_is_written_at_once(rt: HostRuntime) {
 
 #[test]
 fn reads_on_through_many_interruptions(rt: HostRuntime) {
-    assert!(rt;
-        ends(
-            rt.alloc(),
-            &STRICT,
-            Interrupted { left: 100_000 },
-            TOO_SMALL
-        )
-    );
+    let reader = Interrupted { left: 100_000 };
+    assert!(rt; ends(rt.alloc(), &STRICT, reader, TOO_SMALL));
 }
 
 // The words, where there is memory.
@@ -452,12 +393,12 @@ fn takes_one_word(rt: HostRuntime) {
 
 // Whether the program, with these words and this file, ends with a status, and writes this text by a write call and a
 // flush, or ends with the first call if that fails.
-fn answers(alloc: Global, texts: &[&str], file: &str, fails: bool, status: u8, text: &str) -> bool {
-    let (Some(words), Some(bytes)) = (words_of(alloc, texts), bytes_of(alloc, file)) else {
+fn answers(alloc: Global, args: &[&str], file: &[u8], fails: bool, status: u8, text: &str) -> bool {
+    let Some(words) = words_of(alloc, args) else {
         return false;
     };
     let (balk_at, calls) = if fails { (1, 1) } else { (0, 2) };
-    let mut reader = Counted::new(Cursor::new(bytes.as_slice()));
+    let mut reader = Counted::new(Cursor::new(file));
     let mut writer = Counted::new(Parts::new(Vec::new(alloc), 1_000, balk_at, FAILURES[3]));
     let ended = show(alloc, Ok(words), &mut reader, &mut writer);
     let written = writer.into_inner();
@@ -476,24 +417,18 @@ fn answers_no_words(alloc: Global) -> bool {
 
 #[test]
 fn ends_with_a_status(rt: HostRuntime) {
-    let usage = "usage: goblin_show [permissive]\n";
-    assert!(rt; answers(rt.alloc(), &[], BIG, false, 0, BIG_TEXT));
-    assert!(rt; answers(rt.alloc(), &[], "", false, 1, TOO_SMALL));
-    assert!(rt; answers(rt.alloc(), &["permissive"], BIG, false, 0, BIG_TEXT));
-    assert!(rt; answers(rt.alloc(), &["permissive"], "", false, 1, TOO_SMALL));
-    assert!(rt; answers(rt.alloc(), &["strict"], BIG, false, 2, usage));
-    assert!(rt;
-        answers(
-            rt.alloc(),
-            &["permissive", "permissive"],
-            BIG,
-            false,
-            2,
-            usage
-        )
+    let (usage, twice) = (
+        "usage: goblin_show [permissive]\n",
+        ["permissive", "permissive"],
     );
+    assert!(rt; answers(rt.alloc(), &[], BIG, false, 0, BIG_TEXT));
+    assert!(rt; answers(rt.alloc(), &[], b"", false, 1, TOO_SMALL));
+    assert!(rt; answers(rt.alloc(), &["permissive"], BIG, false, 0, BIG_TEXT));
+    assert!(rt; answers(rt.alloc(), &["permissive"], b"", false, 1, TOO_SMALL));
+    assert!(rt; answers(rt.alloc(), &["strict"], BIG, false, 2, usage));
+    assert!(rt; answers(rt.alloc(), &twice, BIG, false, 2, usage));
     // After a write that fails nothing is written or flushed.
-    assert!(rt; answers(rt.alloc(), &["strict"], "", true, 2, ""));
+    assert!(rt; answers(rt.alloc(), &["strict"], b"", true, 2, ""));
     assert!(rt; answers_no_words(rt.alloc()));
 }
 

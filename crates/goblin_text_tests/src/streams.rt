@@ -43,7 +43,8 @@ pub(crate) const FAILURES: [Balk; 15] = [
 // Interruptions, by kind and by the system's number.
 pub(crate) const INTERRUPTIONS: [Balk; 2] = [Balk::Kind(ErrorKind::Interrupted), Balk::Number(4)];
 
-// A reader of some bytes, or a writer that holds them, of few bytes at once. It counts its calls, and balks at one.
+// A reader of some bytes, or a writer that holds them, of few bytes at once. It counts its calls, and balks at one, or at
+// each other read or write.
 #[derive(Drop)]
 pub(crate) struct Parts<T> {
     pub(crate) bytes: T,
@@ -51,6 +52,7 @@ pub(crate) struct Parts<T> {
     at_once: usize,
     balk_at: u32,
     balk: Balk,
+    is_halting: bool,
 }
 
 impl<T> Parts<T> {
@@ -61,13 +63,24 @@ impl<T> Parts<T> {
             at_once,
             balk_at,
             balk,
+            is_halting: false,
         }
+    }
+
+    // One that balks at each other read or write, from the first call on or from the second one on.
+    pub(crate) fn halting(bytes: T, at_once: usize, first: u32, balk: Balk) -> Self {
+        let mut parts = Parts::new(bytes, at_once, first, balk);
+        parts.is_halting = true;
+        parts
     }
 
     // Counts a call. Reports whether it balks.
     fn balks(&mut self) -> bool {
         self.calls = self.calls.saturating_add(1);
-        self.calls == self.balk_at
+        match self.is_halting {
+            true => self.calls % 2 == self.balk_at % 2,
+            false => self.calls == self.balk_at,
+        }
     }
 }
 
@@ -97,51 +110,10 @@ impl Write for Parts<Vec<u8>> {
     }
 
     fn flush(&mut self) -> io::Result<()> {
-        match self.balks() {
+        match !self.is_halting && self.balks() {
             true => self.balk.result(),
             false => Ok(()),
         }
-    }
-}
-
-// A reader or writer that balks at each other call.
-#[derive(Drop)]
-pub(crate) struct Halting<T> {
-    pub(crate) inner: T,
-    pub(crate) is_next: bool,
-    pub(crate) balk: Balk,
-}
-
-impl<T> Halting<T> {
-    // Reports whether this call balks. The next one does the other.
-    fn balks(&mut self) -> bool {
-        let is_now = self.is_next;
-        self.is_next = !is_now;
-        is_now
-    }
-}
-
-impl<R: Read> Read for Halting<R> {
-    fn read(&mut self, buf: &mut [u8]) -> io::Result<usize> {
-        if self.balks() {
-            self.balk.result()?;
-            return Ok(0);
-        }
-        self.inner.read(buf)
-    }
-}
-
-impl<W: Write> Write for Halting<W> {
-    fn write(&mut self, buf: &[u8]) -> io::Result<usize> {
-        if self.balks() {
-            self.balk.result()?;
-            return Ok(0);
-        }
-        self.inner.write(buf)
-    }
-
-    fn flush(&mut self) -> io::Result<()> {
-        self.inner.flush()
     }
 }
 
