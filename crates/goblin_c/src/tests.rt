@@ -9,7 +9,7 @@ mod dynamic;
 mod places;
 mod write;
 
-pub static FILE: &[u8; 208] = b"\x7fELF\x01\x01\x01\0\0\0\0\0\0\0\0\0\
+static FILE: &[u8; 208] = b"\x7fELF\x01\x01\x01\0\0\0\0\0\0\0\0\0\
     \x03\0\0\0\x01\0\0\0\0\0\0\0\0\0\0\0\x58\0\0\0\0\0\0\0\x34\0\x20\0\0\0\x28\0\x03\0\0\0\
     \0f\0\0\
     \0\0\0\0\0\0\0\0\0\0\0\0\0\0\0\0\
@@ -18,44 +18,69 @@ pub static FILE: &[u8; 208] = b"\x7fELF\x01\x01\x01\0\0\0\0\0\0\0\0\0\
     \0\0\0\0\x03\0\0\0\0\0\0\0\0\0\0\0\x34\0\0\0\x04\0\0\0\0\0\0\0\0\0\0\0\0\0\0\0\0\0\0\0\
     \0\0\0\0\x02\0\0\0\0\0\0\0\0\0\0\0\x38\0\0\0\x20\0\0\0\x01\0\0\0\0\0\0\0\0\0\0\0\0\0\0\0";
 
-pub const STRINGS: GoblinRange = GoblinRange {
+const STRINGS: GoblinRange = GoblinRange {
     offset: 52,
     size: 4,
 };
 
-pub const SYMBOLS: GoblinRange = GoblinRange {
+const SYMBOLS: GoblinRange = GoblinRange {
     offset: 56,
     size: 32,
 };
 
-pub fn range(offset: u64, size: u64) -> GoblinRange {
+fn range(offset: u64, size: u64) -> GoblinRange {
     GoblinRange { offset, size }
 }
 
-// The status of a call, what it stores in place of this mark, and the refusal that it stores.
+// The status of a call, what it stores in place of a mark, and the refusal that it stores. The mark is the one of the
+// layout with this name, or a number.
 macro_rules! called {
-    ($call:ident($($given:expr),*), $mark:expr) => {{
+    ($call:ident($($given:expr),*) => $mark:ident) => {
+        called!($call($($given),*) => marked_layout().$mark)
+    };
+    ($call:ident($($given:expr),*) => $mark:expr) => {{
         let (mut found, mut why) = ($mark, marked_layout().refusal);
         let status = $call($($given,)* &mut found, &mut why);
         (status, found, why)
     }};
 }
 
-pub(crate) use called;
-
 // The same of a call that searches, with the index that it stores after the status.
 macro_rules! searched {
-    ($call:ident($($given:expr),*), $mark:expr) => {{
-        let (mut index, mut found, mut why) = (9, $mark, marked_layout().refusal);
-        let status = $call($($given,)* &mut index, &mut found, &mut why);
+    ($call:ident($($given:expr),*) => $mark:ident) => {{
+        let mut index = 9;
+        let (status, found, why) = called!($call($($given,)* &mut index) => $mark);
         (status, index, found, why)
     }};
 }
 
-pub(crate) use searched;
+// The status of a call, and these fields of what it stores.
+macro_rules! stored {
+    ($call:ident($($given:expr),*) => $mark:ident { $($($field:ident).+),+ }) => {{
+        let (status, found, _) = called!($call($($given),*) => $mark);
+        (status, $(found.$($field).+),+)
+    }};
+    ($call:ident($($given:expr),*) => $mark:expr) => {{
+        let (status, found, _) = called!($call($($given),*) => $mark);
+        (status, found)
+    }};
+}
+
+// The same of a call that searches, with the index.
+macro_rules! found {
+    ($call:ident($($given:expr),*) => $mark:ident { $($($field:ident).+),+ }) => {{
+        let (status, index, found, _) = searched!($call($($given),*) => $mark);
+        (status, index, $(found.$($field).+),+)
+    }};
+}
+
+use called;
+use found;
+use searched;
+use stored;
 
 // The answer for a number: the number, or the first number of the refusal and where it begins.
-pub fn number_shown((status, found, why): (u32, u64, GoblinRefusal)) -> (u32, u64, u64) {
+fn number_shown((status, found, why): (u32, u64, GoblinRefusal)) -> (u32, u64, u64) {
     if status > 1 {
         return (status, why.first, why.offset);
     }
@@ -63,8 +88,15 @@ pub fn number_shown((status, found, why): (u32, u64, GoblinRefusal)) -> (u32, u6
 }
 
 // The file's header, or one of marks where it is refused.
-pub fn header() -> GoblinHeader {
-    called!(goblin_header(FILE), marked_layout().header).1
+fn header() -> GoblinHeader {
+    called!(goblin_header(FILE) => header).1
+}
+
+// The same, with so many program headers from an offset on.
+fn with_segments(offset: u64, count: u16) -> GoblinHeader {
+    let mut header = header();
+    (header.e_phoff, header.e_phnum) = (offset, count);
+    header
 }
 
 #[test]
@@ -78,7 +110,7 @@ fn reads_the_header(rt: HostRuntime) {
 
 // Whether a header is refused, by this kind with these numbers.
 fn refuses(bytes: &[u8], kind: u32, first: u64, second: u64) -> bool {
-    let (status, _, why) = called!(goblin_header(bytes), marked_layout().header);
+    let (status, _, why) = called!(goblin_header(bytes) => header);
     status == kind && why.kind == kind && why.first == first && why.second == second
 }
 
@@ -91,9 +123,7 @@ fn refuses_headers(rt: HostRuntime) {
 
 // What the section header at an index is: its answer, type, place and link.
 fn section(index: u64) -> (u32, u32, u64, u32) {
-    let mark = marked_layout().section;
-    let (status, found, _) = called!(goblin_section(FILE, &header(), index), mark);
-    (status, found.sh_type, found.file.offset, found.sh_link)
+    stored!(goblin_section(FILE, &header(), index) => section { sh_type, file.offset, sh_link })
 }
 
 #[test]
@@ -104,14 +134,13 @@ fn reads_sections(rt: HostRuntime) {
 }
 
 fn count() -> (u32, u64) {
-    let (status, found, _) = called!(goblin_section_count(FILE, &header()), 9);
-    (status, found)
+    stored!(goblin_section_count(FILE, &header()) => 9)
 }
 
 fn fills_sections() -> bool {
     let mut found = [marked_layout().section; 4];
-    let (status, filled, _) = called!(goblin_sections(FILE, &header(), 1, &mut found), 9);
-    status == 0 && filled == 2 && found[0].sh_type == 3 && found[1].sh_type == 2
+    let answer = stored!(goblin_sections(FILE, &header(), 1, &mut found) => 9);
+    answer == (0, 2) && found[0].sh_type == 3 && found[1].sh_type == 2
 }
 
 #[test]
@@ -122,19 +151,13 @@ fn counts_and_fills_sections(rt: HostRuntime) {
 
 // A program header read from the strings on.
 fn segment_type(index: u64) -> (u32, u32) {
-    let mut header = header();
-    (header.e_phoff, header.e_phnum) = (52, 1);
-    let mark = marked_layout().segment;
-    let (status, found, _) = called!(goblin_segment(FILE, &header, index), mark);
-    (status, found.p_type)
+    stored!(goblin_segment(FILE, &with_segments(52, 1), index) => segment { p_type })
 }
 
 // The types of those from an index on, of two that are read there: the answer, how many are stored, and the types.
 fn segment_types(first: u64) -> (u32, u64, [u32; 3]) {
-    let mut header = header();
-    (header.e_phoff, header.e_phnum) = (52, 2);
-    let mut found = [marked_layout().segment; 3];
-    let (status, filled, _) = called!(goblin_segments(FILE, &header, first, &mut found), 9);
+    let (header, mut found) = (with_segments(52, 2), [marked_layout().segment; 3]);
+    let (status, filled) = stored!(goblin_segments(FILE, &header, first, &mut found) => 9);
     (status, filled, found.map(|segment| segment.p_type))
 }
 
@@ -150,15 +173,13 @@ fn reads_segments(rt: HostRuntime) {
 
 // What the symbol at an index is: the answer, its value and its binding and type.
 fn symbol(index: u64) -> (u32, u64, u8) {
-    let mark = marked_layout().symbol;
-    let (status, found, _) = called!(goblin_symbol(FILE, &header(), &SYMBOLS, index), mark);
-    (status, found.st_value, found.st_info)
+    stored!(goblin_symbol(FILE, &header(), &SYMBOLS, index) => symbol { st_value, st_info })
 }
 
 fn fills_symbols() -> bool {
     let mut found = [marked_layout().symbol; 3];
-    let (status, filled, _) = called!(goblin_symbols(FILE, &header(), &SYMBOLS, 1, &mut found), 9);
-    status == 0 && filled == 1 && found[0].st_value == 0x1000
+    let answer = stored!(goblin_symbols(FILE, &header(), &SYMBOLS, 1, &mut found) => 9);
+    answer == (0, 1) && found[0].st_value == 0x1000
 }
 
 #[test]
@@ -170,22 +191,13 @@ fn reads_symbols(rt: HostRuntime) {
 
 // Where a name is found from an index on: the answer, the index and the symbol's value.
 fn finds_symbol(name: &[u8], first: u64) -> (u32, u64, u64) {
-    let mark = marked_layout().symbol;
-    let (status, index, found, _) = searched!(
-        goblin_symbol_by_name(FILE, &header(), &SYMBOLS, &STRINGS, name, first),
-        mark
-    );
-    (status, index, found.st_value)
+    let h = header();
+    found!(goblin_symbol_by_name(FILE, &h, &SYMBOLS, &STRINGS, name, first) => symbol { st_value })
 }
 
 // The same for a section, with its type.
 fn finds_section(name: &[u8], first: u64) -> (u32, u64, u32) {
-    let mark = marked_layout().section;
-    let (status, index, found, _) = searched!(
-        goblin_section_by_name(FILE, &header(), &STRINGS, name, first),
-        mark
-    );
-    (status, index, found.sh_type)
+    found!(goblin_section_by_name(FILE, &header(), &STRINGS, name, first) => section { sh_type })
 }
 
 const UNREAD: u64 = 0x0202_0202_0202_0202;
@@ -205,8 +217,7 @@ fn finds_names(rt: HostRuntime) {
 
 // The status of the call for an address, and the index.
 fn symbol_at(bytes: &[u8], header: &GoblinHeader, table: &GoblinRange, address: u64) -> (u32, u64) {
-    let (status, index, _) = called!(goblin_symbol_by_address(bytes, header, table, address), 9);
-    (status, index)
+    stored!(goblin_symbol_by_address(bytes, header, table, address) => 9)
 }
 
 // The same where the symbol has a size of 0, and its section has these flags and lies from 0x1000 to 0x1003.
@@ -227,10 +238,10 @@ fn label_at_offset(address: u64) -> (u32, u64) {
 }
 
 // The kind and the offset of the refusal, where the sections are said to lie past the file.
-fn symbol_refused(table: GoblinRange) -> (u32, u64) {
+fn symbol_refused(table: &GoblinRange) -> (u32, u64) {
     let mut header = header();
     header.e_shoff = 300;
-    let (status, _, why) = called!(goblin_symbol_by_address(FILE, &header, &table, 0x1000), 9);
+    let (status, _, why) = called!(goblin_symbol_by_address(FILE, &header, table, 0x1000) => 9);
     (status, why.offset)
 }
 
@@ -247,12 +258,12 @@ fn finds_symbols_by_addresses(rt: HostRuntime) {
     assert!(rt; label_at(0, 0x1000) == (1, 9) && label_at(5, 0x1003) == (1, 9));
     assert!(rt; label_at_offset(0) == (0, 1) && label_at_offset(3) == (0, 1));
     assert!(rt; label_at_offset(4) == (1, 9) && label_at_offset(0x1000) == (1, 9));
-    assert!(rt; symbol_refused(SYMBOLS) == (4, 300));
-    assert!(rt; symbol_refused(range(208, 0)) == (17, 208));
+    assert!(rt; symbol_refused(&SYMBOLS) == (4, 300));
+    assert!(rt; symbol_refused(&range(208, 0)) == (17, 208));
 }
 
 // The file with another byte at a place.
-pub fn changed(place: usize, byte: u8) -> [u8; 208] {
+fn changed(place: usize, byte: u8) -> [u8; 208] {
     let mut file = *FILE;
     if let Some(old) = file.get_mut(place) {
         *old = byte;
@@ -262,18 +273,14 @@ pub fn changed(place: usize, byte: u8) -> [u8; 208] {
 
 // Returns the status of the call for the table at an index, and the table's type, or a mark if there is none.
 fn table(bytes: &[u8], index: u64) -> (u32, u32) {
-    let mark = marked_layout().section;
-    let (status, found, _) = called!(goblin_linked_section(bytes, &header(), index), mark);
-    (status, found.sh_type)
+    stored!(goblin_linked_section(bytes, &header(), index) => section { sh_type })
 }
 
 // The same of the section that holds names, by the number of sections and the index in the header.
 fn names_of(bytes: &[u8], count: u16, index: u16) -> (u32, u32) {
     let mut header = header();
     (header.e_shnum, header.e_shstrndx) = (count, index);
-    let mark = marked_layout().section;
-    let (status, found, _) = called!(goblin_section_names(bytes, &header), mark);
-    (status, found.sh_type)
+    stored!(goblin_section_names(bytes, &header) => section { sh_type })
 }
 
 fn names(bytes: &[u8], index: u16) -> (u32, u32) {
@@ -317,7 +324,7 @@ fn takes_the_size_of_the_first_for_no_names(rt: HostRuntime) {
 
 // Where a string lies: the answer, its offset and its size.
 fn string(offset: u64) -> (u32, u64, u64) {
-    let (status, found, _) = called!(goblin_string(FILE, &STRINGS, offset), range(9, 9));
+    let (status, found) = stored!(goblin_string(FILE, &STRINGS, offset) => range(9, 9));
     (status, found.offset, found.size)
 }
 
@@ -336,7 +343,7 @@ static LONG: &[u8; 71] = b"abcdefghijklmnopq\0\
 
 // The answer for a string of these, with its size or the refusal's first number.
 fn long_string(offset: u64) -> (u32, u64) {
-    let (status, found, why) = called!(goblin_string(LONG, &range(0, 71), offset), STRINGS);
+    let (status, found, why) = called!(goblin_string(LONG, &range(0, 71), offset) => range);
     (status, if status > 1 { why.first } else { found.size })
 }
 
@@ -352,11 +359,9 @@ fn places_long_strings(rt: HostRuntime) {
 // What is stored for the strings at offsets of these: the answer, their number, and the sizes in a buffer of at most
 // three.
 fn long_strings(offsets: &[u64], places: usize) -> (u32, u64, [u64; 3]) {
-    let mut found = [range(9, 9); 3];
-    let (status, filled, _) = called!(
-        goblin_strings(LONG, &range(0, 71), offsets, &mut found[..places.min(3)]),
-        9
-    );
+    let (strings, mut found) = (range(0, 71), [range(9, 9); 3]);
+    let buffer = &mut found[..places.min(3)];
+    let (status, filled) = stored!(goblin_strings(LONG, &strings, offsets, buffer) => 9);
     (status, filled, found.map(|part| part.size))
 }
 
@@ -377,18 +382,14 @@ fn is_reloc(found: &GoblinReloc) -> bool {
 }
 
 fn reads_reloc() -> bool {
-    let mark = marked_layout().reloc;
-    let (status, found, _) = called!(goblin_reloc(RELOC, &header(), &range(0, 12), true, 0), mark);
-    status == 0 && is_reloc(&found) && found.has_addend == 1
+    let (status, r, _) = called!(goblin_reloc(RELOC, &header(), &range(0, 12), true, 0) => reloc);
+    status == 0 && is_reloc(&r) && r.has_addend == 1
 }
 
 fn fills_reloc() -> bool {
-    let mut found = [marked_layout().reloc; 2];
-    let (status, filled, _) = called!(
-        goblin_relocs(RELOC, &header(), &range(0, 12), true, 0, &mut found),
-        9
-    );
-    status == 0 && filled == 1 && is_reloc(&found[0])
+    let (relocs, mut found) = (range(0, 12), [marked_layout().reloc; 2]);
+    let answer = stored!(goblin_relocs(RELOC, &header(), &relocs, true, 0, &mut found) => 9);
+    answer == (0, 1) && is_reloc(&found[0])
 }
 
 #[test]
@@ -403,9 +404,7 @@ static PAIR: &[u8; 16] = b"\x10\0\0\0\0\0\0\0\x02\0\0\0\0\0\0\x01";
 fn reads_pair(machine: u16, class: u8, order: u8) -> (u32, u64, u32) {
     let mut header = marked_layout().header;
     (header.e_machine, header.ei_class, header.ei_data) = (machine, class, order);
-    let mark = marked_layout().reloc;
-    let (status, found, _) = called!(goblin_reloc(PAIR, &header, &range(0, 16), false, 0), mark);
-    (status, found.r_sym, found.r_type)
+    stored!(goblin_reloc(PAIR, &header, &range(0, 16), false, 0) => reloc { r_sym, r_type })
 }
 
 #[test]
@@ -426,7 +425,7 @@ static EACH: &[u8; 56] = b"\x7fELF\x01\x02\x03\x04\x05\0\0\0\0\0\0\0\
 
 // That header, by which a section and a segment lie after the first 16 bytes.
 fn each_header() -> GoblinHeader {
-    called!(goblin_header(EACH), marked_layout().header).1
+    called!(goblin_header(EACH) => header).1
 }
 
 fn each_in_place() -> GoblinHeader {
@@ -447,8 +446,7 @@ fn has_each_of_header() -> bool {
 }
 
 fn has_each_of_section() -> bool {
-    let mark = marked_layout().section;
-    let (status, s, _) = called!(goblin_section(EACH, &each_in_place(), 0), mark);
+    let (status, s, _) = called!(goblin_section(EACH, &each_in_place(), 0) => section);
     let kind = s.sh_name == 0x0102_0304 && s.sh_type == 0x0506_0708 && s.sh_flags == 0x090a_0b0c;
     let place = s.sh_addr == 0x0d0e_0f10 && s.file.offset == 0x1112_1314;
     let links = s.file.size == 0x1516_1718 && s.sh_link == 0x191a_1b1c;
@@ -457,29 +455,22 @@ fn has_each_of_section() -> bool {
 }
 
 fn has_each_of_segment() -> bool {
-    let mark = marked_layout().segment;
-    let (status, s, _) = called!(goblin_segment(EACH, &each_in_place(), 0), mark);
+    let (status, s, _) = called!(goblin_segment(EACH, &each_in_place(), 0) => segment);
     let place = s.p_type == 0x0102_0304 && s.file.offset == 0x0506_0708 && s.p_vaddr == 0x090a_0b0c;
     let size = s.p_paddr == 0x0d0e_0f10 && s.file.size == 0x1112_1314 && s.p_memsz == 0x1516_1718;
     status == 0 && place && size && s.p_flags == 0x191a_1b1c && s.p_align == 0x1d1e_1f20
 }
 
 fn has_each_of_symbol() -> bool {
-    let mark = marked_layout().symbol;
-    let (status, s, _) = called!(
-        goblin_symbol(EACH, &each_in_place(), &range(16, 16), 0),
-        mark
-    );
+    let (status, s, _) =
+        called!(goblin_symbol(EACH, &each_in_place(), &range(16, 16), 0) => symbol);
     let place = s.st_name == 0x0102_0304 && s.st_value == 0x0506_0708 && s.st_size == 0x090a_0b0c;
     status == 0 && place && s.st_info == 0x0d && s.st_other == 0x0e && s.st_shndx == 0x0f10
 }
 
 fn has_each_of_reloc() -> bool {
-    let mark = marked_layout().reloc;
-    let (status, r, _) = called!(
-        goblin_reloc(EACH, &each_in_place(), &range(16, 12), true, 0),
-        mark
-    );
+    let (status, r, _) =
+        called!(goblin_reloc(EACH, &each_in_place(), &range(16, 12), true, 0) => reloc);
     let place = r.r_offset == 0x0102_0304 && r.r_sym == 0x0005_0607 && r.r_type == 8;
     status == 0 && place && r.r_addend == 0x090a_0b0c && r.has_addend == 1
 }
@@ -495,18 +486,13 @@ fn reads_each_field(rt: HostRuntime) {
 
 static NOTE: &[u8; 20] = b"\x04\0\0\0\x04\0\0\0\x03\0\0\0GNU\0\xaa\xbb\xcc\xdd";
 
-// The status for the note, and the note.
-fn note_with(alignment: u64) -> (u32, GoblinNote) {
-    let mark = marked_layout().note;
-    let (status, found, _) = called!(
-        goblin_note(NOTE, &header(), &range(0, 20), alignment, 0),
-        mark
-    );
-    (status, found)
+// The status for the note, the note, and the refusal.
+fn note_with(alignment: u64) -> (u32, GoblinNote, GoblinRefusal) {
+    called!(goblin_note(NOTE, &header(), &range(0, 20), alignment, 0) => note)
 }
 
 fn reads_note() -> bool {
-    let (status, found) = note_with(4);
+    let (status, found, _) = note_with(4);
     let parts = found.name.offset == 12 && found.name.size == 3 && found.desc.offset == 16;
     status == 0 && parts && found.desc.size == 4 && found.next == 20 && found.n_type == 3
 }
@@ -514,11 +500,8 @@ fn reads_note() -> bool {
 // The status for the whole note in a range of a size, with the size of its name and the next offset, or with the item
 // and the first number of its refusal.
 fn whole_note(size: u64) -> (u32, u64, u64) {
-    let mark = marked_layout().note;
-    let (status, found, why) = called!(
-        goblin_note_bytes(NOTE, &header(), &range(0, size), 4, 0),
-        mark
-    );
+    let (status, found, why) =
+        called!(goblin_note_bytes(NOTE, &header(), &range(0, size), 4, 0) => note);
     if status > 1 {
         return (status, why.item as u64, why.first);
     }
@@ -552,80 +535,67 @@ fn writes_names(rt: HostRuntime) {
     assert!(rt; goblin_version() == 7);
 }
 
-// Whether these words and this text are the text of a refusal of a kind with these numbers.
-fn says_after(words: &str, kind: u32, item: u32, numbers: [u64; 4], text: &str) -> bool {
-    let mut room = [0; 160];
-    let [first, second, third, fourth] = numbers;
-    let why = GoblinRefusal {
-        kind,
-        item,
-        first,
-        second,
-        third,
-        fourth,
-        offset: 17,
-    };
+// Whether this is the text of a refusal of a kind with these numbers.
+fn says(kind: u32, item: u32, numbers: [u64; 4], text: &str) -> bool {
+    let (mut room, mut why) = ([0; 160], marked_layout().refusal);
+    (why.kind, why.item) = (kind, item);
+    [why.first, why.second, why.third, why.fourth] = numbers;
     let len = goblin_refusal_to_str(&why, &mut room) as usize;
-    let written = room
-        .get(..len)
-        .and_then(|written| written.strip_prefix(words.as_bytes()));
-    written.is_some_and(|written| written == text.as_bytes())
+    room.get(..len) == Some(text.as_bytes())
 }
 
-fn says(kind: u32, item: u32, numbers: [u64; 4], text: &str) -> bool {
-    says_after("", kind, item, numbers, text)
+// Asserts that each kind of refusal, with an item and numbers, has the text after it.
+macro_rules! all_say {
+    ($rt:expr; $($kind:expr, $item:expr, $numbers:expr => $text:literal;)+) => {
+        $(assert!($rt; says($kind, $item, $numbers, $text));)+
+    };
 }
 
 #[test]
 fn writes_refusals(rt: HostRuntime) {
-    let magic = [0x3736_3534_3332_3130, 0, 0, 0];
-    assert!(rt; says(2, 0, magic, "Invalid magic number: 0x3736353433323130"));
-    assert!(rt; says(3, 0, [64, 52, 0, 0], "type is too big (64) for 52"));
-    assert!(rt; says(4, 0, [88, 0, 0, 0], "bad offset 88"));
-    assert!(rt; says(5, 1, [2, 0, 0, 0], "bad input invalid utf8 (2)"));
-    let segments = "Buffer is too short for 2 program headers";
-    assert!(rt; says(6, 3, [2, 0, 0, 0], segments));
-    let sections = "Buffer is too short for 2 section headers";
-    assert!(rt; says(6, 2, [2, 0, 0, 0], sections));
-    assert!(rt; says(7, 0, [0; 4], "Out of memory"));
-    assert!(rt; says(9, 0, [1, 2, 3, 4], "") && says(u32::MAX, 0, [1, 2, 3, 4], ""));
-}
-
-fn says_fault(kind: u32, numbers: [u64; 4], text: &str) -> bool {
-    says_after("Malformed entity: ", kind, 0, numbers, text)
+    all_say![rt;
+        2, 0, [0x3736_3534_3332_3130, 0, 0, 0] => "Invalid magic number: 0x3736353433323130";
+        3, 0, [64, 52, 0, 0] => "type is too big (64) for 52";
+        4, 0, [88, 0, 0, 0] => "bad offset 88";
+        5, 1, [2, 0, 0, 0] => "bad input invalid utf8 (2)";
+        6, 3, [2, 0, 0, 0] => "Buffer is too short for 2 program headers";
+        6, 2, [2, 0, 0, 0] => "Buffer is too short for 2 section headers";
+        7, 0, [0; 4] => "Out of memory";
+        9, 0, [1, 2, 3, 4] => "";
+        u32::MAX, 0, [1, 2, 3, 4] => "";
+    ];
 }
 
 #[test]
 fn writes_faults_of_headers(rt: HostRuntime) {
-    assert!(rt; says_fault(10, [7, 0, 0, 0], "Invalid class in Header: 7"));
-    assert!(rt; says_fault(11, [7, 0, 0, 0], "Invalid endianness in Header: 7"));
-    assert!(rt; says_fault(12, [0; 4], "Too small"));
-    assert!(rt; says_fault(13, [31, 0, 0, 0], "invalid ELF class 1f"));
-    assert!(rt; says_fault(14, [31, 0, 0, 0], "invalid ELF endianness DATA type 1f"));
-    assert!(rt; says_fault(15, [31, 0, 0, 0], "invalid ELF DATA type 1f"));
+    all_say![rt;
+        10, 0, [7, 0, 0, 0] => "Malformed entity: Invalid class in Header: 7";
+        11, 0, [7, 0, 0, 0] => "Malformed entity: Invalid endianness in Header: 7";
+        12, 0, [0; 4] => "Malformed entity: Too small";
+        13, 0, [31, 0, 0, 0] => "Malformed entity: invalid ELF class 1f";
+        14, 0, [31, 0, 0, 0] => "Malformed entity: invalid ELF endianness DATA type 1f";
+        15, 0, [31, 0, 0, 0] => "Malformed entity: invalid ELF DATA type 1f";
+    ];
 }
 
 #[test]
 fn writes_faults(rt: HostRuntime) {
-    let notes = "Notes has unimplemented alignment requirement: 0x1f";
-    assert!(rt; says_fault(16, [31, 0, 0, 0], notes));
-    let place = "Symbol table offset (31) is beyond file boundary (5)";
-    assert!(rt; says_fault(17, [31, 5, 0, 0], place));
-    let many = "Too many ELF symbols (offset 0x1f, count 31)";
-    assert!(rt; says_fault(18, [31, 31, 0, 0], many));
-    let symbols = "Symbol table extends beyond file boundary (requested: 72, available: 48)";
-    assert!(rt; says_fault(19, [72, 48, 0, 0], symbols));
-    let strings = "String table offset (5) is beyond file boundary (4)";
-    assert!(rt; says_fault(20, [5, 4, 0, 0], strings));
-    let range = "Strtable size (18446744073709551615) + offset (1) is out of bounds for 4 #bytes. \
-        Overflowed: true";
-    assert!(rt; says_fault(21, [u64::MAX, 1, 4, 1], range));
-    let place = "Section 9 size (31) + offset (5) is out of bounds. Overflowed: false";
-    assert!(rt; says_fault(22, [9, 31, 5, 0], place));
-    let address = "Section 9 size (31) + addr (5) is out of bounds. Overflowed: true";
-    assert!(rt; says_fault(23, [9, 31, 5, 1], address));
-    let number = "Integer do not fit: out of range integral type conversion attempted";
-    assert!(rt; says_fault(24, [0; 4], number));
+    all_say![rt;
+        16, 0, [31, 0, 0, 0] => "Malformed entity: Notes has unimplemented alignment requirement: 0x1f";
+        17, 0, [31, 5, 0, 0] => "Malformed entity: Symbol table offset (31) is beyond file boundary (5)";
+        18, 0, [31, 31, 0, 0] => "Malformed entity: Too many ELF symbols (offset 0x1f, count 31)";
+        19, 0, [72, 48, 0, 0] => "Malformed entity: Symbol table extends beyond file boundary \
+            (requested: 72, available: 48)";
+        20, 0, [5, 4, 0, 0] => "Malformed entity: String table offset (5) is beyond file boundary (4)";
+        21, 0, [u64::MAX, 1, 4, 1] => "Malformed entity: Strtable size (18446744073709551615) + \
+            offset (1) is out of bounds for 4 #bytes. Overflowed: true";
+        22, 0, [9, 31, 5, 0] => "Malformed entity: Section 9 size (31) + offset (5) is out of bounds. \
+            Overflowed: false";
+        23, 0, [9, 31, 5, 1] => "Malformed entity: Section 9 size (31) + addr (5) is out of bounds. \
+            Overflowed: true";
+        24, 0, [0; 4] => "Malformed entity: Integer do not fit: out of range integral type \
+            conversion attempted";
+    ];
 }
 
 // The text written into a buffer of eight bytes, of which all are 9 before.
@@ -647,7 +617,7 @@ fn closes_texts(rt: HostRuntime) {
 // The text written into a buffer of four bytes, and the length that is returned.
 fn cut_text() -> ([u8; 4], u64) {
     let mut room = [9; 4];
-    let (_, _, why) = called!(goblin_header(&FILE[..51]), header());
+    let (_, _, why) = called!(goblin_header(&FILE[..51]) => header);
     let len = goblin_refusal_to_str(&why, &mut room);
     (room, len)
 }
@@ -658,59 +628,42 @@ fn cuts_refusals(rt: HostRuntime) {
     assert!(rt; &room == b"type" && len == 27);
 }
 
-// Each struct with its fields, in the order in which goblin.h declares them, with their marks: numbers of one, two,
-// four or eight bytes, of which each is the field's place in the struct, from 1 on.
-static FIELDS: &[&str] = &[
-    "size_of_refusal:",
-    "size_of_range:",
-    "size_of_header:",
-    "size_of_section:",
-    "size_of_segment:",
-    "size_of_symbol:",
-    "size_of_reloc:",
-    "size_of_note:",
-    "refusal: GoblinRefusal { kind: 16843009, item: 33686018, first: 217020518514230019, \
+// What is printed of the layout: the size of each struct, and each struct with its fields in the order in which
+// goblin.h declares them, with their marks: numbers of one, two, four or eight bytes, of which each is the field's place
+// in the struct, from 1 on.
+static LAYOUT: &str = "GoblinLayout { size_of_refusal: 48, size_of_range: 16, size_of_header: 56, \
+        size_of_section: 72, size_of_segment: 56, size_of_symbol: 40, size_of_reloc: 32, \
+        size_of_note: 48, size_of_dyn: 16, \
+    refusal: GoblinRefusal { kind: 16843009, item: 33686018, first: 217020518514230019, \
         second: 289360691352306692, third: 361700864190383365, fourth: 434041037028460038, \
-        offset: 506381209866536711 }",
-    "range: GoblinRange { offset: 72340172838076673, size: 144680345676153346 }",
-    "header: GoblinHeader { e_entry: 72340172838076673, e_phoff: 144680345676153346, \
+        offset: 506381209866536711 }, \
+    range: GoblinRange { offset: 72340172838076673, size: 144680345676153346 }, \
+    header: GoblinHeader { e_entry: 72340172838076673, e_phoff: 144680345676153346, \
         e_shoff: 217020518514230019, e_version: 67372036, e_flags: 84215045, e_type: 1542, \
         e_machine: 1799, e_ehsize: 2056, e_phentsize: 2313, e_phnum: 2570, e_shentsize: 2827, \
-        e_shnum: 3084, e_shstrndx: 3341, ei_class: 14, ei_data: 15, ei_version: 16, \
-        ei_osabi: 17, ei_abiversion: 18 }",
-    "section: GoblinSection { file: GoblinRange { offset: 72340172838076673, \
+        e_shnum: 3084, e_shstrndx: 3341, ei_class: 14, ei_data: 15, ei_version: 16, ei_osabi: 17, \
+        ei_abiversion: 18 }, \
+    section: GoblinSection { file: GoblinRange { offset: 72340172838076673, \
         size: 144680345676153346 }, sh_name: 217020518514230019, sh_flags: 289360691352306692, \
         sh_addr: 361700864190383365, sh_addralign: 434041037028460038, \
         sh_entsize: 506381209866536711, sh_type: 134744072, sh_link: 151587081, \
-        sh_info: 168430090 }",
-    "segment: GoblinSegment { file: GoblinRange { offset: 72340172838076673, \
+        sh_info: 168430090 }, \
+    segment: GoblinSegment { file: GoblinRange { offset: 72340172838076673, \
         size: 144680345676153346 }, p_vaddr: 217020518514230019, p_paddr: 289360691352306692, \
         p_memsz: 361700864190383365, p_align: 434041037028460038, p_type: 117901063, \
-        p_flags: 134744072 }",
-    "symbol: GoblinSymbol { st_name: 72340172838076673, st_value: 144680345676153346, \
-        st_size: 217020518514230019, st_shndx: 289360691352306692, st_info: 5, st_other: 6 }",
-    "reloc: GoblinReloc { r_offset: 72340172838076673, r_sym: 144680345676153346, \
-        r_addend: 217020518514230019, r_type: 67372036, has_addend: 84215045 }",
-    "note: GoblinNote { name: GoblinRange { offset: 72340172838076673, size: \
-        144680345676153346 }, desc: GoblinRange { offset: 217020518514230019, size: \
-        289360691352306692 }, next: 361700864190383365, n_type: 101058054 }",
-];
-
-// Whether a text has these parts, each after the one before.
-fn has_in_order(text: &str, parts: &[&str]) -> bool {
-    let mut rest = text;
-    for part in parts {
-        match rest.split_once(*part) {
-            Some((_, after)) => rest = after,
-            None => return false,
-        }
-    }
-    true
-}
+        p_flags: 134744072 }, \
+    symbol: GoblinSymbol { st_name: 72340172838076673, st_value: 144680345676153346, \
+        st_size: 217020518514230019, st_shndx: 289360691352306692, st_info: 5, st_other: 6 }, \
+    reloc: GoblinReloc { r_offset: 72340172838076673, r_sym: 144680345676153346, \
+        r_addend: 217020518514230019, r_type: 67372036, has_addend: 84215045 }, \
+    note: GoblinNote { name: GoblinRange { offset: 72340172838076673, size: 144680345676153346 }, \
+        desc: GoblinRange { offset: 217020518514230019, size: 289360691352306692 }, \
+        next: 361700864190383365, n_type: 101058054 }, \
+    entry: GoblinDyn { d_tag: 72340172838076673, d_val: 144680345676153346 } }";
 
 #[test]
 fn has_fields_in_order(rt: HostRuntime) -> std::io::Result<()> {
     let shown = format!(in rt.alloc(); "{:?}", marked_layout())?;
-    assert!(rt; has_in_order(shown.as_str(), FIELDS));
+    assert!(rt; shown.as_str() == LAYOUT);
     Ok(())
 }

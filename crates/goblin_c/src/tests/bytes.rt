@@ -3,7 +3,7 @@
 //! without addends, the bytes 1 to 8, and four section headers. The first program header and the first section
 //! header have type 0, so their sizes don't count. The third section has no bytes. The fourth ends past the file.
 use crate::layout::marked_layout;
-use crate::tests::{called, number_shown, range, searched};
+use crate::tests::{called, found, number_shown, range, searched, stored};
 use crate::types::{GoblinHeader, GoblinRange, GoblinRefusal};
 use crate::*;
 
@@ -26,26 +26,21 @@ const STRINGS: GoblinRange = GoblinRange {
 
 // The file's header.
 fn header() -> GoblinHeader {
-    called!(goblin_header(FILE), marked_layout().header).1
+    called!(goblin_header(FILE) => header).1
 }
 
 fn segment_count() -> (u32, u64) {
-    let (status, count, _) = called!(goblin_segment_count(FILE, &header()), 9);
-    (status, count)
+    stored!(goblin_segment_count(FILE, &header()) => 9)
 }
 
 // The answer for the symbols of a range, with how many they are and the refusal's first number.
 fn symbol_count(symbols: &GoblinRange) -> (u32, u64, u64) {
-    let (status, count, why) = called!(goblin_symbol_count(FILE, &header(), symbols), 9);
+    let (status, count, why) = called!(goblin_symbol_count(FILE, &header(), symbols) => 9);
     (status, count, why.first)
 }
 
 fn reloc_count(is_rela: bool) -> (u32, u64) {
-    let (status, count, _) = called!(
-        goblin_reloc_count(FILE, &header(), &range(124, 23), is_rela),
-        9
-    );
-    (status, count)
+    stored!(goblin_reloc_count(FILE, &header(), &range(124, 23), is_rela) => 9)
 }
 
 #[test]
@@ -61,15 +56,12 @@ fn refuses_symbols_at_the_end(rt: HostRuntime) {
     assert!(rt; symbol_count(&range(308, 0)) == (17, 9, 308));
 }
 
+// The offset of a section that is not stored.
+const MARK: u64 = 0x0101_0101_0101_0101;
+
 // The answer and the index of the first section of a type, from an index on, and where its bytes begin.
 fn of_type(sh_type: u32, first: u64) -> (u32, u64, u64) {
-    let mut mark = marked_layout().section;
-    mark.file.offset = 9;
-    let (status, index, section, _) = searched!(
-        goblin_section_by_type(FILE, &header(), sh_type, first),
-        mark
-    );
-    (status, index, section.file.offset)
+    found!(goblin_section_by_type(FILE, &header(), sh_type, first) => section { file.offset })
 }
 
 #[test]
@@ -77,8 +69,8 @@ fn finds_sections_by_type(rt: HostRuntime) {
     assert!(rt; of_type(3, 0) == (0, 1, 116) && of_type(3, 1) == (0, 1, 116));
     assert!(rt; of_type(3, 2) == (0, 3, 300));
     assert!(rt; of_type(0, 0) == (0, 0, 0) && of_type(8, 2) == (0, 2, 116));
-    assert!(rt; of_type(3, 4) == (1, 9, 9) && of_type(9, 0) == (1, 9, 9));
-    assert!(rt; of_type(3, 18446744073709551615) == (1, 9, 9));
+    assert!(rt; of_type(3, 4) == (1, 9, MARK) && of_type(9, 0) == (1, 9, MARK));
+    assert!(rt; of_type(3, 18446744073709551615) == (1, 9, MARK));
 }
 
 // The answer for some bytes: their range, or the first two numbers of the refusal.
@@ -91,9 +83,8 @@ fn shown((status, found, why): (u32, GoblinRange, GoblinRefusal)) -> (u32, u64, 
 
 // That for the bytes of a section.
 fn bytes_of_section(index: u64) -> (u32, u64, u64) {
-    let mark = marked_layout().section;
-    let (_, section, _) = called!(goblin_section(FILE, &header(), index), mark);
-    shown(called!(goblin_section_bytes(FILE, &section), range(0, 0)))
+    let (_, section, _) = called!(goblin_section(FILE, &header(), index) => section);
+    shown(called!(goblin_section_bytes(FILE, &section) => range(0, 0)))
 }
 
 #[test]
@@ -104,10 +95,9 @@ fn finds_the_bytes_of_sections(rt: HostRuntime) {
 
 // The same for those of a segment.
 fn bytes_of_segment(index: u64, size: u64) -> (u32, u64, u64) {
-    let mark = marked_layout().segment;
-    let (_, mut segment, _) = called!(goblin_segment(FILE, &header(), index), mark);
+    let (_, mut segment, _) = called!(goblin_segment(FILE, &header(), index) => segment);
     segment.file.size = size;
-    shown(called!(goblin_segment_bytes(FILE, &segment), range(0, 0)))
+    shown(called!(goblin_segment_bytes(FILE, &segment) => range(0, 0)))
 }
 
 #[test]
@@ -119,7 +109,7 @@ fn finds_the_bytes_of_segments(rt: HostRuntime) {
 
 // The answer for the bytes of a string.
 fn string_in(strings: &GoblinRange, offset: u64) -> (u32, u64, u64) {
-    shown(called!(goblin_string_bytes(FILE, strings, offset), range(0, 0)))
+    shown(called!(goblin_string_bytes(FILE, strings, offset) => range(0, 0)))
 }
 
 #[test]
@@ -192,7 +182,7 @@ fn compares_no_strings_past_the_file(rt: HostRuntime) {
 
 // The answer for a string that a zero byte closes.
 fn closed_in(strings: &GoblinRange, offset: u64) -> (u32, u64, u64) {
-    shown(called!(goblin_string_closed(FILE, strings, offset), range(9, 9)))
+    shown(called!(goblin_string_closed(FILE, strings, offset) => range(9, 9)))
 }
 
 // (after the string "c", which ends with its range, the file has a zero byte)
@@ -207,13 +197,13 @@ fn finds_strings_that_are_closed(rt: HostRuntime) {
 
 // What is stored for the strings at offsets: the answer, their number, the ranges, and where what is refused begins.
 fn strings_in(strings: &GoblinRange, offsets: &[u64]) -> (u32, u64, [u64; 4], u64) {
-    let (mut found, mut filled, mut why) = ([range(9, 9); 2], 9, marked_layout().refusal);
-    let status = goblin_strings(FILE, strings, offsets, &mut found, &mut filled, &mut why);
-    let [first, second] = found;
+    let mut found = [range(9, 9); 2];
+    let (status, filled, why) = called!(goblin_strings(FILE, strings, offsets, &mut found) => 9);
+    let [one, two] = found;
     (
         status,
         filled,
-        [first.offset, first.size, second.offset, second.size],
+        [one.offset, one.size, two.offset, two.size],
         why.offset,
     )
 }
@@ -235,53 +225,41 @@ fn begins<T: Drop>((status, _, why): (u32, T, GoblinRefusal)) -> u64 {
 // end, or among symbols past the end.
 fn strings_begin() -> bool {
     let past = &range(300, 9);
-    let in_past = begins(called!(goblin_string(FILE, past, 0), range(0, 0)));
-    let no_text = begins(called!(goblin_string(FILE, &STRINGS, 4), range(0, 0)));
+    let in_past = begins(called!(goblin_string(FILE, past, 0) => range));
+    let no_text = begins(called!(goblin_string(FILE, &STRINGS, 4) => range));
     in_past == 300 && no_text == 120
 }
 
 fn searches_begin(symbols: &GoblinRange, names: &GoblinRange) -> u64 {
-    let mark = marked_layout().symbol;
-    let (status, found, _, why) = searched!(
-        goblin_symbol_by_name(FILE, &header(), symbols, names, b"ab", 0),
-        mark
-    );
-    begins((status, found, why))
+    let (status, index, _, why) =
+        searched!(goblin_symbol_by_name(FILE, &header(), symbols, names, b"ab", 0) => symbol);
+    begins((status, index, why))
 }
 
 // The same of a section's name, by where the section headers begin.
 fn section_searches_begin(e_shoff: u64, names: &GoblinRange) -> u64 {
     let mut header = header();
     header.e_shoff = e_shoff;
-    let mark = marked_layout().section;
-    let (status, found, _, why) = searched!(
-        goblin_section_by_name(FILE, &header, names, b"ab", 0),
-        mark
-    );
-    begins((status, found, why))
+    let (status, index, _, why) =
+        searched!(goblin_section_by_name(FILE, &header, names, b"ab", 0) => section);
+    begins((status, index, why))
 }
 
 fn headers_begin() -> bool {
     let mut header = header();
     header.e_shoff = 300;
     header.e_phoff = 301;
-    let sections = begins(called!(goblin_section_count(FILE, &header), 9));
-    let segments = begins(called!(goblin_segment_count(FILE, &header), 9));
-    let own = begins(called!(goblin_header(&FILE[..51]), header));
+    let sections = begins(called!(goblin_section_count(FILE, &header) => 9));
+    let segments = begins(called!(goblin_segment_count(FILE, &header) => 9));
+    let own = begins(called!(goblin_header(&FILE[..51]) => header));
     own == 0 && sections == 300 && segments == 301
 }
 
 fn parts_begin() -> bool {
-    let notes = &range(300, 8);
-    let note = begins(called!(
-        goblin_note(FILE, &header(), notes, 4, 304),
-        marked_layout().note
-    ));
-    let number = begins(called!(goblin_number(FILE, &header(), 305, 4), 9));
-    let relocs = begins(called!(
-        goblin_reloc_count(FILE, &header(), &range(299, 16), false),
-        9
-    ));
+    let (notes, relocs) = (&range(300, 8), &range(299, 16));
+    let note = begins(called!(goblin_note(FILE, &header(), notes, 4, 304) => note));
+    let number = begins(called!(goblin_number(FILE, &header(), 305, 4) => 9));
+    let relocs = begins(called!(goblin_reloc_count(FILE, &header(), relocs, false) => 9));
     note == 304 && number == 305 && relocs == 299
 }
 
@@ -300,7 +278,7 @@ fn says_where_what_is_refused_begins(rt: HostRuntime) {
 fn number_at(offset: u64, width: u64, order: u8) -> (u32, u64, u64) {
     let mut header = header();
     header.ei_data = order;
-    number_shown(called!(goblin_number(FILE, &header, offset, width), 9))
+    number_shown(called!(goblin_number(FILE, &header, offset, width) => 9))
 }
 
 #[test]

@@ -1,8 +1,8 @@
 //! The calls for the dynamic section, on bytes with two program headers, strings, and the section: a library, the
 //! address and the size of the strings, the end, and the library's own name after it.
 use crate::layout::marked_layout;
-use crate::tests::{called, header, range};
-use crate::types::{GoblinHeader, GoblinRange, GoblinRefusal};
+use crate::tests::{called, header, range, stored, with_segments};
+use crate::types::{GoblinRange, GoblinRefusal};
 use crate::*;
 
 static BYTES: &[u8; 112] =
@@ -16,13 +16,6 @@ const DYNAMIC: GoblinRange = GoblinRange {
     size: 40,
 };
 
-// The file's header, with so many of the program headers.
-fn with_segments(count: u16) -> GoblinHeader {
-    let mut header = header();
-    (header.e_phoff, header.e_phnum) = (0, count);
-    header
-}
-
 // The answer for a range: the range, or the first number of the refusal and where it begins.
 fn range_shown((status, found, why): (u32, GoblinRange, GoblinRefusal)) -> (u32, u64, u64) {
     if status > 1 {
@@ -32,25 +25,20 @@ fn range_shown((status, found, why): (u32, GoblinRange, GoblinRefusal)) -> (u32,
 }
 
 fn dynamic(bytes: &[u8], segments: u16) -> (u32, u64, u64) {
-    let header = with_segments(segments);
-    range_shown(called!(goblin_dynamic(bytes, &header), range(9, 9)))
+    range_shown(called!(goblin_dynamic(bytes, &with_segments(0, segments)) => range(9, 9)))
 }
 
 #[test]
 fn finds_the_dynamic_section(rt: HostRuntime) {
     assert!(rt; dynamic(BYTES, 2) == (0, 72, 40) && dynamic(BYTES, 1) == (1, 9, 9));
-    assert!(rt;
-        dynamic(&BYTES[..111], 2) == (3, 40, 72) && dynamic(&BYTES[..72], 2) == (4, 72, 72)
-    );
+    assert!(rt; dynamic(&BYTES[..111], 2) == (3, 40, 72));
+    assert!(rt; dynamic(&BYTES[..72], 2) == (4, 72, 72));
     assert!(rt; dynamic(&BYTES[..63], 2) == (6, 2, 0));
 }
 
 fn strings(dynamic: GoblinRange, segments: u16) -> (u32, u64, u64) {
-    let header = with_segments(segments);
-    range_shown(called!(
-        goblin_dynamic_strings(BYTES, &header, &dynamic),
-        range(9, 9)
-    ))
+    let header = with_segments(0, segments);
+    range_shown(called!(goblin_dynamic_strings(BYTES, &header, &dynamic) => range(9, 9)))
 }
 
 #[test]
@@ -61,11 +49,7 @@ fn finds_its_strings(rt: HostRuntime) {
 }
 
 fn value(tag: u64) -> (u32, u64) {
-    let (status, value, _) = called!(
-        goblin_dynamic_value(BYTES, &with_segments(0), &DYNAMIC, tag),
-        9
-    );
-    (status, value)
+    stored!(goblin_dynamic_value(BYTES, &header(), &DYNAMIC, tag) => 9)
 }
 
 #[test]
@@ -76,11 +60,10 @@ fn finds_values_before_the_end(rt: HostRuntime) {
 
 // The status, the number of entries, and the tags of three, from an index on, of a buffer with a capacity.
 fn entries(first: u64, capacity: usize) -> (u32, u64, [u64; 3]) {
-    let (mut all, header) = ([marked_layout().entry; 3], with_segments(0));
-    let (status, filled, _) = called!(
-        goblin_dynamic_entries(BYTES, &header, &DYNAMIC, first, &mut all[..capacity.min(3)]),
-        9
-    );
+    let mut all = [marked_layout().entry; 3];
+    let buffer = &mut all[..capacity.min(3)];
+    let (status, filled) =
+        stored!(goblin_dynamic_entries(BYTES, &header(), &DYNAMIC, first, buffer) => 9);
     (status, filled, all.map(|entry| entry.d_tag))
 }
 

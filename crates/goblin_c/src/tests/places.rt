@@ -1,18 +1,17 @@
 //! Numbers in a range, offsets of addresses, and ranges that are cut to the file, on the file of `tests`.
 use crate::layout::marked_layout;
-use crate::tests::{FILE, STRINGS, called, header, number_shown, range};
+use crate::tests::{FILE, STRINGS, called, header, number_shown, range, with_segments};
 use crate::types::GoblinRange;
 use crate::*;
 
 fn number_in(part: GoblinRange, offset: u64, width: u64) -> (u32, u64, u64) {
-    number_shown(called!(goblin_number_in(FILE, &header(), &part, offset, width), 9))
+    number_shown(called!(goblin_number_in(FILE, &header(), &part, offset, width) => 9))
 }
 
 #[test]
 fn reads_numbers_in_ranges(rt: HostRuntime) {
-    assert!(rt;
-        number_in(STRINGS, 1, 1) == (0, 0x66, 0) && number_in(STRINGS, 0, 4) == (0, 0x6600, 0)
-    );
+    assert!(rt; number_in(STRINGS, 1, 1) == (0, 0x66, 0));
+    assert!(rt; number_in(STRINGS, 0, 4) == (0, 0x6600, 0));
     assert!(rt; number_in(STRINGS, 3, 2) == (3, 2, 55) && number_in(STRINGS, 4, 1) == (4, 4, 56));
     assert!(rt; number_in(range(200, 9), 0, 1) == (3, 9, 200));
     assert!(rt; number_in(range(200, 9), 0, 3) == (1, 9, 0));
@@ -36,9 +35,7 @@ static LOADED: &[u8; 40] = b"\x01\0\0\0\x20\0\0\0\0\x10\0\0\0\0\0\0\
     \x10\0\0\0\x20\0\0\0\0\0\0\0\0\0\0\0........";
 
 fn offset_of(address: u64) -> (u32, u64, u64) {
-    let mut header = header();
-    (header.e_phoff, header.e_phnum) = (0, 1);
-    number_shown(called!(goblin_address_to_offset(LOADED, &header, address), 9))
+    number_shown(called!(goblin_address_to_offset(LOADED, &with_segments(0, 1), address) => 9))
 }
 
 #[test]

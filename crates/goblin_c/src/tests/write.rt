@@ -1,6 +1,6 @@
 //! Records and numbers that are put into files of both classes and byte orders: the bytes after, and the refusals.
 use crate::layout::marked_layout;
-use crate::tests::{FILE, SYMBOLS, called, changed, header, range};
+use crate::tests::{FILE, SYMBOLS, called, changed, header, range, with_segments};
 use crate::types::{
     GoblinHeader, GoblinRange, GoblinRefusal, GoblinReloc, GoblinSection, GoblinSegment,
     GoblinSymbol,
@@ -24,8 +24,8 @@ fn has_at(file: &[u8], offset: usize, own: &[u8], old: &[u8]) -> bool {
 // What a call that puts into a copy of these bytes returned, and whether the copy then has some bytes at an offset, and
 // no other changed.
 macro_rules! put {
-    ($call:ident($old:expr $(, $given:expr)*), $offset:expr, $own:expr) => {{
-        let (mut file, mut why) = (*$old, marked_layout().refusal);
+    ($call:ident($old:expr $(, $given:expr)*) => $offset:expr, $own:expr) => {{
+        let (mut file, mut why) = (*$old, unread());
         let status = $call(&mut file, $($given,)* &mut why);
         ((status, why.first, why.offset), has_at(&file, $offset, $own, $old))
     }};
@@ -61,20 +61,17 @@ static SECTION: &[u8; 40] =
 // value and where the field lies.
 type Answer = (u32, u64, u64);
 
+// The same, and whether the bytes then are as expected.
+type Put = (Answer, bool);
+
 // Puts a section at an index of the file, by the file's header but for the number of sections.
-fn puts_section_of(
-    count: u16,
-    s: &GoblinSection,
-    index: u64,
-    offset: usize,
-    own: &[u8],
-) -> (Answer, bool) {
+fn puts_section_of(count: u16, s: &GoblinSection, index: u64, offset: usize, own: &[u8]) -> Put {
     let mut header = header();
     header.e_shnum = count;
-    put!(goblin_put_section(FILE, &header, index, s), offset, own)
+    put!(goblin_put_section(FILE, &header, index, s) => offset, own)
 }
 
-fn puts_section(s: &GoblinSection, index: u64, offset: usize, own: &[u8]) -> (Answer, bool) {
+fn puts_section(s: &GoblinSection, index: u64, offset: usize, own: &[u8]) -> Put {
     puts_section_of(3, s, index, offset, own)
 }
 
@@ -119,10 +116,10 @@ static SEGMENT: &[u8; 56] =
     b"\0\0\x0d\x0e\0\0\x0f\x10\0\0\0\0\0\0\x01\x02\0\0\0\0\0\0\x05\x06\0\0\0\0\0\0\x07\x08\
     \0\0\0\0\0\0\x03\x04\0\0\0\0\0\0\x09\x0a\0\0\0\0\0\0\x0b\x0c";
 
-fn puts_segment(s: &GoblinSegment, class: u8, index: u64, own: &[u8]) -> (Answer, bool) {
+fn puts_segment(s: &GoblinSegment, class: u8, index: u64, own: &[u8]) -> Put {
     let mut header = names(class, 2);
     (header.e_phoff, header.e_phnum) = (8, 2);
-    put!(goblin_put_segment(FILE, &header, index, s), 64, own)
+    put!(goblin_put_segment(FILE, &header, index, s) => 64, own)
 }
 
 #[test]
@@ -148,12 +145,8 @@ fn symbol() -> GoblinSymbol {
     }
 }
 
-fn puts_symbol(s: &GoblinSymbol, index: u64, offset: usize, own: &[u8]) -> (Answer, bool) {
-    put!(
-        goblin_put_symbol(FILE, &header(), &SYMBOLS, index, s),
-        offset,
-        own
-    )
+fn puts_symbol(s: &GoblinSymbol, index: u64, offset: usize, own: &[u8]) -> Put {
+    put!(goblin_put_symbol(FILE, &header(), &SYMBOLS, index, s) => offset, own)
 }
 
 #[test]
@@ -182,18 +175,8 @@ fn reloc(r_sym: u64, r_type: u32, r_addend: i64, has_addend: u32) -> GoblinReloc
 static NOTHING: &[u8; 48] = &[0; 48];
 
 // Puts a relocation at index 1 of 48 bytes. Returns the answer, and whether the bytes then are these at an offset.
-fn puts_reloc(
-    h: &GoblinHeader,
-    is_rela: bool,
-    r: &GoblinReloc,
-    offset: usize,
-    own: &[u8],
-) -> (Answer, bool) {
-    put!(
-        goblin_put_reloc(NOTHING, h, &range(0, 48), is_rela, 1, r),
-        offset,
-        own
-    )
+fn puts_reloc(h: &GoblinHeader, is_rela: bool, r: &GoblinReloc, offset: usize, own: &[u8]) -> Put {
+    put!(goblin_put_reloc(NOTHING, h, &range(0, 48), is_rela, 1, r) => offset, own)
 }
 
 #[test]
@@ -342,10 +325,9 @@ fn counts_whole_headers(rt: HostRuntime) {
 
 // The number of segments by section 0, whose `sh_info` is 2 here.
 fn segments(count: u16, sections: u64) -> (u32, u64, u64) {
-    let mut own = header();
-    (own.e_phoff, own.e_phnum, own.e_shoff) = (52, count, sections);
-    let file = changed(88 + 28, 2);
-    let (status, found, why) = called!(goblin_segment_count(&file, &own), 9);
+    let (file, mut own) = (changed(88 + 28, 2), with_segments(52, count));
+    own.e_shoff = sections;
+    let (status, found, why) = called!(goblin_segment_count(&file, &own) => 9);
     (status, found, why.offset)
 }
 
