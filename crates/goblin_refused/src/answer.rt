@@ -27,6 +27,9 @@ pub enum Answer {
     Line(String),
 }
 
+// A text, where there is memory.
+type Text = std::result::Result<String, AllocError>;
+
 /// The answer that a list of records is, by the first field of each.
 pub(crate) fn listed<T: Drop, F: Fn(&T) -> u64>(list: Result<Vec<T>>, first: &F) -> Result<Answer>
     requires { F.IsAlwaysCallable first.now }
@@ -36,13 +39,11 @@ pub(crate) fn listed<T: Drop, F: Fn(&T) -> u64>(list: Result<Vec<T>>, first: &F)
     for (place, record) in firsts.iter_mut().zip(list.iter()) {
         *place = first(record);
     }
-    Ok(Answer::Records(Firsts {
-        count: list.len(),
-        firsts,
-    }))
+    let count = list.len();
+    Ok(Answer::Records(Firsts { count, firsts }))
 }
 
-fn text_of_records(alloc: Global, records: &Firsts) -> std::result::Result<String, AllocError> {
+fn text_of_records(alloc: Global, records: &Firsts) -> Text {
     let count = records.count;
     let mut text = format!(in alloc; "{count} records")?;
     for first in &records.firsts {
@@ -51,7 +52,7 @@ fn text_of_records(alloc: Global, records: &Firsts) -> std::result::Result<Strin
     Ok(text)
 }
 
-fn text_of_strings(alloc: Global, strings: &[&str]) -> std::result::Result<String, AllocError> {
+fn text_of_strings(alloc: Global, strings: &[&str]) -> Text {
     let mut text = String::from_str(alloc, "|")?;
     for string in strings {
         write!(text, "{string}|")?;
@@ -59,10 +60,7 @@ fn text_of_strings(alloc: Global, strings: &[&str]) -> std::result::Result<Strin
     Ok(text)
 }
 
-fn text_of_entries(
-    alloc: Global,
-    entries: &Entries<'_>,
-) -> std::result::Result<String, AllocError> {
+fn text_of_entries(alloc: Global, entries: &Entries<'_>) -> Text {
     let mut text = String::from_str(alloc, "|")?;
     for i in 0..entries.len() {
         let entry = entries.text(i);
@@ -75,10 +73,7 @@ fn text_of_entries(
 pub(crate) fn text_of(alloc: Global, answer: &Result<Answer>) -> Result<String> {
     match answer {
         Ok(Answer::Records(records)) => Ok(text_of_records(alloc, records)?),
-        Ok(Answer::Table(table)) => {
-            let strings = table.to_vec(alloc)?;
-            Ok(text_of_strings(alloc, strings.as_slice())?)
-        }
+        Ok(Answer::Table(table)) => Ok(text_of_strings(alloc, table.to_vec(alloc)?.as_slice())?),
         Ok(Answer::Entries(entries)) => Ok(text_of_entries(alloc, entries)?),
         Ok(Answer::Strings(strings)) => Ok(text_of_strings(alloc, strings.as_slice())?),
         Ok(Answer::Line(line)) => Ok(format!(in alloc; "`{line}`")?),

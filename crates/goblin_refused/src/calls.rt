@@ -21,23 +21,14 @@ pub(crate) fn answer_to(alloc: Global, name: &str) -> Option<Result<Answer>> {
 
 /// Returns what the call with this name does if its first allocation is refused.
 pub(crate) fn first_of(name: &str) -> First {
-    match name {
-        "segments-many" | "segments-late32" | "segments-endless32" | "segments-late64" => {
-            First::TakesNone
-        }
-        "sections-outside"
-        | "sections-many"
-        | "symbols-many"
-        | "strings-outside"
-        | "strings-early" => First::TakesNone,
-        "segments-parse32" | "segments-parse64" | "segments-bytes32" | "segments-bytes64" => {
-            First::GoesOn
-        }
-        "sections-bytes32"
-        | "sections-bytes64"
-        | "symbols-vector"
-        | "symbols-table"
-        | "symbols-relocs" => First::GoesOn,
+    match name.split_once('-') {
+        Some(("segments", "many" | "late32" | "endless32" | "late64")) => First::TakesNone,
+        Some(("sections", "outside" | "many")) => First::TakesNone,
+        Some(("symbols", "many")) => First::TakesNone,
+        Some(("strings", "outside" | "early")) => First::TakesNone,
+        Some(("segments", "parse32" | "parse64" | "bytes32" | "bytes64")) => First::GoesOn,
+        Some(("sections", "bytes32" | "bytes64")) => First::GoesOn,
+        Some(("symbols", "vector" | "table" | "relocs")) => First::GoesOn,
         _ => First::Fails,
     }
 }

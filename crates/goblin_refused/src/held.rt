@@ -1,14 +1,15 @@
 //! Calls over large input and over little, whose results are held at once. `checks/limits.py` runs them with little
 //! memory.
 use crate::answer::Answer;
-use goblin::container::{Container, Ctx, Endian};
-use goblin::elf::program_header::ProgramHeader;
-use goblin::elf::program_header::program_header32::ProgramHeader as ProgramHeader32;
-use goblin::elf::program_header::program_header64::ProgramHeader as ProgramHeader64;
+use crate::records::CTX;
+use goblin::container::Ctx;
+use goblin::elf::program_header::ProgramHeader as Segment;
+use goblin::elf::program_header::program_header32::ProgramHeader as Segment32;
+use goblin::elf::program_header::program_header64::ProgramHeader as Segment64;
 use goblin::elf::reloc::{Reloc, RelocSection, reloc64};
-use goblin::elf::section_header::SectionHeader;
-use goblin::elf::section_header::section_header32::SectionHeader as SectionHeader32;
-use goblin::elf::section_header::section_header64::SectionHeader as SectionHeader64;
+use goblin::elf::section_header::SectionHeader as Section;
+use goblin::elf::section_header::section_header32::SectionHeader as Section32;
+use goblin::elf::section_header::section_header64::SectionHeader as Section64;
 use goblin::elf::sym::{Sym, Symtab};
 use goblin::error::{Error, Result};
 use goblin::options::{ParseMode, ParseOptions};
@@ -19,12 +20,6 @@ use goblin_base::entries::{Entries, Looked};
 use goblin_base::table::Table;
 use goblin_base::walk::walk;
 use std::alloc::{AllocError, Global};
-
-// The 64-bit class, in little byte order.
-const CTX: Ctx = Ctx {
-    container: Container::Big,
-    le: Endian::Little,
-};
 
 // The number of bytes that calls read, and of records that they hold, of any kind.
 const BYTES: usize = 4 << 20;
@@ -57,11 +52,11 @@ fn hold<T: Drop, F: Fn(usize) -> Option<T>>(alloc: Global, count: usize, list: &
 
 // Lists of headers of either class.
 fn headers(alloc: Global, bytes: &[u8], form: &str) -> Option<bool> {
-    let segments = |n| ProgramHeader::parse(alloc, bytes, 0, n, CTX).ok();
-    let segments32 = |n| ProgramHeader32::parse(alloc, bytes, 0, n, LE).ok();
-    let segments64 = |n| ProgramHeader64::parse(alloc, bytes, 0, n, LE).ok();
-    let sections = |n| SectionHeader::parse(alloc, bytes, 64, n, CTX).ok();
-    let sections_from = |n| SectionHeader::parse_from(alloc, bytes, 0, n, CTX).ok();
+    let segments = |n| Segment::parse(alloc, bytes, 0, n, CTX).ok();
+    let segments32 = |n| Segment32::parse(alloc, bytes, 0, n, LE).ok();
+    let segments64 = |n| Segment64::parse(alloc, bytes, 0, n, LE).ok();
+    let sections = |n| Section::parse(alloc, bytes, 64, n, CTX).ok();
+    let sections_from = |n| Section::parse_from(alloc, bytes, 0, n, CTX).ok();
     match form {
         "segments" => Some(hold(alloc, RECORDS, &segments)),
         "segments32" => Some(hold(alloc, RECORDS, &segments32)),
@@ -75,10 +70,10 @@ fn headers(alloc: Global, bytes: &[u8], form: &str) -> Option<bool> {
 // Lists of raw headers from the start of the bytes.
 fn raw_headers(alloc: Global, bytes: &[u8], form: &str) -> Option<bool> {
     let most = bytes.len() / 64;
-    let segments32 = |n: usize| ProgramHeader32::from_bytes(alloc, bytes, n.min(most)).ok();
-    let segments64 = |n: usize| ProgramHeader64::from_bytes(alloc, bytes, n.min(most)).ok();
-    let sections32 = |n: usize| SectionHeader32::from_bytes(alloc, bytes, n.min(most)).ok();
-    let sections64 = |n: usize| SectionHeader64::from_bytes(alloc, bytes, n.min(most)).ok();
+    let segments32 = |n: usize| Segment32::from_bytes(alloc, bytes, n.min(most)).ok();
+    let segments64 = |n: usize| Segment64::from_bytes(alloc, bytes, n.min(most)).ok();
+    let sections32 = |n: usize| Section32::from_bytes(alloc, bytes, n.min(most)).ok();
+    let sections64 = |n: usize| Section64::from_bytes(alloc, bytes, n.min(most)).ok();
     match form {
         "segments_bytes32" => Some(hold(alloc, RECORDS, &segments32)),
         "segments_bytes64" => Some(hold(alloc, RECORDS, &segments64)),
@@ -94,23 +89,18 @@ fn symtab(alloc: Global, bytes: &[u8], count: usize) -> Option<Vec<Sym>> {
 
 fn relocs(alloc: Global, bytes: &[u8], count: usize) -> Option<Vec<Reloc>> {
     let size = count.checked_mul(reloc64::SIZEOF_RELA)?;
-    RelocSection::parse(bytes, 0, size, true, CTX)
-        .ok()?
-        .to_vec(alloc)
-        .ok()
+    let relocs = RelocSection::parse(bytes, 0, size, true, CTX).ok()?;
+    relocs.to_vec(alloc).ok()
 }
 
 fn table(alloc: Global, bytes: &[u8], count: usize) -> Option<Vec<Sym>> {
-    Table::<Sym, Ctx>::in_range(bytes, 0, count, CTX)
-        .ok()?
-        .to_vec(alloc)
-        .ok()
+    let table = Table::<Sym, Ctx>::in_range(bytes, 0, count, CTX).ok()?;
+    table.to_vec(alloc).ok()
 }
 
 fn line(alloc: Global, offset: usize) -> Option<String> {
-    Error::Scroll(scroll::Error::BadOffset(offset))
-        .line(alloc)
-        .ok()
+    let error = Error::Scroll(scroll::Error::BadOffset(offset));
+    error.line(alloc).ok()
 }
 
 // Lists of symbols and relocations, and messages.
@@ -131,10 +121,8 @@ fn permissive<'a>(alloc: Global, bytes: &'a [u8], len: usize) -> Option<Strtab<'
 }
 
 fn parsed<'a>(alloc: Global, bytes: &'a [u8], len: usize) -> Option<Vec<&'a str>> {
-    Strtab::parse(alloc, bytes, 0, len, 0)
-        .ok()?
-        .to_vec(alloc)
-        .ok()
+    let table = Strtab::parse(alloc, bytes, 0, len, 0).ok()?;
+    table.to_vec(alloc).ok()
 }
 
 fn unparsed<'a>(alloc: Global, bytes: &'a [u8], len: usize) -> Option<Vec<&'a str>> {
@@ -142,13 +130,8 @@ fn unparsed<'a>(alloc: Global, bytes: &'a [u8], len: usize) -> Option<Vec<&'a st
 }
 
 fn entries<'a>(alloc: Global, bytes: &'a [u8], len: usize) -> Option<Entries<'a>> {
-    walk(
-        alloc,
-        &mut Looked::new(bytes.get(..len)?),
-        0,
-        ParseMode::Strict,
-    )
-    .ok()
+    let mut view = Looked::new(bytes.get(..len)?);
+    walk(alloc, &mut view, 0, ParseMode::Strict).ok()
 }
 
 // String tables of one string, and what is made of them.
@@ -173,12 +156,9 @@ fn hold_all(alloc: Global, form: &str) -> Option<bool> {
 
 /// Makes and holds the lists of a form.
 pub(crate) fn held(alloc: Global, form: &str) -> Option<Result<Answer>> {
-    match hold_all(alloc, form)? {
-        true => Some(
-            String::from_str(alloc, "held")
-                .map(Answer::Line)
-                .map_err(Error::Memory),
-        ),
-        false => Some(Err(Error::Memory(AllocError))),
-    }
+    let held = match hold_all(alloc, form)? {
+        true => String::from_str(alloc, "held"),
+        false => Err(AllocError),
+    };
+    Some(held.map(Answer::Line).map_err(Error::Memory))
 }

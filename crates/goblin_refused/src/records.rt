@@ -1,13 +1,13 @@
 //! The calls that give lists of records.
 use crate::answer::{Answer, listed};
 use goblin::container::{Container, Ctx, Endian};
-use goblin::elf::program_header::ProgramHeader;
-use goblin::elf::program_header::program_header32::ProgramHeader as ProgramHeader32;
-use goblin::elf::program_header::program_header64::ProgramHeader as ProgramHeader64;
+use goblin::elf::program_header::ProgramHeader as Segment;
+use goblin::elf::program_header::program_header32::ProgramHeader as Segment32;
+use goblin::elf::program_header::program_header64::ProgramHeader as Segment64;
 use goblin::elf::reloc::{Reloc, RelocSection};
-use goblin::elf::section_header::SectionHeader;
-use goblin::elf::section_header::section_header32::SectionHeader as SectionHeader32;
-use goblin::elf::section_header::section_header64::SectionHeader as SectionHeader64;
+use goblin::elf::section_header::SectionHeader as Section;
+use goblin::elf::section_header::section_header32::SectionHeader as Section32;
+use goblin::elf::section_header::section_header64::SectionHeader as Section64;
 use goblin::elf::sym::{Sym, Symtab};
 use goblin::error::Result;
 use goblin::scroll::LE;
@@ -15,7 +15,7 @@ use goblin_base::table::Table;
 use std::alloc::Global;
 
 // The 64-bit class, in little byte order.
-const CTX: Ctx = Ctx {
+pub(crate) const CTX: Ctx = Ctx {
     container: Container::Big,
     le: Endian::Little,
 };
@@ -38,23 +38,20 @@ pub(crate) fn segments(alloc: Global, form: &str) -> Option<Result<Answer>> {
     let small = numbered(32);
     let large = numbered(56);
     let short = [0; 64];
-    let first = |header: &ProgramHeader| u64::from(header.p_type);
-    let first32 = |header: &ProgramHeader32| u64::from(header.p_type);
-    let first64 = |header: &ProgramHeader64| u64::from(header.p_type);
+    let first = |header: &Segment| u64::from(header.p_type);
+    let first32 = |header: &Segment32| u64::from(header.p_type);
+    let first64 = |header: &Segment64| u64::from(header.p_type);
     match form {
-        "parse" => Some(listed(ProgramHeader::parse(alloc, &large, 0, 9, CTX), &first)),
-        "parse32" => Some(listed(ProgramHeader32::parse(alloc, &small, 0, 9, LE), &first32)),
-        "parse64" => Some(listed(ProgramHeader64::parse(alloc, &large, 0, 9, LE), &first64)),
-        "bytes32" => Some(listed(ProgramHeader32::from_bytes(alloc, &small, 9), &first32)),
-        "bytes64" => Some(listed(ProgramHeader64::from_bytes(alloc, &large, 9), &first64)),
-        "many" => Some(listed(ProgramHeader::parse(alloc, &short, 0, 2, CTX), &first)),
-        "late" => Some(listed(ProgramHeader::parse(alloc, &short, 40, 1, CTX), &first)),
-        "late32" => Some(listed(ProgramHeader32::parse(alloc, &short, 0, 3, LE), &first32)),
-        "endless32" => Some(listed(
-            ProgramHeader32::parse(alloc, &short, 0, usize::MAX, LE),
-            &first32,
-        )),
-        "late64" => Some(listed(ProgramHeader64::parse(alloc, &short, 40, 1, LE), &first64)),
+        "parse" => Some(listed(Segment::parse(alloc, &large, 0, 9, CTX), &first)),
+        "parse32" => Some(listed(Segment32::parse(alloc, &small, 0, 9, LE), &first32)),
+        "parse64" => Some(listed(Segment64::parse(alloc, &large, 0, 9, LE), &first64)),
+        "bytes32" => Some(listed(Segment32::from_bytes(alloc, &small, 9), &first32)),
+        "bytes64" => Some(listed(Segment64::from_bytes(alloc, &large, 9), &first64)),
+        "many" => Some(listed(Segment::parse(alloc, &short, 0, 2, CTX), &first)),
+        "late" => Some(listed(Segment::parse(alloc, &short, 40, 1, CTX), &first)),
+        "late32" => Some(listed(Segment32::parse(alloc, &short, 0, 3, LE), &first32)),
+        "endless32" => Some(listed(Segment32::parse(alloc, &short, 0, usize::MAX, LE), &first32)),
+        "late64" => Some(listed(Segment64::parse(alloc, &short, 40, 1, LE), &first64)),
         _ => None,
     }
 }
@@ -63,23 +60,17 @@ pub(crate) fn segments(alloc: Global, form: &str) -> Option<Result<Answer>> {
 pub(crate) fn sections(alloc: Global, form: &str) -> Option<Result<Answer>> {
     let small = numbered(40);
     let large = numbered(64);
-    let first = |header: &SectionHeader| header.sh_name as u64;
-    let first32 = |header: &SectionHeader32| u64::from(header.sh_name);
-    let first64 = |header: &SectionHeader64| u64::from(header.sh_name);
+    let first = |header: &Section| header.sh_name as u64;
+    let first32 = |header: &Section32| u64::from(header.sh_name);
+    let first64 = |header: &Section64| u64::from(header.sh_name);
     match form {
-        "parse" => Some(listed(SectionHeader::parse(alloc, &large, 64, 9, CTX), &first)),
-        "from" => Some(listed(SectionHeader::parse_from(alloc, &large, 0, 9, CTX), &first)),
-        "outside" => Some(listed(
-            SectionHeader::parse_from(alloc, &large, 700, 1, CTX),
-            &first,
-        )),
-        "many" => Some(listed(SectionHeader::parse_from(alloc, &large, 0, 11, CTX), &first)),
-        "late" => Some(listed(
-            SectionHeader::parse_from(alloc, &large, 576, 2, CTX),
-            &first,
-        )),
-        "bytes32" => Some(listed(SectionHeader32::from_bytes(alloc, &small, 9), &first32)),
-        "bytes64" => Some(listed(SectionHeader64::from_bytes(alloc, &large, 9), &first64)),
+        "parse" => Some(listed(Section::parse(alloc, &large, 64, 9, CTX), &first)),
+        "from" => Some(listed(Section::parse_from(alloc, &large, 0, 9, CTX), &first)),
+        "outside" => Some(listed(Section::parse_from(alloc, &large, 700, 1, CTX), &first)),
+        "many" => Some(listed(Section::parse_from(alloc, &large, 0, 11, CTX), &first)),
+        "late" => Some(listed(Section::parse_from(alloc, &large, 576, 2, CTX), &first)),
+        "bytes32" => Some(listed(Section32::from_bytes(alloc, &small, 9), &first32)),
+        "bytes64" => Some(listed(Section64::from_bytes(alloc, &large, 9), &first64)),
         _ => None,
     }
 }
