@@ -60,12 +60,11 @@ fn range(offset: usize, size: usize) -> FileRange {
 // Reports whether these are the entries before the end, by index and in turn.
 fn has_entries(dynamic: &Dynamic<'_>) -> bool {
     let mut entries = dynamic.entries.iter();
-    let is_each = ENTRIES.iter().enumerate().all(|(i, (d_tag, d_val))| {
-        let entry = Some(Dyn {
-            d_tag: *d_tag,
-            d_val: *d_val,
-        });
-        dynamic.entries.get(i) == entry
+    let is_each = ENTRIES.iter().enumerate().all(|(i, expected)| {
+        dynamic
+            .entries
+            .get(i)
+            .is_some_and(|entry| (entry.d_tag, entry.d_val) == *expected)
     });
     let is_first = entries.next() == dynamic.entries.get(0) && entries.len() == 3;
     is_each
@@ -171,14 +170,8 @@ fn has_form(d_tag: u64, d_val: u64, ctx: Ctx, bytes: &[u8]) -> bool {
 fn reads_and_writes_entries(rt: HostRuntime) {
     let most = b"\xfe\xff\xff\xff\xff\xff\xff\xff";
     assert!(rt; has_form(0xffff_fffe, 0xffff_ffff, LITTLE32, most));
-    assert!(rt;
-        has_form(
-            0x6fff_fef5,
-            0x0102_0304,
-            BIG32,
-            b"\x6f\xff\xfe\xf5\x01\x02\x03\x04"
-        )
-    );
+    let bytes = b"\x6f\xff\xfe\xf5\x01\x02\x03\x04";
+    assert!(rt; has_form(0x6fff_fef5, 0x0102_0304, BIG32, bytes));
     let bytes = b"\xfb\xff\xff\x6f\0\0\0\0\x01\0\0\x08\0\0\0\x80";
     assert!(rt; has_form(0x6fff_fffb, 0x8000_0000_0800_0001, LITTLE64, bytes));
     let bytes = b"\0\0\0\0\0\0\0\x1e\0\0\0\0\0\0\0\x08";
