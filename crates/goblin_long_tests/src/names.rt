@@ -4,7 +4,7 @@ use goblin::error::Result;
 use goblin::options::ParseOptions;
 use goblin::strtab::Strtab;
 use goblin_text::names::{Names, Strings};
-use std::alloc::{AllocError, Global};
+use std::alloc::Global;
 
 // Letters of each width, each with a zero byte after it.
 const LETTERS: [&[u8]; 4] = [
@@ -29,25 +29,17 @@ const OFFSETS: [usize; 16] = [
 ];
 
 // Returns some bytes `a` and letters after them, with a byte that is not UTF-8 if its place is among these.
-fn bytes_of(
-    alloc: Global,
-    letters: &[u8],
-    before: usize,
-    damage: usize,
-) -> std::result::Result<Vec<u8>, AllocError> {
-    let mut bytes = Vec::new(alloc);
-    for _ in 0..before {
-        bytes.push(b'a')?;
-    }
+fn bytes_of(alloc: Global, letters: &[u8], before: usize, damage: usize) -> Option<Vec<u8>> {
+    let mut bytes = vec![in alloc; b'a'; before].ok()?;
     for _ in 0..12_300 {
         if bytes.len() < 12_300 {
-            bytes.extend_from_slice(letters)?;
+            bytes.extend_from_slice(letters).ok()?;
         }
     }
     if let Some(byte) = bytes.get_mut(damage) {
         *byte = 0xFF;
     }
-    Ok(bytes)
+    Some(bytes)
 }
 
 // The names of a table, as a walk over it makes them, or its refusal.
@@ -121,13 +113,19 @@ fn agrees_on_each(alloc: Global, bytes: &[u8], opts: &ParseOptions) -> bool {
 }
 
 fn names_are_walked(alloc: Global, letters: &[u8], before: usize, damage: usize) -> bool {
-    match bytes_of(alloc, letters, before, damage) {
-        Ok(bytes) => {
-            agrees_on_each(alloc, bytes.as_slice(), &ParseOptions::strict())
-                && agrees_on_each(alloc, bytes.as_slice(), &ParseOptions::permissive())
-        }
-        Err(_) => false,
-    }
+    bytes_of(alloc, letters, before, damage).is_some_and(|bytes| {
+        agrees_on_each(alloc, bytes.as_slice(), &ParseOptions::strict())
+            && agrees_on_each(alloc, bytes.as_slice(), &ParseOptions::permissive())
+    })
+}
+
+// Whether they are for each of these letters, with a byte that is not UTF-8 at any of the places.
+fn damaged_names_are_walked(alloc: Global, all: &[&[u8]]) -> bool {
+    all.iter().all(|letters| {
+        PLACES
+            .iter()
+            .all(|damage| names_are_walked(alloc, letters, 0, *damage))
+    })
 }
 
 #[test]
@@ -142,22 +140,12 @@ fn names_of_tables_round_block_ends(rt: HostRuntime) {
 
 #[test]
 fn names_of_damaged_tables_round_block_ends(rt: HostRuntime) {
-    let alloc = rt.alloc();
-    assert!(rt;
-        LETTERS.iter().all(|letters| PLACES
-            .iter()
-            .all(|damage| { names_are_walked(alloc, letters, 0, *damage) }))
-    );
+    assert!(rt; damaged_names_are_walked(rt.alloc(), &LETTERS));
 }
 
 #[test]
 fn names_of_long_strings_round_block_ends(rt: HostRuntime) {
-    let alloc = rt.alloc();
-    assert!(rt;
-        LONG.iter().all(|letters| PLACES
-            .iter()
-            .all(|damage| { names_are_walked(alloc, letters, 0, *damage) }))
-    );
+    assert!(rt; damaged_names_are_walked(rt.alloc(), &LONG));
 }
 
 // How many looks the names at these offsets take, of a table of all the bytes that is asked for before.
