@@ -1,23 +1,34 @@
-/* What the examples share: how they read a file, and how they report a refusal. */
+/* What the examples share: the file that is read, its header, why a call refused it, and how that is printed. */
 #include "goblin.h"
+#include <inttypes.h>
 #include <stdio.h>
 #include <stdlib.h>
+#include <string.h>
 
-/* Reads a file into memory of malloc, and stores its length. Returns null if not all of it is read. */
-static inline uint8_t *load(const char *path, size_t *len) {
+static uint8_t *bytes;
+static size_t len;
+static goblin_header_t header;
+static goblin_refusal_t why;
+
+/* Reads a file into memory of malloc. Returns whether all of it is read. */
+static inline bool load(const char *path) {
     FILE *file = fopen(path, "rb");
     long size = file && fseek(file, 0, SEEK_END) == 0 ? ftell(file) : -1;
-    uint8_t *bytes = size < 0 ? NULL : (uint8_t *)malloc((size_t)size + 1);
-    if (!bytes) return NULL;
+    bytes = size < 0 ? NULL : (uint8_t *)malloc((size_t)size + 1);
+    if (!bytes) return false;
     rewind(file);
-    *len = fread(bytes, 1, (size_t)size, file);
-    return fclose(file) == 0 && *len == (size_t)size ? bytes : NULL;
+    len = fread(bytes, 1, (size_t)size, file);
+    return fclose(file) == 0 && len == (size_t)size;
 }
 
-/* Prints the text of a refusal after what is refused, and returns the exit status. */
-static inline int print_refusal(const char *what, const goblin_refusal_t *why) {
-    char text[160];
-    goblin_refusal_to_str(why, text, sizeof text);
-    fprintf(stderr, "%s: %s\n", what, text);
-    return 1;
+/* Returns the text of the last refusal, up to the next call. */
+static inline const char *refusal_text(void) {
+    static char text[160];
+    goblin_refusal_to_str(&why, text, sizeof text);
+    return text;
+}
+
+/* Prints the last refusal after what is refused, and returns the exit status. */
+static inline int print_refusal(const char *what) {
+    return fprintf(stderr, "%s: %s\n", what, refusal_text()), 1;
 }

@@ -3,21 +3,8 @@
    it. Prints X if it is set, - if it is not, and ? if there is no such program header. Then -c and -s fail. */
 #include "goblin.h"
 #include "example.h"
-#include <stdio.h>
-#include <string.h>
 
-static uint8_t *bytes;
-static size_t len;
-static goblin_header_t header;
 static goblin_segment_t stack;
-static goblin_refusal_t why;
-
-static int refused(const char *path) {
-    char text[160];
-    goblin_refusal_to_str(&why, text, sizeof text);
-    fprintf(stderr, "execstack: %s: %s\n", path, text);
-    return 1;
-}
 
 /* Finds the program header of the stack, and its index. */
 static uint32_t find_stack(uint64_t *index) {
@@ -40,19 +27,18 @@ int main(int argc, char **argv) {
     bool clears = argc == 3 && strcmp(argv[1], "-c") == 0, sets = argc == 3 && strcmp(argv[1], "-s") == 0;
     if (argc != 2 + (clears || sets)) return fputs("usage: execstack [-c | -s] FILE\n", stderr), 2;
     const char *path = argv[argc - 1];
-    if (!(bytes = load(path, &len))) return perror(path), 2;
+    if (!load(path)) return perror(path), 2;
     uint64_t index;
-    uint32_t status = find_stack(&index);
-    if (status > GOBLIN_END) return refused(path);
+    uint32_t status = find_stack(&index), flags = stack.p_flags;
     if (status == GOBLIN_END && !(clears || sets)) return printf("? %s\n", path) < 0;
     if (status == GOBLIN_END)
         return fprintf(stderr, "execstack: %s: there is no program header of type PT_GNU_STACK\n", path), 1;
-    uint32_t flags = clears ? stack.p_flags & ~GOBLIN_PF_X : sets ? stack.p_flags | GOBLIN_PF_X : stack.p_flags;
-    if (flags != stack.p_flags) {
-        stack.p_flags = flags;
-        if (goblin_put_segment(bytes, len, &header, index, &stack, &why) != GOBLIN_OK) return refused(path);
-        if (!store(path)) return perror(path), 2;
+    stack.p_flags = clears ? flags & ~GOBLIN_PF_X : sets ? flags | GOBLIN_PF_X : flags;
+    if (status == GOBLIN_OK && stack.p_flags != flags) {
+        status = goblin_put_segment(bytes, len, &header, index, &stack, &why);
+        if (status == GOBLIN_OK && !store(path)) return perror(path), 2;
     }
-    printf("%c %s\n", flags & GOBLIN_PF_X ? 'X' : '-', path);
+    if (status != GOBLIN_OK) return fprintf(stderr, "execstack: %s: %s\n", path, refusal_text()), 1;
+    printf("%c %s\n", stack.p_flags & GOBLIN_PF_X ? 'X' : '-', path);
     return 0;
 }

@@ -3,16 +3,11 @@
    after. The file stays as it is. */
 #include "goblin.h"
 #include "example.h"
-#include <inttypes.h>
-#include <stdio.h>
-#include <string.h>
 
-static uint8_t *bytes;
-static size_t len;
-
-static int change(const char *name) {
-    goblin_refusal_t why;
-    goblin_header_t header;
+int main(int argc, char **argv) {
+    if (argc != 3) return fputs("usage: flag FILE SECTION\n", stderr), 2;
+    if (!load(argv[1])) return perror(argv[1]), 2;
+    const char *name = argv[2];
     goblin_section_t names, section;
     uint64_t index = 0;
     uint32_t status = goblin_header(bytes, len, &header, &why);
@@ -21,18 +16,12 @@ static int change(const char *name) {
         status = goblin_section_by_name(bytes, len, &header, &names.file, name, strlen(name), 0,
                                         &index, &section, &why);
     if (status == GOBLIN_END) return fprintf(stderr, "flag: there is no section %s\n", name), 1;
-    if (status != GOBLIN_OK) return print_refusal("flag", &why);
+    if (status != GOBLIN_OK) return print_refusal("flag");
     uint64_t before = section.sh_flags;
     section.sh_flags ^= GOBLIN_SHF_WRITE;
     if (goblin_put_section(bytes, len, &header, index, &section, &why) != GOBLIN_OK
         || goblin_section(bytes, len, &header, index, &section, &why) != GOBLIN_OK)
-        return print_refusal("flag", &why);
+        return print_refusal("flag");
     printf("%s: flags 0x%" PRIx64 ", now 0x%" PRIx64 "\n", name, before, section.sh_flags);
     return 0;
-}
-
-int main(int argc, char **argv) {
-    if (argc != 3) return fputs("usage: flag FILE SECTION\n", stderr), 2;
-    if (!(bytes = load(argv[1], &len))) return perror(argv[1]), 2;
-    return change(argv[2]);
 }

@@ -1,12 +1,6 @@
 /* Lists what an ELF file needs of the dynamic linker, its soname and its search paths: needed FILE */
 #include "goblin.h"
 #include "example.h"
-#include <inttypes.h>
-#include <stdio.h>
-
-static uint8_t *bytes;
-static size_t len;
-static goblin_refusal_t why;
 
 /* Prints a string, which need not be UTF-8, after its name, or says that it has no end, which a loader needs. */
 static uint32_t print(const char *name, const goblin_range_t *strings, uint64_t offset) {
@@ -19,8 +13,7 @@ static uint32_t print(const char *name, const goblin_range_t *strings, uint64_t 
 
 int main(int argc, char **argv) {
     if (argc != 2) return fputs("usage: needed FILE\n", stderr), 2;
-    if (!(bytes = load(argv[1], &len))) return perror(argv[1]), 2;
-    goblin_header_t header;
+    if (!load(argv[1])) return perror(argv[1]), 2;
     goblin_segment_t segment;
     goblin_range_t dynamic = {0, 0}, strings = {0, 0}; /* (they stay empty if there are none) */
     goblin_dyn_t entry;
@@ -38,5 +31,5 @@ int main(int argc, char **argv) {
             : entry.d_tag == GOBLIN_DT_RPATH ? "rpath" : entry.d_tag == GOBLIN_DT_RUNPATH ? "runpath" : NULL;
         if (name) status = print(name, &strings, entry.d_val);
     }
-    return status <= GOBLIN_END ? 0 : print_refusal("needed", &why);
+    return status <= GOBLIN_END ? 0 : print_refusal("needed");
 }

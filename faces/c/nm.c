@@ -6,15 +6,8 @@
 #include "goblin.h"
 #include "example.h"
 #include <ctype.h>
-#include <inttypes.h>
-#include <stdio.h>
-#include <string.h>
 
-static uint8_t *bytes;
-static size_t len;
-static goblin_header_t header;
 static goblin_section_t names_of_sections;
-static goblin_refusal_t why;
 
 /* Returns the string at an offset, or an empty one if there is none or it is not UTF-8. */
 static goblin_range_t string(const goblin_section_t *strings, uint64_t offset) {
@@ -63,12 +56,11 @@ static bool find_indices(uint64_t table, goblin_section_t *indices) {
 }
 
 static int list(uint64_t index_of_table, const goblin_section_t *table) {
-    goblin_section_t indices;
+    goblin_section_t indices, names;
     bool has_indices = find_indices(index_of_table, &indices);
-    goblin_section_t names;
     memset(&names, 0, sizeof names);
     if (goblin_linked_section(bytes, len, &header, table->sh_link, &names, &why) > GOBLIN_END)
-        return print_refusal("nm: string table", &why);
+        return print_refusal("nm: string table");
     goblin_symbol_t symbol;
     uint32_t status;
     for (uint64_t i = 1;
@@ -87,16 +79,16 @@ static int list(uint64_t index_of_table, const goblin_section_t *table) {
         fwrite(bytes + name.offset, 1, (size_t)name.size, stdout);
         putchar('\n');
     }
-    return status == GOBLIN_END ? 0 : print_refusal("nm: symbols", &why);
+    return status == GOBLIN_END ? 0 : print_refusal("nm: symbols");
 }
 
 int main(int argc, char **argv) {
     bool is_dynamic = argc == 3 && strcmp(argv[1], "-D") == 0;
     if (argc != 2 + is_dynamic) return fputs("usage: nm [-D] FILE\n", stderr), 2;
-    if (!(bytes = load(argv[argc - 1], &len))) return perror(argv[argc - 1]), 2;
-    if (goblin_header(bytes, len, &header, &why) != GOBLIN_OK) return print_refusal("nm: header", &why);
+    if (!load(argv[argc - 1])) return perror(argv[argc - 1]), 2;
+    if (goblin_header(bytes, len, &header, &why) != GOBLIN_OK) return print_refusal("nm: header");
     if (goblin_section_names(bytes, len, &header, &names_of_sections, &why) > GOBLIN_END)
-        return print_refusal("nm: sections", &why);
+        return print_refusal("nm: sections");
     goblin_section_t section;
     int failed = 0;
     for (uint64_t i = 0; goblin_section(bytes, len, &header, i, &section, &why) == GOBLIN_OK; i++)

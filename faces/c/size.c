@@ -3,39 +3,24 @@
    rest as bss. */
 #include "goblin.h"
 #include "example.h"
-#include <inttypes.h>
-#include <stdio.h>
-#include <stdlib.h>
 
 enum { BATCH = 64 };
 
-static uint8_t *bytes;
-static size_t len;
-
-static int refused(const char *path, const goblin_refusal_t *why) {
-    char text[160];
-    goblin_refusal_to_str(why, text, sizeof text);
-    fprintf(stderr, "size: %s: %s\n", path, text);
-    return 1;
-}
-
 /* Prints the line of a file, or its refusal. */
 static int add_up(const char *path) {
-    goblin_header_t header;
-    goblin_refusal_t why;
     goblin_section_t sections[BATCH];
-    uint64_t text = 0, data = 0, bss = 0, filled;
+    uint64_t text = 0, data = 0, bss = 0, filled = 0;
     uint32_t status = goblin_header(bytes, len, &header, &why);
-    if (status != GOBLIN_OK) return refused(path, &why);
-    for (uint64_t first = 0; (status = goblin_sections(bytes, len, &header, first, sections, BATCH, &filled,
-                                                       &why)) == GOBLIN_OK; first += filled)
-        for (uint64_t i = 0; i < filled; i++) {
+    for (uint64_t first = 0; status == GOBLIN_OK; first += filled) {
+        status = goblin_sections(bytes, len, &header, first, sections, BATCH, &filled, &why);
+        for (uint64_t i = 0; status == GOBLIN_OK && i < filled; i++) {
             const goblin_section_t *section = &sections[i];
             if (section->sh_type == GOBLIN_SHT_NULL || !(section->sh_flags & GOBLIN_SHF_ALLOC)) continue;
             bool is_text = (section->sh_flags & GOBLIN_SHF_EXECINSTR) || !(section->sh_flags & GOBLIN_SHF_WRITE);
             *(is_text ? &text : section->sh_type == GOBLIN_SHT_NOBITS ? &bss : &data) += section->file.size;
         }
-    if (status != GOBLIN_END) return refused(path, &why);
+    }
+    if (status != GOBLIN_END) return fprintf(stderr, "size: %s: %s\n", path, refusal_text()), 1;
     printf("%7" PRIu64 "\t%7" PRIu64 "\t%7" PRIu64 "\t%7" PRIu64 "\t%7" PRIx64 "\t%s\n", text, data, bss,
            text + data + bss, text + data + bss, path);
     return 0;
@@ -46,11 +31,8 @@ int main(int argc, char **argv) {
     if (argc < 2) return fputs("usage: size FILE..\n", stderr), 2;
     puts("   text\t   data\t    bss\t    dec\t    hex\tfilename");
     for (int i = 1; i < argc; i++) {
-        bool is_read = (bytes = load(argv[i], &len));
-        if (!is_read) perror(argv[i]);
-        failed |= is_read ? add_up(argv[i]) : 1;
+        failed |= load(argv[i]) ? add_up(argv[i]) : (perror(argv[i]), 1);
         free(bytes);
-        bytes = NULL;
     }
     return failed;
 }

@@ -3,13 +3,6 @@
    no zero byte closes the last string, a line says so. */
 #include "goblin.h"
 #include "example.h"
-#include <inttypes.h>
-#include <stdio.h>
-#include <string.h>
-
-static uint8_t *bytes;
-static size_t len;
-static goblin_refusal_t why;
 
 /* Prints the strings of a range, one after another. Each ends at a zero byte or at the end of the range. */
 static uint32_t list_strings(const goblin_range_t *strings) {
@@ -28,9 +21,10 @@ static uint32_t list_strings(const goblin_range_t *strings) {
     return status;
 }
 
-/* Finds a section by its name, and lists its strings. */
-static int list(const char *name) {
-    goblin_header_t header;
+int main(int argc, char **argv) {
+    if (argc != 3) return fputs("usage: strings FILE SECTION\n", stderr), 2;
+    if (!load(argv[1])) return perror(argv[1]), 2;
+    const char *name = argv[2];
     goblin_section_t names, section;
     goblin_range_t strings;
     uint64_t index;
@@ -44,14 +38,5 @@ static int list(const char *name) {
     if (status == GOBLIN_END) return fprintf(stderr, "strings: the section %s has no bytes in the file\n", name), 1;
     if (status == GOBLIN_OK) status = list_strings(&strings);
     if (status <= GOBLIN_END) return 0;
-    char text[160];
-    goblin_refusal_to_str(&why, text, sizeof text);
-    fprintf(stderr, "strings: %s, at offset %" PRIu64 "\n", text, why.offset);
-    return 1;
-}
-
-int main(int argc, char **argv) {
-    if (argc != 3) return fputs("usage: strings FILE SECTION\n", stderr), 2;
-    if (!(bytes = load(argv[1], &len))) return perror(argv[1]), 2;
-    return list(argv[2]);
+    return fprintf(stderr, "strings: %s, at offset %" PRIu64 "\n", refusal_text(), why.offset), 1;
 }

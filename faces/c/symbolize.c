@@ -5,9 +5,6 @@
    -1 it calls that for each address, which reads all symbols each time. */
 #include "goblin.h"
 #include "example.h"
-#include <stdio.h>
-#include <stdlib.h>
-#include <string.h>
 
 enum { NONE = -1, BATCH = 64 };
 
@@ -24,12 +21,9 @@ typedef struct {
     int64_t place;
 } piece_t;
 
-static uint8_t *bytes;
-static size_t len, places_len, pieces_len;
+static size_t places_len, pieces_len;
 static place_t *places;
 static piece_t *pieces;
-static goblin_header_t header;
-static goblin_refusal_t why;
 
 static int compare_places(const void *one, const void *other) {
     const place_t *a = (const place_t *)one, *b = (const place_t *)other;
@@ -188,12 +182,12 @@ static uint32_t find_table(goblin_section_t *table, goblin_section_t *names) {
 int main(int argc, char **argv) {
     bool one_by_one = argc > 2 && strcmp(argv[1], "-1") == 0;
     if (argc < 2 + one_by_one) return fputs("usage: symbolize [-1] FILE ADDRESS..\n", stderr), 2;
-    if (!(bytes = load(argv[1 + one_by_one], &len))) return perror(argv[1 + one_by_one]), 2;
-    if (goblin_header(bytes, len, &header, &why) != GOBLIN_OK) return print_refusal("symbolize: header", &why);
+    if (!load(argv[1 + one_by_one])) return perror(argv[1 + one_by_one]), 2;
+    if (goblin_header(bytes, len, &header, &why) != GOBLIN_OK) return print_refusal("symbolize: header");
     goblin_section_t table, names;
     uint32_t found = find_table(&table, &names);
     if (found == GOBLIN_OK && !one_by_one) found = sort_symbols(&table.file);
-    if (found > GOBLIN_END) return print_refusal("symbolize: symbols", &why);
+    if (found > GOBLIN_END) return print_refusal("symbolize: symbols");
     for (int i = 2 + one_by_one; i < argc; i++) {
         uint64_t address = strtoull(argv[i], NULL, 16), index;
         uint32_t status = found;
@@ -204,7 +198,7 @@ int main(int argc, char **argv) {
                 : find(address, &index);
         if (status == GOBLIN_OK) status = goblin_symbol(bytes, len, &header, &table.file, index, &symbol, &why);
         if (status == GOBLIN_OK) status = goblin_string_closed(bytes, len, &names.file, symbol.st_name, &name, &why);
-        if (status > GOBLIN_END) return print_refusal("symbolize: symbols", &why);
+        if (status > GOBLIN_END) return print_refusal("symbolize: symbols");
         printf("%s\n??:0\n", status == GOBLIN_OK ? (const char *)bytes + name.offset : "??");
     }
     return 0;
