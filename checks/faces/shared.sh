@@ -52,7 +52,7 @@ prints_wanted() {
 as_in_c() { (name=$1; shift; "$folder/$name" "$@") > "$folder/wanted"; prints_wanted example "$@"; }
 
 # Fails unless some examples print what those in C print of the files that made.c makes and of one with names that no zero byte closes, and
-# all that are named refuse a short file: try_examples NAME ..
+# all that are named refuse a short file, and print their usage without one: try_examples NAME ..
 try_examples() {
     for file in "$files"/* checks/files/facts/open_names; do
         for name in truncated needed; do as_in_c $name "$file"; done
@@ -62,6 +62,7 @@ try_examples() {
     for name; do
         if [ "$name" = flag ]; then section=.text; else section=; fi
         ends_with 1 "$name: $folder/short: Malformed entity: Too small" example "$name" "$folder/short" ${section:+"$section"}
+        ends_with 2 "usage: ${name}[. ]*" example "$name"
     done
 }
 

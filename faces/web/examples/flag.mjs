@@ -5,13 +5,8 @@
 import { Elf, SHF_WRITE } from '../goblin.js';
 import { run } from './common.mjs';
 
-const [, , path, name] = process.argv;
-if (name === undefined) {
-    console.error('usage: flag.mjs FILE SECTION');
-    process.exit(2);
-}
-await run('flag', [path], (elf, bytes) => {
-    const found = elf.section_by_name(name);
+await run('flag.mjs FILE SECTION', (elf, bytes) => {
+    const [, , , name] = process.argv, found = elf.section_by_name(name);
     if (found === undefined) throw new Error(`there is no section ${name}`);
     const { index, section } = found;
     elf.writer(bytes).put_section_header(index, { ...section, sh_flags: section.sh_flags ^ SHF_WRITE });

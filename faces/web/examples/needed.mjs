@@ -11,7 +11,7 @@ function print(name, strings, offset) {
         : `${name}: no zero byte closes a string at offset ${offset}\n`);
 }
 
-await run('needed', process.argv.slice(2), (elf) => {
+await run('needed.mjs FILE..', (elf) => {
     const interpreter = elf.program_headers().find(({ p_type }) => p_type === PT_INTERP);
     if (interpreter?.p_filesz) print('interpreter', elf.strtab(interpreter), 0);
     const strings = elf.dynamic_strings();

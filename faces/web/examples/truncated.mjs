@@ -24,9 +24,4 @@ function list(elf, bytes) {
     });
 }
 
-const [, , path] = process.argv;
-if (path === undefined) {
-    console.error('usage: truncated.mjs FILE');
-    process.exit(2);
-}
-await run('truncated', [path], list);
+await run('truncated.mjs FILE', list);
