@@ -5,9 +5,6 @@ use std::io::{self, Write};
 
 mod common;
 
-const NAMES: [(u64, &str); 4] =
-    [(DT_NEEDED, "needed"), (DT_SONAME, "soname"), (DT_RPATH, "rpath"), (DT_RUNPATH, "runpath")];
-
 /// Prints a string, which need not be UTF-8, after its name, or says that it has no end, which a loader needs.
 fn print(name: &str, strings: &Strtab, offset: u64) -> common::Result {
     match strings.get_c_str(offset as usize)? {
@@ -24,9 +21,10 @@ fn main() -> std::process::ExitCode {
             print("interpreter", &elf.strtab(&segment), 0)?;
         }
         if let Some(dynamic) = elf.dynamic()? {
+            let names = [(DT_NEEDED, "needed"), (DT_SONAME, "soname"), (DT_RPATH, "rpath"), (DT_RUNPATH, "runpath")];
             let strings = dynamic.strings()?.unwrap_or_default();
             for entry in dynamic.entries() {
-                if let Some((_, name)) = NAMES.iter().find(|(tag, _)| *tag == entry.d_tag) {
+                if let Some((_, name)) = names.iter().find(|(tag, _)| *tag == entry.d_tag) {
                     print(name, &strings, entry.d_val)?;
                 }
             }
