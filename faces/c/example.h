@@ -21,6 +21,16 @@ static inline bool load(const char *path) {
     return fclose(file) == 0 && len == (size_t)size;
 }
 
+/* Reads the header, and finds the first program header of a type, and its index. */
+static inline uint32_t find_segment(uint32_t p_type, uint64_t *index, goblin_segment_t *segment) {
+    uint32_t status = goblin_header(bytes, len, &header, &why);
+    for (*index = 0; status == GOBLIN_OK; ++*index) {
+        status = goblin_segment(bytes, len, &header, *index, segment, &why);
+        if (status != GOBLIN_OK || segment->p_type == p_type) break;
+    }
+    return status;
+}
+
 /* Returns the text of the last refusal, up to the next call. */
 static inline const char *refusal_text(void) {
     static char text[160];

@@ -4,18 +4,6 @@
 #include "goblin.h"
 #include "example.h"
 
-static goblin_segment_t stack;
-
-/* Finds the program header of the stack, and its index. */
-static uint32_t find_stack(uint64_t *index) {
-    uint32_t status = goblin_header(bytes, len, &header, &why);
-    for (*index = 0; status == GOBLIN_OK; ++*index) {
-        status = goblin_segment(bytes, len, &header, *index, &stack, &why);
-        if (status != GOBLIN_OK || stack.p_type == GOBLIN_PT_GNU_STACK) break;
-    }
-    return status;
-}
-
 static bool store(const char *path) {
     FILE *file = fopen(path, "r+b");
     if (!file) return false;
@@ -28,17 +16,20 @@ int main(int argc, char **argv) {
     if (argc != 2 + (clears || sets)) return fputs("usage: execstack [-c | -s] FILE\n", stderr), 2;
     const char *path = argv[argc - 1];
     if (!load(path)) return perror(path), 2;
+    goblin_segment_t stack;
     uint64_t index;
-    uint32_t status = find_stack(&index), flags = stack.p_flags;
+    uint32_t status = find_segment(GOBLIN_PT_GNU_STACK, &index, &stack);
+    if (status > GOBLIN_END) return fprintf(stderr, "execstack: %s: %s\n", path, refusal_text()), 1;
     if (status == GOBLIN_END && !(clears || sets)) return printf("? %s\n", path) < 0;
     if (status == GOBLIN_END)
         return fprintf(stderr, "execstack: %s: there is no program header of type PT_GNU_STACK\n", path), 1;
-    stack.p_flags = clears ? flags & ~GOBLIN_PF_X : sets ? flags | GOBLIN_PF_X : flags;
-    if (status == GOBLIN_OK && stack.p_flags != flags) {
-        status = goblin_put_segment(bytes, len, &header, index, &stack, &why);
-        if (status == GOBLIN_OK && !store(path)) return perror(path), 2;
+    uint32_t flags = clears ? stack.p_flags & ~GOBLIN_PF_X : sets ? stack.p_flags | GOBLIN_PF_X : stack.p_flags;
+    if (flags != stack.p_flags) {
+        stack.p_flags = flags;
+        if (goblin_put_segment(bytes, len, &header, index, &stack, &why) != GOBLIN_OK)
+            return fprintf(stderr, "execstack: %s: %s\n", path, refusal_text()), 1;
+        if (!store(path)) return perror(path), 2;
     }
-    if (status != GOBLIN_OK) return fprintf(stderr, "execstack: %s: %s\n", path, refusal_text()), 1;
-    printf("%c %s\n", stack.p_flags & GOBLIN_PF_X ? 'X' : '-', path);
+    printf("%c %s\n", flags & GOBLIN_PF_X ? 'X' : '-', path);
     return 0;
 }

@@ -14,14 +14,12 @@ static uint32_t print(const char *name, const goblin_range_t *strings, uint64_t 
 int main(int argc, char **argv) {
     if (argc != 2) return fputs("usage: needed FILE\n", stderr), 2;
     if (!load(argv[1])) return perror(argv[1]), 2;
-    goblin_segment_t segment;
+    goblin_segment_t interpreter;
     goblin_range_t dynamic = {0, 0}, strings = {0, 0}; /* (they stay empty if there are none) */
     goblin_dyn_t entry;
-    uint64_t filled, i = 0;
-    uint32_t status = goblin_header(bytes, len, &header, &why);
-    do if (status == GOBLIN_OK) status = goblin_segment(bytes, len, &header, i++, &segment, &why);
-    while (status == GOBLIN_OK && segment.p_type != GOBLIN_PT_INTERP);
-    if (status == GOBLIN_OK && segment.file.size > 0) status = print("interpreter", &segment.file, 0);
+    uint64_t filled, i;
+    uint32_t status = find_segment(GOBLIN_PT_INTERP, &i, &interpreter);
+    if (status == GOBLIN_OK && interpreter.file.size > 0) status = print("interpreter", &interpreter.file, 0);
     if (status <= GOBLIN_END) status = goblin_dynamic(bytes, len, &header, &dynamic, &why);
     if (status <= GOBLIN_END) status = goblin_dynamic_strings(bytes, len, &header, &dynamic, &strings, &why);
     for (i = 0; status <= GOBLIN_END; i++) {
