@@ -12,7 +12,6 @@ from .marks import compilers, control_flow, has_canary
 from .names import class_to_str, et_to_str, machine_to_str
 from .refused import Refused, Unknown, within
 
-KINDS: Dict[int, str] = {abi.ET_REL: 'object', abi.ET_CORE: 'core'}
 # The most that is read: entries of a dynamic section, bytes of a text and of a build ID, and sections.
 ENTRIES, TEXT, ID, SECTIONS = 4096, 4095, 64, 1 << 20
 # (an operator on plain numbers is much faster than one on flags)
@@ -40,7 +39,7 @@ class Parts(Elf):
     @functools.cached_property
     def kind(self) -> str:
         if self.header.e_type not in (abi.ET_EXEC, abi.ET_DYN):
-            return KINDS.get(self.header.e_type, 'other')
+            return 'object' if self.header.e_type == abi.ET_REL else 'core' if self.header.e_type == abi.ET_CORE else 'other'
         with contextlib.suppress(Refused, Unknown):
             if abi.SHT_NOBITS in {section.sh_type for section in self.own_sections() if section.sh_flags & ALLOC} <= {abi.SHT_NOBITS, abi.SHT_NOTE}:
                 return 'debug file'
@@ -54,8 +53,7 @@ class Parts(Elf):
     @functools.cached_property
     def entries(self) -> Dynamic:
         """The dynamic section. It is unknown if its bytes are in another file, as those of a debug file."""
-        place = self._dynamic_place()
-        return within(ENTRIES, None if place and place[1] == 0 else self.dynamic)
+        return within(ENTRIES, None if (place := self._dynamic_place()) and place[1] == 0 else self.dynamic)
 
     def says(self, marks: Dict[int, int]) -> bool:
         """Whether the first entry with one of some tags has its flag, if one is given."""
@@ -76,16 +74,14 @@ class Parts(Elf):
         """The sizes of the sections in bytes, by what they are for."""
         sizes = {'code': 0, 'data': 0, 'read_only': 0, 'zeros': 0, 'not_loaded': 0}
         for section in self.own_sections():
-            flags = section.sh_flags
-            use = 'code' if flags & EXECINSTR else 'data' if flags & WRITE else 'read_only'
-            sizes['zeros' if section.sh_type == abi.SHT_NOBITS else use if flags & ALLOC else 'not_loaded'] += section.sh_size
+            loaded = 'code' if section.sh_flags & EXECINSTR else 'data' if section.sh_flags & WRITE else 'read_only'
+            sizes['zeros' if section.sh_type == abi.SHT_NOBITS else loaded if section.sh_flags & ALLOC else 'not_loaded'] += section.sh_size
         return sizes
 
 
 def text(strings: Strings, offset: int) -> Optional[str]:
     """Returns the string at an offset, or `None` past the end. It is unknown if it has more than TEXT bytes."""
-    start = strings.get_start(offset, TEXT + 1)
-    return None if start is None else str(within(TEXT, start), 'utf-8', 'surrogateescape')
+    return None if (start := strings.get_start(offset, TEXT + 1)) is None else str(within(TEXT, start), 'utf-8', 'surrogateescape')
 
 
 # What only programs and libraries have, and what some kinds of files lack.
