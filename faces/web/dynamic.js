@@ -22,10 +22,8 @@ export function versions() {
     let left = MOST_VERSIONS;
     // Yields the offset of each of some records. At 12 each has the distance to the next one.
     function* chain(at, count) {
-        for (let next = 1n; at && count > 0n && next && left > 0; count--, left--, at += next) {
+        for (let next = at; next && count > 0n && left > 0; next = number_at(at + 12n, 4), at += next, count--, left--)
             yield at;
-            next = number_at(at + 12n, 4);
-        }
     }
     for (const at of chain(offset_of(goblin.DT_VERNEED), value_of(goblin.DT_VERNEEDNUM))) {
         const name = name_in(at + 4n), names = chain(at + number_at(at + 8n, 4), number_at(at + 2n, 2));
@@ -71,11 +69,10 @@ export function find_own_sections() {
 export function packed_offsets({ sh_offset, sh_size }) {
     const width = word(), most = MOST_ITEMS * width, end = sh_size < most ? sh_size : most, found = [];
     for (let at = 0n, next = 0n; at + width <= end && found.length < MOST_ITEMS; at += width) {
-        const entry = number_at(sh_offset + at, width), is_place = !(entry & 1n);
-        if (is_place) found.push(entry);
-        for (let bits = is_place ? 0n : entry >> 1n, place = next; bits; bits >>= 1n, place += width)
-            if (bits & 1n) found.push(place);
-        next = is_place ? entry + width : next + (8n * width - 1n) * width;
+        const entry = number_at(sh_offset + at, width), is_place = !(entry & 1n), bits = is_place ? 1n : entry >> 1n;
+        if (is_place) next = entry;
+        for (let bit = 0n; bits >> bit; bit++) if (bits >> bit & 1n) found.push(next + bit * width);
+        next += is_place ? width : (8n * width - 1n) * width;
     }
     return found;
 }
