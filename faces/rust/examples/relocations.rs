@@ -2,7 +2,6 @@
 //! its offset, the number of its type, the index and the name of its symbol, and its addend.
 use goblin_rs::error::Result;
 use goblin_rs::reloc::Reloc;
-use goblin_rs::section_header::SectionHeader;
 use goblin_rs::sym::{Symtab, STT_SECTION};
 use goblin_rs::Elf;
 use std::io::{self, Write};
@@ -26,24 +25,14 @@ fn name_of<'a>(elf: &Elf<'a>, symbols: &Symtab<'a>, reloc: &Reloc) -> Result<&'a
     Ok(name)
 }
 
-/// Returns the symbol table of a relocation section.
-fn symbols_of<'a>(elf: &Elf<'a>, relocs: &SectionHeader) -> Result<Option<Symtab<'a>>> {
-    match elf.section_header(relocs.sh_link as usize)? {
-        Some(symbols) if relocs.sh_link != 0 => Ok(Some(elf.symtab(&symbols)?)),
-        _ => Ok(None),
-    }
-}
-
 fn list(elf: &Elf, _: &[u8]) -> common::Result {
     let mut out = io::BufWriter::new(io::stdout().lock());
     for (section, relocs) in elf.shdr_relocs()? {
         writeln!(out, "{}:", elf.section_name(&section)?.unwrap_or(""))?;
-        let symbols = symbols_of(elf, &section)?;
+        let linked = elf.section_header(section.sh_link as usize)?.filter(|_| section.sh_link != 0);
+        let symbols = linked.map(|linked| elf.symtab(&linked)).transpose()?;
         for reloc in &relocs {
-            let name = match &symbols {
-                Some(symbols) => name_of(elf, symbols, &reloc)?,
-                None => "",
-            };
+            let name = symbols.as_ref().map_or(Ok(""), |symbols| name_of(elf, symbols, &reloc))?;
             write!(out, "{:x} {} {} {}", reloc.r_offset, reloc.r_type, reloc.r_sym, name)?;
             match reloc.r_addend {
                 Some(addend) if addend < 0 => writeln!(out, " - {:x}", addend.unsigned_abs())?,
