@@ -8,27 +8,27 @@
 
 enum { NONE = -1, BATCH = 64 };
 
-/* The addresses from a first to a last one for which a symbol may be the wanted one: those that it contains, or those
-   from its own one on that its section holds. */
+/* The addresses, from the first to the last, for which a symbol counts: those that it contains, or those of its section
+   from its own address on. */
 typedef struct {
     uint64_t first, last;
     uint64_t start, index; /* the symbol's own address, and its index in the table */
     bool is_contained, has_size;
 } span_t;
 
-/* The addresses from one on up to the next piece, which have the same symbol. */
+/* The addresses from one on up to the next piece, which all have the same symbol. */
 typedef struct {
     uint64_t start;
-    int64_t index; /* that of the symbol, or NONE */
-    size_t next;   /* the piece itself while no span has it, or else a later one: see next_free */
+    int64_t index; /* the symbol's index in the table, or NONE */
+    size_t next;   /* the piece itself if no span has taken it, or else a later one */
 } piece_t;
 
 static size_t spans_len, pieces_len;
 static span_t *spans;
 static piece_t *pieces;
 
-/* Compares spans by which one counts where both hold an address: one whose symbol contains it, that of the higher
-   symbol, one without a size, and that of the first symbol. */
+/* Compares spans by which one decides on an address in both: the one whose symbol contains it, that of the higher
+   symbol, that of a symbol without a size, and that of the first symbol in the table. */
 static int compare_spans(const void *one, const void *other) {
     const span_t *a = (const span_t *)one, *b = (const span_t *)other;
     if (a->is_contained != b->is_contained) return a->is_contained ? -1 : 1;
@@ -42,7 +42,7 @@ static int compare_pieces(const void *one, const void *other) {
     return a < b ? -1 : a > b;
 }
 
-/* Adds the addresses of a symbol among some, of which `first` is the first one, from the symbol's own one on. */
+/* Adds a span of a symbol: of `size` addresses from `first` on those that are not below the symbol's own. */
 static void add_span(const goblin_symbol_t *symbol, uint64_t index, uint64_t first, uint64_t size, bool is_contained) {
     uint64_t most = UINT64_MAX - first, last = size > most ? UINT64_MAX : first + size - 1;
     if (first < symbol->st_value) first = symbol->st_value;
@@ -50,8 +50,8 @@ static void add_span(const goblin_symbol_t *symbol, uint64_t index, uint64_t fir
     if (size > 0 && first <= last) spans[spans_len++] = span;
 }
 
-/* Adds the spans of a symbol, if it is of a section and has one of the types that can contain an address. Of its
-   section it has one if that is in memory. In a relocatable file addresses are offsets in any section. */
+/* Adds the spans of a symbol, if it is of a section and has one of the types that can contain an address. There is one
+   in its section if that is in memory. In a relocatable file addresses are offsets in any section. */
 static void add(const goblin_symbol_t *symbol, uint64_t index) {
     unsigned type = symbol->st_info & 15;
     bool is_index = symbol->st_shndx < GOBLIN_SHN_LORESERVE, is_object = header.e_type == GOBLIN_ET_REL;
@@ -75,14 +75,15 @@ static size_t pieces_up_to(uint64_t address) {
     return low;
 }
 
-/* Returns the first piece from one on that no span has yet, and makes the way to it shorter. */
+/* Returns the first piece from one on that no span has taken. It also shortens the way to it. */
 static size_t next_free(size_t piece) {
     while (pieces[piece].next != piece) piece = pieces[piece].next = pieces[pieces[piece].next].next;
     return piece;
 }
 
-/* Makes the pieces, which begin where a span does or after its end. Each span, in the order in which they count, gets
-   those of its pieces that are free. That of a section only keeps others out if its symbol has a size. */
+/* Makes the pieces, which begin at the start of a span or after its end. The spans take their pieces in the order in
+   which they decide. A symbol with a size takes those in its section that it does not contain from the labels below
+   it, without being found. */
 static void make_pieces(void) {
     for (size_t i = 0; i < spans_len; i++) {
         pieces[pieces_len++].start = spans[i].first;
