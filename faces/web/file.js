@@ -110,8 +110,7 @@ export function digits_of({ offset, size }, most = Infinity) {
 /** Tables that the dynamic section leads to, and no section header, as sections, by the names of their tags. */
 export const own_sections = new Map();
 /** Returns a section, by its index, or one of the page's own, by its name, or nothing without either. */
-export const section_at = (index) => (typeof index === 'number' ? file.elf.section_header(index)
-    : own_sections.get(index));
+export const section_at = (index) => (typeof index === 'number' ? sections()[index] : own_sections.get(index));
 // Returns the items of a list, each with its index, or none if the list is refused.
 const indexed = (list) => read_or([], list).map((item, index) => Object.assign(item, { index }));
 export const sections = once(() => indexed(() => file.elf.section_headers()));
