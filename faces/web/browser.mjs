@@ -1203,9 +1203,9 @@ check_program('In low and narrow windows the first result and the first bytes ar
     }
 });
 
-// In windows of three widths.
+// In windows of four widths.
 check_program('At most a third is the map, no word is broken, and only the list has a scroll bar', async () => {
-    for (const [width, height] of [[1280, 900], [800, 900], [400, 800]]) {
+    for (const [width, height] of [[1280, 900], [800, 900], [640, 450], [400, 800]]) {
         await browser.resize(width, height);
         await until(`innerWidth === ${width} && document.querySelector('section.map').offsetHeight <= innerHeight / 3`);
         await click('#tab-header');
