@@ -323,6 +323,8 @@ check('The first tab says in words what readelf lists of a program, in the order
         assert.equal(mark, /^(symbol versions|control-flow marks|debug file)$/.test(name) ? 'not proved' : '', name);
     const [[name, { size: largest }]] = Object.entries(sections).sort(([, a], [, b]) => b.size - a.size);
     assert.ok(rows.some(([size, value]) => size.startsWith(`${decimal(largest)} bytes, `) && value === name));
+    // (underscores are above the line below a link)
+    assert.ok(await evaluate(`parseFloat(getComputedStyle(${one('.fields a')}).textUnderlineOffset) >= 4`));
     const [, ...found] = await facts(program_file, 'Largest functions');
     assert.equal(found[0][1], functions[0].name);
     assert.deepEqual(found.map(([size]) => size), functions.slice(0, 10).map(({ size }) => `${decimal(size)} bytes`));
