@@ -1,6 +1,7 @@
 // The sizes: the file's pieces, and the functions and variables inside them, as areas. One that is twice as large has
 // twice as many bytes.
 import { count, get, in_bytes, make, put_text, visible } from './dom.js';
+import { readable_on } from './map.js';
 import { ask, shown_file } from './reader.js';
 
 // In pixels: an item's least area, the heights of the line above and of a piece's title, and a title's least box.
@@ -32,6 +33,7 @@ export async function area_panel() {
         const [left, top, width, height] = [box.x / wide, box.y / high, box.wide / wide, box.high / high]
             .map((part) => `${100 * part}%`);
         Object.assign(link.style, { left, top, width, height }).setProperty('--tint', `var(--${kind})`);
+        link.style.setProperty('--on', readable_on('var(--tint)'));
         if (box.wide > WIDE && box.high > HIGH) link.append(put_text(make('b'), item.title), ` ${count(item.size)}`);
         areas.append(link);
     };

@@ -1450,7 +1450,7 @@ const without_green = (colour) => [
 ].reduce((seen, matrix, i) => times(matrix, i === 2 ? seen.map(Math.cbrt) : seen), linear(colour));
 
 // An eye without green sees that kinds differ. (The test can set the theme of Chromium alone.)
-check('Edges of what can be used, gaps and names on the map have a contrast of at least 3 to 1', async () => {
+check('Edges and gaps have a contrast of at least 3 to 1, and names on the map and the sizes of 4.5', async () => {
     const edges = ['#goto', '.bar .button', '#out', '#canvas', '#legend i', '#panel input', '#panel .saving button'];
     const kinds = ['header', 'tables', 'code', 'data', 'constants', 'names', 'relocations', 'notes', 'debug', 'other'];
     for (const theme of browser.theme ? ['dark', 'light'] : ['light']) {
@@ -1459,18 +1459,27 @@ check('Edges of what can be used, gaps and names on the map have a contrast of a
         await pick(program_file);
         assert.ok(await pixels_of('gap', 14) > 100);
         await open_tab('sections');
-        const [edge, ground, kind, on] = await evaluate(`(() => {
+        const [edge, ground, kind] = await evaluate(`(() => {
             const { probe, style } = ${PIXELS},
                 edge = (selector) => {
                     const { borderTopWidth, borderTopColor } = getComputedStyle(document.querySelector(selector));
                     return parseFloat(borderTopWidth) > 0 && probe(borderTopColor);
                 };
             return [[...${quoted(edges)}.map(edge), style('gap')], ['paper', 'raised'].map(style),
-                ${quoted(kinds)}.map(style), ['paper', 'on-kind'].map(style)];
+                ${quoted(kinds)}.map(style)];
         })()`);
-        const differs = (a, b, name) => assert.ok(a && contrast(a, b) >= 3, `${name}: ${a && contrast(a, b)}`);
+        await open_sizes();
+        const text = await evaluate(`(() => {
+            const { probe } = ${PIXELS}, area = ${one('.areas a')};
+            return ${quoted(kinds)}.map((kind) => {
+                area.style.setProperty('--tint', 'var(--' + kind + ')');
+                return probe(getComputedStyle(area).color);
+            });
+        })()`);
+        const differs = (a, b, name, least = 3) =>
+            assert.ok(a && contrast(a, b) >= least, `${name}: ${a && contrast(a, b)}`);
         edge.forEach((colour, i) => ground.forEach((other) => differs(colour, other, edges[i])));
-        kind.forEach((colour, i) => differs(colour, on[Number(i > 0)], kinds[i]));
+        kind.forEach((colour, i) => differs(colour, text[i], kinds[i], 4.5));
         for (const [a, b] of [[2, 5], [3, 6]])
             assert.ok(contrast(kind[a], kind[b]) >= 1.4, `${kinds[a]} and ${kinds[b]}`);
         const seen = kind.map(without_green),

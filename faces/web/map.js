@@ -16,6 +16,8 @@ const KIND_WORDS = { header: 'ELF header', tables: 'header tables', names: 'symb
     debug: 'debug information', appended: 'appended bytes' };
 const words_of = (kind) => KIND_WORDS[kind] ?? kind;
 const colour = (kind) => getComputedStyle(document.documentElement).getPropertyValue(`--${kind}`);
+/** Returns black or white: the one that is readable on a colour. */
+export const readable_on = (shade) => `oklch(from ${shade} clamp(0, (0.564 - l) * 1000, 1) 0 0)`;
 
 export function dot(kind) {
     const item = make('i');
@@ -80,7 +82,7 @@ function paint(shade, x, y, width, high) {
 }
 
 function write(text, shade, x, y) {
-    pen.fillStyle = colour(shade);
+    pen.fillStyle = shade;
     pen.fillText(text, x, y + BAND / 2 + 1);
 }
 
@@ -179,7 +181,7 @@ function draw_contents({ down, high }, has_digits) {
         for (to = from + 1; !has_digits && to % columns !== 0 && classes[to] === classes[from];) to++;
         over_rows(start + from * step, start + to * step, (x, width, y) => {
             paint(shades[classes[from]], x, y + down, width, high);
-            if (has_digits) write(two_digits(bytes[from]), 'on-kind', x + width / 2, y);
+            if (has_digits) write(two_digits(bytes[from]), readable_on(shades[classes[from]]), x + width / 2, y);
         });
     }
 }
@@ -187,7 +189,7 @@ function draw_contents({ down, high }, has_digits) {
 function draw_offsets() {
     Object.assign(pen, { font: `11px ${colour('mono')}`, textAlign: 'right' });
     for (let row = 0; row < rows_of_view(); row++)
-        write(hex(map.view.start + row * map.view.each), 'dim', map.left - 12, TOP + row * STEP);
+        write(hex(map.view.start + row * map.view.each), colour('dim'), map.left - 12, TOP + row * STEP);
 }
 
 function hatching(shade) {
@@ -216,11 +218,11 @@ function draw_names(symbols) {
         write(text, shade, x + 5, y);
     };
     Object.assign(pen, { font: `11px ${colour('text')}`, textAlign: 'left' });
-    symbols.forEach((piece) => put(piece.item, piece, 'on-kind'));
+    symbols.forEach((piece) => put(piece.item, piece, 'black')); // (a symbol is lighter than its part)
     map.inside.parts.forEach((part) => over_rows(part.start, part.end, (x, width, y) => {
         const next = symbols.find((piece) => piece.y === y && piece.x + piece.width > x)?.x
             ?? Infinity; // (a function may begin soon)
-        put(part, { x, width: Math.min(width, next - x), y }, part.kind === 'header' ? 'paper' : 'on-kind');
+        put(part, { x, width: Math.min(width, next - x), y }, readable_on(colour(part.kind)));
     }));
 }
 
