@@ -34,7 +34,8 @@ export async function area_panel() {
             .map((part) => `${100 * part}%`);
         Object.assign(link.style, { left, top, width, height }).setProperty('--tint', `var(--${kind})`);
         link.style.setProperty('--on', readable_on('var(--tint)'));
-        if (box.wide > WIDE && box.high > HIGH) link.append(put_text(make('b'), item.title), ` ${count(item.size)}`);
+        if (box.wide > WIDE && box.high > HIGH)
+            link.append(make('span', {}, put_text(make('b'), item.title), ` ${count(item.size)}`));
         areas.append(link);
     };
     for (const place of placed(await ask('sizes', LEAST * size / (wide * high)), { x: 0, y: 0, wide, high })) {

@@ -1412,8 +1412,10 @@ check_program('An area is as large as the share of its section in the file, and 
         await click(`.areas [href='${hash}']`);
         await until_chosen(name);
     }
-    // (a box without a name is named by the keyboard and below the pointer)
+    // (names are cut after whole lines; a box without a name is named by the keyboard and below the pointer)
     await open_sizes();
+    const lines = await each_of('.areas span', 'item.clientHeight / 14');
+    assert.ok(lines.length > 20 && lines.every(Number.isInteger), lines.join(' '));
     const [steps, place, x, y] = await evaluate(`(() => {
         const boxes = [...document.querySelectorAll('.areas a')], at = boxes.findIndex((box) => box.textContent === ''
             && box.hash.startsWith('#${symtab}/') && box.clientWidth > 5 && box.clientHeight > 5);
