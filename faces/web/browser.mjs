@@ -1418,6 +1418,8 @@ check_program('An area is as large as the share of its section in the file, and 
     assert.ok(lines.length > 20 && lines.every(Number.isInteger), lines.join(' '));
     const [steps, place, x, y] = await evaluate(`(() => {
         const boxes = [...document.querySelectorAll('.areas a')], at = boxes.findIndex((box) => box.textContent === ''
+    // (on paper they are on one sheet)
+    assert.equal(await evaluate(`getComputedStyle(${one('.areas')}).breakInside`), 'avoid');
             && box.hash.startsWith('#${symtab}/') && box.clientWidth > 5 && box.clientHeight > 5);
         const { left, top, width, height } = boxes[at].getBoundingClientRect();
         return [at, boxes[at].hash, left + width / 2, top + height / 2];
