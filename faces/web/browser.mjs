@@ -1158,13 +1158,15 @@ check('Paper has the summary, and all rows of the open list, over as many sheets
         for (let times = 0; times < 2; times++) await evaluate(`void dispatchEvent(new Event('beforeprint'))`);
         assert.equal((await each_of('.paper', 'item.id')).length, 1);
         const found = [await each_of('#paper .rows td:nth-child(2)', 'item.textContent'),
-            await text_of('#paper h2'), await each_of('#paper h3', 'item.textContent')];
+            await text_of('#paper h2'), await each_of('#paper h3', 'item.textContent'),
+            await each_of('#paper th.right', 'item.textContent')];
         await evaluate(`void dispatchEvent(new Event('afterprint'))`);
         return found;
     };
     await waited('the texts', async () => (await shown())[0].length > rows);
     assert.deepEqual((await shown()).slice(0, 2), [['', ...names], 'Symbols 1,501, .symtab (1,501)']);
     assert.ok((await shown())[2].includes('What it is'));
+    assert.deepEqual((await shown())[3], ['#', 'Value', 'Size']);
     const all = await sheets();
     assert.ok(all > rows / 100 && all < rows / 20, `${all} sheets`);
     await search('name_14', '111 of 1,501');
@@ -1416,10 +1418,10 @@ check_program('An area is as large as the share of its section in the file, and 
     await open_sizes();
     const lines = await each_of('.areas span', 'item.clientHeight / 14');
     assert.ok(lines.length > 20 && lines.every(Number.isInteger), lines.join(' '));
-    const [steps, place, x, y] = await evaluate(`(() => {
-        const boxes = [...document.querySelectorAll('.areas a')], at = boxes.findIndex((box) => box.textContent === ''
     // (on paper they are on one sheet)
     assert.equal(await evaluate(`getComputedStyle(${one('.areas')}).breakInside`), 'avoid');
+    const [steps, place, x, y] = await evaluate(`(() => {
+        const boxes = [...document.querySelectorAll('.areas a')], at = boxes.findIndex((box) => box.textContent === ''
             && box.hash.startsWith('#${symtab}/') && box.clientWidth > 5 && box.clientHeight > 5);
         const { left, top, width, height } = boxes[at].getBoundingClientRect();
         return [at, boxes[at].hash, left + width / 2, top + height / 2];

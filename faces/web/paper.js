@@ -17,7 +17,8 @@ export async function prepare_paper(mine) {
 }
 
 function table_of({ head, columns }, text) {
-    const body = make('tbody'), titles = [...head.children].map(({ textContent }) => make('th', {}, textContent));
+    const body = make('tbody'), titles = Array.from(head.children, ({ textContent }, i) =>
+        make('th', { class: columns[i].is_right && 'right' }, textContent));
     for (const line of text ? text.split('\n') : []) {
         const row = body.insertRow();
         line.split('\t').forEach((cell, i) => Object.assign(row.insertCell(), { textContent: cell,
