@@ -629,8 +629,8 @@ fn cuts_refusals(rt: HostRuntime) {
 }
 
 // What is printed of the layout: the size of each struct, and each struct with its fields in the order in which
-// goblin.h declares them, with their marks: numbers of one, two, four or eight bytes, of which each is the field's place
-// in the struct, from 1 on.
+// goblin.h declares them, with their marks: numbers of one, two, four or eight bytes, of which each is the field's
+// place in the struct, from 1 on.
 static LAYOUT: &str = "GoblinLayout { size_of_refusal: 48, size_of_range: 16, size_of_header: 56, \
         size_of_section: 72, size_of_segment: 56, size_of_symbol: 40, size_of_reloc: 32, \
         size_of_note: 48, size_of_dyn: 16, \

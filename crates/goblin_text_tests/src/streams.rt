@@ -43,8 +43,8 @@ pub(crate) const FAILURES: [Balk; 15] = [
 // Interruptions, by kind and by the system's number.
 pub(crate) const INTERRUPTIONS: [Balk; 2] = [Balk::Kind(ErrorKind::Interrupted), Balk::Number(4)];
 
-// A reader of some bytes, or a writer that holds them, of few bytes at once. It counts its calls, and balks at one, or at
-// each other read or write.
+// A reader of some bytes, or a writer that holds them, of few bytes at once. It counts its calls, and balks at one, or
+// at each other read or write.
 #[derive(Drop)]
 pub(crate) struct Parts<T> {
     pub(crate) bytes: T,
