@@ -1204,6 +1204,13 @@ check_program('In low and narrow windows the first result and the first bytes ar
         await go('section=.text', '.text');
         await until(bytes_drawn);
         assert.ok(await evaluate(is_seen('#chosen .hex .row')), `${width} ${height}`);
+        // (a list that is opened anew begins with its first row)
+        await open_tab('sections');
+        await go('section=.text', '.text');
+        await set_place('summary');
+        await until_there('#panel .summary');
+        await open_tab('sections');
+        assert.equal((await cells(0))[0], '0', `${width} ${height}`);
     }
 });
 

@@ -83,6 +83,7 @@ export async function open_tab(name, of) {
     mine.ready = (panels[name] ?? list_panel)(mine, of).then((content) => {
         if (open !== mine) return;
         fill(get('panel'), ...content);
+        if (mine.grid) mine.grid.scroller.scrollTop = 0; // (in Firefox it begins where the list before it was)
         mine.grid?.draw();
         if (!mine.grid && name !== 'summary') prepare_paper(mine);
     });
