@@ -199,6 +199,28 @@ def many(path):
         file.write(names + symbols + indices + b''.join(heads))
 
 
+def odd(path, e_type):
+    """Writes a file whose first section begins at 0x1000, with a function of 4 bytes and a label 0x10 bytes inside, and whose second one at
+    0x2000 is not in memory and has a label 0x40 bytes inside. Its relocations name no symbol table."""
+    first, second = (0, 0) if e_type == 1 else (0x1000, 0x2000)
+    symbol = lambda name, kind, section, value, size: struct.pack('<IBBHQQ', name, kind, 0, section, value, size)
+    symbols = bytes(24) + symbol(1, 18, 1, first + 0x10, 4) + symbol(10, 16, 1, first + 0x10, 0) + symbol(16, 16, 2, second + 0x40, 0)
+    parts = (bytes(0x100), bytes(0x100), b'\0function\0label\0outside\0', symbols, struct.pack('<QQq', 8, 1 << 32 | 2, -4))
+    ends = list(itertools.accumulate(map(len, parts), initial=64))
+    section = lambda i, kind, flags=0, address=0, link=0, entry=0: \
+        struct.pack('<IIQQQQIIQQ', 0, kind, flags, address, ends[i], len(parts[i]), link, 1, 1, entry)
+    heads = [bytes(64), section(0, 1, 6, 0x1000), section(1, 1, 0, 0x2000), section(2, 3), section(3, 2, link=3, entry=24),
+             section(4, 4, entry=24)]
+    with open(path, 'wb') as file:
+        file.write(struct.pack('<16sHHIQQQIHHHHHH', b'\x7fELF\2\1\1', e_type, 62, 1, 0, 0, ends[-1], 0, 64, 0, 0, 64, len(heads), 0))
+        file.write(b''.join([*parts, *heads]))
+
+
+# What is at addresses of such a file. In an object, of type 1, they are offsets in any section.
+ODD = {1: {'f': '??', '10': 'function', '13': 'function', '14': 'label', '3f': 'label', '40': 'outside', 'ff': 'outside', '100': '??'},
+       2: {'100f': '??', '1010': 'function', '1013': 'function', '1014': 'label', '10ff': 'label', '1100': '??', '2040': '??'}}
+
+
 def main():
     folder = sys.argv[1]
     paths = [path for path in sorted(glob.glob('checks/files/made/*')) if not path.endswith('.listed')]
@@ -208,6 +230,16 @@ def main():
     many(f'{folder}/many')
     listed, wanted = lines_of(f'{folder}/nm', f'{folder}/many'), [f'{0:016x} T {i} f{i:05}' for i in range(1, MANY)]
     comparison.count('symbols of a made file of as many sections', comparison.same('many: symbols', listed, wanted))
+    sizes = [line.split()[:5] for line in lines_of(f'{folder}/size', f'{folder}/many')[1:]]
+    comparison.same('many: size', sizes, [[f'{MANY - 1}', '0', '0', f'{MANY - 1}', f'{MANY - 1:x}']])
+    for e_type, at in ODD.items():
+        path = f'{folder}/odd{e_type}'
+        odd(path, e_type)
+        for way in ([], ['-1']):
+            found = lines_of(f'{folder}/symbolize', *way, path, *at)[::2]
+            comparison.count(f'symbols of a made file of type {e_type}', comparison.same(f'{path}: symbolize {way}', found, list(at.values())))
+        if os.path.exists(f'{comparison.rust}/relocations'):
+            comparison.same(f'{path}: relocations', lines_of(f'{comparison.rust}/relocations', path), [':', '8 2 1  - 4'])
     comparison.wrong.extend(f'nothing was compared: {what}' for what, number in comparison.counts.items() if not number)
     print('\n'.join(comparison.wrong[:20]))
     return 1 if comparison.wrong else 0
