@@ -65,6 +65,7 @@ async function check_facts() {
     assert.ok(table.length > 40);
     check_made_facts(of);
     check_bounds(of);
+    await check_versions(Elf);
     console.log(`facts.js says of ${table.length} stored files what facts.json says`);
 }
 
@@ -93,6 +94,21 @@ function check_bounds(of) {
         assert.deepEqual([last[fact], last.unknown.includes(fact)], [known, false], fact);
         assert.deepEqual([past[fact], past.unknown.includes(fact)], [null, true], fact);
     }
+}
+
+// Of versions a number is read in all, also where each of many libraries has all of them.
+async function check_versions(Elf) {
+    const [{ file }, { versions }] = await Promise.all([import('./file.js'), import('./dynamic.js')]);
+    const libraries = Array.from({ length: 100 }, (_, i) =>
+        packed([1, 2], [0xffff, 2], [1, 4], [1600 - 16 * i, 4], [16, 4]));
+    const names = Array.from({ length: 5000 }, () => packed([0, 8], [1, 4], [16, 4])),
+        bytes = Buffer.concat([...libraries, ...names, Buffer.from('\0a\0')]);
+    const entries = [[0x6ffffffe, 0], [0x6fffffff, 100], [5, bytes.length - 3], [10, 3], [0, 0]].flat()
+        .map((number) => [number, 8]);
+    file.elf = Elf.parse(elf_file({ type: 3, segments: [{ bytes }, { type: 2, bytes: packed(...entries) }] }));
+    const [[name, all], ...others] = versions();
+    assert.deepEqual([name, others], ['a', []]);
+    assert.ok(all.length > 4000 && all.length <= 4096, `${all.length} versions`);
 }
 
 // What each entry, flag, name and note says alone, by the numbers of the standard.
