@@ -819,6 +819,20 @@ check_program('A search finds texts and addresses, and Enter opens what it finds
     assert.equal(await fragment(), `symbols/${index}/1`);
 });
 
+check('Each row of a list that is higher than an element can be is reached', async () => {
+    const texts = Array.from({ length: 300000 }, (_, i) => ({ text: `s${i + 1}` }));
+    await pick_written('high', symbols_file(texts), 'symbols');
+    for (const index of [300000, 150000, 299990, 1]) {
+        await go(`symbols/1/${index}`, `s${index}`);
+        const [first, ...others] = (await cells(0)).map(Number), seen = others.map((_, i) => first + i + 1);
+        assert.deepEqual([others, await text_of(`${active_row} :nth-child(2)`)], [seen, `s${index}`]);
+        assert.ok(await evaluate(`${one('#panel .grid')}.getBoundingClientRect().bottom
+            > ${one(active_row)}.getBoundingClientRect().top`));
+    }
+    await press('#panel .grid', 'ArrowDown');
+    await until_chosen('s2');
+});
+
 // The first ones read the names. They take a few seconds of a busy processor, and not one for each 10,000.
 check('Searches and sorts of 184,833 symbols of C++ are fast, and say how much is done', async () => {
     const count = 184832, end = 'EEEE4some3mapERKSt6vectorISt4pairIPKcS0_ISsEESaIS6_EEi';
