@@ -1,7 +1,8 @@
 """Edits, each of which plants a wrong body, or as a control a right one in the same form, and where their changes are.
 
 An edit is a file. It has a line 'file: src/lib.rt', or with a file of specs/ or proofs/, and after it pairs of lines 'old: TEXT'
-and 'new: TEXT'. Each old text occurs exactly once in that file as it is committed.
+and 'new: TEXT'. Each old text occurs exactly once in that file as it is committed. A line 'only: FUNCTION' names a function by its path, by
+which an edit of more than a body is judged: it, what it calls and their lemmas are checked, and something of these must be refused.
 """
 import os
 import re
@@ -31,10 +32,12 @@ Change = namedtuple('Change', 'file start old new place function source', defaul
 
 @dataclass(frozen=True)
 class Edit:
-    """A wrong body, or another wrong text, or a right one: its folder and name, its changes, and the functions by which it is judged."""
+    """A wrong body, or another wrong text, or a right one: its folder and name, its changes, what alone is checked with it, and the functions
+    by which it is judged."""
     kind: str
     name: str
     changes: tuple
+    only: tuple = ()
     functions: frozenset = frozenset()
 
     def stands_in(self, *places):
@@ -48,7 +51,7 @@ class Edit:
                         for change in self.changes)
         paths = {change: path_among(change.function, known) for change in changes if change.function}
         # (what it writes elsewhere may be new)
-        is_named = all(path or change.place == ELSEWHERE for change, path in paths.items())
+        is_named = all(path or change.place == ELSEWHERE for change, path in paths.items()) and all(path in known for path in self.only)
         return replace(self, changes=changes, functions=frozenset(paths.values()) - {None}) if is_named else None
 
 
@@ -68,10 +71,12 @@ def read_edits(crate, options):
 def read_edit(path, kind, crate):
     if path.suffix != '.edit':
         raise Misfit('it is no edit')
-    changes, file, old = [], '', ''
-    for key, text in re.findall('^(file|old|new): ?(.*)', text_of(path), re.MULTILINE):
+    changes, only, file, old = [], [], '', ''
+    for key, text in re.findall('^(file|old|new|only): ?(.*)', text_of(path), re.MULTILINE):
         if key == 'file':
             file = text.strip()
+        elif key == 'only':
+            only.append(text.strip())
         elif key == 'old':
             old = text
         elif not file or not old:
@@ -83,7 +88,7 @@ def read_edit(path, kind, crate):
         raise Misfit('an old text without a new one, or no pair at all')
     if kind == CONTROLS and any(map(is_idle, changes)):
         raise Misfit('a condition of it, or a part of one, is constant')
-    return Edit(kind, f'{kind}/{path.stem}', tuple(changes))
+    return Edit(kind, f'{kind}/{path.stem}', tuple(changes), tuple(only))
 
 
 def start_of(old, path):

@@ -99,6 +99,12 @@ PLANTED = {
         ('must-fail/gives_half', '    x / 2', '    x / 2 + 0', 'NOT REFUSED: the crate is still proved with it'),
         ('controls/gives_half', '    x / 2', '    x + x', 'NOT ACCEPTED: its function is not proved with it'),
     ],
+    # (each names what alone is checked)
+    'src/numbers.rt': [
+        ('edits/one_is_two', 'ONE: u8 = 1;', 'ONE: u8 = 2;\nonly: planted::left::constants', 'refused with values: planted::left::constants'),
+        ('edits/two_is_three', 'TWO: u8 = 2;', 'TWO: u8 = 3;\nonly: planted::right::constants',
+         'NOT REFUSED: nothing is refused of planted::right::constants'),
+    ],
     'src/left.rt': [('edits/left_exchanges_two', '{ONE, TWO}', '{TWO as ONE, ONE as TWO}', 'refused with values: planted::left::constants')],
     'src/right.rt': [
         ('edits/right_exchanges_two', '{ONE, TWO}', '{TWO as ONE, ONE as TWO}', 'refused with values: planted::right::constants'),

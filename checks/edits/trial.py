@@ -5,7 +5,8 @@ bodies of different functions are applied at once, and one check judges them all
 function's is: one that only waits for another function, or that fails by names alone, is judged in a later group, without
 what it waits for, and in the end alone. So are edits of lists of constants that different modules pass on, each by its module's
 law, which says what number each name is there. An edit that changes more, as a constant or a definition, stands alone, and
-whatever cites that may refuse it, unless it must fail: then its own function must. A control is a right body, which must be accepted.
+whatever cites that may refuse it, or what it names as its judge, unless it must fail: then its own function must. A control is a right
+body, which must be accepted.
 Each check goes by what the crate's own proof left, so that none proves anew what an edit before it had changed.
 """
 import os
@@ -51,8 +52,9 @@ class Trial:
             if not edit.stands_in(BODY) and not edit.stands_in(LIST):
                 self.try_alone(edit)
 
-    def check(self, edits):
-        """What the prover says of the crate with these edits. A check that is killed, as where memory is short, is made once more."""
+    def check(self, edits, only=()):
+        """What the prover says of the crate with these edits, or of some functions. A check that is killed, as where memory is short, is made
+        once more."""
         texts = apply(edits, self.folder)
         before = {path: text_of(f'{self.folder}/{path}') for path in texts}
         self.write(texts)
@@ -60,7 +62,7 @@ class Trial:
             # (what the crate's own proof left, in place of what the last check did; no check writes into a file that is there)
             shutil.rmtree(self.cached, ignore_errors=True)
             shutil.copytree(self.proved, self.cached, copy_function=os.link)
-            command = ['rt', 'check', '--jobs', '1']
+            command = ['rt', 'check', '--jobs', '1', *(f'--only={path}' for path in sorted(only))]
             ran = subprocess.run(command, cwd=self.folder, stdin=subprocess.DEVNULL, capture_output=True, text=True, errors='replace')
             if ran.returncode < KILLED:
                 break
@@ -95,7 +97,7 @@ class Trial:
     def try_group(self, pending):
         """Judges as many edits as can be judged together, or the first one alone, and returns those that are still to be judged."""
         group = self.next_group(pending)
-        said = self.check(group) if len(group) > 1 else Said('', self.crate)
+        said = self.check(group, frozenset().union(*(edit.functions for edit in group))) if len(group) > 1 else Said('', self.crate)
         for path, function in said.functions.items():
             self.waits[path] |= function.waits
         judged = [edit for edit in group if said.is_whole and self.judge(edit, said)]
@@ -126,8 +128,12 @@ class Trial:
 
     def try_alone(self, edit):
         """Judges an edit by a check of its own."""
-        said = self.check([edit])
-        is_right, refused, is_proved = self.verdict(edit, said)
+        # (the whole crate only where its functions do not judge it)
+        for only in [edit.only] if edit.only else [edit.functions, ()] if edit.stands_in(BODY, LIST) else [()]:
+            said = self.check([edit], only)
+            is_right, refused, is_proved = self.verdict(edit, said)
+            if is_right:
+                break
         all_refused = said.refused()
         if not said.is_whole:
             self.report_wrong(edit, 'the edited code is no valid Rattle, so no contract was tried')
@@ -140,6 +146,8 @@ class Trial:
         elif all_refused and edit.kind != MUST_FAIL and not edit.stands_in(BODY, HEAD, LIST):
             # it changes a definition, a constant or a type: whatever cites it may refuse it
             self.report_right(edit, dict(list(all_refused.items())[:3]))
+        elif edit.only and not all_refused:
+            self.report_wrong(edit, f'nothing is refused of {" and ".join(edit.only)}')
         elif is_proved:
             others = f', though {next(iter(all_refused))} is not' if all_refused else ''
             self.report_wrong(edit, f'its own function is still proved with it{others}')

@@ -13,7 +13,8 @@ ANSWER = re.compile(r'^(?:\./)?(proofs/\S+?):\d+:\d+: error: (.*)', re.M)
 NAMES_ALONE = re.compile(r'has no field|is not in scope|has no `|was not admitted')
 # what it waits for
 WAITS = re.compile(r'it (?:calls|passes|waits for) .*')
-END = re.compile(r'^logic=(proved|not-proved)', re.M)
+# (of a whole crate whether it is proved, or of some functions their number)
+END = re.compile(r'^(?:logic|only)=(\S+)', re.M)
 # that it ended with a function, whatever came of it
 CHECKED = re.compile(r'checked (\S+), \d+ of \d+')
 
