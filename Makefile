@@ -24,7 +24,7 @@ show:
 	@sh commands/show.sh show
 
 # Tests all, but doesn't prove the tests themselves. First come checks that take seconds: of the pages, the scripts, and whether the edits
-# fit the code. Then run side by side, as many as there are processors: the proof of each crate; the tests; the program over real and
+# fit the code. Then run side by side, about as many as there are processors: the proof of each crate; the tests; the program over real and
 # hostile files; calls of the library from C, Rust, JavaScript and Python; the edits of must-fail/ and controls/; and allocations that are
 # refused. The last lines are a table of what each part took. commands/surroundings.sh runs them in other surroundings, with OVER, a folder
 # that was tested before: its proofs are taken over, and edits are left out.

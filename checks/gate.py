@@ -9,7 +9,7 @@
     python3 checks/gate.py prove CRATE     in a copy of the repository in which the crates below are proved: a part of each of these
 
 The crates are proved in a copy of the repository, which holds nothing that an earlier run left there; `edits` takes over what checks in
-the crates' folders have cached. As many parts run side by side as there are processors. Proofs and the calls from other languages begin as
+the crates' folders have cached. About as many parts run side by side as there are processors. Proofs and the calls from other languages begin as
 soon as they can, and what the longest chain waits for gets a processor first. A part that fails is printed whole, and what waits for it is
 left out. What each part prints stands in out/log.
 """

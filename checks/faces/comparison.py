@@ -182,43 +182,48 @@ class Comparison:
         return self.lists('needed', needed_by_readelf)
 
 
+def symbol(name, info, section, value, size):
+    return struct.pack('<IBBHQQ', name, info, 0, section, value, size)
+
+
+def section(kind, flags, address, place, size, link=0, info=0, entry=0):
+    return struct.pack('<IIQQQQIIQQ', 0, kind, flags, address, place, size, link, info, 1, entry)
+
+
+def write(path, e_type, parts, heads, count):
+    """Writes a 64-bit little-endian file of these parts, and of section headers, whose number the header has."""
+    with open(path, 'wb') as file:
+        file.write(struct.pack('<16sHHIQQQIHHHHHH', b'\x7fELF\2\1\1', e_type, 62, 1, 0, 0, 64 + sum(map(len, parts)), 0, 64, 0, 0, 64, count, 0))
+        file.write(b''.join([*parts, *heads]))
+
+
 def many(path):
     """Writes an object of MANY sections of a byte, each with a function. What the header has no room for is in the section at index 0, and the
     index of a function's section in a table of such indices."""
     names, indices = b''.join(b'f%05d\0' % i for i in range(1, MANY)), struct.pack(f'<{MANY}I', *range(MANY))
-    symbol = lambda i: struct.pack('<IBBHQQ', 7 * (i - 1), 18, 0, i if i < 0xff00 else 0xffff, 0, 1)
-    symbols = bytes(24) + b''.join(map(symbol, range(1, MANY)))
-    count, start = MANY + 3, 64
-    section = lambda kind, flags, place, size, link=0, info=0, entry=0: \
-        struct.pack('<IIQQQQIIQQ', 0, kind, flags, 0, place, size, link, info, 1, entry)
-    ends = list(itertools.accumulate(map(len, (names, symbols, indices)), initial=start))
-    heads = [section(0, 0, 0, count), *[section(1, 6, start, 1)] * (MANY - 1), section(3, 0, ends[0], len(names)),
-             section(2, 0, ends[1], len(symbols), MANY, 1, 24), section(18, 0, ends[2], len(indices), MANY + 1, 0, 4)]
-    with open(path, 'wb') as file:
-        file.write(struct.pack('<16sHHIQQQIHHHHHH', b'\x7fELF\2\1\1', 1, 62, 1, 0, 0, ends[3], 0, 64, 0, 0, 64, 0, 0))
-        file.write(names + symbols + indices + b''.join(heads))
+    symbols = bytes(24) + b''.join(symbol(7 * (i - 1), 18, i if i < 0xff00 else 0xffff, 0, 1) for i in range(1, MANY))
+    parts = (names, symbols, indices)
+    starts = list(itertools.accumulate(map(len, parts), initial=64))
+    heads = [section(0, 0, 0, 0, MANY + 3), *[section(1, 6, 0, 64, 1)] * (MANY - 1), section(3, 0, 0, starts[0], len(names)),
+             section(2, 0, 0, starts[1], len(symbols), MANY, 1, 24), section(18, 0, 0, starts[2], len(indices), MANY + 1, 0, 4)]
+    write(path, 1, parts, heads, 0)
 
 
-def odd(path, e_type):
+def with_labels(path, e_type):
     """Writes a file whose first section begins at 0x1000, with a function of 4 bytes and a label 0x10 bytes inside, and whose second one at
     0x2000 is not in memory and has a label 0x40 bytes inside. Its relocations name no symbol table."""
     first, second = (0, 0) if e_type == 1 else (0x1000, 0x2000)
-    symbol = lambda name, kind, section, value, size: struct.pack('<IBBHQQ', name, kind, 0, section, value, size)
     symbols = bytes(24) + symbol(1, 18, 1, first + 0x10, 4) + symbol(10, 16, 1, first + 0x10, 0) + symbol(16, 16, 2, second + 0x40, 0)
     parts = (bytes(0x100), bytes(0x100), b'\0function\0label\0outside\0', symbols, struct.pack('<QQq', 8, 1 << 32 | 2, -4))
-    ends = list(itertools.accumulate(map(len, parts), initial=64))
-    section = lambda i, kind, flags=0, address=0, link=0, entry=0: \
-        struct.pack('<IIQQQQIIQQ', 0, kind, flags, address, ends[i], len(parts[i]), link, 1, 1, entry)
-    heads = [bytes(64), section(0, 1, 6, 0x1000), section(1, 1, 0, 0x2000), section(2, 3), section(3, 2, link=3, entry=24),
-             section(4, 4, entry=24)]
-    with open(path, 'wb') as file:
-        file.write(struct.pack('<16sHHIQQQIHHHHHH', b'\x7fELF\2\1\1', e_type, 62, 1, 0, 0, ends[-1], 0, 64, 0, 0, 64, len(heads), 0))
-        file.write(b''.join([*parts, *heads]))
+    text, other, names, table, relocations = zip(itertools.accumulate(map(len, parts), initial=64), map(len, parts))
+    heads = [bytes(64), section(1, 6, 0x1000, *text), section(1, 0, 0x2000, *other), section(3, 0, 0, *names),
+             section(2, 0, 0, *table, 3, 1, 24), section(4, 0, 0, *relocations, 0, 1, 24)]
+    write(path, e_type, parts, heads, len(heads))
 
 
 # What is at addresses of such a file. In an object, of type 1, they are offsets in any section.
-ODD = {1: {'f': '??', '10': 'function', '13': 'function', '14': 'label', '3f': 'label', '40': 'outside', 'ff': 'outside', '100': '??'},
-       2: {'100f': '??', '1010': 'function', '1013': 'function', '1014': 'label', '10ff': 'label', '1100': '??', '2040': '??'}}
+LABELS = {1: {'f': '??', '10': 'function', '13': 'function', '14': 'label', '3f': 'label', '40': 'outside', 'ff': 'outside', '100': '??'},
+          2: {'100f': '??', '1010': 'function', '1013': 'function', '1014': 'label', '10ff': 'label', '1100': '??', '2040': '??'}}
 
 
 def main():
@@ -232,9 +237,9 @@ def main():
     comparison.count('symbols of a made file of as many sections', comparison.same('many: symbols', listed, wanted))
     sizes = [line.split()[:5] for line in lines_of(f'{folder}/size', f'{folder}/many')[1:]]
     comparison.same('many: size', sizes, [[f'{MANY - 1}', '0', '0', f'{MANY - 1}', f'{MANY - 1:x}']])
-    for e_type, at in ODD.items():
-        path = f'{folder}/odd{e_type}'
-        odd(path, e_type)
+    for e_type, at in LABELS.items():
+        path = f'{folder}/labels{e_type}'
+        with_labels(path, e_type)
         for way in ([], ['-1']):
             found = lines_of(f'{folder}/symbolize', *way, path, *at)[::2]
             comparison.count(f'symbols of a made file of type {e_type}', comparison.same(f'{path}: symbolize {way}', found, list(at.values())))
