@@ -5,6 +5,32 @@ use crate::{faults, held, records, strings};
 use goblin::error::Result;
 use std::alloc::Global;
 
+// The calls that refuse their input before they take memory.
+const TAKE_NONE: [&str; 9] = [
+    "segments-many",
+    "segments-late32",
+    "segments-endless32",
+    "segments-late64",
+    "sections-outside",
+    "sections-many",
+    "symbols-many",
+    "strings-outside",
+    "strings-early",
+];
+
+// The calls that ask for less memory where the first allocation is refused.
+const GO_ON: [&str; 9] = [
+    "segments-parse32",
+    "segments-parse64",
+    "segments-bytes32",
+    "segments-bytes64",
+    "sections-bytes32",
+    "sections-bytes64",
+    "symbols-vector",
+    "symbols-table",
+    "symbols-relocs",
+];
+
 /// Makes the call with this name and returns its result, or `None` if there is no such call.
 pub(crate) fn answer_to(alloc: Global, name: &str) -> Option<Result<Answer>> {
     match name.split_once('-') {
@@ -21,14 +47,11 @@ pub(crate) fn answer_to(alloc: Global, name: &str) -> Option<Result<Answer>> {
 
 /// Returns what the call with this name does if its first allocation is refused.
 pub(crate) fn first_of(name: &str) -> First {
-    match name.split_once('-') {
-        Some(("segments", "many" | "late32" | "endless32" | "late64")) => First::TakesNone,
-        Some(("sections", "outside" | "many")) => First::TakesNone,
-        Some(("symbols", "many")) => First::TakesNone,
-        Some(("strings", "outside" | "early")) => First::TakesNone,
-        Some(("segments", "parse32" | "parse64" | "bytes32" | "bytes64")) => First::GoesOn,
-        Some(("sections", "bytes32" | "bytes64")) => First::GoesOn,
-        Some(("symbols", "vector" | "table" | "relocs")) => First::GoesOn,
-        _ => First::Fails,
+    if TAKE_NONE.contains(&name) {
+        First::TakesNone
+    } else if GO_ON.contains(&name) {
+        First::GoesOn
+    } else {
+        First::Fails
     }
 }

@@ -18,7 +18,7 @@ mod records;
 mod strings;
 
 use allocations::{Tried, judged, takes_all_before, was_met};
-use answer::text_of;
+use answer::{Answer, text_of};
 use calls::{answer_to, first_of};
 use goblin::error::Result;
 use std::alloc::Global;
@@ -46,13 +46,34 @@ fn read_input(rt: &HostRuntime, buffer: &mut [u8; MOST]) -> io::Result<usize>
     Ok(filled.min(MOST))
 }
 
+// A word of a line as a number.
+fn number_of(word: Option<&str>) -> u64 {
+    word.unwrap_or("").parse::<u64>().unwrap_or(0)
+}
+
+// The numbers of the allocation that is refused, of the call's and of the program's, and whether the call should
+// not make it.
+fn refusal_of(numbers: &str) -> (u64, u64, bool) {
+    let mut words = numbers.split(' ');
+    let (number, refused) = (number_of(words.next()), number_of(words.next()));
+    (number, refused, words.next() == Some("last"))
+}
+
+// Reports whether an answer is that memory was refused, and whether it is the one with ample memory.
+fn compared(
+    alloc: Global,
+    answer: &Result<Answer>,
+    ample: &Result<Answer>,
+) -> Result<(bool, bool)> {
+    let text = text_of(alloc, answer)?;
+    let ample = text_of(alloc, ample)?;
+    Ok((text.as_str() == "refused: Out of memory", text == ample))
+}
+
 // Makes the call of a line with its allocation refused and with ample memory, and returns whether the results
 // are as expected.
 fn tried(alloc: Global, name: &str, numbers: &str) -> Result<&'static str> {
-    let mut words = numbers.split(' ');
-    let number = words.next().unwrap_or("").parse::<u64>().unwrap_or(0);
-    let refused = words.next().unwrap_or("").parse::<u64>().unwrap_or(0);
-    let is_last = words.next() == Some("last");
+    let (number, refused, is_last) = refusal_of(numbers);
     let takes_all = takes_all_before(alloc, number, refused);
     let answer = answer_to(alloc, name);
     let is_met = was_met(alloc, number);
@@ -62,13 +83,13 @@ fn tried(alloc: Global, name: &str, numbers: &str) -> Result<&'static str> {
     if !takes_all {
         return Ok("an allocation before the call was refused");
     }
-    let text = text_of(alloc, &answer)?;
+    let (is_out_of_memory, is_ample) = compared(alloc, &answer, &ample)?;
     let tried = Tried {
         number,
         is_last,
         is_met,
-        is_out_of_memory: text.as_str() == "refused: Out of memory",
-        is_ample: text == text_of(alloc, &ample)?,
+        is_out_of_memory,
+        is_ample,
     };
     Ok(judged(first_of(name), &tried))
 }
