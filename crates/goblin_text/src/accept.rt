@@ -84,14 +84,14 @@ fn sections_of(
 fn has_symbols(section: &SectionHeader) -> bool
     ensures { result ≡ has_symbols section.now }
 {
-    (section.sh_type == SHT_SYMTAB || section.sh_type == SHT_DYNSYM) && section.sh_size > 0
+    matches!(section.sh_type, SHT_SYMTAB | SHT_DYNSYM) && section.sh_size > 0
 }
 
 // Reports whether a section holds relocations.
 fn has_relocs(section: &SectionHeader) -> bool
     ensures { result ≡ has_relocs section.now }
 {
-    (section.sh_type == SHT_REL || section.sh_type == SHT_RELA) && section.sh_size > 0
+    matches!(section.sh_type, SHT_REL | SHT_RELA) && section.sh_size > 0
 }
 
 // What is known of a file once its section headers are read.
