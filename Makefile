@@ -33,10 +33,10 @@ test:
 	@python3 checks/gate.py test $(if $(filter command%,$(origin OVER)),--over '$(OVER)')
 
 # Tests all, and proves the tests too: they and must-fail/ are left to the toolchain's own gate, `rt ci`, which proves all from nothing once
-# more. All other edits are tried, and so is the script that tries them. JOBS is for checks/prove.sh: one process takes least.
+# more. All other edits are tried, and so is the script that tries them. JOBS and UNBUILT are for checks/prove.sh: one process takes least.
 gate:
 	$(has_rt)
-	@JOBS=1 python3 checks/gate.py gate
+	@JOBS=1 UNBUILT=1 python3 checks/gate.py gate
 
 # Calls the library from C, Rust, JavaScript and Python.
 faces:

@@ -101,7 +101,7 @@ def prove(crate):
 
 
 # What `make gate` leaves to `rt ci`, which proves and runs it too. (Long tests take minutes without a proof, with checks of each access.)
-LEFT = ('goblin_long_tests', 'goblin_names', 'goblin_refused')
+LEFT = ('goblin_long_tests', 'goblin_names', 'goblin_refused', 'goblin_show')
 
 # What takes seconds. All else waits for it.
 QUICK = {'lint': f'{PYTHON} checks/lint', 'whether edits fit': f'{PYTHON} checks/edits --fits', 'views': 'sh checks/views.sh'}
@@ -135,6 +135,7 @@ def test(room, whole, over):
     kinds = [] if over else ['controls', 'edits'] if whole else ['must-fail', 'controls']
     built = copied(f'{room}/whole') if whole else copy
     here = lambda name, command, *after, where=copy: Part(name, command.split(), after or waits, where)
+    ran = lambda name, command, *after: here(name, command, *(['rt ci'] if whole else after), where=built)
     parts = [Part(name, command.split(), is_first=True) for name, command in QUICK.items()]
     # (each of its proofs by one process, which takes least, where the toolchain heeds this)
     parts += [Part('rt ci', ['env', f'RT_JOBS={len(os.sched_getaffinity(0))}', 'rt', 'ci'], waits, built, True)] if whole else []
@@ -149,11 +150,10 @@ def test(room, whole, over):
     for some in [','.join(kinds)] if whole else kinds:
         parts += edits(crates_with(some.split(',')), copy, '--kinds', some, what='edits' if whole else some)
     parts += [here('refused allocations', 'sh checks/refused.sh'),
-              here('the program', f'{PYTHON} checks/program.py', 'proof of goblin_show', 'proof of goblin_uses'),
-              here('hostile files', f'{PYTHON} checks/limits.py',
-                   *(['rt ci'] if whole else ['proof of goblin_show', 'proof of goblin_refused']), where=built),
-              # (it builds the program once more, which these run)
-              here("README's commands", f'{PYTHON} checks/readme.py', 'the program', *([] if whole else ['hostile files']))]
+              ran('the program', f'{PYTHON} checks/program.py', 'proof of goblin_show', 'proof of goblin_uses'),
+              ran('hostile files', f'{PYTHON} checks/limits.py', 'proof of goblin_show', 'proof of goblin_refused'),
+              # (it builds the program here, which these run too unless `rt ci` built theirs)
+              here("README's commands", f'{PYTHON} checks/readme.py', *(['proof of goblin_text'] if whole else ['the program', 'hostile files']))]
     # (in this folder, which git knows)
     parts += [Part('commands', ['sh', 'checks/commands.sh'], waits)]
     return parts + [here("the edits' own test", f'{PYTHON} checks/edits/self_test.py')] * whole
