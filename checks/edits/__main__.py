@@ -25,10 +25,11 @@ from verdict import Said
 
 
 def without_pair(crate):
-    """The edits of must-fail/ without a control, and the controls without such an edit. A search that finds no proof of a wrong body shows
+    """The edits of must-fail/ without a control, and the controls without a wrong body. A search that finds no proof of a wrong body shows
     little if it finds none of a right one in the same form either."""
-    names = [{path.name for path in Path(f'crates/{crate}/{kind}').glob('*')} for kind in (MUST_FAIL, CONTROLS)]
-    return [f'{crate}/{name}: it stands in one of {MUST_FAIL}/ and {CONTROLS}/, and not in both' for name in sorted(names[0] ^ names[1])]
+    wrong, must_fail, right = ({path.name for path in Path(f'crates/{crate}/{kind}').glob('*')} for kind in (EDITS, MUST_FAIL, CONTROLS))
+    lacking = {**dict.fromkeys(must_fail - right, 'control'), **dict.fromkeys(right - wrong - must_fail, 'wrong body')}
+    return [f'{crate}/{name}: no {what} has its name' for name, what in sorted(lacking.items())]
 
 
 def fits(options):

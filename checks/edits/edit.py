@@ -22,7 +22,8 @@ class Misfit(Exception):
 BODY, HEAD, LIST, ELSEWHERE = 'body', 'head', 'list', 'elsewhere'
 # The function of a module that says what number each of its constants is.
 LAW = 'constants'
-# The folders of a crate that hold edits: wrong bodies; those that break a promise outright; and for each of these a right body.
+# The folders of a crate that hold edits: wrong bodies; those that break a promise outright; and for each of these, and some others, a right
+# body of its name.
 EDITS, MUST_FAIL, CONTROLS = 'edits', 'must-fail', 'controls'
 
 # One text of a file that is replaced: where it starts, its place, the function that is to be refused for it, or that it writes elsewhere, if
@@ -32,12 +33,13 @@ Change = namedtuple('Change', 'file start old new place function source', defaul
 
 @dataclass(frozen=True)
 class Edit:
-    """A wrong body, or another wrong text, or a right one: its folder and name, its changes, what alone is checked with it, and the functions
-    by which it is judged."""
+    """A wrong body, or another wrong text, or a right one: its folder and name, its changes, what alone is checked with it, whether it is
+    wrong and has a control, and the functions by which it is judged."""
     kind: str
     name: str
     changes: tuple
     only: tuple = ()
+    has_control: bool = False
     functions: frozenset = frozenset()
 
     def stands_in(self, *places):
@@ -88,7 +90,8 @@ def read_edit(path, kind, crate):
         raise Misfit('an old text without a new one, or no pair at all')
     if kind == CONTROLS and any(map(is_idle, changes)):
         raise Misfit('a condition of it, or a part of one, is constant')
-    return Edit(kind, f'{kind}/{path.stem}', tuple(changes), tuple(only))
+    has_control = kind != CONTROLS and os.path.isfile(f'crates/{crate}/{CONTROLS}/{path.name}')
+    return Edit(kind, f'{kind}/{path.stem}', tuple(changes), tuple(only), has_control)
 
 
 def start_of(old, path):

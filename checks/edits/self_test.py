@@ -115,7 +115,7 @@ PLANTED = {
 
 # An edit of must-fail/ that doesn't fit the code and has no control, a control that never runs, and what is to be said of them.
 MISFITS = {'must-fail/stands_nowhere': ('    x + 9', '    x'), 'controls/adds_two': ('    x + 1', '    if x < 9 && 0 > 1 { return x; } x + 1')}
-MISFIT = ['planted/must-fail/stands_nowhere.edit: 0 times in ', 'planted/stands_nowhere.edit: it stands in one of must-fail/ and controls/',
+MISFIT = ['planted/must-fail/stands_nowhere.edit: 0 times in ', 'planted/stands_nowhere.edit: no control has its name',
           'planted/controls/adds_two.edit: a condition of it, or a part of one, is constant']
 
 # Lines of the prover, and what each says is open of a function.

@@ -5,8 +5,8 @@ bodies of different functions are applied at once, and one check judges them all
 function's is: one that only waits for another function, or that fails by names alone, is judged in a later group, without
 what it waits for, and in the end alone. So are edits of lists of constants that different modules pass on, each by its module's
 law, which says what number each name is there. An edit that changes more, as a constant or a definition, stands alone, and
-whatever cites that may refuse it, or what it names as its judge, unless it must fail: then its own function must. A control is a right
-body, which must be accepted.
+whatever cites that may refuse it, or what it names as its judge, unless it has a control: then its own function must. A control is a
+right body, which must be accepted.
 Each check goes by what the crate's own proof left, so that none proves anew what an edit before it had changed.
 """
 import os
@@ -15,7 +15,7 @@ import subprocess
 from collections import Counter, defaultdict
 
 from crates import text_of
-from edit import BODY, CONTROLS, HEAD, LIST, MUST_FAIL, apply
+from edit import BODY, CONTROLS, HEAD, LIST, apply
 from verdict import Said
 
 # From this status on a check was killed; what comes of a right body.
@@ -110,8 +110,8 @@ class Trial:
         """Whether a check judges an edit as it should be, how it refuses each of the edit's functions that it refuses, and whether it proves
         all of them."""
         own = {path: said.functions.get(path) for path in sorted(edit.functions)}
-        # (what must fail leaves a goal open, of a clause or at values)
-        is_refused = lambda function: function and function.refused and (function.open or edit.kind != MUST_FAIL)
+        # (what has a control leaves a goal open, of a clause or at values)
+        is_refused = lambda function: function and function.refused and (function.open or not edit.has_control)
         refused = {path: function.refused for path, function in own.items() if is_refused(function)}
         is_proved = bool(own) and all(function and function.is_proved for function in own.values())
         return is_proved if edit.kind == CONTROLS else bool(refused), refused, is_proved
@@ -129,7 +129,8 @@ class Trial:
     def try_alone(self, edit):
         """Judges an edit by a check of its own."""
         # (the whole crate only where its functions do not judge it)
-        for only in [edit.only] if edit.only else [edit.functions, ()] if edit.stands_in(BODY, LIST) else [()]:
+        by_its_own = edit.stands_in(BODY, LIST) or edit.kind == CONTROLS or edit.has_control
+        for only in [edit.only] if edit.only else [edit.functions, ()] if by_its_own else [()]:
             said = self.check([edit], only)
             is_right, refused, is_proved = self.verdict(edit, said)
             if is_right:
@@ -143,7 +144,7 @@ class Trial:
             self.report_wrong(edit, f'its function is not proved with it\n{said.text[-2000:]}')
         elif said.is_proved:
             self.report_wrong(edit, 'the crate is still proved with it')
-        elif all_refused and edit.kind != MUST_FAIL and not edit.stands_in(BODY, HEAD, LIST):
+        elif all_refused and not edit.has_control and not edit.stands_in(BODY, HEAD, LIST):
             # it changes a definition, a constant or a type: whatever cites it may refuse it
             self.report_right(edit, dict(list(all_refused.items())[:3]))
         elif edit.only and not all_refused:
