@@ -2,11 +2,11 @@
 
 A function is judged by its own clauses alone: those of other functions stay, whatever their bodies are. So edits that change
 bodies of different functions are applied at once, and one check judges them all. An edit is refused where a goal of its own
-function's is: one that only waits for another function, or that fails by names alone, is judged in a later group, without
-what it waits for, and in the end alone. So are edits of lists of constants that different modules pass on, each by its module's
-law, which says what number each name is there. An edit that changes more, as a constant or a definition, stands alone, and
-whatever cites that may refuse it, or what it names as its judge, unless it has a control: then its own function must. A control is a
-right body, which must be accepted.
+function's is. One that only waits for another function, as does a right body that calls a wrong one, or that fails by names
+alone, is judged in a later group, without what it waits for, and in the end alone. So are edits of lists of constants that
+different modules pass on, each by its module's law, which says what number each name is there. An edit that changes more, as a
+constant or a definition, stands alone, and whatever cites that may refuse it, or what it names as its judge, unless it has a
+control: then its own function must. A control is a right body, which must be accepted.
 Each check goes by what the crate's own proof left, so that none proves anew what an edit before it had changed.
 """
 import os
@@ -27,7 +27,9 @@ class Trial:
 
     def __init__(self, crate, folder, edits, before):
         self.crate, self.folder, self.edits, self.before = crate, folder, edits, before
-        self.ways, self.wrong, self.checks, self.waits = Counter(), [], 0, defaultdict(set)
+        self.ways, self.wrong, self.checks = Counter(), [], 0
+        # what functions were seen to wait for, and the edits that a group did not judge, most of which only waited
+        self.waits, self.left = defaultdict(set), set()
         self.cached, self.proved = f'{folder}/out/incremental', f'{folder}/out/proved'
 
     def run(self):
@@ -43,11 +45,9 @@ class Trial:
             self.report_wrong(edit, 'the prover names no function of this name')
         edits = [edit for edit in known.values() if edit]
         for place in (BODY, LIST):
-            # (a right body that calls a function with a wrong one is not proved, so these are tried apart)
-            for is_control in (True, False):
-                pending = [edit for edit in edits if edit.stands_in(place) and (edit.kind == CONTROLS) == is_control]
-                while pending:
-                    pending = self.try_group(pending)
+            pending = [edit for edit in edits if edit.stands_in(place)]
+            while pending:
+                pending = self.try_group(pending)
         for edit in edits:
             if not edit.stands_in(BODY) and not edit.stands_in(LIST):
                 self.try_alone(edit)
@@ -76,13 +76,15 @@ class Trial:
                 file.write(text)
 
     def next_group(self, pending):
-        """As many edits as change different functions, none of which is known to wait for another one of them."""
-        group, taken = [], set()
+        """As many edits as change different functions, and none that an earlier group left beside what its function was seen to wait for."""
+        group, taken, apart = [], set(), set()
         for edit in pending:
             own = edit.functions
-            if not (own | self.awaited(own)) & taken and not own & self.awaited(taken):
+            awaited = self.awaited(own) if edit in self.left else set()
+            if not (own | awaited) & taken and not own & apart:
                 group.append(edit)
                 taken |= own
+                apart |= awaited
         return group
 
     def awaited(self, paths):
@@ -101,6 +103,7 @@ class Trial:
         for path, function in said.functions.items():
             self.waits[path] |= function.waits
         judged = [edit for edit in group if said.is_whole and self.judge(edit, said)]
+        self.left.update(edit for edit in group if edit not in judged)
         if not judged:
             judged = group[:1]
             self.try_alone(*judged)
