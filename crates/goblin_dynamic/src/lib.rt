@@ -6,5 +6,3 @@
 pub mod dynamic;
 pub mod entry;
 pub mod tags;
-#[cfg(test)]
-mod tests;

@@ -1,5 +1,5 @@
-//! Tests of `goblin` and of the three crates below it, a file for each file of theirs, by its name: each reaches its
-//! subject by the paths of the crate that it lies in.
+//! Tests of `goblin`, of the crates below it and of `goblin_dynamic`, a file for each file of theirs, by its name: each
+//! reaches its subject by the paths of the crate that it lies in.
 #![tactic(auto)]
 
 #[cfg(test)]
@@ -10,6 +10,8 @@ mod container;
 mod cost;
 #[cfg(test)]
 mod counted_bytes;
+#[cfg(test)]
+mod dynamic;
 #[cfg(test)]
 mod entries;
 #[cfg(test)]

@@ -1,34 +1,15 @@
 //! Worked rows, by bytes written by hand: entries in each class and byte order, and where the section and its strings
 //! lie by the segments and by the sections of two small files.
-use crate::dynamic::{Dynamic, FileRange};
-use crate::entry::Dyn;
-use crate::tags::{DT_NEEDED, DT_NULL, DT_SONAME, DT_STRSZ, DT_STRTAB};
+use crate::container::{BIG32, BIG64, LITTLE32, LITTLE64};
 use goblin::elf::program_header::ProgramHeader;
 use goblin::elf::section_header::SectionHeader;
-use goblin_base::container::{BE, Container, Ctx, LE};
-use goblin_base::error::{Error, Result};
+use goblin_base::container::Ctx;
+use goblin_base::error::Error;
 use goblin_base::scroll;
 use goblin_base::scroll::{TryFromCtx, TryIntoCtx};
-
-const LITTLE32: Ctx = Ctx {
-    container: Container::Little,
-    le: LE,
-};
-
-const BIG32: Ctx = Ctx {
-    container: Container::Little,
-    le: BE,
-};
-
-const LITTLE64: Ctx = Ctx {
-    container: Container::Big,
-    le: LE,
-};
-
-const BIG64: Ctx = Ctx {
-    container: Container::Big,
-    le: BE,
-};
+use goblin_dynamic::dynamic::{Dynamic, FileRange};
+use goblin_dynamic::entry::Dyn;
+use goblin_dynamic::tags::{DT_NEEDED, DT_NULL, DT_SONAME, DT_STRSZ, DT_STRTAB};
 
 // Eight bytes of strings, and then six entries: two libraries, the address and the size of the strings between them,
 // the end, and the library's own name after it.
