@@ -99,15 +99,24 @@ class Trial:
     def try_group(self, pending):
         """Judges as many edits as can be judged together, or the first one alone, and returns those that are still to be judged."""
         group = self.next_group(pending)
-        said = self.check(group, frozenset().union(*(edit.functions for edit in group))) if len(group) > 1 else Said('', self.crate)
+        judged = self.judged_of(group) or self.judged_of(group[:1])
+        return [edit for edit in pending if edit not in judged]
+
+    def judged_of(self, group):
+        """Judges a group by one check, or a single edit alone, and returns those that are judged. Where a text is no valid Rattle, each half
+        of the group is checked by itself."""
+        if len(group) == 1:
+            self.try_alone(*group)
+            return group
+        said = self.check(group, frozenset().union(*(edit.functions for edit in group)))
+        if not said.is_whole:
+            half = len(group) // 2
+            return self.judged_of(group[:half]) + self.judged_of(group[half:])
         for path, function in said.functions.items():
             self.waits[path] |= function.waits
-        judged = [edit for edit in group if said.is_whole and self.judge(edit, said)]
+        judged = [edit for edit in group if self.judge(edit, said)]
         self.left.update(edit for edit in group if edit not in judged)
-        if not judged:
-            judged = group[:1]
-            self.try_alone(*judged)
-        return [edit for edit in pending if edit not in judged]
+        return judged
 
     def verdict(self, edit, said):
         """Whether a check judges an edit as it should be, how it refuses each of the edit's functions that it refuses, and whether it proves
