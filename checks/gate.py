@@ -32,13 +32,15 @@ PYTHON = sys.executable or 'python3'
 
 @dataclass
 class Part:
-    """A command, the parts that must pass before it, whether it goes before others, and about how many minutes it takes."""
+    """A command, the parts that must pass before it, whether it goes before others, about how many minutes it takes, and by how many
+    processes side by side."""
     name: str
     command: list
     after: tuple = ()
     where: str = '.'
     is_first: bool = False
     weight: int = 1
+    width: int = 1
     begun: float = 0
     ended: float = 0
     seconds: float = 0
@@ -137,8 +139,10 @@ def test(room, whole, over):
     here = lambda name, command, *after, where=copy: Part(name, command.split(), after or waits, where)
     ran = lambda name, command, *after: here(name, command, *(['rt ci'] if whole else after), where=built)
     parts = [Part(name, command.split(), is_first=True) for name, command in QUICK.items()]
-    # (each of its proofs by one process, which takes least, where the toolchain heeds this)
-    parts += [Part('rt ci', ['env', f'RT_JOBS={len(os.sched_getaffinity(0))}', 'rt', 'ci'], waits, built, True)] if whole else []
+    # (half of the processors, since it is about half of the work; each of its proofs by one process, which takes least, where the toolchain
+    # heeds this)
+    half = (len(os.sched_getaffinity(0)) + 1) // 2
+    parts += [Part('rt ci', ['env', f'RT_JOBS={half}', 'rt', 'ci'], waits, built, True, width=half)] if whole else []
     # (a crate whose name ends so holds tests alone)
     proved = [crate for crate in crates_listed() if (not whole if crate in LEFT else not crate.endswith('_tests'))]
     parts += proofs(proved, copy, waits)
@@ -211,12 +215,13 @@ class Run:
         Returns the exit status."""
         os.makedirs(LOGS, exist_ok=True)
         self.say(f'{len(self.parts)} parts, about {places} side by side; what each prints is left in {LOGS}')
+        busy = lambda some: sum(part.width for part in some)
         while left := [part for part in self.parts if part.status is None]:
             now = [part for part, _ in self.running.values()]
             waiting = [part for part in left if part not in now]
             ready = [part for part in waiting if all(self.status[name].status == 0 for name in part.after)]
             for part in sorted(ready, key=lambda part: (not part.is_first, -self.chain[part.name])):
-                if sum(other.is_first for other in now) < places if part.is_first else len(now) < places + spare:
+                if busy(other for other in now if other.is_first) < places if part.is_first else busy(now) < places + spare:
                     self.begin(part)
                     now.append(part)
             pid, status, used = os.wait4(-1, os.WNOHANG)
