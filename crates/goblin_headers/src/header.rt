@@ -5,7 +5,8 @@ ghost use Rattle.goblin_base.specs.declared.container.Container.TheVariants as c
 ghost use Rattle.goblin_headers.specs.Constants.{class_numbers, data_numbers, file_type_numbers, ident_place_numbers, ident_size_numbers, system_numbers, unnamed_machine_numbers};
 ghost use Rattle.goblin_headers.specs.Header.{header_layout, header_size, magic, order_named};
 ghost use Rattle.goblin_headers.specs.HeaderTrips.{EachFits, OneImage, ReadsBack, WrittenAndReadBack, ImageOfRead, WritesBack, NewIsOfContext, NewIsReadBack};
-ghost use Rattle.goblin_headers.specs.Machines.{machine_numbers};
+ghost use Rattle.goblin_headers.specs.HeaderNames.{class_name, file_type_name};
+ghost use Rattle.goblin_headers.specs.Machines.{machine_name, machine_numbers};
 
 use crate::ident::{new_ident, order_of};
 use crate::program_header::ProgramHeader;
@@ -317,6 +318,19 @@ pub use crate::constants_header::{
     EM_TI_C6000, EM_TI_PRU, EM_TILE64, EM_TILEGX, EM_TILEPRO, EM_TRIMEDIA, EM_TSK3000, EM_UNICORE,
     EM_VIDEOCORE3, EM_VIDEOCORE5, EM_VISIUM, EM_XCORE, EM_XGATE, EM_XIMO16, EM_Z80, machine_to_str,
 };
+
+// A law: what the calls return that this module re-exports, under the names that they have here.
+fn names(class: u8, file_type: u16, machine: u16) -> (&'static str, &'static str, &'static str)
+    ensures class { result.0.now ≡ class_name class }
+    ensures file_type { result.1.now ≡ file_type_name file_type }
+    ensures machine { result.2.now ≡ machine_name machine }
+{
+    (
+        class_to_str(class),
+        et_to_str(file_type),
+        machine_to_str(machine),
+    )
+}
 
 /// Laws: the numbers of the constants that this module re-exports, under the names that they have
 /// here. A call does nothing.

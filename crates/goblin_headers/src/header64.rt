@@ -4,7 +4,8 @@ ghost use Rattle.goblin_base.specs.Common.{ComparesAndClones, HasPlaces, values_
 ghost use Rattle.goblin_headers.specs.Constants.{class_numbers, data_numbers, file_type_numbers, ident_place_numbers, ident_size_numbers, system_numbers, unnamed_machine_numbers};
 ghost use Rattle.goblin_headers.specs.Header.{magic, headed, header64, widened64, as64};
 ghost use Rattle.goblin_headers.specs.HeaderTrips.{HeadersFit, IsOneHeaderImage, IsReadBack, IsWrittenAndReadBack, IsWrittenBack};
-ghost use Rattle.goblin_headers.specs.Machines.{machine_numbers};
+ghost use Rattle.goblin_headers.specs.HeaderNames.{class_name, file_type_name};
+ghost use Rattle.goblin_headers.specs.Machines.{machine_name, machine_numbers};
 ghost use Rattle.goblin_headers.specs.ReadHeader.{read_in_order};
 ghost use Rattle.goblin_headers.specs.WriteHeader.{WritesInOrder};
 ghost use Rattle.goblin_base.specs.declared.error.Fault.TheVariants as faults;
@@ -306,6 +307,19 @@ pub use crate::constants_header::{
     EM_TI_C6000, EM_TI_PRU, EM_TILE64, EM_TILEGX, EM_TILEPRO, EM_TRIMEDIA, EM_TSK3000, EM_UNICORE,
     EM_VIDEOCORE3, EM_VIDEOCORE5, EM_VISIUM, EM_XCORE, EM_XGATE, EM_XIMO16, EM_Z80, machine_to_str,
 };
+
+// A law: what the calls return that this module re-exports, under the names that they have here.
+fn names(class: u8, file_type: u16, machine: u16) -> (&'static str, &'static str, &'static str)
+    ensures class { result.0.now ≡ class_name class }
+    ensures file_type { result.1.now ≡ file_type_name file_type }
+    ensures machine { result.2.now ≡ machine_name machine }
+{
+    (
+        class_to_str(class),
+        et_to_str(file_type),
+        machine_to_str(machine),
+    )
+}
 
 /// Laws: the numbers of this module's own constants and of those that it re-exports, under the
 /// names that they have here. A call does nothing.

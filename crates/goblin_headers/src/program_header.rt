@@ -5,6 +5,7 @@ ghost use Rattle.std.specs.Prelude.{◌≡◌, ◌↔◌, IsTrue, IfErr, IsOk, f
 ghost use Rattle.goblin_base.specs.Common.{ComparesAndClones, Gives, HasPlaces, IsSameInEachClass, Refuses, Returns, values_of};
 ghost use Rattle.goblin_base.specs.declared.container.Container.TheVariants as class;
 ghost use Rattle.goblin_headers.specs.Constants.{segment_flag_numbers, segment_type_numbers};
+ghost use Rattle.goblin_headers.specs.SegmentNames.{segment_name};
 ghost use Rattle.goblin_headers.specs.ProgramHeader.{as64, program_header64, program_header_layout, program_header_size};
 ghost use Rattle.goblin_headers.specs.ProgramHeaders.{loaded_from, loads, new_program_header, program_headers_from, program_headers_tested};
 ghost use Rattle.goblin_base.specs.Room.{span};
@@ -255,6 +256,13 @@ pub use crate::constants_program_header::{
 
 // Segment permissions.
 pub use crate::constants_program_header::{PF_MASKOS, PF_MASKPROC, PF_R, PF_W, PF_X};
+
+// A law: what the calls return that this module re-exports, under the names that they have here.
+fn name(segment_type: u32) -> &'static str
+    ensures { result.now ≡ segment_name segment_type }
+{
+    pt_to_str(segment_type)
+}
 
 /// Laws: the numbers of the constants that this module re-exports, under the names that they have
 /// here. A call does nothing.

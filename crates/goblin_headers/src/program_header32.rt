@@ -2,6 +2,7 @@
 ghost use Rattle.std.specs.Prelude.{◌≡◌, ◌≤◌, ◌*◌, length, IfErr, IfOk, IsOk, alloc_error, replicate, [], ◌∷◌};
 ghost use Rattle.goblin_base.specs.Common.{ComparesAndClones, records_in, room_of_each, values_of, low_bits, shaped, Gives, records};
 ghost use Rattle.goblin_headers.specs.Constants.{segment_flag_numbers, segment_type_numbers};
+ghost use Rattle.goblin_headers.specs.SegmentNames.{segment_name};
 ghost use Rattle.goblin_headers.specs.ProgramHeader.{program_header32, widened32, as32};
 
 use crate::program_header::ProgramHeader as ElfProgramHeader;
@@ -170,6 +171,13 @@ pub use crate::constants_program_header::{
 
 // Segment permissions.
 pub use crate::constants_program_header::{PF_MASKOS, PF_MASKPROC, PF_R, PF_W, PF_X};
+
+// A law: what the calls return that this module re-exports, under the names that they have here.
+fn name(segment_type: u32) -> &'static str
+    ensures { result.now ≡ segment_name segment_type }
+{
+    pt_to_str(segment_type)
+}
 
 /// Laws: the numbers of this module's own constants and of those that it re-exports, under the
 /// names that they have here. A call does nothing.

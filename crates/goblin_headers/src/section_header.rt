@@ -7,7 +7,7 @@ ghost use Rattle.goblin_headers.specs.Constants.{section_flag_numbers, section_i
 ghost use Rattle.goblin_base.specs.Room.{span};
 ghost use Rattle.goblin_headers.specs.SectionHeader.{as64, section_header64, section_header_layout, section_header_size};
 ghost use Rattle.goblin_headers.specs.SectionHeaders.{new_section_header, count_from, section_headers_from, section_headers_from_tested, section_headers_of, section_headers_of_tested, size_checked, size_checked_in};
-ghost use Rattle.goblin_headers.specs.SectionNames.{section_flag_names};
+ghost use Rattle.goblin_headers.specs.SectionNames.{section_flag_name, section_flag_names, section_name};
 
 pub use crate::{section_header32, section_header64};
 use goblin_base::container::{Container, Ctx, Endian};
@@ -358,6 +358,14 @@ pub use crate::constants_section_header::{
     SHF_LINK_ORDER, SHF_MASKOS, SHF_MASKPROC, SHF_MERGE, SHF_NUM_REGULAR_FLAGS, SHF_ORDERED,
     SHF_OS_NONCONFORMING, SHF_STRINGS, SHF_TLS, SHF_WRITE, shf_to_str,
 };
+
+// A law: what the calls return that this module re-exports, under the names that they have here.
+fn names(section_type: u32, flag: u32) -> (&'static str, &'static str)
+    ensures section_type { result.0.now ≡ section_name section_type }
+    ensures flag { result.1.now ≡ section_flag_name flag }
+{
+    (sht_to_str(section_type), shf_to_str(flag))
+}
 
 /// Laws: the numbers of the constants that this module re-exports, under the names that they have
 /// here. A call does nothing.

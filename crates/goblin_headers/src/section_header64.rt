@@ -3,7 +3,7 @@ ghost use Rattle.std.specs.Prelude.{◌≡◌, ◌≤◌, ◌*◌, length, map, 
 ghost use Rattle.goblin_base.specs.Common.{ComparesAndClones, values_of, low_bits, shaped, records};
 ghost use Rattle.goblin_headers.specs.Constants.{section_flag_numbers, section_index_numbers, section_type_numbers};
 ghost use Rattle.goblin_headers.specs.SectionHeader.{section_header64, widened64, as64};
-ghost use Rattle.goblin_headers.specs.SectionNames.{section_flag_names};
+ghost use Rattle.goblin_headers.specs.SectionNames.{section_flag_name, section_flag_names, section_name};
 
 use crate::section_header::SectionHeader as ElfSectionHeader;
 use goblin_base::container::Endian;
@@ -172,6 +172,14 @@ pub use crate::constants_section_header::{
     SHF_LINK_ORDER, SHF_MASKOS, SHF_MASKPROC, SHF_MERGE, SHF_NUM_REGULAR_FLAGS, SHF_ORDERED,
     SHF_OS_NONCONFORMING, SHF_STRINGS, SHF_TLS, SHF_WRITE, shf_to_str,
 };
+
+// A law: what the calls return that this module re-exports, under the names that they have here.
+fn names(section_type: u32, flag: u32) -> (&'static str, &'static str)
+    ensures section_type { result.0.now ≡ section_name section_type }
+    ensures flag { result.1.now ≡ section_flag_name flag }
+{
+    (sht_to_str(section_type), shf_to_str(flag))
+}
 
 /// Laws: the numbers of this module's own constants and of those that it re-exports, under the
 /// names that they have here. A call does nothing.

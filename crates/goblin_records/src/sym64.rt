@@ -3,7 +3,7 @@ ghost use Rattle.std.specs.Prelude.{◌≡◌, ◌↔◌, IsTrue, [], ◌∷◌}
 ghost use Rattle.goblin_base.specs.Common.{ComparesAndClones, HasPlaces, low_bits, shaped, zero};
 ghost use Rattle.goblin_records.specs.Constants.{bind_numbers, type_numbers, visibility_numbers};
 ghost use Rattle.goblin_records.specs.Sym.{sym64, widened64, as64};
-ghost use Rattle.goblin_records.specs.SymParts.{type_of, IsImport};
+ghost use Rattle.goblin_records.specs.SymParts.{bind_name, bind_of, type_name, type_of, visibility_name, visibility_of, IsGlobalImport, IsImport};
 ghost use Rattle.goblin_records.specs.declared.sym64.Sym.{Sym};
 
 use crate::sym::Sym as ElfSym;
@@ -133,6 +133,36 @@ pub use crate::constants_sym::{
 
 // The parts of `st_info` and `st_other`.
 pub use crate::sym::{get_type, is_import, st_bind, st_type, st_visibility};
+
+// A law: what the calls return that this module re-exports, under the names that they have here.
+fn names(number: u8) -> (&'static str, &'static str, &'static str, &'static str)
+    ensures bind { result.0.now ≡ bind_name number }
+    ensures of_type { result.1.now ≡ type_name number }
+    ensures visibility { result.2.now ≡ visibility_name number }
+    ensures of_info { result.3.now ≡ type_name (type_of number) }
+{
+    (
+        bind_to_str(number),
+        type_to_str(number),
+        visibility_to_str(number),
+        get_type(number),
+    )
+}
+
+// A law, as above.
+fn parts(info: u8, other: u8, value: u64) -> (u8, u8, u8, bool)
+    ensures bind { result.0 ≡ bind_of info }
+    ensures of_type { result.1 ≡ type_of info }
+    ensures visibility { result.2 ≡ visibility_of other }
+    ensures import { IsTrue result.3 ↔ IsGlobalImport info value }
+{
+    (
+        st_bind(info),
+        st_type(info),
+        st_visibility(other),
+        is_import(info, value),
+    )
+}
 
 /// Laws: the numbers of this module's own constants and of those that it re-exports, under the
 /// names that they have here. A call does nothing.

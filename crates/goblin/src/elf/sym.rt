@@ -6,6 +6,7 @@ ghost use Rattle.goblin.specs.Symtab.{symbols_at, symtab_by, symtab_in, symtab_o
 ghost use Rattle.goblin_base.specs.Strtab.{has_name};
 ghost use Rattle.goblin_records.specs.Constants.{bind_numbers, type_numbers, visibility_numbers};
 ghost use Rattle.goblin_records.specs.Sym.{sym_size};
+ghost use Rattle.goblin_records.specs.SymParts.{bind_name, bind_of, type_name, type_of, visibility_name, visibility_of, IsGlobalImport};
 
 use goblin_base::container::{Container, Ctx};
 use goblin_base::error::{Error, Fault, Result};
@@ -458,6 +459,36 @@ impl<'a, 'b> IntoIterator for &'b Symtab<'a> {
 
 /// An iterator over the symbols of a table, from the first to the last.
 pub type SymIterator<'a> = TableIter<'a, Sym, Ctx>;
+
+// A law: what the calls return that this module re-exports, under the names that they have here.
+fn names(number: u8) -> (&'static str, &'static str, &'static str, &'static str)
+    ensures bind { result.0.now ≡ bind_name number }
+    ensures of_type { result.1.now ≡ type_name number }
+    ensures visibility { result.2.now ≡ visibility_name number }
+    ensures of_info { result.3.now ≡ type_name (type_of number) }
+{
+    (
+        bind_to_str(number),
+        type_to_str(number),
+        visibility_to_str(number),
+        get_type(number),
+    )
+}
+
+// A law, as above.
+fn parts(info: u8, other: u8, value: u64) -> (u8, u8, u8, bool)
+    ensures bind { result.0 ≡ bind_of info }
+    ensures of_type { result.1 ≡ type_of info }
+    ensures visibility { result.2 ≡ visibility_of other }
+    ensures import { IsTrue result.3 ↔ IsGlobalImport info value }
+{
+    (
+        st_bind(info),
+        st_type(info),
+        st_visibility(other),
+        is_import(info, value),
+    )
+}
 
 /// Laws: the numbers of the constants that this module re-exports.
 pub fn constants()
