@@ -1,6 +1,6 @@
 //! Section headers, which describe what a file holds: System V gABI, "Section Header".
 ghost use Rattle.std.specs.Int.{IsBitSet};
-ghost use Rattle.std.specs.Prelude.{◌≡◌, ◌↔◌, IsTrue, IfErr, IsNone, IsOk, IfSome, map, replicate, [], ◌∷◌};
+ghost use Rattle.std.specs.Prelude.{◌≡◌, ◌↔◌, IsTrue, IfErr, IsNone, IsOk, IfOk, IfSome, map, replicate, vec_capacity, [], ◌∷◌};
 ghost use Rattle.goblin_base.specs.Common.{ComparesAndClones, Gives, HasPlaces, IsSameInEachClass, Refuses, Returns, values_of};
 ghost use Rattle.goblin_base.specs.declared.container.Container.TheVariants as class;
 ghost use Rattle.goblin_headers.specs.Constants.{section_flag_numbers, section_index_numbers, section_type_numbers};
@@ -109,6 +109,7 @@ impl SectionHeader {
         ensures tested { IfErr (section_headers_of_tested bytes.now offset count ctx)
             (λ refusal. Refuses result refusal) }
         ensures none { (offset ≡ 0) → IsOk result }
+        ensures room { (offset ≡ 0) → IfOk result (λ headers. vec_capacity headers ≡ 0) }
     {
         if offset == 0 {
             return Ok(Vec::new(alloc));
