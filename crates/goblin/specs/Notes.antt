@@ -1,6 +1,6 @@
 -- The notes that iterators yield.
 use Rattle.std.specs.Prelude.{◌≡◌, ◌+◌, ◌-◌, ◌≤◌, ℕ, nat_le, nat_lt, sum_by, if◌then◌else◌, List, [], ◌∷◌, ◌++◌, length}
-use Rattle.std.specs.Prelude.{take, drop, flat_map, Option, Result, Ok, Err, IfOk}
+use Rattle.std.specs.Prelude.{take, drop, flat_map, Option, Result, Ok, Err, IfOk, vec_capacity}
 use Rattle.std.specs.Iterator.{YieldsFirstBy}
 use Rattle.std.specs.Int.{div_ceil}
 use Rattle.std.specs.List.{position_or_len}
@@ -70,6 +70,7 @@ abbrev pub TakesNoteOfRanges : NoteIterator → Option (Result Note Error) → N
 TakesNoteOfRanges it item after =
     YieldsFirstBy item_of all_items_left it item after
     × (after.index ≡ index_of_next it)
+    × (vec_capacity after.iters ≡ vec_capacity it.iters)
     × (after.iters.items
     ≡ take (index_of_next it) it.iters.items ++ after_next_of_first (drop (index_of_next it) it.iters.items))
 

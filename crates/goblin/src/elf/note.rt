@@ -1,6 +1,6 @@
 //! Notes: System V gABI, "Note Section".
 ghost use Rattle.std.specs.Int.{next_multiple_of};
-ghost use Rattle.std.specs.Prelude.{⊤, ◌⊎◌, ◌≡◌, ◌+◌, ◌≤◌, ◌<◌, ◌^◌, ◌++◌, IfOk, IfSome, length, min, [], ◌∷◌, take, drop};
+ghost use Rattle.std.specs.Prelude.{⊤, ◌⊎◌, ◌≡◌, ◌+◌, ◌≤◌, ◌<◌, ◌^◌, ◌++◌, IfOk, IfSome, length, min, [], ◌∷◌, take, drop, vec_capacity};
 ghost use Rattle.std.specs.Iterator.{MakesProgress, UpTo, YieldsFirstBy, at_most};
 ghost use Rattle.std.specs.Iterator.SizeHint.{IsWithinCount};
 ghost use Rattle.goblin_base.specs.Common.{ComparesAndClones, Returns};
@@ -121,6 +121,7 @@ impl<'a> NoteIterator<'a> {
         ensures goes { MakesProgress (λ _. ⊤)
             (λ it. at_most (most_left_in (drop it.index it.iters.items))) self.old result self.new }
         ensures index { self.new.index ≡ index_of_next self.old }
+        ensures memory { vec_capacity self.new.iters ≡ vec_capacity self.old.iters }
         // Only the range that the item came from has moved.
         ensures ranges { let at = index_of_next self.old in
             let old = self.old.iters.items in
@@ -148,6 +149,17 @@ impl<'a> Iterator for NoteIterator<'a> {
     ghost next_gives = { TakesNoteOfRanges };
 
     ghost remaining = { λ it. at_most (most_left_in (drop it.index it.iters.items)) };
+
+    /// Says nothing about how many items are left.
+    fn size_hint(&self) -> (usize, Option<usize>)
+        ensures lower { IsWithinCount result.0
+            (at_most (most_left_in (drop self.now.index self.now.iters.items))) }
+        ensures upper { IfSome result.1
+            (UpTo (at_most (most_left_in (drop self.now.index self.now.iters.items)))) }
+        ensures value { result ≡ (0, None) }
+    {
+        (0, None)
+    }
 
     fn next(&mut self) -> Option<Self::Item> {
         self.advance()

@@ -31,6 +31,7 @@ loop-self-preserved c =
     let skip : Skipped it.iters.items it.index range = skipped it.iters.items it.index range inside there none in
     let moves = c.in_default.ensures.moves in
     record {
+      memory = so_far.memory;
       ranges = rw (moves, skip.ranges) so_far.ranges;
       left = rw (moves, skip.ranges) (skip.left ∙ so_far.left);
       most = rw (moves, skip.ranges) (skip.most ∙ so_far.most);
