@@ -1,5 +1,5 @@
 //! An error as its kind, its numbers and its item, and the text of each kind, in parts.
-ghost use Rattle.std.specs.Prelude.{◌≡◌, IsTrue, Some, length};
+ghost use Rattle.std.specs.Prelude.{◌≡◌, [], ◌∷◌, IsTrue, Some, map};
 ghost use Rattle.std.specs.Fmt.{WritesOnOk};
 ghost use Rattle.std.specs.List.{find};
 ghost use Rattle.goblin_base.specs.Derives.{ComparesAndClones};
@@ -296,10 +296,11 @@ impl fmt::Display for Report {
     }
 }
 
-/// Laws: each kind is found by its number, and is listed once. `==` is true exactly if both kinds are the same. `clone`
-/// returns the kind, and never fails.
+/// Laws: each kind is found by its number. They are listed by their numbers, each once. `==` is true exactly if both
+/// kinds are the same. `clone` returns the kind, and never fails.
 pub fn laws()
     ensures found { KindsAreFound }
-    ensures once { length KINDS.now ≡ 21 }
+    ensures listed { map kind_number KINDS.now ≡ 2 ∷ 3 ∷ 4 ∷ 5 ∷ 6 ∷ 7 ∷ 10 ∷ 11 ∷ 12 ∷ 13 ∷ 14 ∷ 15 ∷ 16 ∷ 17 ∷ 18 ∷ 19
+        ∷ 20 ∷ 21 ∷ 22 ∷ 23 ∷ 24 ∷ [] }
     ensures derived { ComparesAndClones ⟦<Kind as PartialEq>⟧ ⟦<Kind as Clone>⟧ }
 {}
