@@ -8,7 +8,7 @@ ghost use Rattle.goblin_base.specs.Texts.{digits_text};
 const DIGITS: usize = 20;
 
 /// The digits of a number.
-#[derive(Clone, Copy)]
+#[derive(Drop)]
 pub struct Digits {
     bytes: [u8; DIGITS],
     start: usize,
