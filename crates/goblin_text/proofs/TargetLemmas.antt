@@ -3,6 +3,7 @@ use Rattle.goblin_text.proofs.Common.{◌≡◌, ◌∙◌, ◌++◌, ◌∷◌,
 use Rattle.goblin_text.proofs.Common.{get_or, set, append-nil, arith, length, min, refl, sym, take}
 use Rattle.goblin_text.proofs.Common.{Appends-trans, append_known-grown, append_known-moved, take_all}
 use Rattle.goblin_text.proofs.Common.{Appends, Keeps, append_known, State, held}
+use Rattle.goblin_text.specs.TargetState.{Stops}
 use Rattle.goblin_base.proofs.PartsLemmas.{parts_text_more}
 
 -- of a text the lines so far were put, and the rest is left
@@ -11,16 +12,18 @@ pub record PutSoFar (old new : State) (all rest : List ℕ) : Type 0 where
   pub appends : Appends old.contents new.contents lines
   pub are : all ≡ lines ++ rest
   pub heeded : new.reported_error ≡ old.reported_error
+  pub stopped : Stops old new
 
 pub more_put : (a b c : State) (all line rest next : List ℕ)
     → PutSoFar a b all rest → rest ≡ line ++ next
-    → Appends b.contents c.contents line × (c.reported_error ≡ b.reported_error)
+    → Appends b.contents c.contents line × (c.reported_error ≡ b.reported_error) × Stops b c
     → PutSoFar a c all next
 more_put a b c all line rest next w e p = record {
   lines = w.lines ++ line;
   appends = Appends-trans a.contents b.contents c.contents _ _ w.appends p.0;
   are = w.are ∙ ap (λ r. w.lines ++ r) e ∙ sym (append_assoc w.lines line next);
   heeded = p.1 ∙ w.heeded;
+  stopped = λ known. p.2 (w.heeded ∙ known) ∙ w.stopped known;
 }
 
 -- an empty room before a writer

@@ -3,7 +3,7 @@ use Rattle.std.specs.Prelude.{◌≡◌, ◌≢◌, ℕ, ◌+◌, ◌-◌, ◌^�
 use Rattle.std.specs.Prelude.{Option, Ok, Err, codes, decimal, false, vec_items}
 use Rattle.goblin_text.specs.Common.{Appends, Consumes, IsAtEnd, Refusal, ◌&◌, refusal_text, ParseMode}
 use Rattle.goblin_text.specs.ShownLines.{newline}
-use Rattle.goblin_text.specs.StreamMarks.{StreamMarks}
+use Rattle.goblin_text.specs.StreamMarks.{StopsAtError, StreamMarks}
 use Rattle.goblin_text.specs.Shown.{shown, tested}
 use Rattle.goblin_text.specs.declared.input.Input.{Input}
 use Rattle.goblin_text.specs.declared.input.Input.TheVariants as inputs
@@ -84,8 +84,7 @@ usage_line = codes "usage: goblin_show [permissive]" & newline
 -- called after it
 abbrev pub WritesUsage : (held holds : Option (List ℕ)) → (first last : StreamMarks) → Type 0
 WritesUsage held holds first last =
-    Appends held holds usage_line
-    ⊎ (IsTrue last.reported_error × (first.reported_error ≡ false → last.went_on ≡ first.went_on))
+    (Appends held holds usage_line ⊎ IsTrue last.reported_error) × StopsAtError first last
 
 -- what is said of an input that is longer than the program takes
 abbrev pub too_long : List ℕ
@@ -120,7 +119,9 @@ pub record HasRun (mode : ParseMode) (outcome : Outcome) (old new : Option (List
   -- else the reader reported no error but interruptions, and the writer none
   pub heeds_reader : outcome ≢ outcomes.Failed → after.reported_failure ≡ before.reported_failure
   pub heeds_writer : outcome ≢ outcomes.Failed → last.reported_error ≡ first.reported_error
-  -- however it ended, no more was read
+  -- however it ended, nothing was written after an error of the writer
+  pub stopped : StopsAtError first last
+  -- and no more was read
   pub most : ReadsAtMostOneMore old new
   pub calls : after.read_calls ≤ before.read_calls + read_limit
 

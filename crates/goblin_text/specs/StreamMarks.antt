@@ -1,5 +1,5 @@
 -- What a reader or a writer has reported so far.
-use Rattle.std.specs.Prelude.{ℕ, ◌+◌, ◌-◌, ◌^◌, min, Bool, ◌||◌, ◌&&◌, ◌==◌, nat_lt, not, false, true, List, length}
+use Rattle.std.specs.Prelude.{◌≡◌, ℕ, ◌+◌, ◌-◌, ◌^◌, min, Bool, ◌||◌, ◌&&◌, ◌==◌, nat_lt, not, false, true, List, length}
 use Rattle.std.specs.Prelude.{Result, Ok, Err, is_err}
 use Rattle.goblin_text.specs.Common.{Error}
 use Rattle.std.specs.IoError.{error_kind}
@@ -14,6 +14,10 @@ pub record StreamMarks : Type 0 where
   pub reported_failure : Bool
   pub reported_end : Bool
   pub went_on : Bool
+
+-- once an error was reported, nothing more was written or flushed
+abbrev pub StopsAtError : StreamMarks → StreamMarks → Type 0
+StopsAtError first last = first.reported_error ≡ false → last.went_on ≡ first.went_on
 
 -- before any call
 abbrev pub no_marks : StreamMarks

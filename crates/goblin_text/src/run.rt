@@ -6,6 +6,7 @@ ghost use Rattle.goblin_text.specs.Common.{refusal_of, refusal_text};
 ghost use Rattle.goblin_text.specs.Looks.{IsShort, IsUnread, LooksAtMost, ReadsNames, line_looks, lines_in, section_count, shown_looks, table_looks, tables_looks};
 ghost use Rattle.goblin_text.specs.RunOutcome.{HasRun, IsReasonOf, WritesRefusal, input_limit, read_limit, status_of};
 ghost use Rattle.goblin_text.specs.Shown.{shown};
+ghost use Rattle.goblin_text.specs.StreamMarks.{StopsAtError};
 
 use crate::accept::accept;
 use crate::block_runs::{BLOCK, BLOCKS};
@@ -52,6 +53,7 @@ fn write_refusal<W: Sink>(writer: &mut W, line: &str) -> io::Result<()>
     ensures heeded { OnOk result
         ((W.marks writer.new).reported_error ≡ (W.marks writer.old).reported_error) }
     ensures err { OnErr result (IsTrue (W.marks writer.new).reported_error) }
+    ensures stopped { StopsAtError (W.marks writer.old) (W.marks writer.new) }
 {
     writer.write_all(b"refused: ")?;
     writer.write_all(line.as_bytes())?;
@@ -67,6 +69,7 @@ fn refuse<W: Sink>(writer: &mut W, line: &str) -> Outcome
     ensures heeded { result ≡ Outcome.Refused →
         (W.marks writer.new).reported_error ≡ (W.marks writer.old).reported_error }
     ensures failed { result ≡ Outcome.Failed → IsTrue (W.marks writer.new).reported_error }
+    ensures stopped { StopsAtError (W.marks writer.old) (W.marks writer.new) }
 {
     match write_refusal(writer, line) {
         Ok(()) => Outcome::Refused,
@@ -81,6 +84,7 @@ fn write_error<W: Sink>(writer: &mut W, e: &Error) -> io::Result<()>
     ensures heeded { OnOk result
         ((W.marks writer.new).reported_error ≡ (W.marks writer.old).reported_error) }
     ensures err { OnErr result (IsTrue (W.marks writer.new).reported_error) }
+    ensures stopped { StopsAtError (W.marks writer.old) (W.marks writer.new) }
 {
     let mut target = Buffered::new(writer);
     target.put("refused: ")?;
@@ -113,6 +117,7 @@ pub fn show_file<W: Sink>(
     ensures heeded { result ≢ Outcome.Failed →
         (W.marks writer.new).reported_error ≡ (W.marks writer.old).reported_error }
     ensures failed { result ≡ Outcome.Failed → IsTrue (W.marks writer.new).reported_error }
+    ensures stopped { StopsAtError (W.marks writer.old) (W.marks writer.new) }
 
     // The looks for names if the text was written, if it was refused, and however it ended.
     ensures looks_shown { IsShort file.old.bytes → (text : List ℕ) → result ≡ Outcome.Shown
@@ -149,7 +154,7 @@ pub fn show_file<W: Sink>(
 ///
 /// An interrupted read is tried again. Any other error of the reader or the writer, or 33,554,432 read calls
 /// without an end, is `Failed`. After an error of the reader nothing was written. After one of the writer it is
-/// open how much was.
+/// open how much was, and nothing is written or flushed any more.
 pub fn run<R: Source, W: Sink>(
     alloc: Global,
     reader: &mut R,

@@ -2,6 +2,7 @@
 ghost use Rattle.std.specs.Prelude.{◌≡◌, ◌↔◌, ◌+◌, ◌≤◌, ◌++◌, IsTrue, OnErr, OnOk, Some, false, length, [], string_bytes, take};
 ghost use Rattle.std.specs.Borrow.{GName};
 ghost use Rattle.std.specs.Io.KnownBytes.{Appends, Keeps};
+ghost use Rattle.goblin_text.specs.StreamMarks.{StopsAtError};
 ghost use Rattle.goblin_text.specs.TargetState.{Prints, State, held};
 
 use crate::streams::Sink;
@@ -13,7 +14,7 @@ pub trait Target {
     /// The error of a part that isn't taken.
     type Error;
 
-    // The bytes that it holds, if they are known, and whether it reported an error.
+    // The bytes that it holds, if they are known, whether it reported an error, and whether it was called after that.
     ghost state: { Self → State };
 
     // The name of its reference to a writer, or 0: so generic callers know that it is the same writer.
@@ -63,6 +64,7 @@ impl<'a, W: Sink> Buffered<'a, W> {
         ensures heeded { OnOk result ((W.marks self.new.writer.now).reported_error
             ≡ (W.marks self.old.writer.now).reported_error) }
         ensures err { OnErr result (IsTrue (W.marks self.new.writer.now).reported_error) }
+        ensures stopped { StopsAtError (W.marks self.old.writer.now) (W.marks self.new.writer.now) }
     {
         self.writer.write_all(&self.room[..self.filled.min(ROOM)])?;
         self.filled = 0;
@@ -101,6 +103,7 @@ impl<'a, W: Sink> Buffered<'a, W> {
         ensures heeded { OnOk result ((W.marks self.new.writer.now).reported_error
             ≡ (W.marks self.old.writer.now).reported_error) }
         ensures err { OnErr result (IsTrue (W.marks self.new.writer.now).reported_error) }
+        ensures stopped { StopsAtError (W.marks self.old.writer.now) (W.marks self.new.writer.now) }
     {
         self.pass_on()?;
         if bytes.len() > ROOM {
@@ -120,6 +123,7 @@ impl<'a, W: Sink> Buffered<'a, W> {
         ensures heeded { OnOk result ((W.marks self.new.writer.now).reported_error
             ≡ (W.marks self.old.writer.now).reported_error) }
         ensures err { OnErr result (IsTrue (W.marks self.new.writer.now).reported_error) }
+        ensures stopped { StopsAtError (W.marks self.old.writer.now) (W.marks self.new.writer.now) }
     {
         self.pass_on()?;
         self.writer.flush()
@@ -132,6 +136,7 @@ impl<W: Sink> Target for Buffered<'_, W> {
     ghost state = { λ b. record {
       contents = held (W.contents b.writer.now) b.room b.filled;
       reported_error = (W.marks b.writer.now).reported_error;
+      went_on = (W.marks b.writer.now).went_on;
     } };
 
     ghost writer_name = { λ b. b.writer.ghost_name };
@@ -185,6 +190,7 @@ impl Target for Gathered {
     ghost state = { λ g. record {
       contents = Some (string_bytes g.text);
       reported_error = g.reported_error;
+      went_on = false;
     } };
 
     ghost writer_name = { λ _. 0 };

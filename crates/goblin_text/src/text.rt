@@ -6,6 +6,7 @@ ghost use Rattle.goblin_text.specs.Accepted.{accepted_text, relocs_text, symbols
 ghost use Rattle.goblin_text.specs.StringRanges.{strings_in};
 ghost use Rattle.goblin_text.specs.ShownLines.{section_line, symbol_line};
 ghost use Rattle.goblin_text.specs.Looks.{ReadsNames, names_looks};
+ghost use Rattle.goblin_text.specs.StreamMarks.{StopsAtError};
 ghost use Rattle.goblin_text.specs.TargetState.{Prints};
 ghost use Rattle.goblin_text.specs.Shown.{PermissiveShowsStrict, name_at, reloc_lines, section_lines, shown, symbol_lines, tested};
 
@@ -180,6 +181,7 @@ pub fn write_text<W: Sink>(
     ensures heeded { OnOk result
         ((W.marks writer.new).reported_error ≡ (W.marks writer.old).reported_error) }
     ensures err { OnErr result (IsTrue (W.marks writer.new).reported_error) }
+    ensures stopped { StopsAtError (W.marks writer.old) (W.marks writer.new) }
 
     // The looks for names.
     ensures reading { let text = accepted_text names.old.bytes file.now in

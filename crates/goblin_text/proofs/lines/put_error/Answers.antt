@@ -1,5 +1,5 @@
 -- The text goes on with that of one part more (`parts_text_more`).
-use Rattle.goblin_text.proofs.Common.{arith, subst, sym, common_steps, Appends, Appends-trans}
+use Rattle.goblin_text.proofs.Common.{◌∙◌, arith, subst, sym, common_steps, Appends, Appends-trans}
 use Rattle.goblin_base.specs.Texts.{facts_of}
 use Rattle.goblin_base.proofs.PartsLemmas.{parts_text_more}
 use Rattle.goblin_text.proofs.lines.put_error.Goals as goal
@@ -12,5 +12,6 @@ loop-part-preserved g c =
     record {
       appends = subst (Appends _ _) more (Appends-trans _ _ _ _ _ l.invariant.appends c.in_ok-put_part.ensures.put.0);
       heeded = grind (arith, common_steps);
+      stopped = λ known. c.in_ok-put_part.ensures.put.2 (l.invariant.heeded ∙ known) ∙ l.invariant.stopped known;
       same_writer = grind (arith, common_steps);
     }

@@ -1,4 +1,4 @@
-use Rattle.goblin_text.proofs.Common.{◌≡◌, ◌++◌, ◌∷◌, [], arith, subst, Appends-trans, common_steps, Appends}
+use Rattle.goblin_text.proofs.Common.{◌≡◌, ◌∙◌, ◌++◌, ◌∷◌, [], arith, subst, Appends-trans, common_steps, Appends}
 use Rattle.goblin_text.proofs.Common.{encode_utf8_all, printed}
 use Rattle.std.proofs.lemmas.Str.{encodes-append}
 use Rattle.goblin_text.proofs.Printed.{encode-printable}
@@ -12,5 +12,7 @@ loop-c-preserved g c =
     record {
       appends = subst (Appends _ _) is (Appends-trans _ _ _ _ _ c.loop-c.invariant.appends c.in_ok-put.ensures.put.0);
       heeded = grind (arith, common_steps);
+      stopped = λ known. c.in_ok-put.ensures.put.2 (c.loop-c.invariant.heeded ∙ known)
+          ∙ c.loop-c.invariant.stopped known;
       same_writer = grind (arith, common_steps);
     }

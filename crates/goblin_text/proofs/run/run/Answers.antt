@@ -19,6 +19,7 @@ returns-in-TooLong g c = record {
   failed = λ e. inr (c.refuse.ensures.failed e);
   heeds_reader = grind (arith, common_steps);
   heeds_writer = grind (arith, common_steps);
+  stopped = c.refuse.ensures.stopped;
   most = grind (arith, common_steps);
   calls = grind (arith, common_steps);
 }
@@ -30,6 +31,7 @@ returns-in-OutOfMemory g c = record {
   failed = λ e. inr (c.refuse-in-OutOfMemory.ensures.failed e);
   heeds_reader = grind (arith, common_steps);
   heeds_writer = grind (arith, common_steps);
+  stopped = c.refuse-in-OutOfMemory.ensures.stopped;
   most = grind (arith, common_steps);
   calls = grind (arith, common_steps);
 }
@@ -45,6 +47,7 @@ returns g c = record {
   failed = search rules;
   heeds_reader = search rules;
   heeds_writer = search rules;
+  stopped = c.show_file.ensures.stopped;
   most = search rules;
   calls = search rules;
 }

@@ -14,4 +14,5 @@ returns-then-has_room-clause-put g c =
           (added before after room c.add.new.self.room filled c.add.new.self.filled c.as_bytes-bytes.result.now kept
           c.add.ensures.written),
       grind (arith, common_steps),
+      λ known. grind (arith, common_steps),
     )
