@@ -1,5 +1,5 @@
 //! A run: from the bytes that a reader gives to the text that a writer holds.
-ghost use Rattle.std.specs.Prelude.{◌≡◌, ◌≢◌, ℕ, ◌+◌, ◌*◌, ◌≤◌, List, IsTrue, OnOk, OnErr, length};
+ghost use Rattle.std.specs.Prelude.{◌≡◌, ◌≢◌, ℕ, ◌+◌, ◌*◌, ◌≤◌, List, IsTrue, OnOk, OnErr, codes, length};
 ghost use Rattle.std.specs.Io.KnownBytes.{Appends};
 ghost use Rattle.goblin_base.specs.Derives.{ComparesAndClones};
 ghost use Rattle.goblin_text.specs.Common.{refusal_of, refusal_text};
@@ -175,10 +175,11 @@ pub fn run<R: Source, W: Sink>(
     show_file(alloc, writer, &mut file, opts)
 }
 
-/// The limits of a run, and of the looks for names, in numbers.
+/// The limits of a run, and of the looks for names, in numbers, and the line for an input that is too long.
 pub fn constants()
     ensures input { INPUT_LIMIT ≡ 16777216 }
     ensures reads { READ_LIMIT ≡ 33554432 }
+    ensures too_long { TOO_LONG.now ≡ codes "input is longer than 16777216 bytes" }
     ensures block { BLOCK ≡ 512 }
     ensures blocks { BLOCKS ≡ 32768 }
     ensures input_limit { input_limit ≡ 16777216 }
