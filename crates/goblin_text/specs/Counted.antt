@@ -15,4 +15,5 @@ marks_of c =
       reported_failure = c.reported_failure;
       reported_end = c.reported_end;
       went_on = c.went_on;
+      read_on = c.read_on;
     }

@@ -3,7 +3,7 @@ use Rattle.std.specs.Prelude.{◌≡◌, ◌≢◌, ℕ, ◌+◌, ◌-◌, ◌^�
 use Rattle.std.specs.Prelude.{Option, Ok, Err, codes, decimal, false, vec_items}
 use Rattle.goblin_text.specs.Common.{Appends, Consumes, IsAtEnd, Refusal, ◌&◌, refusal_text, ParseMode}
 use Rattle.goblin_text.specs.ShownLines.{newline}
-use Rattle.goblin_text.specs.StreamMarks.{StopsAtError, StreamMarks}
+use Rattle.goblin_text.specs.StreamMarks.{ReadsNoFurther, StopsAtError, StreamMarks}
 use Rattle.goblin_text.specs.Shown.{shown, tested}
 use Rattle.goblin_text.specs.declared.input.Input.{Input}
 use Rattle.goblin_text.specs.declared.input.Input.TheVariants as inputs
@@ -119,8 +119,10 @@ pub record HasRun (mode : ParseMode) (outcome : Outcome) (old new : Option (List
   -- else the reader reported no error but interruptions, and the writer none
   pub heeds_reader : outcome ≢ outcomes.Failed → after.reported_failure ≡ before.reported_failure
   pub heeds_writer : outcome ≢ outcomes.Failed → last.reported_error ≡ first.reported_error
-  -- however it ended, nothing was written after an error of the writer
+  -- however it ended, nothing was written after an error of the writer, or read after a failure of the reader or its
+  -- end
   pub stopped : StopsAtError first last
+  pub stops_reading : ReadsNoFurther before after
   -- and no more was read
   pub most : ReadsAtMostOneMore old new
   pub calls : after.read_calls ≤ before.read_calls + read_limit

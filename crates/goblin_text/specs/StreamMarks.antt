@@ -1,28 +1,42 @@
 -- What a reader or a writer has reported so far.
-use Rattle.std.specs.Prelude.{◌≡◌, ℕ, ◌+◌, ◌-◌, ◌^◌, min, Bool, ◌||◌, ◌&&◌, ◌==◌, nat_lt, not, false, true, List, length}
-use Rattle.std.specs.Prelude.{Result, Ok, Err, is_err}
+use Rattle.std.specs.Prelude.{◌≡◌, ℕ, ◌+◌, ◌-◌, ◌^◌, min, Bool, ◌||◌, ◌&&◌, ◌==◌, nat_lt, not, false, true}
+use Rattle.std.specs.Prelude.{List, length, Result, Ok, Err, is_err}
 use Rattle.goblin_text.specs.Common.{Error}
 use Rattle.std.specs.IoError.{error_kind}
 use Rattle.std.specs.declared.io.ErrorKind.{ErrorKind}
 use Rattle.std.specs.declared.io.ErrorKind.TheVariants.{Interrupted}
 
 -- how many read calls there were, which stops at the greatest u64; whether an error, a read error that is no
--- interruption, and the end were reported; and whether it was written or flushed after an error
+-- interruption, and the end were reported; whether it was written or flushed after an error, and read after a failure
+-- or the end
 pub record StreamMarks : Type 0 where
   pub read_calls : ℕ
   pub reported_error : Bool
   pub reported_failure : Bool
   pub reported_end : Bool
   pub went_on : Bool
+  pub read_on : Bool
 
 -- once an error was reported, nothing more was written or flushed
 abbrev pub StopsAtError : StreamMarks → StreamMarks → Type 0
 StopsAtError first last = first.reported_error ≡ false → last.went_on ≡ first.went_on
 
+-- once a failure or the end was reported, nothing more was read
+abbrev pub ReadsNoFurther : StreamMarks → StreamMarks → Type 0
+ReadsNoFurther before after =
+    before.reported_failure ≡ false → before.reported_end ≡ false → after.read_on ≡ before.read_on
+
 -- before any call
 abbrev pub no_marks : StreamMarks
 no_marks =
-    record { read_calls = 0; reported_error = false; reported_failure = false; reported_end = false; went_on = false }
+    record {
+      read_calls = 0;
+      reported_error = false;
+      reported_failure = false;
+      reported_end = false;
+      went_on = false;
+      read_on = false;
+    }
 
 -- the kind of an error after which a call is tried again
 unfoldable pub is_interruption : ErrorKind → Bool
@@ -47,6 +61,7 @@ after_read m answer buf = record {
   reported_failure = m.reported_failure || is_failure answer;
   reported_end = m.reported_end || is_end answer buf;
   went_on = m.went_on;
+  read_on = m.read_on || m.reported_failure || m.reported_end;
 }
 
 -- the marks after `write_all` or `flush` returned this

@@ -8,7 +8,8 @@ use std::io;
 use std::io::{Read, Write};
 
 /// A reader or a writer of std that counts its read calls, and marks that it reported an error, a read error that
-/// is no interruption, or the end, and that it was written or flushed after an error.
+/// is no interruption, or the end, that it was written or flushed after an error, and that it was read after such an
+/// error or the end.
 #[derive(Drop)]
 pub struct Counted<T> {
     inner: T,
@@ -17,6 +18,7 @@ pub struct Counted<T> {
     reported_failure: bool,
     reported_end: bool,
     went_on: bool,
+    read_on: bool,
 }
 
 impl<T> Counted<T> {
@@ -32,6 +34,7 @@ impl<T> Counted<T> {
             reported_failure: false,
             reported_end: false,
             went_on: false,
+            read_on: false,
         }
     }
 
@@ -84,6 +87,7 @@ impl<R: Read> Source for Counted<R> {
     ghost marks = { marks_of };
 
     fn read(&mut self, buf: &mut [u8]) -> io::Result<usize> {
+        self.read_on = self.read_on || self.reported_failure || self.reported_end;
         let answer = self.inner.read(buf);
         self.read_calls = self.read_calls.saturating_add(1);
         match &answer {

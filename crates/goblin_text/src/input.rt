@@ -2,7 +2,7 @@
 ghost use Rattle.std.specs.Prelude.{◌≡◌, ◌≢◌, ◌+◌, ◌<◌, ◌≤◌, OnOk, drop, take, vec_len};
 ghost use Rattle.std.specs.Io.{ReadsAtMost};
 ghost use Rattle.std.specs.Io.KnownBytes.{ReadConsumes};
-ghost use Rattle.goblin_text.specs.StreamMarks.{after_read};
+ghost use Rattle.goblin_text.specs.StreamMarks.{ReadsNoFurther, after_read};
 ghost use Rattle.goblin_text.specs.RunOutcome.{IsInput, IsInputWithin, ReadsAtMostOneMore, read_limit};
 
 use crate::streams::{Source, is_interruption};
@@ -86,6 +86,7 @@ pub fn input_of<R: Source>(alloc: Global, reader: &mut R) -> Input
     ensures calls { (R.marks reader.new).read_calls ≤ (R.marks reader.old).read_calls + read_limit }
     ensures heeded { result ≢ Input.Failed →
         (R.marks reader.new).reported_failure ≡ (R.marks reader.old).reported_failure }
+    ensures stopped { ReadsNoFurther (R.marks reader.old) (R.marks reader.new) }
 {
     input_within(alloc, reader, READ_LIMIT)
 }
@@ -98,6 +99,7 @@ pub fn input_within<R: Source>(alloc: Global, reader: &mut R, limit: u64) -> Inp
     ensures calls { (R.marks reader.new).read_calls ≤ (R.marks reader.old).read_calls + limit }
     ensures heeded { result ≢ Input.Failed →
         (R.marks reader.new).reported_failure ≡ (R.marks reader.old).reported_failure }
+    ensures stopped { ReadsNoFurther (R.marks reader.old) (R.marks reader.new) }
 {
     let mut bytes = Vec::new(alloc);
     let mut filled = 0;

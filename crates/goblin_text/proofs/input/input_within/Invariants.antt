@@ -1,4 +1,5 @@
 use Rattle.goblin_text.proofs.Common.{◌≡◌, ◌+◌, ◌-◌, ◌^◌, ◌≤◌, min, false, take, vec_len, Consumes}
+use Rattle.goblin_text.specs.StreamMarks.{ReadsNoFurther}
 use Rattle.goblin_text.specs.declared.input.TheConstants.{INPUT_LIMIT}
 use Rattle.goblin_text.proofs.input.input_within.Given as goal
 
@@ -16,5 +17,6 @@ invariant-loop g l =
           ≤ (source.marks l.reader).read_calls;
       endless : (source.marks l.reader).reported_end ≡ (source.marks l.initial.reader).reported_end;
       gave : (source.marks l.reader).reported_error ≡ false → l.counter ≤ l.filled;
+      stopped : ReadsNoFurther (source.marks l.initial.reader) (source.marks l.reader);
       heeded : (source.marks l.reader).reported_failure ≡ (source.marks l.initial.reader).reported_failure;
     }

@@ -20,6 +20,7 @@ returns-in-TooLong g c = record {
   heeds_reader = grind (arith, common_steps);
   heeds_writer = grind (arith, common_steps);
   stopped = c.refuse.ensures.stopped;
+  stops_reading = grind (arith, common_steps);
   most = grind (arith, common_steps);
   calls = grind (arith, common_steps);
 }
@@ -32,6 +33,7 @@ returns-in-OutOfMemory g c = record {
   heeds_reader = grind (arith, common_steps);
   heeds_writer = grind (arith, common_steps);
   stopped = c.refuse-in-OutOfMemory.ensures.stopped;
+  stops_reading = grind (arith, common_steps);
   most = grind (arith, common_steps);
   calls = grind (arith, common_steps);
 }
@@ -48,6 +50,7 @@ returns g c = record {
   heeds_reader = search rules;
   heeds_writer = search rules;
   stopped = c.show_file.ensures.stopped;
+  stops_reading = search rules;
   most = search rules;
   calls = search rules;
 }
