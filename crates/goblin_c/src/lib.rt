@@ -67,7 +67,8 @@ pub const VERSION: u32 = 7;
 /// Returns the version of the library.
 #[unsafe(no_mangle)]
 pub extern "C" fn goblin_version() -> u32
-    ensures { result ≡ 7 }
+    ensures number { result ≡ 7 }
+    ensures constant { VERSION ≡ 7 }
 {
     VERSION
 }
