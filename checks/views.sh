@@ -2,12 +2,14 @@
 # The check `clones_the_view`: the counted views can't be copied, since bytes of a copy could be read without a count, and no contract would
 # notice. Callers call `clone` and `len` on each view, and a function beside the walk makes a second view of a view's bytes. The compiler must
 # refuse each `clone`, because the view isn't `Clone`, the second view, because its field is private, and nothing else. Nothing is proved. Nor
-# have the views' files a public call or field that isn't listed here, or an impl of another trait. Run from the repository's root.
+# have the views' files a public call or field that isn't listed here, or an impl of another trait, and `Debug` shows no more than length and
+# count. Run from the repository's root.
 . checks/faces/shared.sh
 sh commands/has.sh 'compiling callers of views' rt
 views='entries::Looked entries::Entries entries::Probes counted_bytes::CountedBytes'
 public='Looked new len at marks text entries count Entries len is_empty text Probes of len at count CountedBytes new len at get bytes count '
-found=$(cd crates/goblin_base/src && sed -En 's/^ *pub(\(\w+\))? ((fn|struct) )?(\w+).*/\4/p; /^impl.* (Model|fmt::Debug) for /!s/^impl.* for /&/p' \
+found=$(cd crates/goblin_base/src && sed -En 's/^ *pub(\(\w+\))? ((fn|struct) )?(\w+).*/\4/p; /^impl.* (Model|fmt::Debug) for /!s/^impl.* for /&/p
+    /\.field\(/{/&self\.(len|count)\(\)\)/!p}' \
     entries.rt counted_bytes.rt | tr '\n' ' ')
 [ "$found" = "$public" ] || wrong="; only what this script lists may be public, and this is: $found"
 cp -R --parents HANDLES crates/goblin_base/src crates/goblin_base/specs crates/goblin_base/proofs "$folder"
