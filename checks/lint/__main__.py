@@ -12,6 +12,7 @@ import sys
 
 sys.dont_write_bytecode = True
 sys.path.append(os.path.dirname(os.path.dirname(os.path.abspath(__file__))))
+import hidden
 import names
 import pinned
 import quotes
@@ -47,7 +48,7 @@ def shell():
 
 def main():
     read, failed = [], 0
-    for check in (quotes.faults, words.faults, names.faults, pinned.faults, readme.faults, wide, shell):
+    for check in (quotes.faults, words.faults, names.faults, pinned.faults, hidden.faults, readme.faults, wide, shell):
         what, wrong = check()
         read.append(what)
         failed += len(wrong)
