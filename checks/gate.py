@@ -118,9 +118,9 @@ def proofs(crates, copy, after=()):
 
 
 def edits(crates, copy, *words, what='edits'):
-    """The edits of these crates. (Those of the highest crates, which are proved last, take longest.)"""
+    """The edits of these crates. (Those of a crate that has most take longest.)"""
     return [Part(f'{what} of {crate}', [PYTHON, 'checks/edits', *words, crate], (f'proof of {crate}',), copy, weight=3)
-            for crate in reversed(crates)]
+            for crate in sorted(crates, key=lambda crate: -len(glob.glob(f'crates/{crate}/edits/*')))]
 
 
 def crates_with(kinds, name='', folder=''):
