@@ -17,6 +17,7 @@ import names
 import pinned
 import quotes
 import readme
+import signatures
 import words
 from crates import text_of, tracked
 
@@ -48,7 +49,7 @@ def shell():
 
 def main():
     read, failed = [], 0
-    for check in (quotes.faults, words.faults, names.faults, pinned.faults, hidden.faults, readme.faults, wide, shell):
+    for check in (quotes.faults, words.faults, names.faults, pinned.faults, hidden.faults, signatures.faults, readme.faults, wide, shell):
         what, wrong = check()
         read.append(what)
         failed += len(wrong)

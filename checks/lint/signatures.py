@@ -1,0 +1,43 @@
+"""Whether goblin.h declares the calls of goblin_c with the types that they are defined with.
+
+Contracts hold for each value of an argument's type, so they let a call take 16 bits where C passes 32, and the linker knows no types.
+In C a slice is a pointer and a length, and bytes may be void.
+"""
+import re
+
+from crates import text_of, tracked
+from rattle import code_of
+
+HEADER = 'faces/c/goblin.h'
+# (strings are blank in what is read of Rattle's code)
+DEFINED = re.compile(r'\bpub extern +fn (\w+)\(([^)]*)\)(?: -> (\w+))?')
+DECLARED = re.compile(r'\b(\w+) (goblin_\w+)\(([^()]*)\)')
+PARAMETER = re.compile(r'\w+: (&mut |&)?(\[)?(\w+)\]?')
+
+
+def type_in_c(name):
+    """The type for C of a number or a struct in Rattle."""
+    if re.fullmatch('[ui](8|16|32|64)', name):
+        return f'{"u" * (name[0] == "u")}int{name[1:]}_t'
+    return f'goblin{re.sub("([A-Z])", lambda found: "_" + found[1].lower(), name[len("Goblin"):])}_t' if name.startswith('Goblin') else name
+
+
+def expected(parameters, result):
+    """The types for C of a call's result and arguments, with void for bytes."""
+    types = [type_in_c(result) if result else 'void']
+    for reference, bracket, name in PARAMETER.findall(parameters):
+        kind = 'void' if bracket and name == 'u8' else type_in_c(name)
+        types += [f'{"const " * (reference == "&")}{kind}{" *" * bool(reference)}'] + ['size_t'] * bool(bracket)
+    return types
+
+
+def faults():
+    text = re.sub(r'/\*.*?\*/|^ *#(?:[^\n]*\\\n)*[^\n]*', '', text_of(HEADER), flags=re.DOTALL | re.MULTILINE)
+    bytes_of = lambda declared: re.sub(r'\buint8_t \*', 'void *', re.sub(r' ?(\*?)\w+$', r' \1', declared.strip()).strip())
+    declared = {name: [result, *([] if parameters == 'void' else map(bytes_of, re.sub(r'\s+', ' ', parameters).split(',')))]
+                for result, name, parameters in DECLARED.findall(text)}
+    defined = {name: expected(parameters, result) for path in tracked('crates/goblin_c/src/*.rt')
+               for name, parameters, result in DEFINED.findall(code_of(path))}
+    wrong = [f'{HEADER}: {name} is declared as {declared.get(name)}, and defined as {defined.get(name)}'
+             for name in sorted({**declared, **defined}) if declared.get(name) != defined.get(name)]
+    return f'the types of {len(defined)} calls for C', wrong if defined else ['no call for C was found']
