@@ -17,11 +17,11 @@ pub record StreamMarks : Type 0 where
   pub went_on : Bool
   pub read_on : Bool
 
--- once an error was reported, nothing more was written or flushed
+-- if no error was reported before, nothing was written or flushed after one
 abbrev pub StopsAtError : StreamMarks → StreamMarks → Type 0
 StopsAtError first last = first.reported_error ≡ false → last.went_on ≡ first.went_on
 
--- once a failure or the end was reported, nothing more was read
+-- if neither a failure nor the end was reported before, nothing was read after one
 abbrev pub ReadsNoFurther : StreamMarks → StreamMarks → Type 0
 ReadsNoFurther before after =
     before.reported_failure ≡ false → before.reported_end ≡ false → after.read_on ≡ before.read_on

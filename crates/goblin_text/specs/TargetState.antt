@@ -8,7 +8,7 @@ pub record State : Type 0 where
   pub reported_error : Bool
   pub went_on : Bool
 
--- once an error was reported, there was no more call
+-- if no error was reported before, there was no call after one
 abbrev pub Stops : State → State → Type 0
 Stops old new = old.reported_error ≡ false → new.went_on ≡ old.went_on
 

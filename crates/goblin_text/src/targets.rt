@@ -184,6 +184,7 @@ impl Gathered {
     }
 }
 
+// (It marks no call after an error: the text is let go then.)
 impl Target for Gathered {
     type Error = AllocError;
 
