@@ -596,14 +596,15 @@ check('Names depend on the machine and the owner, and numbers without a name are
         h1: 'goblin what an ELF file holds' });
 });
 
-// Names of C++: some of each form that is read, and some that are left alone: with an expression, a lambda, and an
-// older name of Rust.
+// Names of C++: some of each form that is read, and some that are left alone: very long ones, with an expression, a
+// lambda, and an older name of Rust.
 const READ = ['_ZN5space5ClassILi5ELb1ELm7EEC2ERKS1_', '_ZNKSs4sizeEv',
     '_ZStlsISt11char_traitsIcEERSt13basic_ostreamIcT_ES5_PKc', '_ZTVN1a1bE', '_ZN1aIiEaSEOS0_', '_Z3mapIPFvPKciEET_S3_',
     '_ZThn16_N1a1bEv', '_ZN3fooB5cxx11ILN1k1eE3EJidEE3barEv.part.0', '_ZNO1a1bEVPKi', '_ZN12_GLOBAL__N_11aD1Ev'];
 const SHORT_FORMS = Array.from({ length: 8 }, (_, i) => `S_IS${i}_S${i}_E`).join(''),
     VERY_LONG = `_Z1f1aIiiE${SHORT_FORMS}${'S8_'.repeat(250)}`; // (of 1.3 million signs)
-const LEFT_ALONE = [VERY_LONG, '_Z1fILi1EEvRAT__c', '_ZZ1fvENKUlvE_clEv', '_ZN4core3fmt17h0123456789abcdefE', '_Z',
+const LEFT_ALONE = [VERY_LONG, `_Z1fv${'.1'.repeat(60)}!`, `_Z1f${'F'.repeat(1019)}`, '_Z1fILi1EEvRAT__c',
+    '_ZZ1fvENKUlvE_clEv', '_ZN4core3fmt17h0123456789abcdefE', '_Z',
     '_ZN', 'main', '_Z1fS9_'];
 
 check('Names of C++ are demangled as by c++filt, or left alone', async () => {
