@@ -84,7 +84,8 @@ class Reader {
         return this.next === 'I' ? this.templated(is_known ? name : this.note(name)) : name;
     }
     nested() {
-        const after = words(this.match(/r?V?K?[RO]?/y));
+        const qualifiers = this.match(/r?V?K?/y).split('').reverse().join(''),
+            after = words(qualifiers + this.match(/[RO]?/y));
         let name = this.next === 'S' ? this.known_one() : this.next === 'T' ? this.type() : undefined;
         while (!this.takes('E')) {
             name = this.next === 'I' ? this.templated(this.need(name)) : this.joined(name, this.part(name?.last));
