@@ -371,6 +371,15 @@ check('A writer says whether there is such an item, and what is refused changes 
             [() => writer.put_number(content.length, 1, 0), BAD_OFFSET],
         ]) assert.throws(put, is_refusal(kind, offset));
         assert.equal(error_of(() => writer.put_reloc(rela, 1, wide)).numbers[0], 1n << 40n);
+        // (nor is a number cut that fits no field)
+        for (const [put, item, name, ...wrong] of [
+            [(changed) => writer.put_header(changed), header, 'e_phnum', 70000, -1, 1.5, NaN],
+            [(changed) => writer.put_section_header(1, changed), section, 'sh_type', 2 ** 32 + 1, -1],
+            [(changed) => writer.put_section_header(1, changed), section, 'sh_size', -1n, 1n << 64n],
+            [(changed) => writer.put_symbol(table, 0, changed), symbol, 'st_info', 256],
+            [(changed) => writer.put_reloc(rela, 1, changed), reloc, 'r_addend', 1n << 63n],
+        ]) for (const number of wrong) assert.throws(() => put({ ...item, [name]: number }), RangeError);
+        assert.throws(() => elf.strtab({ ...text, sh_type: 3, sh_offset: 1n << 64n }).get(0), RangeError);
         for (const wrong of [undefined, content.buffer, [...content], new DataView(content.buffer)])
             assert.throws(() => elf.writer(wrong), TypeError);
         assert.deepEqual(bytes, new Uint8Array(content));

@@ -253,8 +253,13 @@ function read(view, start, { fields }, item = plain({})) {
     return item;
 }
 
+// Writes an object into a struct. Each number must fit its field: else other bits would be written.
 function write(view, start, { fields }, item) {
-    for (const field of fields) view[field.set](start + field.offset, item[field.name], true);
+    for (const { name, offset, get, set } of fields) {
+        view[set](start + offset, item[name], true);
+        if (get(view, start + offset) !== item[name])
+            throw new RangeError(`${item[name]} is no number for the field ${name}`);
+    }
 }
 
 // Returns an argument as the library takes it: an unsigned integer of a number of bits.
@@ -1141,8 +1146,8 @@ const SIZES = { header: [52, 64], section: [40, 64], segment: [32, 56], symbol: 
 /**
  * Writes records of a file into its bytes, in the class and byte order of its header. Each call changes the bytes of
  * one record, and no others. What it writes is read as the same record, unless section 0 has the number of headers and
- * the call changes it. Each call throws if the record is not inside the bytes or does not fit the class, and then
- * writes nothing.
+ * the call changes it. Each call throws if the record is not inside the bytes or does not fit the class (a `RangeError`
+ * where it fits no class), and then writes nothing.
  *
  * ```js
  * const elf = Elf.parse(bytes), { index, section } = elf.section_by_name('.text');
