@@ -38,7 +38,8 @@ function known(read) {
 }
 const of_type = (file, type) => file.segments().filter(({ p_type }) => p_type === type);
 const is_static = (file) => file.kind === 'program' && of_type(file, PT_INTERP).length === 0;
-const bytes_of = ({ bytes }, { offset, size }) => bytes.subarray(Number(offset), Number(offset + size));
+// (a call may have moved the bytes of the file)
+const bytes_of = ({ elf: { bytes } }, { offset, size }) => bytes.subarray(Number(offset), Number(offset + size));
 
 // Returns the entries of the dynamic section, unless its bytes are in another file.
 function entries_of({ elf }) {
@@ -190,10 +191,10 @@ const RULES = {
     symbols: ({ elf }) => elf.syms()?.length ?? 0, dynamic_symbols: ({ elf }) => elf.dynsyms()?.length ?? 0, sizes,
 };
 
-/** Returns the facts of a file and its bytes. Those in `unknown` can't be read, since the file does not hold what says
+/** Returns the facts of a file. Those in `unknown` can't be read, since the file does not hold what says
  * them, and are null. So are those that such a file does not have. */
-export function facts(elf, bytes) {
-    const file = { elf, bytes, sections: once(() => [...within(MOST_SECTIONS, elf.section_headers())]),
+export function facts(elf) {
+    const file = { elf, sections: once(() => [...within(MOST_SECTIONS, elf.section_headers())]),
         segments: once(() => [...within(MOST_SEGMENTS, elf.program_headers())]),
         strings: once(() => elf.dynamic_strings()) };
     file.entries = once(() => entries_of(file));

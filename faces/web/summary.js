@@ -32,10 +32,14 @@ const section_called = (name) => read_or(undefined, () => file.elf.section_by_na
 const shortened = (items, most, rest) =>
     (items.length <= most ? items : [...items.slice(0, most), rest(count(items.length - most))]);
 const first_of = (links, to) => shortened(links, MOST_PLACES, (others) => ({ text: `and ${others} more`, to }));
-// Returns names as a text, which says how many are left out.
-const listed = (names, between) => names.slice(0, MOST_NAMES).join(between)
-    + (names.length > MOST_NAMES ? ` and ${count(names.length - MOST_NAMES)} more` : '');
-export const all_facts = once(() => facts(file.elf, file.content));
+// Returns names as a text, which says how many are left out. (In a damaged file each may be very long.)
+function listed(names, between) {
+    let left = MOST_SIGNS;
+    const long = names.findIndex((name) => (left -= name.length) < 0),
+        most = Math.min(MOST_NAMES, long < 0 ? names.length : Math.max(long, 1));
+    return names.slice(0, most).join(between) + (names.length > most ? ` and ${count(names.length - most)} more` : '');
+}
+export const all_facts = once(() => facts(file.elf));
 
 // Returns the row of a fact in words, or that it is unknown, or nothing if there is nothing to say of it.
 function said(name, fact, words = String, ...links) {
