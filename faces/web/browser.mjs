@@ -903,6 +903,14 @@ check('The types of relocations of several machines have the names that readelf 
     // (in 64-bit files for MIPS a relocation has three types, the first one in the last byte)
     const three = relocations({ type: 0 });
     three.bytes.set([0, 24, 5, 7], 12);
+    // (Enter opens what a search finds that runs, and what is searched is not forgotten meanwhile)
+    await pick(path);
+    await open_tab('symbols');
+    await evaluate(`void (${one('#panel input')}.value = 'Li778E',
+        ${one('#panel input')}.dispatchEvent(new Event('input')))`);
+    await setTimeout(250);
+    await press('#panel input', 'Enter');
+    await until_chosen(all[778].text);
     await pick_written('mips', elf_file({ machine: 8, sections: [three] }), 'relocations');
     assert.deepEqual(await cells(2), ['R_MIPS_GPREL16 R_MIPS_HI16 R_MIPS_SUB']);
 });

@@ -282,9 +282,8 @@ function demangling(mine, switched) {
 function search_field(mine) {
     const look = async () => {
         const query = mine.search.value.trim();
-        if (query === mine.query) return;
-        mine.query = query;
-        await refresh(mine);
+        if (query !== mine.query) mine.shown = refresh(Object.assign(mine, { query }));
+        return mine.shown;
     };
     return make('input', {
         type: 'search', placeholder: 'Search: text or 0x…',
