@@ -390,7 +390,7 @@ check('What is broken is in one row, with links to its places', async () => {
     }
     assert.equal(await text_of('#legend .past'), `past the end: .c at ${hex(farthest)}`);
     // (the segments of a debug file are those of another file)
-    const of_debug = value_in(await facts(join(stored, 'facts', 'debug_with_sizes')), 'broken');
+    const debug = join(stored, 'facts', 'debug_with_sizes'), of_debug = value_in(await facts(debug), 'broken');
     assert.deepEqual([of_debug.slice(0, 3), await text_of('#legend .past')], ['no:', null]);
 });
 
@@ -401,6 +401,14 @@ check('A module, its signature, compressed debug information, appended bytes and
         named('.debug_info', Buffer.alloc(24, 1), 0x800), named('.a', Buffer.alloc(1, 1)),
         named('.none', Buffer.alloc(2040), 0, 0)] });
     const signed = Buffer.concat([signature, Buffer.from([0, 0, 2, 0, 0, 0, 0, 0, 0, 0, 2, 0xbc]),
+    // (here of .text, and in .comment)
+    await go('address/0x470', 'address 0x470', { section: '.text', offset: /^none/ });
+    await go('offset/0x2d0', 'offset 0x2d0');
+    assert.deepEqual([(await side()).includes('.comment'), await field_of('address')], [true, null]);
+    // (section 0 may have any type)
+    const first = symbols_file([{ text: 'a' }]);
+    await pick_written('first', patched(first, [header_at(first, 0) + 4, 2, 4]), 'symbols');
+    assert.deepEqual([await text_of('#tab-symbols span'), await cells(1)], ['2', ['', 'a']]);
         Buffer.from('~Module signature appended~\n')]);
     const content = Buffer.concat([module, Buffer.from('appended'), signed]);
     const rows = await facts(await pick_written('module', content));

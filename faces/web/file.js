@@ -3,7 +3,7 @@
 import * as goblin from './goblin.js';
 import { count, hex, name_of, NAME, once, two_digits } from './text.js';
 
-export const file = { elf: undefined, bytes: new Uint8Array(0),
+export const file = { elf: undefined, bytes: new Uint8Array(0), has_segments: true,
     get content() { return this.elf?.bytes ?? this.bytes; } };
 export const is_wide = () => file.elf.is_64();
 
@@ -115,6 +115,8 @@ export const section_at = (index) => (typeof index === 'number' ? sections()[ind
 const indexed = (list) => read_or([], list).map((item, index) => Object.assign(item, { index }));
 export const sections = once(() => indexed(() => file.elf.section_headers()));
 export const segments = once(() => indexed(() => file.elf.program_headers()));
+/** Returns the segments whose bytes are in the file: none of a debug file, as those are in another one. */
+export const own_segments = () => (file.has_segments ? segments() : []);
 export const segment_of = (type) => segments().find(({ p_type }) => p_type === type);
 export const all_sections = () => [...sections(), ...own_sections.values()];
 /** Reports whether a section has debug information, which its name says. */

@@ -1,6 +1,6 @@
 // The pieces of the file, and the parts that the ends of pieces divide it into.
 import * as goblin from './goblin.js';
-import { called, file, is_debug, name_of_section, RELOCATION_TYPES, section_at, sections, segments, size_of,
+import { called, file, is_debug, name_of_section, own_segments, RELOCATION_TYPES, section_at, sections, size_of,
     SYMBOL_TYPES, read_or } from './file.js';
 import { segment_type } from './labels.js';
 import { notes_of, title_of } from './notes.js';
@@ -65,12 +65,13 @@ function pieces_of_sections() {
 // loaded segment has outside of them is mostly padding, and neither code nor data.
 function pieces_of_segments() {
     const { add, ...collected } = collector();
-    for (const segment of segments()) {
+    for (const segment of own_segments()) {
         const { index, p_type, p_offset, p_filesz } = segment, is_rest = has_sections();
         const kind = is_rest && p_type === goblin.PT_LOAD ? 'other' : kind_of_segment(segment);
         add(p_offset, p_filesz, { title: title_of_segment(index, segment), kind, is_rest, to: `segments/${index}` });
     }
-    notes_of('segments').items.forEach((item, index) => add(item.start, Math.min(item.end, file.content.length)
+    const notes = file.has_segments ? notes_of('segments').items : [];
+    notes.forEach((item, index) => add(item.start, Math.min(item.end, file.content.length)
         - item.start, { title: title_of(item), kind: 'notes', to: `notes/segments/${index}` }));
     return collected;
 }

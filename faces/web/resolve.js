@@ -1,7 +1,7 @@
 // Resolves symbols, relocations and addresses: to sections, segments, symbols and bytes of the file.
 import * as goblin from './goblin.js';
 import { demangled } from './demangle.js';
-import { called, file, name_at, read_or, section_at, sections, segment_of, segments, SYMBOL_TYPES,
+import { called, file, name_at, own_segments, read_or, section_at, sections, segment_of, segments, SYMBOL_TYPES,
     symbol_tables } from './file.js';
 import { hex, name_of, once } from './text.js';
 
@@ -9,7 +9,7 @@ import { hex, name_of, once } from './text.js';
 export const has_addresses = () => file.elf.header.e_type !== goblin.ET_REL;
 /** Returns the symbol table of a section, or nothing if it has another type. Throws if the table is refused. */
 export const symtab_at = once((index) => {
-    const section = index ? section_at(index) : undefined;
+    const section = section_at(index);
     const symtab = SYMBOL_TYPES.includes(section?.sh_type) ? file.elf.symtab(section) : undefined;
     return section?.strtab ? Object.assign(symtab, { strtab: section.strtab }) : symtab;
 });
@@ -129,8 +129,8 @@ export function section_of_address(address) {
 }
 
 export function offset_of_address(address) {
-    const segment = segments_of_address(address)
-        .find(({ p_vaddr, p_filesz }) => holds(p_vaddr, p_filesz, address));
+    const segment = file.has_segments ? segments_of_address(address)
+        .find(({ p_vaddr, p_filesz }) => holds(p_vaddr, p_filesz, address)) : undefined;
     const section = section_at(section_of_address(address));
     const at = segment ? segment.p_offset + address - segment.p_vaddr
         : section && section.sh_type !== goblin.SHT_NOBITS ? section.sh_offset + address - section.sh_addr : undefined;
@@ -140,7 +140,7 @@ export function offset_of_address(address) {
 export function address_of_offset(offset) {
     const at = BigInt(offset),
         is_there = ({ p_type, p_offset, p_filesz }) => p_type === goblin.PT_LOAD && holds(p_offset, p_filesz, at);
-    const segment = has_addresses() ? segments().find(is_there) : undefined;
+    const segment = has_addresses() ? own_segments().find(is_there) : undefined;
     return segment && segment.p_vaddr + at - segment.p_offset;
 }
 

@@ -70,18 +70,14 @@ export function kind_in_words() {
 const debug_sections = once(() =>
     sections().filter((section) => is_debug(section) && section.sh_type !== SHT_NOBITS));
 
-/** Returns those of some pieces that are of this file: the segments of a debug file are those of another file. */
-export const of_this_file = (pieces) =>
-    pieces.filter(({ to }) => all_facts().kind !== 'debug file' || !to.startsWith('segments/'));
-
 // Returns lines that say what is wrong with the file, each with links to the places.
 function damage() {
     const { elf, content } = file, { header } = elf, { past, cut, over } = parts(), end = hex(content.length);
     const { length, 0: first } = sections(), is_far = header.e_shstrndx === 0xffff,
         names = is_far ? first?.sh_link : header.e_shstrndx;
     const line = (words, links, to) => links.length > 0 && row('', words, ...first_of(links, to));
-    const links_to = (pieces) => of_this_file(pieces)
-        .map((piece) => ({ text: titled({ ...piece, is_cut: false }).title, to: piece.to }));
+    const links_to = (pieces) =>
+        pieces.map((piece) => ({ text: titled({ ...piece, is_cut: false }).title, to: piece.to }));
     const wrong = (name, right, words) => (right ? undefined
         : { text: `${name} is ${header[name]}${words}`, to: `header/${name}` });
     const odd = (name, kind) => wrong(name, header[name] === size_of(kind), `, not ${size_of(kind)}`);

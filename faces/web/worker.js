@@ -4,7 +4,7 @@
 import init, * as goblin from './goblin.js';
 import { csv_line } from './csv.js';
 import { address_details, header_fields, is_address, item_details, offset_details } from './details.js';
-import { all_sections, called, file, header_refusal, list_refusal, part, read_or, RELOCATION_TYPES, RELR, segments,
+import { all_sections, called, file, header_refusal, list_refusal, own_segments, part, read_or, RELOCATION_TYPES, RELR,
     size_of, SYMBOL_TYPES } from './file.js';
 import { find_own_sections, packed_offsets } from './dynamic.js';
 import { find } from './find.js';
@@ -14,7 +14,7 @@ import { notes_of } from './notes.js';
 import { CLASSES, inside, sizes, under } from './inside.js';
 import { KINDS, parts, titled } from './pieces.js';
 import { symbols_called, symtab_at, to_symbol } from './resolve.js';
-import { all_facts, kind_in_words, of_this_file, summary } from './summary.js';
+import { all_facts, kind_in_words, summary } from './summary.js';
 import { hex, visible } from './text.js';
 
 // How many bytes are read before the progress is sent.
@@ -54,7 +54,7 @@ function notes_summary(by, headers) {
 
 // Returns in words what lies past the end of the file, if something does, and the list of the first piece.
 function past_end() {
-    const past = of_this_file(parts().past), words = past.slice(0, 2).map((piece) => titled(piece).title).join(', ');
+    const { past } = parts(), words = past.slice(0, 2).map((piece) => titled(piece).title).join(', ');
     return words ? { words: `past the end: ${words}${past.length > 2 ? ` and ${past.length - 2} more` : ''}`,
         to: past[0].to } : {};
 }
@@ -62,7 +62,7 @@ function past_end() {
 const MOST_LOADED = 1000;
 function map() {
     const { starts, tops, depths } = parts(),
-        loaded = segments().filter(({ p_type }) => p_type === 1).slice(0, MOST_LOADED)
+        loaded = own_segments().filter(({ p_type }) => p_type === 1).slice(0, MOST_LOADED)
             .map(({ p_offset, p_filesz, p_flags }) =>
                 [Number(p_offset), Math.min(Number(p_offset + p_filesz), file.content.length), p_flags & 7]);
     const kinds = Int8Array.from(tops, (top) => (top ? KINDS.indexOf(top.kind) : -1));
@@ -75,8 +75,8 @@ function overview() {
     const { elf } = file, { header } = elf;
     const counted = (name, list, offset, number) =>
         part(() => ({ length: list().length }), (error) => list_refusal(error, `the ${name} headers`, offset, number));
-    // (the segments of a debug file are those of another file)
-    if (all_facts().kind !== 'debug file') find_own_sections();
+    file.has_segments = all_facts().kind !== 'debug file';
+    if (file.has_segments) find_own_sections();
     const headers = {
         sections: counted('section', () => elf.section_headers(), 'e_shoff', 'e_shnum'),
         segments: counted('program', () => elf.program_headers(), 'e_phoff', 'e_phnum'),
