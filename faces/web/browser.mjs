@@ -343,6 +343,15 @@ check('All libraries are in one row, up to a number, with how many there are and
             { type: 2, bytes: packed(...entries) }] }));
         assert.equal(value_in(await facts(), 'libraries'), `${all}: ${names.slice(0, 300).join(', ')}${more}`);
     }
+    // (in a damaged file each name may be long, and of signs that are shown as several)
+    const long = Buffer.alloc(4097, 1).fill(0, 0, 1).fill(0, 4096), text = Buffer.alloc(65536, 'x');
+    const entries = [...Array.from({ length: 20 }, () => [1, 1]), [5, 0x400000], [10, long.length], [0, 0]].flat()
+        .map((number) => [number, 8]);
+    await pick_written('long', elf_file({ type: 3, sections: [{ name: '.comment', type: 1, bytes: text }],
+        segments: [{ vaddr: 0x400000, bytes: long }, { type: 2, bytes: packed(...entries) }] }));
+    const rows = await facts();
+    const libraries = `20: ${Array(8).fill('U+0001'.repeat(4095)).join(', ')} and 12 more`;
+    assert.ok(value_in(rows, 'libraries') === libraries && value_in(rows, 'compiler').startsWith(`${text}`));
 });
 
 check('A function has one row, whatever its names, and what is in no symbol is said, too', async () => {

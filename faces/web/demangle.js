@@ -190,7 +190,8 @@ export function demangled(name) {
         return reader.at + rest.length < reader.text.length ? undefined
             : text + rest.replace(/\.[a-z\d_]+(?:\.\d+)*/g, ' [clone $&]');
     } catch (error) {
-        if (!(error instanceof SyntaxError)) throw error;
+        // (one that is nested too deep for the stack is left alone, too)
+        if (!(error instanceof SyntaxError || error instanceof RangeError)) throw error;
         return undefined;
     }
 }

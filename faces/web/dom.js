@@ -35,9 +35,14 @@ export const joined = (...parts) => parts.filter(Boolean).flatMap((part, i, all)
 export const button = (text, onclick, given = {}, ...more) =>
     make('button', { type: 'button', onclick, ...given }, text, ...more);
 
-/** Replaces the content of an element by a text of a file. */
-export const put_text = (element, text) =>
-    fill(element, ...text.split(UNSEEN).map((part, i) => (i % 2 ? make('span', { class: 'esc' }, shown(part)) : part)));
+/** Replaces the content of an element by a text of a file. (It may have more parts than a call has arguments.) */
+export const put_text = (element, text) => text.split(UNSEEN).reduce((box, part, i) => {
+    if (part) box.append(i % 2 ? make('span', { class: 'esc' }, shown(part)) : part);
+    return box;
+}, fill(element));
+
+/** Reports whether a key is pressed for the browser, as to go back. */
+export const is_of_browser = ({ altKey, ctrlKey, metaKey }) => altKey || ctrlKey || metaKey;
 
 /** Returns a function that calls another one once it has not been called for a moment. */
 export function after_typing(act) {

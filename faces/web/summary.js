@@ -15,9 +15,9 @@ import { has_addresses, symbols_called, to_address, to_section, to_symbol } from
 import { count, hex, in_bytes, once, plural } from './text.js';
 
 const { ET_CORE, ET_REL, SHT_NOBITS, SHT_SYMTAB } = goblin;
-// The most that is shown: of what is largest, of places in a row, of rows of one kind, and of names in a row. And how
-// many bytes of a module's texts are read.
-const LARGEST = 10, MOST_PLACES = 8, MOST_ROWS = 20, MOST_NAMES = 300, MOST_TEXT = 1 << 16;
+// The most that is shown: of what is largest, of places in a row, of rows of one kind, and of names in a row and their
+// signs. And how many bytes of a module's texts are read.
+const LARGEST = 10, MOST_PLACES = 8, MOST_ROWS = 20, MOST_NAMES = 300, MOST_SIGNS = 1 << 15, MOST_TEXT = 1 << 16;
 const MACHINES = { 3: 'x86', 8: 'MIPS', 20: 'PowerPC', 21: '64-bit PowerPC', 22: 's390', 40: 'ARM', 62: 'x86-64',
     183: 'AArch64', 243: 'RISC-V' };
 

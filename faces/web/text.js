@@ -3,6 +3,8 @@
 /** How many bytes of a name are shown, searched and sorted by at most. */
 export const NAME = 1024;
 const strict = new TextDecoder('utf-8', { fatal: true, ignoreBOM: true });
+// (a stack may have no room for more arguments)
+const MANY = 1 << 13;
 
 /**
  * Returns the text of bytes. If they are not UTF-8, each byte from 0x80 on is the character U+DC00 plus the byte, which
@@ -10,7 +12,8 @@ const strict = new TextDecoder('utf-8', { fatal: true, ignoreBOM: true });
  * sorted several times as slowly as this one.)
  */
 export function text_of(bytes) {
-    const text = String.fromCharCode.apply(null, bytes);
+    const text = bytes.length > MANY ? Array.from(bytes, (byte) => String.fromCharCode(byte)).join('')
+        : String.fromCharCode.apply(null, bytes);
     if (!/[\x80-\xff]/.test(text)) return text;
     try {
         return strict.decode(bytes);
