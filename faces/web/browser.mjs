@@ -789,6 +789,16 @@ check_program('The field goes to an offset, an address and a name, and says how 
     await go_by_field('there is no such name');
     await until_text('#none:not([hidden])',
         'The file has nothing at that offset or address, and nothing with that name.');
+    // (nothing is found for one who has left the field)
+    await evaluate(`(() => {
+        const field = document.getElementById('goto');
+        field.focus();
+        field.value = 'main';
+        field.dispatchEvent(new Event('input'));
+        field.blur();
+    })()`);
+    await setTimeout(500);
+    assert.equal(await is_hidden('found'), true);
     // Digits without 0x are decimal or hexadecimal. The page says how it reads them, and has a link to the
     // other reading.
     const readings = ['offset 0x64, read as decimal', 'offset 0x100, read as hexadecimal'];

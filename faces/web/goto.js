@@ -75,7 +75,8 @@ async function press(event) {
 
 export function set_up_goto() {
     const field = get('goto');
-    Object.assign(field, { oninput: after_typing(look), onkeydown: press, onblur: close, onfocus: look });
+    const look_if_here = () => { if (document.activeElement === field) look(); };
+    Object.assign(field, { oninput: after_typing(look_if_here), onkeydown: press, onblur: close, onfocus: look });
     addEventListener('keydown', (event) => {
         if (event.key !== '/' || event.target.closest('input, select') || field.offsetParent === null) return;
         event.preventDefault();
