@@ -979,7 +979,11 @@ check('A symbol names its section by an index that does not fit in it, and a sec
         indices, ...others);
     await pick_written('indices', content, 'symbols');
     assert.deepEqual([await cells(1), await cells(7)], [['', '.s5', 'past'], ['undefined', '.s5', '.s6']]);
-    await go('symbols/1/2', 'past');
+    // (a section's symbol has no name of its own for a link)
+    for (const [index, title, has_link] of [[1, '.s5', false], [2, 'past', true]]) {
+        await go(`symbols/1/${index}`, title);
+        assert.equal(await evaluate(`${with_text('#chosen button', 'Copy link')} !== undefined`), has_link);
+    }
     await follow('.s6');
 });
 

@@ -124,7 +124,7 @@ function symbol_details(item, index, table) {
         title: title_of_symbol(table, index, item),
         what: `symbol ${count(index)} of ${called(table)}`,
         kind: section && kind_of(section),
-        link: link_by_name('symbol', name),
+        link: link_by_name('symbol', item.st_name ? name : ''), // (else it is the name of its section)
         fields: [
             in_source(name),
             ...fields_of(item, {
