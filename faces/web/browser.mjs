@@ -1224,6 +1224,15 @@ check('Paper has the summary, and all rows of the open list, over as many sheets
     assert.deepEqual((await shown())[3], ['#', 'Value', 'Size']);
     const all = await sheets();
     assert.ok(all > rows / 100 && all < rows / 20, `${all} sheets`);
+    // (what is said of the table is printed, too)
+    await pick_written('relr', elf_file({ sections: [{ name: '.relr.dyn', type: 19, bytes: packed([0x1000, 8]) }] }),
+        'relocations');
+    await waited('the texts', async () => (await shown())[0].length === 1);
+    await evaluate(`void dispatchEvent(new Event('beforeprint'))`);
+    assert.match(await text_of('#paper .notice'), /outside of what is proved/);
+    await evaluate(`void dispatchEvent(new Event('afterprint'))`);
+    await pick(join(folder, 'printed'));
+    await open_tab('symbols');
     await search('name_14', '111 of 1,501');
     await waited('the texts', async () => (await shown())[0].length === 111);
     assert.match((await shown())[1], /111 of 1,501, with “name_14”$/);

@@ -1,6 +1,6 @@
 // What is printed: the summary, and all of the open tab, over as many sheets as it takes. A page can't wait for its
 // worker once it is printed, so what is printed of a list is requested as soon as the list is shown.
-import { count, get, make } from './dom.js';
+import { count, get, make, visible } from './dom.js';
 import { ask, shown_file } from './reader.js';
 
 // How many rows of a list are printed at most, and the length of a text that may take several lines.
@@ -30,14 +30,15 @@ function table_of({ head, columns }, text) {
 // Returns the title of a list, with the table that is chosen and the text that is searched.
 function title_of({ name, list, of, query, output }) {
     const words = [list?.find((item) => item.of === of)?.text, query && `${output.textContent}, with “${query}”`];
-    return [get(`tab-${name}`).textContent, ...words.filter(Boolean)].join(', ');
+    return visible([get(`tab-${name}`).textContent, ...words.filter(Boolean)].join(', '));
 }
 
-function content_of({ grid, text }) {
+function content_of({ grid, text, below }) {
     if (!grid || grid.box.hidden) return [...get('panel').cloneNode(true).children];
     if (text === undefined)
         return [make('p', {}, 'The list was still being read when this was printed. Print it again in a moment.')];
-    return [grid.length > MOST && make('p', {}, `These are the first ${count(MOST)} rows.`), table_of(grid, text)];
+    return [below.cloneNode(true), grid.length > MOST && make('p', {}, `These are the first ${count(MOST)} rows.`),
+        table_of(grid, text)];
 }
 
 /** Sets functions that return the open tab, and the panel of the summary. */
