@@ -1606,6 +1606,14 @@ check('The keyboard reaches the described parts of the map, a row of a list, and
     await click('#tab-sections');
     await press('#tab-sections', 'ArrowRight');
     await until_active('#tab-segments[aria-selected=true]');
+    // (with Alt keys are the browser's, which goes back)
+    const pressed = `new KeyboardEvent('keydown', { key: 'ArrowLeft', altKey: true, bubbles: true, cancelable: true })`;
+    for (const place of ['#panel .grid', '[role=tab]', '#canvas'])
+        assert.equal(await evaluate(`${one(place)}.dispatchEvent(${pressed})`), true, place);
+    // (what replaces a link that has the focus gets it)
+    await go('sections/1', '.text');
+    await evaluate(`(() => { const link = ${one('#chosen td a')}; link.focus(); link.click(); })()`);
+    await until_active('#chosen h2');
 });
 
 check('If the engine lacks what the library needs, the page says so, and reads no file', async () => {

@@ -1,5 +1,5 @@
 // Lists of any length, of which only the visible rows are drawn.
-import { button, clamp, make, put_text, visible } from './dom.js';
+import { button, clamp, is_of_browser, make, put_text, visible } from './dom.js';
 
 // The greatest height of an element in all engines (a longer list is scrolled in proportion), how many rows are
 // requested at once, how many such blocks are kept, and the space between columns, in pixels.
@@ -212,6 +212,7 @@ export class Grid {
     key(event) {
         const { length } = this, page = Math.max(this.seen - 1, 1), sides = { ArrowLeft: -1, ArrowRight: 1 };
         const steps = { ArrowDown: 1, ArrowUp: -1, PageDown: page, PageUp: -page, Home: -length, End: length };
+        if (is_of_browser(event)) return;
         if (event.key in steps) {
             this.choose(this.active < 0 ? (event.key === 'End' ? this.length : 0)
                 : this.active + steps[event.key], true);

@@ -1,6 +1,6 @@
 // The map: the file's parts, drawn to scale, with the functions inside them, what their bytes are like, what is loaded,
 // and what is chosen.
-import { clamp, fill, get, hex, in_bytes, make, plural, put_text, two_digits, visible } from './dom.js';
+import { clamp, fill, get, hex, in_bytes, is_of_browser, make, plural, put_text, two_digits, visible } from './dom.js';
 import { ask, shown_file } from './reader.js';
 import { go } from './route.js';
 import { first_after, visible_ranges } from './spans.js';
@@ -320,7 +320,7 @@ const KEYS = {
 let turned = 0, from;
 const ACTS = {
     keydown(event) {
-        if (!Object.hasOwn(KEYS, event.key) || event.ctrlKey || event.metaKey) return;
+        if (!Object.hasOwn(KEYS, event.key) || is_of_browser(event)) return;
         event.preventDefault();
         KEYS[event.key]();
     },

@@ -1,6 +1,6 @@
 // The tabs: the header's fields, and the lists with their searches.
 import { area_panel } from './area.js';
-import { after_typing, button, copy, count, fill, focus_chosen, get, hex, in_bytes, make, say,
+import { after_typing, button, copy, count, fill, focus_chosen, get, hex, in_bytes, is_of_browser, make, say,
     visible } from './dom.js';
 import { Grid } from './grid.js';
 import { refusal_of } from './hex.js';
@@ -48,7 +48,7 @@ export function set_up_tabs() {
     get('tabs').addEventListener('keydown', (event) => {
         const all = [...get('tabs').children], at = all.findIndex((tab) => tab.ariaSelected === 'true');
         const next = { ArrowRight: at + 1, ArrowLeft: at - 1 + all.length, Home: 0, End: all.length - 1 }[event.key];
-        if (next === undefined) return;
+        if (next === undefined || is_of_browser(event)) return;
         event.preventDefault();
         all[next % all.length].click();
         all[next % all.length].focus();
