@@ -1,5 +1,5 @@
 // The side: what is chosen, with its fields, links and bytes.
-import { button, copy, fill, get, hex, in_bytes, joined, make, put_text, visible } from './dom.js';
+import { button, copy, fill, focus_chosen, get, hex, in_bytes, joined, make, put_text, visible } from './dom.js';
 import { bytes_in, copy_hex, hex_view, light, refusal_of } from './hex.js';
 import { dot } from './map.js';
 
@@ -83,6 +83,8 @@ export async function show_side({ title, what, kind, link, fields = [], blocks =
             { title: 'show its bytes' });
         return row_of(field, { 'data-field': field.name, 'data-tint': tint % 4 }, head);
     });
+    const has_focus = get('chosen').contains(document.activeElement);
     fill(get('chosen'), put_text(make('h2', { tabindex: '-1' }), title), sub,
         rows.length > 0 && make('div', { class: 'list' }, table_of(rows)), bytes.box);
+    if (has_focus) focus_chosen();
 }

@@ -82,7 +82,9 @@ export async function open_tab(name, of) {
     select_tab(name);
     mine.ready = (panels[name] ?? list_panel)(mine, of).then((content) => {
         if (open !== mine) return;
+        const has_focus = get('panel').contains(document.activeElement);
         fill(get('panel'), ...content);
+        if (has_focus) get('panel').querySelector('select')?.focus();
         if (mine.grid) mine.grid.scroller.scrollTop = 0; // (in Firefox it begins where the list before it was)
         mine.grid?.draw();
         if (!mine.grid && name !== 'summary') prepare_paper(mine);
@@ -192,7 +194,7 @@ async function refresh(mine) {
     };
     const { is_over, refused, is_none, length, all } =
         await ask('view', { list: name, of, is_demangled, query, column, is_descending });
-    if (is_over) return;
+    if (is_over || open !== mine) return;
     fill(below, ...await notices_of(mine, { refused, is_none }));
     const is_shown = !refused && !is_none;
     grid.box.hidden = !is_shown;
@@ -280,7 +282,8 @@ function demangling(mine, switched) {
 }
 
 function search_field(mine) {
-    const look = async () => {
+    // Searches for the text in the field, unless that has begun, and promises that the list is shown for it.
+    const look = () => {
         const query = mine.search.value.trim();
         if (query !== mine.query) mine.shown = refresh(Object.assign(mine, { query }));
         return mine.shown;
