@@ -90,7 +90,7 @@ const WHY_NOT = {
 };
 let loading;
 async function open(file) {
-    loading?.end();
+    if (loading !== shown_file.reader) loading?.end(); // (the file that it has read is shown until another one is)
     const wrong = why_unread(file);
     if (wrong) { trouble(file, wrong); return; }
     const reader = loading = new Reader();
@@ -232,6 +232,7 @@ function start() {
     set_up_goto();
     set_up_files();
     on_place(show_place);
+    addEventListener('unhandledrejection', ({ reason }) => say(`This failed: ${reason?.message}`));
 }
 
 start();

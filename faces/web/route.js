@@ -19,6 +19,8 @@ export function go(place, is_replaced = false) {
 /** Writes a location that is already shown into the address bar. */
 export function note_place(place, is_replaced = false) {
     if (place === current_place()) return;
-    history[is_replaced ? 'replaceState' : 'pushState']({}, '',
-        place ? `#${place}` : location.pathname + location.search);
+    try {
+        history[is_replaced ? 'replaceState' : 'pushState']({}, '',
+            place ? `#${place}` : location.pathname + location.search);
+    } catch {} // (a browser takes only some locations in a time, as while a key is held)
 }
