@@ -103,7 +103,8 @@ function bytes_at(of, address, size) {
     }
     const left = section.sh_size - from;
     if (section.sh_type === goblin.SHT_NOBITS || from < 0n || left <= 0n) return undefined;
-    return { section: of, from, at: Number(section.sh_offset + from), size: Number(size < left ? size : left) };
+    const at = Number(section.sh_offset + from), here = file.content.length - at;
+    return here > 0 ? { section: of, from, at, size: Math.min(Number(size < left ? size : left), here) } : undefined;
 }
 
 /** Returns the bytes of a symbol in the file, or some if its size is unknown, or nothing if it has none there. */
@@ -147,8 +148,9 @@ export function address_of_offset(offset) {
 /** Returns the symbol for an address: its table, index and name, and the distance from its start; or nothing. */
 export function symbol_of_address(address) {
     const thumb = file.elf.header.e_machine === goblin.EM_ARM ? 1n : 0n;
-    for (const table of has_addresses() ? symbol_tables() : []) {
-        const index = read_or(undefined, () => symtab_at(table).by_address(address | thumb));
+    const places = [...new Set([address | thumb, address])], tables = has_addresses() ? symbol_tables() : [];
+    for (const [table, at] of tables.flatMap((table) => places.map((place) => [table, place]))) {
+        const index = read_or(undefined, () => symtab_at(table).by_address(at));
         if (index === undefined) continue;
         const symbol = symtab_at(table).get(index), start = address_of_symbol(symbol);
         if (address !== start && !holds(start, symbol.st_size, address)) continue;
