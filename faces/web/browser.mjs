@@ -401,6 +401,14 @@ check('What is broken is in one row, with links to its places', async () => {
     // (the segments of a debug file are those of another file)
     const debug = join(stored, 'facts', 'debug_with_sizes'), of_debug = value_in(await facts(debug), 'broken');
     assert.deepEqual([of_debug.slice(0, 3), await text_of('#legend .past')], ['no:', null]);
+    // (here of .text, and in .comment)
+    await go('address/0x470', 'address 0x470', { section: '.text', offset: /^none/ });
+    await go('offset/0x2d0', 'offset 0x2d0');
+    assert.deepEqual([(await side()).includes('.comment'), await field_of('address')], [true, null]);
+    // (section 0 may have any type)
+    const first = symbols_file([{ text: 'a' }]);
+    await pick_written('first', patched(first, [header_at(first, 0) + 4, 2, 4]), 'symbols');
+    assert.deepEqual([await text_of('#tab-symbols span'), await cells(1)], ['2', ['', 'a']]);
 });
 
 check('A module, its signature, compressed debug information, appended bytes and padding are called so', async () => {
@@ -410,14 +418,6 @@ check('A module, its signature, compressed debug information, appended bytes and
         named('.debug_info', Buffer.alloc(24, 1), 0x800), named('.a', Buffer.alloc(1, 1)),
         named('.none', Buffer.alloc(2040), 0, 0)] });
     const signed = Buffer.concat([signature, Buffer.from([0, 0, 2, 0, 0, 0, 0, 0, 0, 0, 2, 0xbc]),
-    // (here of .text, and in .comment)
-    await go('address/0x470', 'address 0x470', { section: '.text', offset: /^none/ });
-    await go('offset/0x2d0', 'offset 0x2d0');
-    assert.deepEqual([(await side()).includes('.comment'), await field_of('address')], [true, null]);
-    // (section 0 may have any type)
-    const first = symbols_file([{ text: 'a' }]);
-    await pick_written('first', patched(first, [header_at(first, 0) + 4, 2, 4]), 'symbols');
-    assert.deepEqual([await text_of('#tab-symbols span'), await cells(1)], ['2', ['', 'a']]);
         Buffer.from('~Module signature appended~\n')]);
     const content = Buffer.concat([module, Buffer.from('appended'), signed]);
     const rows = await facts(await pick_written('module', content));
@@ -903,6 +903,14 @@ check('Searches and sorts of 184,833 symbols of C++ are fast, and say how much i
     await search('Li777E', `1 of ${decimal(count + 1)}`);
     await waited('a saved list', () => readdirSync(browser.downloads).some((name) => name.endsWith('.csv')));
     assert.equal(await text_of('#panel output'), `1 of ${decimal(count + 1)}`);
+    // (Enter opens what a search finds that runs, and what is searched is not forgotten meanwhile)
+    await pick(path);
+    await open_tab('symbols');
+    await evaluate(`void (${one('#panel input')}.value = 'Li778E',
+        ${one('#panel input')}.dispatchEvent(new Event('input')))`);
+    await setTimeout(250);
+    await press('#panel input', 'Enter');
+    await until_chosen(all[778].text);
     // (the field for a name says that it searches, too, here in names that are not read yet)
     await pick(path);
     await watch('#none');
@@ -930,14 +938,6 @@ check('The types of relocations of several machines have the names that readelf 
     // (in 64-bit files for MIPS a relocation has three types, the first one in the last byte)
     const three = relocations({ type: 0 });
     three.bytes.set([0, 24, 5, 7], 12);
-    // (Enter opens what a search finds that runs, and what is searched is not forgotten meanwhile)
-    await pick(path);
-    await open_tab('symbols');
-    await evaluate(`void (${one('#panel input')}.value = 'Li778E',
-        ${one('#panel input')}.dispatchEvent(new Event('input')))`);
-    await setTimeout(250);
-    await press('#panel input', 'Enter');
-    await until_chosen(all[778].text);
     await pick_written('mips', elf_file({ machine: 8, sections: [three] }), 'relocations');
     assert.deepEqual(await cells(2), ['R_MIPS_GPREL16 R_MIPS_HI16 R_MIPS_SUB']);
 });
