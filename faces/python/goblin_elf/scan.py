@@ -192,10 +192,10 @@ class Report:
         """Yields the rows of the report that is there. Its last line may be a part of one."""
         if not os.path.exists(self.lines_path):
             import pyarrow.parquet
-            yield from pyarrow.parquet.read_table(self.path).to_pylist()
+            yield from (row for row in pyarrow.parquet.read_table(self.path).to_pylist() if list(row) == COLUMNS)
             return
         csv.field_size_limit(sys.maxsize)  # (a list of libraries may be long)
-        with open(self.lines_path, newline='\n', encoding='utf-8', errors='replace') as file:
+        with open(self.lines_path, newline='\n', encoding='utf-8-sig', errors='replace') as file:
             for line in file:
                 # (what is no row is left out)
                 with contextlib.suppress(ValueError, csv.Error):

@@ -217,6 +217,11 @@ class Scan(Folder):
         with contextlib.redirect_stderr(io.StringIO()) as said:
             self.assertRaises(SystemExit, module.main, [self.files, self.out('absent'), '-o', self.out('r.csv')])
         self.assertIn(f'{self.out("absent")} is not there', said.getvalue())
+            # (a program for tables may have saved it with a mark at its start)
+            with open(self.out(name), 'wb') as file:
+                file.write(b'\xef\xbb\xbf' + whole)
+            scan(self.files, '-o', self.out(name), '--workers', '0', '--resume')
+            self.assertEqual(read(self.out(name)), whole)
         self.put('a.o', made.ALL[0].bytes)
         scan(self.out('files/a.o'), '-o', self.out('r.csv'), '--workers', '0')
         self.assertEqual([row['file'] for row in self.rows('r.csv')], [self.out('files/a.o')])
@@ -238,6 +243,11 @@ class Scan(Folder):
             self.put(name, content)
             os.truncate(os.path.join(self.files, name), size)
         script = 'import resource, runpy, sys; resource.setrlimit(resource.RLIMIT_DATA, (120 << 20, 120 << 20)); ' \
+            # (files of a report with other columns, as of an older version, are examined again)
+            with open(self.out('r.parquet'), 'w', encoding='utf-8') as file:
+                json.dump([{name: value for name, value in row.items() if name != 'unknown'} for row in rows], file)
+            scan(self.files, '-o', self.out('r.parquet'), '--workers', '0', '--resume')
+            self.assertEqual(json.loads(read(self.out('r.parquet'))), rows)
                  'sys.argv = sys.argv[1:]; runpy.run_module("goblin_elf.scan", run_name="__main__")'
         subprocess.run([sys.executable, '-c', script, 'scan', self.files, '-o', self.out('r.csv'), '--workers', '0'], check=True,
                        stderr=subprocess.PIPE, timeout=120)
