@@ -7,9 +7,9 @@ paths. The report is the same in each case. This command listens on no port. `py
 A cell is empty if such a file does not have the fact, or if it is unknown, and then the column `unknown` names it. If a part of a file is
 refused, `refused` and the columns after it say why.
 
-Files are mapped, and symbolic links are not followed. Members of `.a` and `.deb` archives are examined, too: those of a `.deb` if they have
-at most 64 MiB and Python can unpack its data. A batch whose worker ends is tried again by other ones; a file that ends one worker after
-another is a row with the refusal WORKER_LOST. With --resume, files of the report are left out.
+Files are mapped, and symbolic links below the folders are not followed. Members of `.a` and `.deb` archives are examined, too: those of a
+`.deb` if they have at most 64 MiB and Python can unpack its data. A batch whose worker ends is tried again by other ones; a file that ends
+one worker after another is a row with the refusal WORKER_LOST. With --resume, files of the report but the last one are left out.
 """
 import argparse
 import collections
@@ -157,13 +157,22 @@ def examine(paths: List[str]) -> Result:
 
 
 def found_below(folder: str) -> Iterator[str]:
-    """Yields the regular files below a folder as they are found, those of each folder in order."""
-    with contextlib.suppress(OSError), os.scandir(folder) as scanned:
-        for entry in sorted(scanned, key=lambda entry: entry.name):
-            if entry.is_dir(follow_symlinks=False):
-                yield from found_below(entry.path)
-            elif entry.is_file(follow_symlinks=False):
-                yield entry.path
+    """Yields the regular files below a folder as they are found, those of each folder in order, and the folders that can not be read."""
+    left = [(folder, True)]
+    while left:
+        path, is_folder = left.pop()
+        if not is_folder:
+            yield path
+            continue
+        try:
+            with os.scandir(path) as scanned:
+                entries = sorted(scanned, key=lambda entry: entry.name, reverse=True)
+                kinds = [(entry.path, entry.is_dir(follow_symlinks=False), entry.is_file(follow_symlinks=False)) for entry in entries]
+            left += [(below, is_dir) for below, is_dir, is_file in kinds if is_dir or is_file]
+        except NotADirectoryError:
+            pass
+        except OSError:
+            yield path  # (which is then examined, and is a row that says why it can't be read)
 
 
 class Report:

@@ -178,6 +178,34 @@ class Scan(Folder):
 
     def test_resumed(self):
         self.put_many(40)
+    def test_folders_that_are_deep_or_can_not_be_read(self):
+        self.put('a.o', made.ALL[0].bytes)
+        self.addCleanup(subprocess.run, ['rm', '-rf', os.path.join(self.files, 'd')], check=True)
+        self.addCleanup(os.chdir, '/')
+        os.chdir(self.files)
+        # (in the end the path has more bytes than a path may have)
+        for depth in range(2100):
+            os.mkdir('d')
+            os.chdir('d')
+            if depth == 1200:
+                with open('deep.o', 'wb') as file:
+                    file.write(made.ALL[0].bytes)
+        os.chdir('/')
+        scan(self.files, '-o', self.out('r.csv'), '--workers', '0')
+        rows = self.rows('r.csv')
+        self.assertEqual([(os.path.basename(row['file']), row['refused'], row['text']) for row in rows],
+                         [('a.o', '', ''), ('d', 'UNREADABLE', 'File name too long'), ('deep.o', '', '')])
+
+    def test_files_without_a_size_are_not_read(self):
+        """Of the kernel's files, which say so, some block a reader."""
+        class Unread(io.FileIO):
+            def read(self, size=-1):
+                raise AssertionError('it is read')
+
+        self.put('empty', b'')
+        with unittest.mock.patch.object(module, 'open', Unread, create=True):
+            self.assertEqual(list(module.rows_of(os.path.join(self.files, 'empty'))), [])
+
         self.put('00020.a', archive([(f'{index}.o', made.ALL[0].bytes) for index in range(5)]))
         for name in ('r.csv', 'r.json'):
             scan(self.files, '-o', self.out(name), '--workers', '0', '--batch', '3')
