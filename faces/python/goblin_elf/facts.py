@@ -110,6 +110,13 @@ FACTS: Dict[str, Callable[[Parts], Any]] = {
 def facts(elf: Elf) -> Dict[str, Any]:
     """Returns the facts of a file. One that can't be read is `None`, and its name is in `unknown`. If one is refused, why the first is."""
     of = Parts(elf._file.source, elf.header)
+    try:
+        return facts_of(of)
+    finally:
+        vars(of).clear()  # (its tables refer to it, and would keep the file until a collection)
+
+
+def facts_of(of: Parts) -> Dict[str, Any]:
     found: Dict[str, Any] = {**dict.fromkeys(FACTS), 'unknown': []}
     refusals: Dict[str, Any] = {}
     for name in (name for name in FACTS if name not in LACKS.get(of.kind, ())):

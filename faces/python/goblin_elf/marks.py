@@ -31,7 +31,10 @@ def has_canary(elf: Elf, is_static: Callable[[], bool]) -> bool:
         except (Refused, Unknown) as error:
             errors.append(error)
     if errors:
-        raise errors[0]
+        try:
+            raise errors[0]
+        finally:
+            errors.clear()  # (they refer to this call, and would keep the file until a collection)
     if not elf.section_by_type(SHT_SYMTAB) and (is_static() or not elf.section_by_type(SHT_DYNSYM)):
         raise Unknown
     return False

@@ -1,6 +1,7 @@
 """Tests of what is said of files. The facts of the stored files are those of checks/files/facts.json, which were read by readelf."""
 import contextlib
 import csv
+import gc
 import io
 import json
 import os
@@ -250,6 +251,18 @@ class Facts(unittest.TestCase):
         elf = changed('facts/full')
         put(elf, b'GNU\0\x02\0\0\xc0', b'GNV\0')
         self.assertEqual(facts(elf)['control_flow'], [])
+
+    def test_nothing_keeps_the_file(self):
+        """Without a collection, also if facts are refused or unknown."""
+        for name in ('facts/full', 'facts/cut_dynamic', 'facts/no_strings', 'facts/long_dynamic', 'facts/core'):
+            content = bytearray(content_of(stored(name)))
+            gc.collect()
+            gc.disable()
+            try:
+                facts(Elf(content))
+                content.append(0)
+            finally:
+                gc.enable()
 
     def test_compilers(self):
         elf = changed('facts/two_compilers')
