@@ -245,6 +245,9 @@ def py_enumeration(name, constants):
     text = f'\n\nclass {name}(enum.{kind}):\n    """The constants {name}, as Python integers."""\n\n'
     for constant in sorted(constants, key=lambda constant: bool(BOUND.search(constant.name))):
         text += py_comment(constant, '    ') + f'    {constant.name} = {py_value(constant)}\n'
+    if kind == 'IntFlag':
+        # (since Python 3.11 `~` of a flag would have the known flags alone)
+        text += '\n    def __invert__(self) -> int:  # type: ignore[override]\n        return ~int(self)\n'
     return text + '\n\n' + ''.join(f'{constant.name} = {name}.{constant.name}\n' for constant in constants)
 
 

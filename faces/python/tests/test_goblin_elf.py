@@ -622,6 +622,8 @@ class Library(unittest.TestCase):
                  goblin_elf.visibility_to_str(2), goblin_elf.note_type_to_str('GNU', 3), goblin_elf.sht_to_str(99)]
         self.assertEqual(names, ['ELF64', 'DYN', 'X86_64', 'PT_LOAD', 'SHT_PROGBITS', 'SHF_ALLOC', 'GLOBAL', 'FUNC', 'HIDDEN',
                                  'NT_GNU_BUILD_ID', 'UNKNOWN_SHT'])
+        # (other bits than those of the constants stay, too)
+        self.assertEqual(((1 << 40 | 7) & ~SHF_ALLOC, 0x80000007 & ~PF_X, ~(SHF_ALLOC | SHF_EXECINSTR)), (1 << 40 | 5, 0x80000006, -7))
 
     def test_numbers_are_not_cut(self):
         elf = Elf(MADE.bytes)
