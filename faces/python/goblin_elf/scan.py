@@ -92,7 +92,8 @@ def unguarded(cell: str) -> str:
 def rows_of(path: str) -> Iterator[Row]:
     """Yields the rows of a file: one if it is an ELF file, one for each such member if it is an archive, else none."""
     with open(path, 'rb') as file:
-        start = file.read(len(AR))
+        # (of the kernel's files, which have no size, some can't be read to an end)
+        start = file.read(len(AR)) if os.fstat(file.fileno()).st_size else b''
         if start[:4] == MAGIC:
             yield row_of(path, None, lambda: Elf.open(path))
         elif start == AR and path.endswith(('.a', '.deb')):
@@ -118,6 +119,9 @@ def members(content: memoryview) -> Iterator[Tuple[str, int, memoryview]]:
             names = bytes(member)
         elif name[:1] == b'/' and name[1:].isdigit():
             name = names[int(name[1:]):].split(b'\n')[0]
+        elif name[:3] == b'#1/' and name[3:].isdigit():
+            # (as BSD's ar writes a long name: before the content)
+            name, member = bytes(member[:int(name[3:])]).rstrip(b'\0'), member[int(name[3:]):]
         yield os.fsdecode(name.rstrip(b'/')), start, member
 
 
@@ -138,7 +142,7 @@ def unpacked(path: str, data: Any) -> Iterator[Row]:
                     content = MAGIC + file.read()
                     yield row_of(path, member.name, lambda: Elf(content))
     except Exception as error:  # (Python's modules for archives raise many types of exceptions at damaged data)
-        yield row_with(path, None, refused='LEFT_OUT', text=f'its data can not be unpacked: {error or type(error).__name__}')
+        yield row_with(path, None, refused='LEFT_OUT', text=f'its data can not be unpacked: {str(error) or type(error).__name__}')
 
 
 def examine(paths: List[str]) -> Result:
@@ -148,8 +152,8 @@ def examine(paths: List[str]) -> Result:
         start = time.perf_counter()
         try:
             rows = list(rows_of(path))
-        except OSError as error:
-            rows = [row_with(path, None, refused='UNREADABLE', text=error.strerror or 'it can not be read')]
+        except (OSError, ValueError) as error:  # (the latter at a file that was emptied meanwhile)
+            rows = [row_with(path, None, refused='UNREADABLE', text=getattr(error, 'strerror', None) or 'it can not be read')]
         except MemoryError:
             rows = [row_with(path, None, refused='LEFT_OUT', text='it takes more memory than a worker may take')]
         results.append((path, rows, time.perf_counter() - start))
@@ -243,9 +247,14 @@ def lost(path: str) -> Result:
     return [(path, [row_with(path, None, refused='WORKER_LOST', text='each worker that examined it ended')], 0.0)]
 
 
+def is_shown() -> bool:
+    """Whether the progress is shown: on a terminal."""
+    return sys.stderr is not None and sys.stderr.isatty()
+
+
 def line_end() -> str:
-    """Returns what ends the line of the progress, which is shown on a terminal."""
-    return '\n' if sys.stderr.isatty() else ''
+    """Returns what ends the line of the progress."""
+    return '\n' if is_shown() else ''
 
 
 def report_on(results: workers.Results, report: Report) -> None:
@@ -261,7 +270,7 @@ def report_on(results: workers.Results, report: Report) -> None:
             slowest = sorted([*slowest, (seconds, escaped(path))], reverse=True)[:10]
         report.file.flush()
         files += len(batch)
-        if sys.stderr.isatty():
+        if is_shown():
             bar = '=' * (files // 1000 % 40)
             print(f'\r{files} files, {files / (time.perf_counter() - start):.0f} a second {bar:40}', end='', file=sys.stderr, flush=True)
     report.end()
@@ -282,8 +291,8 @@ def runner_of(options: argparse.Namespace) -> Callable[[Iterator[workers.Batch]]
 
 def natural(text: str, least: int = 0) -> int:
     """Returns the number that an argument is."""
-    if not text.isdecimal() or int(text) < least:
-        raise argparse.ArgumentTypeError(f'{text} is not a number from {least} on')
+    if not text.isdecimal() or not least <= int(text) <= 1 << 32:
+        raise argparse.ArgumentTypeError(f'{text} is not a number from {least} to {1 << 32}')
     return int(text)
 
 
@@ -292,7 +301,7 @@ def memory(text: str) -> int:
     match = re.fullmatch(r'(\d+)(KiB|MiB|GiB)', text)
     if not match:
         raise argparse.ArgumentTypeError(f'{text} is not a number with KiB, MiB or GiB after it')
-    return int(match[1]) << {'K': 10, 'M': 20, 'G': 30}[match[2][0]]
+    return min(int(match[1]) << {'K': 10, 'M': 20, 'G': 30}[match[2][0]], sys.maxsize)
 
 
 def options_of(arguments: Optional[List[str]]) -> argparse.Namespace:

@@ -176,7 +176,7 @@ class Scheduled:
                 raise Stopped(f'a worker of the scheduler {self.address} can not run this: {error}') from None
 
     def found(self, batches: Iterator[Batch]) -> Results:
-        futures = collections.deque(map(self.submitted, itertools.islice(batches, 4 * len(self.client.ncores()))))
+        futures = collections.deque(map(self.submitted, itertools.islice(batches, 4 * max(1, len(self.client.ncores())))))
         while futures:
             yield from self.result(*futures.popleft())
             futures.extend(map(self.submitted, itertools.islice(batches, 1)))

@@ -162,6 +162,8 @@ class Scan(Folder):
         self.put('a\n', elf[:-1])
         self.put('text', b'no ELF file')
         self.put('sub/x.a', archive([('x.o', elf), ('a_name_that_is_long.o', elf), ('no.o', b'odd')]))
+        # (as BSD's ar writes a long name)
+        self.put('sub/y.a', archive([('#1/20', b'a long name.o\0\0\0\0\0\0\0' + elf)]).replace(b'#1/20/', b'#1/20 '))
         self.put('y.deb', package(elf))
         self.put('z.deb', archive([('data.tar.xz', b'no such data')]))
         os.symlink('b.o', os.path.join(self.files, 'link'))
@@ -169,15 +171,13 @@ class Scan(Folder):
         rows = self.rows('r.csv')
         self.assertEqual([(os.path.relpath(row['file'], self.files), row['member'], row['refused']) for row in rows],
                          [('a\\x0a', '', 'TOO_BIG'), ('b.o', '', ''), ('sub/x.a', 'x.o', ''), ('sub/x.a', 'a_name_that_is_long.o', ''),
-                          ('y.deb', './usr/bin/made', ''), ('z.deb', '', 'LEFT_OUT')])
+                          ('sub/y.a', 'a long name.o', ''), ('y.deb', './usr/bin/made', ''), ('z.deb', '', 'LEFT_OUT')])
         self.assertEqual([(row['class'], row['order'], row['type'], row['build_id'], row['symbols'], row['code']) for row in rows[1:2]],
                          [('ELF64', 'big', 'REL', made.BUILD_ID.hex(), '7', '128')])
         self.assertEqual((rows[0]['numbers'], rows[0]['text']), ('64 63', 'type is too big (64) for 63'))
-        for line in ('6 files, 2 refused', '  refused: 1 TOO_BIG', '  refused: 1 LEFT_OUT'):
+        for line in ('7 files, 2 refused', '  refused: 1 TOO_BIG', '  refused: 1 LEFT_OUT'):
             self.assertIn(line, said)
 
-    def test_resumed(self):
-        self.put_many(40)
     def test_folders_that_are_deep_or_can_not_be_read(self):
         self.put('a.o', made.ALL[0].bytes)
         self.addCleanup(subprocess.run, ['rm', '-rf', os.path.join(self.files, 'd')], check=True)
@@ -206,6 +206,8 @@ class Scan(Folder):
         with unittest.mock.patch.object(module, 'open', Unread, create=True):
             self.assertEqual(list(module.rows_of(os.path.join(self.files, 'empty'))), [])
 
+    def test_resumed(self):
+        self.put_many(40)
         self.put('00020.a', archive([(f'{index}.o', made.ALL[0].bytes) for index in range(5)]))
         for name in ('r.csv', 'r.json'):
             scan(self.files, '-o', self.out(name), '--workers', '0', '--batch', '3')
@@ -215,6 +217,11 @@ class Scan(Folder):
                     file.write(whole[:size])
                 scan(self.files, '-o', self.out(name), '--workers', '0', '--resume')
                 self.assertEqual(read(self.out(name)), whole)
+            # (a program for tables may have saved it with a mark at its start)
+            with open(self.out(name), 'wb') as file:
+                file.write(b'\xef\xbb\xbf' + whole)
+            scan(self.files, '-o', self.out(name), '--workers', '0', '--resume')
+            self.assertEqual(read(self.out(name)), whole)
         self.assertEqual([row['file'] for row in json.loads(whole)], [row['file'] for row in self.rows('r.csv')])
 
     def test_parquet(self):
@@ -236,6 +243,11 @@ class Scan(Folder):
                 self.assertEqual((rows[-1]['file'], rows[-1]['zeros']), (os.path.join(self.files, 'huge'), (1 << 64) - 1))
                 expected = json.loads(read(self.out('r.json')))
                 self.assertEqual((rows[:-1], expected[-1]['zeros']), (expected[:-1], 2 * ((1 << 64) - 1)))
+            # (files of a report with other columns, as of an older version, are examined again)
+            with open(self.out('r.parquet'), 'w', encoding='utf-8') as file:
+                json.dump([{name: value for name, value in row.items() if name != 'unknown'} for row in rows], file)
+            scan(self.files, '-o', self.out('r.parquet'), '--workers', '0', '--resume')
+            self.assertEqual(json.loads(read(self.out('r.parquet'))), rows)
         # (a module that is None can not be found)
         with unittest.mock.patch.dict(sys.modules, pyarrow=None), contextlib.redirect_stderr(io.StringIO()) as said:
             self.assertRaises(SystemExit, module.main, [self.files, '-o', self.out('s.parquet')])
@@ -245,14 +257,16 @@ class Scan(Folder):
         with contextlib.redirect_stderr(io.StringIO()) as said:
             self.assertRaises(SystemExit, module.main, [self.files, self.out('absent'), '-o', self.out('r.csv')])
         self.assertIn(f'{self.out("absent")} is not there', said.getvalue())
-            # (a program for tables may have saved it with a mark at its start)
-            with open(self.out(name), 'wb') as file:
-                file.write(b'\xef\xbb\xbf' + whole)
-            scan(self.files, '-o', self.out(name), '--workers', '0', '--resume')
-            self.assertEqual(read(self.out(name)), whole)
+        for option in ('--batch', '--workers'):
+            with contextlib.redirect_stderr(io.StringIO()) as said:
+                self.assertRaises(SystemExit, module.main, [self.files, '-o', self.out('r.csv'), option, str(1 << 63)])
+            self.assertIn(f'{1 << 63} is not a number from ', said.getvalue())
         self.put('a.o', made.ALL[0].bytes)
         scan(self.out('files/a.o'), '-o', self.out('r.csv'), '--workers', '0')
         self.assertEqual([row['file'] for row in self.rows('r.csv')], [self.out('files/a.o')])
+        with unittest.mock.patch.object(sys, 'stderr', None), contextlib.redirect_stdout(io.StringIO()):
+            self.assertEqual(module.main([self.out('files/a.o'), '-o', self.out('s.csv'), '--workers', '0']), 0)
+        self.assertEqual(read(self.out('s.csv')), read(self.out('r.csv')))
 
     def test_hostile_files(self):
         # sparse files of 256 MiB: with 4 million section headers, with notes without an end, and with a path as long
@@ -271,11 +285,6 @@ class Scan(Folder):
             self.put(name, content)
             os.truncate(os.path.join(self.files, name), size)
         script = 'import resource, runpy, sys; resource.setrlimit(resource.RLIMIT_DATA, (120 << 20, 120 << 20)); ' \
-            # (files of a report with other columns, as of an older version, are examined again)
-            with open(self.out('r.parquet'), 'w', encoding='utf-8') as file:
-                json.dump([{name: value for name, value in row.items() if name != 'unknown'} for row in rows], file)
-            scan(self.files, '-o', self.out('r.parquet'), '--workers', '0', '--resume')
-            self.assertEqual(json.loads(read(self.out('r.parquet'))), rows)
                  'sys.argv = sys.argv[1:]; runpy.run_module("goblin_elf.scan", run_name="__main__")'
         subprocess.run([sys.executable, '-c', script, 'scan', self.files, '-o', self.out('r.csv'), '--workers', '0'], check=True,
                        stderr=subprocess.PIPE, timeout=120)
@@ -505,8 +514,9 @@ class Scheduler(Folder):
             def wait_for_workers(self, count, timeout):
                 pass
 
+            # (as where the last worker has just left)
             def ncores(self):
-                return {'a': 1}
+                return {}
 
             def submit(self, function, batch, pure):
                 def result(timeout):
