@@ -7,13 +7,14 @@ import sys
 
 from goblin_elf import Elf, Refused
 
+sys.stdout.reconfigure(errors='surrogateescape')  # (names need not be UTF-8)
 ROOT = ''.join(sys.argv[2:3])
 SYSTEM = '/lib64:/usr/lib64:/lib/x86_64-linux-gnu:/usr/lib/x86_64-linux-gnu:/lib:/usr/lib'
 
 
 def folders(path, file=''):
     own = [folder.replace('${ORIGIN}', '$ORIGIN') for folder in (path or '').split(':') if folder]
-    return [folder.replace('$ORIGIN', os.path.dirname(file)) if folder.startswith('$ORIGIN') else ROOT + folder for folder in own]
+    return [folder.replace('$ORIGIN', os.path.dirname(file) or '.') if folder.startswith('$ORIGIN') else ROOT + folder for folder in own]
 
 
 def fits(path, header):

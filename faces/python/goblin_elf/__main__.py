@@ -4,6 +4,7 @@ What a file does not hold is unknown. The exit status is 0, or 1 if a file can't
 is not proved, but tested.
 """
 import argparse
+import io
 import json
 import signal
 import sys
@@ -52,4 +53,6 @@ def main(arguments: Optional[List[str]] = None) -> int:
 
 if __name__ == '__main__':
     signal.signal(signal.SIGPIPE, signal.SIG_DFL)  # (a reader such as head may leave)
+    if isinstance(sys.stdout, io.TextIOWrapper):
+        sys.stdout.reconfigure(errors='replace')  # (it need not take each sign)
     sys.exit(main())
