@@ -101,6 +101,10 @@ def declared(name: str, codes: str) -> Any:
 FUNCTIONS = {name: declared(name, codes) for name, codes in CALLS.items()}
 
 
+# (for this module alone: what other ones say of their arguments holds for functions that are looked up by a dot)
+GET_BUFFER, RELEASE_BUFFER = ctypes.pythonapi['PyObject_GetBuffer'], ctypes.pythonapi['PyBuffer_Release']
+
+
 class File:
     """The bytes of a file: any object with a buffer, which is kept and whose memory can't move while this or a part of it lives."""
 
@@ -109,9 +113,9 @@ class File:
         # (slices of these two are bytes, which are made faster than views)
         self.source: Any = buffer if type(buffer) in (bytes, mmap.mmap) else self.view
         words = (ctypes.c_ssize_t * 16)()  # a Py_buffer, which begins with the address; `view` goes on holding the memory
-        ctypes.pythonapi.PyObject_GetBuffer(ctypes.py_object(self.view), words, 0)
+        GET_BUFFER(ctypes.py_object(self.view), words, 0)
         self.address, self.length = words[0], len(self.view)
-        ctypes.pythonapi.PyBuffer_Release(words)
+        RELEASE_BUFFER(words)
 
     def __reduce__(self) -> Any:
         raise TypeError('a file, its tables and their items can not be pickled: pickle bytes(elf.bytes), or the numbers in item[:-2]')

@@ -23,7 +23,7 @@ CHUNK, AHEAD, NEAR, TEXTS = 2048, 64, 8, 1 << 24
 
 
 class Entry:
-    """What items have: a `repr`, and equality by the standard's fields, which are all but the index and the table."""
+    """What items have: a `repr`, and comparisons by the standard's fields, which are all but the index and the table."""
     __slots__ = ()
     __ne__ = object.__ne__
 
@@ -39,6 +39,18 @@ class Entry:
 
     def __hash__(self: Any) -> int:
         return hash(self[:-2])
+
+    def __lt__(self: Any, other: Any) -> Any:
+        return self[:-2] < other[:-2] if type(other) is type(self) else NotImplemented
+
+    def __le__(self: Any, other: Any) -> Any:
+        return self[:-2] <= other[:-2] if type(other) is type(self) else NotImplemented
+
+    def __gt__(self: Any, other: Any) -> Any:
+        return self[:-2] > other[:-2] if type(other) is type(self) else NotImplemented
+
+    def __ge__(self: Any, other: Any) -> Any:
+        return self[:-2] >= other[:-2] if type(other) is type(self) else NotImplemented
 
 
 class Held(Entry):
@@ -109,7 +121,7 @@ class Section(Held, SectionFields):
     @property
     def linked(self) -> Optional['Section']:
         """The section that `sh_link` names, or `None` if there is none that has bytes. Refused if the section headers are."""
-        fields = found('linked_section', RECORDS['section'], self.table.elf._file, self.table.elf._image, self.sh_link)
+        fields = found('linked_section', RECORDS['section'], self.table.elf._file, self.table.elf._image, unsigned(self.sh_link))
         return self.table._made(fields, self.sh_link) if fields else None
 
     @property
@@ -423,7 +435,7 @@ class Notes(Table[Note]):
     record, item = RECORDS['note'], Note
 
     def __init__(self, elf: 'Elf', offset: int, size: int, alignment: int, errors: str = 'strict') -> None:
-        self.elf, self._arguments, self._errors = elf, (RANGE.pack((offset, size)), alignment), errors
+        self.elf, self._arguments, self._errors = elf, (RANGE.pack((offset, size)), unsigned(alignment)), errors
         self.one = 'note' if errors == 'strict' else 'note_bytes'
         # (a note's header, which has 12 bytes, is before its name)
         self._places = array('Q', (fields[0] - 12 for fields in read_notes(elf, self.one, *self._arguments, offset)))

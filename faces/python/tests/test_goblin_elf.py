@@ -1,6 +1,7 @@
 """Tests of goblin_elf over made files, whose values are those that the System V gABI gives their bytes, and over a stored program."""
 import base64
 import copy
+import ctypes
 import gc
 import hashlib
 import json
@@ -173,6 +174,12 @@ class Sequences(unittest.TestCase):
         self.assertNotEqual(elf.symbols[1], elf.symbols[2])
         self.assertNotEqual(elf.symbols[1], elf.symbols[1]._replace(st_other=1))
         self.assertFalse(elf.segments[0] == elf.sections[1])
+        # (their order is that of the fields, too, also of items of two tables)
+        first, second = sorted((elf.symbols[1], again.symbols[2]), key=lambda symbol: symbol[:-2])
+        self.assertEqual((first < second, first <= second, first > second, first >= second), (True, True, False, False))
+        self.assertEqual((first < first, first <= again.symbols[first.index], first >= again.symbols[first.index]), (False, True, True))
+        self.assertEqual(sorted([*elf.symbols, *again.symbols])[:2], [elf.symbols[0], again.symbols[0]])
+        self.assertRaises(TypeError, lambda: elf.segments[0] < elf.sections[1])
         self.assertIn("name='main', st_name=1, st_value=0x1004, st_size=8, st_shndx=1, st_info=0x12", repr(elf.symbols[1]))
         self.assertIn("r_offset=0x10, r_sym=1, r_addend=-4, r_type=2, index=0", repr(elf.section('.rela.text').relocations[0]))
         self.assertIn('e_machine=0x3e', repr(elf.header))
@@ -615,6 +622,8 @@ class Library(unittest.TestCase):
     def test_constants(self):
         self.assertEqual((EM_X86_64, SHT_RELA, int(goblin_elf.SHN_XINDEX), goblin_elf.ELFMAG), (62, 4, 0xffff, b'\x7fELF'))
         self.assertEqual((repr(goblin_elf.STT(10)), goblin_elf.SHF(6)), ('<STT.STT_GNU_IFUNC: 10>', SHF_ALLOC | SHF_EXECINSTR))
+        # (other bits than those of the constants stay, too)
+        self.assertEqual(((1 << 40 | 7) & ~SHF_ALLOC, 0x80000007 & ~PF_X, ~(SHF_ALLOC | SHF_EXECINSTR)), (1 << 40 | 5, 0x80000006, -7))
 
     def test_names_of_numbers(self):
         names = [goblin_elf.class_to_str(2), goblin_elf.et_to_str(3), goblin_elf.machine_to_str(62), goblin_elf.pt_to_str(1),
@@ -622,15 +631,18 @@ class Library(unittest.TestCase):
                  goblin_elf.visibility_to_str(2), goblin_elf.note_type_to_str('GNU', 3), goblin_elf.sht_to_str(99)]
         self.assertEqual(names, ['ELF64', 'DYN', 'X86_64', 'PT_LOAD', 'SHT_PROGBITS', 'SHF_ALLOC', 'GLOBAL', 'FUNC', 'HIDDEN',
                                  'NT_GNU_BUILD_ID', 'UNKNOWN_SHT'])
-        # (other bits than those of the constants stay, too)
-        self.assertEqual(((1 << 40 | 7) & ~SHF_ALLOC, 0x80000007 & ~PF_X, ~(SHF_ALLOC | SHF_EXECINSTR)), (1 << 40 | 5, 0x80000006, -7))
 
     def test_numbers_are_not_cut(self):
         elf = Elf(MADE.bytes)
-        for call in (elf.symbol_at, elf.offset_of, lambda number: elf.number(number, 1), lambda number: elf.section('', number)):
+        for call in (elf.symbol_at, elf.offset_of, lambda number: elf.number(number, 1), lambda number: elf.section('', number),
+                     lambda number: Notes(elf, 0, 0, number), lambda number: elf.sections[1]._replace(sh_link=number).linked):
             for number in (-1, 1 << 64):
                 self.assertRaises(ValueError, call, number)
         self.assertEqual(_library.RECORDS['symbol'].size, 40)
+
+    def test_what_others_say_of_the_calls_of_python(self):
+        with unittest.mock.patch.object(ctypes.pythonapi.PyObject_GetBuffer, 'argtypes', [ctypes.py_object, ctypes.c_char_p, ctypes.c_int]):
+            self.assertEqual(len(Elf(MADE.bytes).sections), 9)
 
 
 class Wheel(unittest.TestCase):
@@ -679,6 +691,11 @@ class Program(unittest.TestCase):
             leaves = f'{sys.executable} -m goblin_elf {" ".join(["made.o"] * 2000)} | head -n 1'
             found = subprocess.run(leaves, shell=True, cwd=folder, stdout=subprocess.PIPE, stderr=subprocess.PIPE, universal_newlines=True)
             self.assertEqual((found.stdout, found.stderr), ('made.o\n', ''))
+            # (a stream that does not take each sign gets others)
+            found = subprocess.run([sys.executable, '-m', 'goblin_elf', 'made.o', 'odd\n', 'é'], cwd=folder, stdout=subprocess.PIPE,
+                                   stderr=subprocess.PIPE, env={**os.environ, 'PYTHONIOENCODING': 'ascii'})
+            self.assertEqual((found.stdout.decode('ascii').split('\n')[0], b'\nodd?\n' in found.stdout, b'\n?\n' in found.stdout, found.stderr),
+                             ('made.o', True, True, b''))
             status, said = self.run_it('--json', *paths[:1])
             found = json.loads(said)[0]
             self.assertEqual((status, found['type'], found['entry'], found['needed'], found['sizes']['code']), (0, 'REL', 0x1004, [], 128))
