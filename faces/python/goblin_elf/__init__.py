@@ -6,7 +6,8 @@
         print(hex(symbol.st_value), symbol.name)
 
 Each call of the library is proved; this package passes its results on and is tested. A file, or a part of it, that is refused raises
-`Refused`, and nothing that a file holds raises anything else. Offsets and sizes are in bytes. Arrays need numpy, which nothing else does.
+`Refused`, and nothing that a file holds raises anything else, unless memory runs out. Offsets and sizes are in bytes. Arrays need numpy,
+which nothing else does.
 """
 from . import constants
 from .constants import *  # noqa: F401, F403
