@@ -31,6 +31,23 @@ cp -R faces/rust "$folder/copied"
 quietly env -u GOBLIN_C_LIB PKG_CONFIG_LIBDIR="$folder" cargo check --offline --manifest-path "$folder/copied/Cargo.toml"
 awk '/looked for in/ { wrong++ } /no folder beside this crate was looked in: it is a copy/ { said++ } END { exit wrong || !said }' "$folder/output" \
     || fail "a copied crate should say that it looks in no folder beside it, and prints: $(cat "$folder/output")"
+# It finds the library of its own version alone by pkg-config, in any folder, and is then compiled once.
+if has pkg-config 'no library is looked for by it'; then
+    mkdir "$folder/a folder"
+    cp "$folder/libgoblin_c.a" "$folder/a folder/"
+    by_pkg_config() {
+        # shellcheck disable=SC2016 # (it is pkg-config's)
+        printf 'libdir=${pcfiledir}\nName: goblin_c\nDescription: -\nVersion: %s\n' "$1" > "$folder/a folder/goblin_c.pc"
+        touch "$folder/copied/build.rs"
+        quietly env -u GOBLIN_C_LIB PKG_CONFIG_LIBDIR="$folder/a folder" cargo "$2" --offline --manifest-path "$folder/copied/Cargo.toml"
+    }
+    by_pkg_config "$version.1" check
+    grep -qF "it finds no goblin_c $version" "$folder/output" || fail "a library of another version is taken: $(cat "$folder/output")"
+    by_pkg_config "$version" build
+    ! grep -q 'looked for' "$folder/output" || fail "pkg-config's library is not found: $(cat "$folder/output")"
+    quietly env -u GOBLIN_C_LIB PKG_CONFIG_LIBDIR="$folder/a folder" cargo build --offline --manifest-path "$folder/copied/Cargo.toml"
+    ! grep -q Compiling "$folder/output" || fail "the crate is compiled again: $(cat "$folder/output")"
+fi
 quietly cargo package --offline --allow-dirty --manifest-path $crate
 # Puts into the file lints the flags of the stored lints, those of Rust 1.95, that a program of this version has, too, and that match a
 # pattern: lints PROGRAM PATTERN. They are errors. What else is found is printed.

@@ -30,10 +30,12 @@ fn fault(folder: &Path, processors: &str) -> Option<&'static str> {
     if is_for_this { None } else { Some("it is for another processor") }
 }
 
+/// Returns the folder that pkg-config finds of the library of this version. (A space is printed after a backslash.)
 fn from_pkg_config() -> Option<PathBuf> {
-    let output = Command::new("pkg-config").args(["--variable=libdir", "goblin_c"]).output().ok()?;
+    let package = concat!("goblin_c = ", env!("CARGO_PKG_VERSION"));
+    let output = Command::new("pkg-config").args(["--variable=libdir", package]).output().ok()?;
     let folder = String::from_utf8(output.stdout).ok()?;
-    Some(PathBuf::from(folder.trim_end())).filter(|_| output.status.success())
+    Some(PathBuf::from(folder.trim_end().replace("\\ ", " "))).filter(|_| output.status.success())
 }
 
 /// Returns the value of GOBLIN_C_LIB, if it is set and not empty.
@@ -72,8 +74,9 @@ fn warn(folders: &[PathBuf], processors: &str) {
     }
     if named().is_none() && from_pkg_config().is_none() {
         println!(
-            "cargo:warning=looked for by pkg-config: it finds no goblin_c; PKG_CONFIG_PATH names the folder of \
-             goblin_c.pc"
+            "cargo:warning=looked for by pkg-config: it finds no goblin_c {}; PKG_CONFIG_PATH names the folder of \
+             goblin_c.pc",
+            env!("CARGO_PKG_VERSION")
         );
     }
     if named().is_none() && beside(Path::new(env!("CARGO_MANIFEST_DIR"))).is_none() {
@@ -101,10 +104,14 @@ fn main() {
     println!("cargo:rerun-if-env-changed=PKG_CONFIG_PATH");
     let processors = env::var("CARGO_CFG_TARGET_ARCH").unwrap_or_default();
     let folders = folders();
-    for folder in &folders {
-        println!("cargo:rerun-if-changed={}", folder.join(LIBRARY).display());
+    let found = folders.iter().find(|folder| fault(folder, &processors).is_none());
+    for library in folders.iter().map(|folder| folder.join(LIBRARY)) {
+        // (cargo compiles all anew as long as one that is named isn't there)
+        if found.is_none() || library.exists() {
+            println!("cargo:rerun-if-changed={}", library.display());
+        }
     }
-    match folders.iter().find(|folder| fault(folder, &processors).is_none()) {
+    match found {
         Some(folder) => println!("cargo:rustc-link-search=native={}", folder.display()),
         None => warn(&folders, &processors),
     }

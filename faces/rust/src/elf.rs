@@ -48,7 +48,11 @@ impl<'a> Elf<'a> {
     ///
     /// # Errors
     /// If the file is too short, does not start with the magic number, or has an invalid class or byte order.
+    ///
+    /// # Panics
+    /// If the library that is linked has another interface than this crate.
     pub fn parse(bytes: &'a [u8]) -> Result<Self> {
+        assert_eq!(sys::goblin_version(), sys::VERSION, "libgoblin_c.a has another interface than goblin_rs");
         let header = sys::goblin_header(bytes)?.expect("a file that is not refused has a header");
         Ok(Elf { file: File(bytes), header })
     }

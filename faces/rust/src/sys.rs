@@ -237,10 +237,22 @@ texts! {
     fn goblin_refusal_to_str(why: &Refusal);
 }
 
+/// The interface that these calls are of: `GOBLIN_VERSION` of `goblin.h`.
+pub const VERSION: u32 = 7;
+
+/// Returns the interface of the library that is linked.
+#[inline]
+pub fn goblin_version() -> u32 {
+    extern "C" { fn goblin_version() -> u32; }
+    // SAFETY: it takes no argument.
+    unsafe { goblin_version() }
+}
+
 #[cfg(test)]
-pub fn version_and_layout() -> (u32, crate::raw::tests::Layout) {
-    extern "C" { fn goblin_version() -> u32; fn goblin_layout(layout: *mut crate::raw::tests::Layout); }
+pub fn layout() -> crate::raw::tests::Layout {
+    extern "C" { fn goblin_layout(layout: *mut crate::raw::tests::Layout); }
     let mut layout = Default::default();
-    // SAFETY: the first call takes no argument, and the second writes only numbers to `layout`.
-    unsafe { goblin_layout(&mut layout); (goblin_version(), layout) }
+    // SAFETY: it writes only numbers to `layout`.
+    unsafe { goblin_layout(&mut layout) }
+    layout
 }
