@@ -162,6 +162,21 @@ check_execstack() {
     echo "execstack.c changes one flag"
 }
 
+# Fails unless nm.c takes no bytes after the table of section indices for an index. In a copy of a 64-bit file that made.c makes, section 10 is
+# made such a table, of 4 bytes, for the symbols of section 7. The index of symbol 16 would be 1.
+check_indices() {
+    cp "$1" "$folder/indices"
+    put() { printf %b "$2" | dd of="$folder/indices" bs=1 seek="$1" conv=notrunc 2> "$folder/output"; }
+    table=$((0x1800 + 64 * 10))
+    put $((table + 4)) '\0022'
+    put $((table + 32)) '\0004'
+    put $((table + 40)) '\0007'
+    put $((0x700 + 24 * 16 + 6)) '\0377\0377'
+    put $((0xa00 + 4 * 16)) '\0001'
+    "$folder/nm" "$folder/indices" > "$folder/listed"
+    grep -qx '0*7654321 A 65535 absolute' "$folder/listed" || fail "nm.c reads past a table of section indices: $(cat "$folder/listed")"
+}
+
 # Runs the programs over each file that made.c makes, and over its first bytes.
 check_programs() {
     mkdir "$files"
@@ -196,6 +211,7 @@ check_programs() {
     ends_with 0 'strings: no zero byte closes the last string
 *' "$folder/strings" "$file" .note
     check_execstack "$file"
+    check_indices "$files/little64"
     # (comparison.py compares what needed.c lists of the whole file, and of x86_64_stripped, which has no section headers)
     "$folder/needed" $program_file > "$folder/wanted"
     head -c -1 $program_file > "$folder/cut"

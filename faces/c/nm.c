@@ -68,7 +68,7 @@ static int list(uint64_t index_of_table, const goblin_section_t *table) {
         goblin_section_t section;
         uint64_t index = symbol.st_shndx;
         bool is_index = index < GOBLIN_SHN_LORESERVE || (index == GOBLIN_SHN_XINDEX && has_indices
-            && goblin_number(bytes, len, &header, indices.file.offset + 4 * i, 4, &index, &why) == GOBLIN_OK);
+            && goblin_number_in(bytes, len, &header, &indices.file, 4 * i, 4, &index, &why) == GOBLIN_OK);
         bool has_section = is_index && goblin_section(bytes, len, &header, index, &section, &why) == GOBLIN_OK;
         goblin_range_t name = string(&names, symbol.st_name);
         if (name.size == 0 && has_section && (symbol.st_info & 15) == GOBLIN_STT_SECTION)
