@@ -50,7 +50,7 @@ end") ;; *) fail "a proof that waits should say so, and end its line where it is
 unproved='make try: this program was not proved. make show proves it first.'
 shows "make try: compiling the program without a proof, which takes up to a minute
 $unproved" env
-shows "$unproved" env
+shows "$unproved" env SHOWN=symbols CDPATH=.
 mv out/try "$folder/goblin_try"
 chmod -R go=rwX "$folder/goblin_try"
 chmod -R a-w .

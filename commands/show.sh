@@ -24,11 +24,13 @@ fail_as_said() {
     fail "$1; the toolchain's messages are above"
 }
 
-# Prints checksums of the sources and of the program. They are stored in $note after the program was proved and built.
+# Prints checksums of the sources and of the program. They are stored in $note after the program was proved and built: of the sources those
+# from before, because they may change meanwhile.
 sums() {
-    python3 checks/crates.py --sum goblin_show
+    sources
     sha256sum "$show"
 }
+sources() { python3 checks/crates.py --sum goblin_show; }
 note=$show.sources
 
 is_built() { [ -x "$show" ] && [ -f "$note" ] && [ "$(sums)" = "$(cat "$note")" ]; }
@@ -52,19 +54,21 @@ folder_of_try() {
     echo "$place"
 }
 
-# Prints checksums of what the program without a proof was compiled from, and of the program.
-sums_of_try() {
+# Prints checksums of what the program without a proof is compiled from. They are stored likewise.
+sources_of_try() {
     python3 checks/crates.py --sum goblin_text
     sha256sum < commands/try.main
-    sha256sum < "$tried"
 }
 
-is_compiled() { [ -x "$tried" ] && [ -f "$tried.sources" ] && [ "$(sums_of_try)" = "$(cat "$tried.sources")" ]; }
+is_compiled() {
+    [ -x "$tried" ] && [ -f "$tried.sources" ] && [ "$(sources_of_try && sha256sum < "$tried")" = "$(cat "$tried.sources")" ]
+}
 
 # Compiles the program without a proof. The toolchain removes the program after it has run, so the program copies itself first.
 compile() {
     sh commands/has.sh 'make try' rt
     echo 'make try: compiling the program without a proof, which takes up to a minute' >&2
+    sources_of_try > "$folder/sources"
     # (the copy can be written to and removed, whatever can be done with the original)
     cp -R --no-preserve=mode --parents crates.txt HANDLES crates/*/src crates/*/specs crates/*/proofs "$folder"
     echo 'goblin_try: goblin_text' >> "$folder/crates.txt"
@@ -73,18 +77,19 @@ compile() {
     (cd "$folder/crates/goblin_try" && rt try --steps 1000 --seconds 300 -- copy "$folder/compiled") < /dev/null > "$said" 2>&1 \
         || fail_as_said 'the program was not compiled'
     mv "$folder/compiled" "$tried" || fail_as_said 'the program was not copied'
-    sums_of_try > "$tried.sources"
+    sha256sum < "$tried" | cat "$folder/sources" - > "$tried.sources"
 }
 
 # Proves each crate that the program depends on, and builds the program.
 prove_program() {
     sh commands/has.sh 'make show' rt
     [ -w crates ] || fail 'this folder is read-only, and proofs are cached in it. Use a copy, or make try'
+    sources > "$folder/sources"
     sh commands/libraries.sh 'make show' goblin_show
     echo 'make show: proving goblin_show' >&2
     # (the program runs once over its stored input, which shows that it was built)
     (cd crates/goblin_show && rt run < stdin) > "$said" 2>&1 || fail_as_said 'the proof of goblin_show failed'
-    sums > "$note"
+    sha256sum "$show" | cat "$folder/sources" - > "$note"
 }
 
 if [ "$goal" = built ]; then
@@ -105,7 +110,7 @@ case ${MODE:-strict} in
     permissive) set -- permissive ;;
     *) fail "unknown MODE=$MODE. Use MODE=strict or MODE=permissive" ;;
 esac
-file=$(cd "$(dirname -- "$SHOWN")" && pwd)/$(basename -- "$SHOWN")
+file=$(CDPATH='' cd "$(dirname -- "$SHOWN")" && pwd)/$(basename -- "$SHOWN")
 
 if is_built; then
     [ "$goal" = show ] || echo 'make try: this is the proved program, built from these sources.' >&2
