@@ -86,16 +86,18 @@ bench-python:
 #   TARGET=aarch64-unknown-linux-gnu   or wasm64-unknown-unknown, which makes the module, its JavaScript and the page
 #   CPU=x86-64-v2       the processors that the library may be used on, by default all of the target's
 #   SHARED=1            also a shared library for C, which goblin_c-shared.pc finds
-PREFIX ?= /usr/local
-LIBDIR ?= lib
 export CPU TARGET SHARED
+# (these names may have any characters, too)
+install uninstall dist: export PREFIX ?= /usr/local
+install uninstall dist: export LIBDIR ?= lib
+install uninstall dist: export DESTDIR ?=
 install:
-	@LIBDIR='$(patsubst $(PREFIX)/%,%,$(LIBDIR))' sh faces/install.sh "$(DESTDIR)$(PREFIX)"
+	@LIBDIR="$${LIBDIR#"$$PREFIX"/}" sh faces/install.sh "$$DESTDIR$$PREFIX"
 
 uninstall:
-	@sh faces/install.sh --uninstall "$(DESTDIR)$(PREFIX)"
+	@LIBDIR='' sh faces/install.sh --uninstall "$$DESTDIR$$PREFIX"
 
 dist:
-	@sh faces/install.sh --archive
+	@LIBDIR="$${LIBDIR#"$$PREFIX"/}" sh faces/install.sh --archive
 
 .PHONY: help try show test gate faces compare edits margin bench bench-faces bench-python install uninstall dist

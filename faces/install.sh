@@ -44,7 +44,13 @@ wasm64-unknown-unknown-*) fail "a module for WebAssembly can't be a shared libra
 *) fail "SHARED is $SHARED: it must be 1 for a shared library, else 0" ;;
 esac
 folder=$(mktemp -d)
-trap 'rm -rf "$folder"' EXIT
+begun=
+# Leaves the list of the files that are installed, also if the installation fails or is interrupted, so that they can be removed.
+leave() {
+    if [ "$begun" ]; then install -m 644 "$folder/files" "$begun" || :; fi
+    rm -rf "$folder"
+}
+trap leave EXIT
 trap 'exit 1' HUP INT TERM
 
 # Fails if the toolchain doesn't compile for the processors CPU, which it says before it reads a crate: with status 2, and not 1 as for a
@@ -77,15 +83,15 @@ make_folder() {
             above=$(dirname "$above") up=../$up
         done
     fi
-    install -d -m 755 "$to/$1"
     echo "$1/" >> "$folder/files"
+    install -d -m 755 "$to/$1"
 }
 
 # Installs a file below the folder, with a mode or 644, and notes it in that list: put FILE NAME [MODE]
 put() {
     make_folder "$(dirname "$2")"
-    install -m "${3:-644}" "$1" "$to/$2"
     echo "$2" >> "$folder/files"
+    install -m "${3:-644}" "$1" "$to/$2"
 }
 
 # Installs a file that sed edits: put_edited SCRIPT FILE NAME
@@ -107,12 +113,17 @@ install_below() {
     to=$1
     : > "$folder/files"
     if [ "$target" = wasm64-unknown-unknown ]; then kind=web; else kind=library; fi
+    # (what may fail comes before the earlier installation is removed)
+    python3 faces/constants.py --made
+    if [ "$kind" = library ]; then link_shared; fi
     remove_from "$to" "$kind"
     # (what an earlier installation made and something else keeps is still of this one)
     while read -r made; do if [ -d "$to/$made" ]; then echo "$made" >> "$folder/files"; fi; done < "$folder/made"
-    python3 faces/constants.py --made
+    make_folder share/goblin_c
+    begun=$to/share/goblin_c/$kind.files
     "install_$kind"
-    install -m 644 "$folder/files" "$to/share/goblin_c/$kind.files"
+    install -m 644 "$folder/files" "$begun"
+    begun=
 }
 
 install_library() {
@@ -137,7 +148,6 @@ install_library() {
     # (what compares the crate with its repository stays there)
     put_all faces/rust/tests share/goblin_c/rust/tests ! -name repository.rs
     put faces/rust/Cargo.toml share/goblin_c/rust/Cargo.toml
-    link_shared
     install_python
     if [ "$shared" ]; then
         put "$folder/shared" "$shared"
@@ -282,11 +292,10 @@ link_module() {
     mv "$folder/goblin_c.wasm" "$1"
 }
 
-# Prints the sums of what a library was made of, and of the library.
-sums() {
+# Prints the sums of what a library is made of.
+sources() {
     rt version
     python3 checks/crates.py --sum goblin_c
-    sha256sum < "$1"
 }
 
 # Prints the toolchain's verdict on the library, which it reported in a file: whether it is proved, and which axioms it reaches.
@@ -296,6 +305,8 @@ verdict() { grep -e '^axioms ' -e '^logic=' "$1" || :; }
 make_library() {
     made=crates/goblin_c/out/libgoblin_c.a
     if [ -e "$made" ]; then cp -p "$made" "$folder/before"; fi
+    # (which may change meanwhile)
+    sources > "$folder/sources"
     sh commands/libraries.sh goblin_c goblin_c
     echo "goblin_c: proving the calls for C, and compiling them for $target" >&2
     (cd crates/goblin_c && rt lib --target "$target" --cpu "$cpu") > "$folder/said" 2>&1 || { cat "$folder/said"; exit 1; }
@@ -307,7 +318,7 @@ make_library() {
     mkdir -p "$cache"
     mv "$folder/made" "$cache/library"
     mv "$folder/said" "$cache/said"
-    sums "$cache/library" > "$cache/sums"
+    sha256sum < "$cache/library" | cat "$folder/sources" - > "$cache/sums"
 }
 
 library=${LIBRARY:-}
@@ -316,7 +327,7 @@ if [ -z "$library" ]; then
     cpu=${CPU:-$every}
     cache=out/library/$target-$cpu
     library=$cache/library
-    if [ -f "$cache/sums" ] && [ "$(sums "$library")" = "$(cat "$cache/sums")" ]; then
+    if [ -f "$cache/sums" ] && [ "$(sources && sha256sum < "$library")" = "$(cat "$cache/sums")" ]; then
         verdict "$cache/said"
     else
         make_library
@@ -333,17 +344,22 @@ fi
 if [ "$1" != --archive ]; then
     install_below "$1"
     echo "goblin_c $version for $target is installed below $1"
-    if [ "$shared" ]; then echo "programs find ${shared##*/} after ldconfig, or if they are linked with -Wl,-rpath,$1/$libdir"; fi
+    if [ "$shared" ] && [ -z "${DESTDIR:-}" ]; then
+        echo "programs find ${shared##*/} after ldconfig, or if they are linked with -Wl,-rpath,$(CDPATH='' cd "$1" && pwd)/$libdir"
+    fi
     exit 0
 fi
 name=goblin_c-$version-$target
 archive=${2:-out/$name.tar.gz}
 install_below "$folder/$name"
+# (others may have made such folders as bin where it is unpacked)
+sed -i '/\/$/{/goblin_c\//!d;}' "$folder/$name/share/goblin_c/$kind.files"
 print_contents > "$folder/$name/README.md"
 mkdir -p "$(dirname "$archive")"
 tar -C "$folder" --sort=name --owner=0 --group=0 --numeric-owner --mode=u=rwX,go=rX --mtime=@0 -cf "$folder/tar" "$name"
 gzip -9n < "$folder/tar" > "$archive"
 echo "wrote goblin_c $version for $target to $archive"
 if [ "$target" != wasm64-unknown-unknown ]; then
-    echo "wrote $(python3 faces/python/wheel.py "$folder/shared" "${target%%-*}" "$(dirname "$archive")")"
+    wheel=$(python3 faces/python/wheel.py "$folder/shared" "${target%%-*}" "$(dirname "$archive")")
+    echo "wrote $wheel"
 fi

@@ -33,12 +33,26 @@ echo share/goblin_c/rust/src/earlier.rs >> "$root/share/goblin_c/library.files"
 touch "$root/share/goblin_c/rust/src/earlier.rs"
 (umask 022 && quietly env LIBDIR=lib sh faces/install.sh "$root")
 ends_with 0 '' find "$root" -path '*/x86_64-linux-gnu/*' ! -type d -o -name earlier.rs -o -name '*-shared*'
-quietly sh faces/install.sh --uninstall "$root"
+quietly make uninstall PREFIX="$root" LIBDIR="$root/lib"
 [ ! -e "$folder/above" ] || fail "an uninstallation leaves: $(find "$folder/above")"
+# (so does what an installation left that failed)
+ends_with 1 '*' env LIBDIR=lib PROGRAM="$folder/none" sh faces/install.sh "$root"
+[ -e "$root/lib/libgoblin_c.a" ] || fail "an installation that fails at the program has installed nothing"
+quietly sh faces/install.sh --uninstall "$root"
+[ ! -e "$folder/above" ] || fail "the uninstallation of what was installed in part leaves: $(find "$folder/above")"
 mkdir -p "$root/share/man"
 (umask 022 && quietly env LIBDIR=lib sh faces/install.sh "$root")
 touch "$root/include/own.h"
 quietly sh faces/install.sh --uninstall "$root"
 for own in share/man include/own.h; do [ -e "$root/$own" ] || fail "an uninstallation removes $own, which the installation didn't make"; done
 ends_with 0 '' find "$root" -mindepth 1 ! -path "$root/share" ! -path "$root/share/man" ! -path "$root/include" ! -path "$root/include/own.h"
+# What is unpacked where others have made folders can be removed, too, and theirs stay.
+mkdir -p "$folder/local/bin" "$folder/local/include"
+tar -C "$folder/local" --strip-components=1 -xzf "$folder/goblin_c.022.tar.gz"
+quietly sh faces/install.sh --uninstall "$folder/local"
+for own in bin include; do [ -d "$folder/local/$own" ] || fail "an uninstallation removes $own, which others made"; done
+ends_with 0 "$folder/local/README.md" find "$folder/local" -type f
+# A wheel that can't be written is no archive that is.
+mkdir -p "$folder/taken/goblin_elf-$version-py3-none-linux_x86_64.whl"
+ends_with 1 '*' sh faces/install.sh --archive "$folder/taken/goblin_c.tar.gz"
 echo "all users can read what is installed, and it can be removed"
