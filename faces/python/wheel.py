@@ -2,7 +2,7 @@
 """Makes a wheel of the package with the shared library: python3 faces/python/wheel.py LIBRARY MACHINE FOLDER, from the repository's root.
 
 LIBRARY is the shared library, and MACHINE is x86_64 or aarch64. It prints the path of the wheel, whose bytes depend on
-the sources and on LIBRARY alone. `pip install --no-index WHEEL` takes it on a machine with Linux and Python 3.8 or later.
+the sources, on LIBRARY and on Python's zlib alone. `pip install --no-index WHEEL` takes it on a machine with Linux and Python 3.8 or later.
 """
 import base64
 import hashlib

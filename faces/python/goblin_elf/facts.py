@@ -12,7 +12,7 @@ from .marks import compilers, control_flow, has_canary
 from .names import class_to_str, et_to_str, machine_to_str
 from .refused import Refused, Unknown, within
 
-# The most that is read: entries of a dynamic section, bytes of a text and of a build ID, and sections.
+# The most that a fact is made of: entries of a dynamic section, bytes of a text and of a build ID, and sections.
 ENTRIES, TEXT, ID, SECTIONS = 4096, 4095, 64, 1 << 20
 # (an operator on plain numbers is much faster than one on flags)
 ALLOC, EXECINSTR, WRITE = int(abi.SHF_ALLOC), int(abi.SHF_EXECINSTR), int(abi.SHF_WRITE)

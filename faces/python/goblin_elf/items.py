@@ -271,7 +271,7 @@ class Table(Sequence[T]):
         return f'<{type(self).__name__}: {len(self)} items>'
 
     def array(self) -> Any:
-        """Returns all items as a structured array of numpy, which owns its memory. Its fields have the names of goblin.h."""
+        """Returns all items as a structured array of numpy, which owns its memory. Its fields have the names of the items'."""
         import numpy
         items = numpy.empty(len(self), self.record.dtype())
         filled = self._fill(0, items.ctypes.data, len(self))
