@@ -51,7 +51,8 @@
 
    One item or many
      To read a whole table, use the plural calls, such as goblin_symbols: with 64 items at once an item takes 0.51 to
-     0.67 of the time of a call for one. With a capacity of 0 they fill nothing, and return what they return for one.
+     0.67 of the time of a call for one. With a capacity of 0 they fill nothing, and return what they return for one
+     (goblin_strings GOBLIN_OK).
 
    Examples
      Each call has an example. All are compiled with these variables:
