@@ -38,7 +38,6 @@ if has pkg-config 'no library is looked for by it'; then
     by_pkg_config() {
         # shellcheck disable=SC2016 # (it is pkg-config's)
         printf 'libdir=${pcfiledir}\nName: goblin_c\nDescription: -\nVersion: %s\n' "$1" > "$folder/a folder/goblin_c.pc"
-        touch "$folder/copied/build.rs"
         quietly env -u GOBLIN_C_LIB PKG_CONFIG_LIBDIR="$folder/a folder" cargo "$2" --offline --manifest-path "$folder/copied/Cargo.toml"
     }
     by_pkg_config "$version.1" check

@@ -102,6 +102,7 @@ fn warn(folders: &[PathBuf], processors: &str) {
 fn main() {
     println!("cargo:rerun-if-env-changed=GOBLIN_C_LIB");
     println!("cargo:rerun-if-env-changed=PKG_CONFIG_PATH");
+    println!("cargo:rerun-if-env-changed=PKG_CONFIG_LIBDIR");
     let processors = env::var("CARGO_CFG_TARGET_ARCH").unwrap_or_default();
     let folders = folders();
     let found = folders.iter().find(|folder| fault(folder, &processors).is_none());
@@ -113,7 +114,11 @@ fn main() {
     }
     match found {
         Some(folder) => println!("cargo:rustc-link-search=native={}", folder.display()),
-        None => warn(&folders, &processors),
+        None => {
+            // (beside this file it is never, so cargo looks again with each build)
+            println!("cargo:rerun-if-changed={}", LIBRARY);
+            warn(&folders, &processors);
+        }
     }
     println!("cargo:rustc-link-lib=static=goblin_c");
 }
