@@ -175,6 +175,13 @@ check_indices() {
     put $((0xa00 + 4 * 16)) '\0001'
     "$folder/nm" "$folder/indices" > "$folder/listed"
     grep -qx '0*7654321 A 65535 absolute' "$folder/listed" || fail "nm.c reads past a table of section indices: $(cat "$folder/listed")"
+    # (a second table of symbols, a binding without a meaning, and a weak block)
+    dd if="$1" of="$folder/indices" bs=1 skip=$((0x1800 + 64 * 7)) seek=$table count=64 conv=notrunc 2> "$folder/output"
+    put $((0x700 + 24 * 16 + 4)) '\0120'
+    put $((0x700 + 24 * 12 + 4)) '\0045'
+    "$folder/nm" "$folder/indices" > "$folder/listed"
+    grep -qx '0*7654321 [?] 65535 absolute' "$folder/listed" || fail "nm.c gives a letter to an unknown binding: $(cat "$folder/listed")"
+    [ "$(grep -c -e ' V 2 weak_data$' -e ' absolute$' "$folder/listed")" -eq 2 ] || fail "nm.c lists another table: $(cat "$folder/listed")"
 }
 
 # Runs the programs over each file that made.c makes, and over its first bytes.

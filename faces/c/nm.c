@@ -25,7 +25,7 @@ static bool starts(const goblin_section_t *section, const char *with) {
 
 static int section_letter(const goblin_section_t *section) {
     static const char *const debugging[] = {".debug", ".zdebug", ".gnu.debuglto_.debug_", ".line",
-                                            ".stab", ".gdb_index"};
+                                            ".stab", ".gdb_index", ".gnu.linkonce.wi."};
     if (section->sh_flags & GOBLIN_SHF_EXECINSTR) return 't';
     if (section->sh_type == GOBLIN_SHT_NOBITS) return 'b';
     if (section->sh_flags & GOBLIN_SHF_ALLOC) return section->sh_flags & GOBLIN_SHF_WRITE ? 'd' : 'r';
@@ -37,12 +37,14 @@ static int section_letter(const goblin_section_t *section) {
 /* Returns the letter of a symbol in a section, or in none if that is null. */
 static int letter(const goblin_symbol_t *symbol, const goblin_section_t *section) {
     unsigned bind = symbol->st_info >> 4, type = symbol->st_info & 15;
+    bool is_object = type == GOBLIN_STT_OBJECT || type == GOBLIN_STT_COMMON;
     if (symbol->st_shndx == GOBLIN_SHN_COMMON) return 'C';
     if (symbol->st_shndx == GOBLIN_SHN_UNDEF && bind != GOBLIN_STB_WEAK) return 'U';
-    if (symbol->st_shndx == GOBLIN_SHN_UNDEF) return type == GOBLIN_STT_OBJECT ? 'v' : 'w';
+    if (symbol->st_shndx == GOBLIN_SHN_UNDEF) return is_object ? 'v' : 'w';
     if (type == GOBLIN_STT_GNU_IFUNC) return 'i';
-    if (bind == GOBLIN_STB_WEAK) return type == GOBLIN_STT_OBJECT ? 'V' : 'W';
+    if (bind == GOBLIN_STB_WEAK) return is_object ? 'V' : 'W';
     if (bind == GOBLIN_STB_GNU_UNIQUE) return 'u';
+    if (bind > GOBLIN_STB_WEAK) return '?';
     int of_section = section ? section_letter(section) : 'a';
     return bind == GOBLIN_STB_LOCAL ? of_section : toupper(of_section);
 }
@@ -89,9 +91,9 @@ int main(int argc, char **argv) {
     if (goblin_header(bytes, len, &header, &why) != GOBLIN_OK) return print_refusal("nm: header");
     if (goblin_section_names(bytes, len, &header, &names_of_sections, &why) > GOBLIN_END)
         return print_refusal("nm: sections");
-    goblin_section_t section;
-    int failed = 0;
-    for (uint64_t i = 0; goblin_section(bytes, len, &header, i, &section, &why) == GOBLIN_OK; i++)
-        if (section.sh_type == (is_dynamic ? GOBLIN_SHT_DYNSYM : GOBLIN_SHT_SYMTAB)) failed |= list(i, &section);
-    return failed;
+    uint32_t type = is_dynamic ? GOBLIN_SHT_DYNSYM : GOBLIN_SHT_SYMTAB;
+    goblin_section_t table;
+    uint64_t index;
+    bool is_there = goblin_section_by_type(bytes, len, &header, type, 0, &index, &table, &why) == GOBLIN_OK;
+    return is_there ? list(index, &table) : 0;
 }
