@@ -362,12 +362,15 @@ static int bench(const char *path) {
     relocs = relas.file.size / 24;
     if (goblin_linked_section(bytes, len, &header, table.sh_link, &strings, &why)) return 1;
     if (goblin_symbol_count(bytes, len, &header, &table.file, &count, &why)) return 1;
+    /* (strlen must end inside the table) */
+    if (strings.file.size == 0 || bytes[strings.file.offset + strings.file.size - 1] != 0) return 1;
     if (!(offsets = malloc((count + 1) * sizeof *offsets)) || !(addresses = malloc((count + 1) * sizeof *addresses))
         || !(sizes = malloc((count + 1) * sizeof *sizes)))
         return 1;
     for (uint64_t i = 0; i < count && !goblin_symbol(bytes, len, &header, &table.file, i, symbols, &why); i++)
-        offsets[i] = symbols->st_name, addresses[i] = symbols->st_value,
-        sizes[i] = strlen((const char *)bytes + strings.file.offset + offsets[i]);
+        if (symbols->st_name >= strings.file.size) return 1;
+        else offsets[i] = symbols->st_name, addresses[i] = symbols->st_value,
+             sizes[i] = strlen((const char *)bytes + strings.file.offset + offsets[i]);
     prepare();
     printf("%s, %llu symbols, nanoseconds each:\n", path, (unsigned long long)count);
     for (int row = 0; row < ROWS; row++) {

@@ -74,12 +74,16 @@ static int time_search(const uint8_t *bytes, size_t len) {
     goblin_symbol_t unread;
     uint64_t index = 0, count;
     double ours = 1e9, theirs = 1e9;
-    if (goblin_header(bytes, len, &header, &why) != GOBLIN_OK) return 1;
+    if (goblin_header(bytes, len, &header, &why) != GOBLIN_OK || header.ei_class != 2 || header.ei_data != 1) return 1;
     for (uint64_t i = 0; goblin_section(bytes, len, &header, i, &table, &why) == GOBLIN_OK; i++)
         if ((table.sh_type == SHT_SYMTAB || table.sh_type == SHT_DYNSYM) && table.file.size > longest.file.size)
             longest = table;
     if (goblin_linked_section(bytes, len, &header, longest.sh_link, &strings, &why) != GOBLIN_OK) return 1;
     count = longest.file.size / sizeof(Elf64_Sym);
+    /* (strcmp must end inside the table) */
+    if (strings.file.size == 0 || bytes[strings.file.offset + strings.file.size - 1] != 0) return 1;
+    for (uint64_t i = 0; goblin_symbol(bytes, len, &header, &longest.file, i, &unread, &why) == GOBLIN_OK; i++)
+        if (unread.st_name >= strings.file.size) return 1;
     for (int run = 0; run < 9; run++) {
         clock_t start = clock();
         if (goblin_symbol_by_name(bytes, len, &header, &longest.file, &strings.file, (const uint8_t *)name,
