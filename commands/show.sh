@@ -40,7 +40,7 @@ run() {
     program=$1
     shift
     status=0
-    "$program" "$@" < "$file" || status=$?
+    "$program" "$@" < "$SHOWN" || status=$?
     [ "$status" -ne 134 ] || fail 'the program stopped at a fault, which is above'
     [ "$status" -lt 2 ] || fail 'the file could not be read, or the output could not be written'
 }
@@ -110,7 +110,6 @@ case ${MODE:-strict} in
     permissive) set -- permissive ;;
     *) fail "unknown MODE=$MODE. Use MODE=strict or MODE=permissive" ;;
 esac
-file=$(CDPATH='' cd "$(dirname -- "$SHOWN")" && pwd)/$(basename -- "$SHOWN")
 
 if is_built; then
     [ "$goal" = show ] || echo 'make try: this is the proved program, built from these sources.' >&2
