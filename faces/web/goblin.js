@@ -1285,7 +1285,8 @@ export class Writer {
  * - PT_PHDR holds none.
  * - PT_TLS holds only sections with SHF_TLS. Of these, PT_LOAD and PT_GNU_RELRO hold those with bytes in the file, and
  *   other segments hold none.
- * - PT_LOAD, PT_GNU_RELRO, PT_DYNAMIC, PT_GNU_EH_FRAME and PT_GNU_STACK hold only loaded sections.
+ * - PT_LOAD, PT_GNU_RELRO, PT_DYNAMIC, PT_GNU_EH_FRAME and PT_GNU_STACK hold only loaded sections, and so do the types
+ *   from PT_GNU_SFRAME (0x6474e554) to PT_GNU_MBIND_HI (0x6474f554).
  * - An empty section is not held at the segment's end, nor at the start of PT_DYNAMIC or PT_NOTE, unless the segment is
  *   empty, too.
  *
@@ -1314,7 +1315,7 @@ function may_hold({ p_type }, section) {
     case PT_TLS: return is_tls;
     case PT_LOAD: case PT_GNU_RELRO: return is_alloc(section) && !(is_tls && section.sh_type === SHT_NOBITS);
     case PT_DYNAMIC: case PT_GNU_EH_FRAME: case PT_GNU_STACK: return is_alloc(section) && !is_tls;
-    default: return !is_tls;
+    default: return !is_tls && (p_type < 0x6474e554 || p_type > 0x6474f554 || is_alloc(section));
     }
 }
 

@@ -27,7 +27,8 @@ impl ProgramHeader {
     /// - `PT_PHDR` holds none.
     /// - `PT_TLS` holds only sections with `SHF_TLS`. Of these, `PT_LOAD` and `PT_GNU_RELRO` hold those with bytes in
     ///   the file, and other segments hold none.
-    /// - `PT_LOAD`, `PT_GNU_RELRO`, `PT_DYNAMIC`, `PT_GNU_EH_FRAME` and `PT_GNU_STACK` hold only loaded sections.
+    /// - `PT_LOAD`, `PT_GNU_RELRO`, `PT_DYNAMIC`, `PT_GNU_EH_FRAME` and `PT_GNU_STACK` hold only loaded sections, and
+    ///   so do the types from `PT_GNU_SFRAME` (0x6474e554) to `PT_GNU_MBIND_HI` (0x6474f554).
     /// - An empty section is not held at the segment's end, nor at the start of `PT_DYNAMIC` or `PT_NOTE`, unless the
     ///   segment is empty, too.
     ///
@@ -52,7 +53,7 @@ impl ProgramHeader {
             PT_PHDR => false,
             PT_TLS => is_tls,
             PT_LOAD | PT_GNU_RELRO => section.is_alloc() && !(is_tls && section.sh_type == SHT_NOBITS),
-            PT_DYNAMIC | PT_GNU_EH_FRAME | PT_GNU_STACK => section.is_alloc() && !is_tls,
+            PT_DYNAMIC | PT_GNU_EH_FRAME | PT_GNU_STACK | 0x6474_e554..=0x6474_f554 => section.is_alloc() && !is_tls,
             _ => !is_tls,
         }
     }

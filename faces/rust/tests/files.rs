@@ -130,9 +130,9 @@ fn sections_in_segments() {
     let zeros = |range| holds(PT_LOAD, SHF_ALLOC, SHT_NOBITS, range);
     assert!(zeros((0x50, 0x30)) && !zeros((0x50, 0x31)) && !zeros((0x80, 0)));
     // some segments hold only loaded sections
-    let found = [PT_LOAD, PT_DYNAMIC, PT_GNU_EH_FRAME, PT_GNU_RELRO, PT_GNU_STACK]
-        .map(|p_type| holds(p_type, 0, SHT_PROGBITS, (1, 1)));
-    assert_eq!(found, [false; 5]);
+    let of_loaded = [PT_LOAD, PT_DYNAMIC, PT_GNU_EH_FRAME, PT_GNU_RELRO, PT_GNU_STACK, 0x6474_e554, 0x6474_f554];
+    assert_eq!(of_loaded.map(|p_type| holds(p_type, 0, SHT_PROGBITS, (1, 1))), [false; 7]);
+    assert!([0x6474_e553, 0x6474_f555].iter().all(|p_type| holds(*p_type, 0, SHT_PROGBITS, (1, 1))));
     assert!(holds(PT_INTERP, 0, SHT_PROGBITS, (1, 1)) && holds(PT_NOTE, 0, SHT_NOTE, (1, 1)));
     assert!(!loaded(PT_PHDR, (1, 1)) && loaded(PT_DYNAMIC, (1, 1)));
     // thread-local storage
