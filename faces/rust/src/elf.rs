@@ -413,7 +413,8 @@ impl<'a> Elf<'a> {
         Notes::of(self, part.range(), part.alignment())
     }
 
-    /// Returns the notes of all segments of type `PT_NOTE`.
+    /// Returns the notes of all segments of type `PT_NOTE`. It reads all of them, and those that several segments have
+    /// once for each.
     ///
     /// # Errors
     /// If the program headers are not inside the file, or a note of any of these segments is damaged.
@@ -421,7 +422,8 @@ impl<'a> Elf<'a> {
         NoteIterator::of_segments(*self)
     }
 
-    /// Returns the notes of all sections of type `SHT_NOTE`.
+    /// Returns the notes of all sections of type `SHT_NOTE`. It reads all of them, and those that several sections have
+    /// once for each.
     ///
     /// # Errors
     /// If the section headers are not inside the file, or a note of any of these sections is damaged.
