@@ -1,17 +1,19 @@
 //! Lists the segments of an ELF file, each with the names of its sections.
 use goblin_rs::program_header::pt_to_str;
 use goblin_rs::Elf;
+use std::io::{self, Write};
 use std::process::ExitCode;
 
 mod common;
 
 fn list(elf: &Elf, _: &[u8]) -> common::Result {
+    let mut out = io::stdout().lock();
     for (index, segment) in elf.program_headers()?.iter().enumerate() {
-        print!("{index:02} {}", pt_to_str(segment.p_type));
+        write!(out, "{index:02} {}", pt_to_str(segment.p_type))?;
         for section in elf.segment_sections(&segment)? {
-            print!(" {}", elf.section_name(&section)?.unwrap_or(""));
+            write!(out, " {}", elf.section_name(&section)?.unwrap_or(""))?;
         }
-        println!();
+        writeln!(out)?;
     }
     Ok(())
 }

@@ -1,5 +1,6 @@
 //! Lists the value and the name of each symbol of an ELF file.
 use goblin_rs::Elf;
+use std::io::{self, Write};
 use std::process::ExitCode;
 use std::{env, error, ffi, fs};
 
@@ -8,7 +9,7 @@ fn list(path: &ffi::OsStr) -> Result<(), Box<dyn error::Error>> {
     let elf = Elf::parse(&bytes)?;
     if let Some(symbols) = elf.syms()? {
         for symbol in &symbols {
-            println!("{:x} {}", symbol.st_value, symbols.name(&symbol)?.unwrap_or(""));
+            writeln!(io::stdout(), "{:x} {}", symbol.st_value, symbols.name(&symbol)?.unwrap_or(""))?;
         }
     }
     Ok(())
