@@ -1,4 +1,5 @@
 //! A sorted map of the addresses of symbols.
+use crate::header::ET_REL;
 use crate::section_header::{SHN_LORESERVE, SHN_UNDEF, SHN_XINDEX};
 use crate::sym::{Sym, Symtab, STT_FUNC, STT_GNU_IFUNC, STT_NOTYPE, STT_OBJECT};
 use std::cmp::Reverse;
@@ -97,7 +98,7 @@ struct Held {
 impl Held {
     fn of(symbols: &Symtab<'_>, index: usize, symbol: &Sym) -> Option<Self> {
         let section = symbols.section(symbol.st_shndx).filter(|_| symbol.st_shndx < SHN_LORESERVE)?;
-        let start = if symbols.is_relocatable() { 0 } else { section.is_alloc().then_some(section.sh_addr)? };
+        let start = if symbols.header.e_type == ET_REL { 0 } else { section.is_alloc().then_some(section.sh_addr)? };
         let (first, last) = (start.max(symbol.st_value), start.saturating_add(section.sh_size.checked_sub(1)?));
         let (value, is_label) = (symbol.st_value, symbol.st_size == 0);
         Some(Held { first, last, value, index, is_label }).filter(|place| place.first <= place.last)

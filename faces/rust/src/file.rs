@@ -11,7 +11,8 @@ impl<'a> File<'a> {
     /// Returns the bytes of a range that the library returned.
     #[inline]
     pub fn slice(self, range: Range) -> &'a [u8] {
-        &self.0[std::ops::Range::from(range)]
+        let start = range.offset as usize;
+        &self.0[start..start + range.size as usize]
     }
 
     /// Returns the text of a range that the library returned for text. It is checked once more.

@@ -176,14 +176,6 @@ records! {
     }
 }
 
-/// Returns the indices of the bytes of a range that the library returned.
-impl From<Range> for std::ops::Range<usize> {
-    fn from(range: Range) -> Self {
-        let start = range.offset as usize;
-        start..start + range.size as usize
-    }
-}
-
 #[cfg(test)]
 pub mod tests {
     use super::*;

@@ -4,7 +4,6 @@ pub use crate::constants::sym::*;
 use crate::elf::Elf;
 use crate::error::Result;
 use crate::file::File;
-use crate::header::ET_REL;
 use crate::items::{made, table, Items, List};
 use crate::names::Name;
 pub use crate::raw::Sym;
@@ -84,7 +83,7 @@ pub fn get_type(info: u8) -> Name {
 #[derive(Clone, Copy, Debug)]
 pub struct Symtab<'a> {
     file: File<'a>,
-    header: raw::Header,
+    pub(crate) header: raw::Header,
     range: raw::Range,
     count: u64,
     strtab: Strtab<'a>,
@@ -145,11 +144,6 @@ impl<'a> Symtab<'a> {
     // Returns the section of a symbol by its index.
     pub(crate) fn section(&self, index: usize) -> Option<SectionHeader> {
         made(sys::goblin_section(&self.file, &self.header, index as u64))
-    }
-
-    // Reports whether the values of the symbols are offsets in their sections.
-    pub(crate) fn is_relocatable(&self) -> bool {
-        self.header.e_type == ET_REL
     }
 
     /// Returns a sorted map of the addresses, for many searches. It is not proved.
