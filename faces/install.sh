@@ -231,7 +231,7 @@ print_contents() {
     # shellcheck disable=SC2016
     each_installed | while read -r start content; do
         printf '|`%s`|%s|%s|\n' "$start" "$content" \
-            "$(grep -F "$start" "$folder/files" | grep -v '/$' | sed "s|^|$to/|" | tr '\n' '\0' | xargs -0 cat | wc -c)"
+            "$(cd "$to" && grep -F "$start" "$folder/files" | grep -v '/$' | tr '\n' '\0' | xargs -0 cat | wc -c)"
     done
 }
 

@@ -10,7 +10,8 @@ export LIBRARY="$folder/libgoblin_c.a" TARGET='' CPU=''
 # (a program in place of goblin_show, which another part of a test may build meanwhile)
 printf '#!/bin/sh\ncat "%s/crates/goblin_show/stdout"\n' "$PWD" > "$folder/program"
 for mask in 077 022; do
-    (umask $mask && quietly env PROGRAM="$folder/program" sh faces/install.sh --archive "$folder/goblin_c.$mask.tar.gz")
+    mkdir "$folder/$mask&|"
+    (umask $mask && quietly env TMPDIR="$folder/$mask&|" PROGRAM="$folder/program" sh faces/install.sh --archive "$folder/goblin_c.$mask.tar.gz")
 done
 quietly cmp "$folder/goblin_c.077.tar.gz" "$folder/goblin_c.022.tar.gz"
 tar -tzf "$folder/goblin_c.022.tar.gz" > "$folder/output"
