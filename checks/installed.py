@@ -54,7 +54,7 @@ class Unpacked:
         """The installed page lists each installed file, or a folder that has it, but for the licences. What it and the page of the Python
         package link to is there. The archive's first page, if there is one, lists the same, with the size of each."""
         share = f'{self.there}/share/goblin_c'
-        text, files = text_of(f'{share}/README.md'), text_of(f'{share}/library.files').split()
+        text, files = text_of(f'{share}/README.md'), text_of(f'{share}/library.files').splitlines()
         listed = re.findall('^- `(.*?)`', text.split('## Installed files')[1], re.MULTILINE)
         for file in files:
             need(file.endswith(('/', '/LICENSE', '/README.md', '/libgoblin_c-shared.so')) or file.startswith(tuple(listed)),

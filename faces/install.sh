@@ -121,6 +121,8 @@ install_below() {
     while read -r made; do if [ -d "$to/$made" ]; then echo "$made" >> "$folder/files"; fi; done < "$folder/made"
     make_folder share/goblin_c
     begun=$to/share/goblin_c/$kind.files
+    # (which is no folder of the list, but says where they were made)
+    echo "@$(CDPATH='' cd "$to" && pwd -P)/" >> "$folder/files"
     "install_$kind"
     install -m 644 "$folder/files" "$begun"
     begun=
@@ -253,13 +255,15 @@ install_web() {
 # Removes what was installed below a folder, by the lists of its files, and the folders that were made for them, if nothing else is in
 # them: remove_from FOLDER KIND ..
 remove_from() {
-    below=$1
+    below=$(CDPATH='' cd "$1" 2> /dev/null && pwd -P) || below=$1
     shift
     : > "$folder/made"
     for kind; do
         list=$below/share/goblin_c/$kind.files
         [ -e "$list" ] || continue
-        sed -n '/\/$/p' "$list" >> "$folder/made"
+        # (elsewhere, as where an installation was moved to, others may have made such folders as lib)
+        if grep '^@' "$list" | grep -qvxF "@$below/"; then ours=goblin_c/; else ours=/; fi
+        grep -v '^@' "$list" | grep '/$' | grep -F "$ours" >> "$folder/made" || :
         sed '/\/$/d' "$list" | while read -r file; do rm -f "$below/$file"; done
         rm "$list"
     done
@@ -353,7 +357,7 @@ name=goblin_c-$version-$target
 archive=${2:-out/$name.tar.gz}
 install_below "$folder/$name"
 # (others may have made such folders as bin where it is unpacked)
-sed -i '/\/$/{/goblin_c\//!d;}' "$folder/$name/share/goblin_c/$kind.files"
+sed -i '/^@/d; /\/$/{/goblin_c\//!d;}' "$folder/$name/share/goblin_c/$kind.files"
 print_contents > "$folder/$name/README.md"
 mkdir -p "$(dirname "$archive")"
 tar -C "$folder" --sort=name --owner=0 --group=0 --numeric-owner --mode=u=rwX,go=rX --mtime=@0 -cf "$folder/tar" "$name"

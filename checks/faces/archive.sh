@@ -53,6 +53,13 @@ tar -C "$folder/local" --strip-components=1 -xzf "$folder/goblin_c.022.tar.gz"
 quietly sh faces/install.sh --uninstall "$folder/local"
 for own in bin include; do [ -d "$folder/local/$own" ] || fail "an uninstallation removes $own, which others made"; done
 ends_with 0 "$folder/local/README.md" find "$folder/local" -type f
+# What was staged elsewhere leaves folders that others made, too.
+quietly sh faces/install.sh "$folder/staged/usr"
+mkdir -p "$folder/rooted/usr/include" "$folder/rooted/usr/lib"
+cp -R "$folder/staged/." "$folder/rooted"
+quietly sh faces/install.sh --uninstall "$folder/rooted/usr/."
+for own in include lib; do [ -d "$folder/rooted/usr/$own" ] || fail "an uninstallation removes $own, which others made"; done
+ends_with 0 '' find "$folder/rooted" -type f
 # A wheel that can't be written is no archive that is.
 mkdir -p "$folder/taken/goblin_elf-$version-py3-none-linux_x86_64.whl"
 ends_with 1 '*' sh faces/install.sh --archive "$folder/taken/goblin_c.tar.gz"
