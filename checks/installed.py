@@ -116,7 +116,8 @@ class Unpacked:
     def by_cmake(self):
         """Builds nm.c by CMake with some lines that find and link the library, and runs it."""
         package, module = f'find_package(goblin_c {self.version.rpartition(".")[0]} REQUIRED)', 'find_package(PkgConfig REQUIRED)'
-        none = 'find_package(goblin_c 99 QUIET)\nif(goblin_c_FOUND)\nmessage(FATAL_ERROR "version 99 is found")\nendif()\n'
+        none = ('find_package(goblin_c 99 QUIET)\nif(goblin_c_FOUND)\nmessage(FATAL_ERROR "version 99 is found")\nendif()\n'
+                'if(NOT CMAKE_VERSION VERSION_LESS 3.19)\nfind_package(goblin_c 0.1...<99 REQUIRED)\nendif()\n')
         ways = {'package': f'{none}{package}\ntarget_link_libraries(listing goblin_c::goblin_c)'}
         if shutil.which('pkg-config'):
             ways['module'] = (f'{module}\npkg_check_modules(GOBLIN REQUIRED IMPORTED_TARGET goblin_c={self.version})\n'
@@ -127,6 +128,9 @@ class Unpacked:
         for name, lines in ways.items():
             self.run(f'mkdir {name}', f'cd {name}', 'echo "$LISTS" > CMakeLists.txt', 'cmake -S . -B built', 'cmake --build built',
                      '$RUNNER built/listing built/listing', wanted=OF_C, LISTS=project + lines)
+        # (the folder of the libraries may be a link)
+        self.run('mv "$LIBDIR" linked', 'ln -s "$PWD/linked" "$LIBDIR"', 'cmake -S package -B package/linked', 'rm "$LIBDIR"',
+                 'mv linked "$LIBDIR"')
 
     def cargo(self, command, wanted='', **variables):
         linker = {f'CARGO_TARGET_{self.target.upper().replace("-", "_")}_LINKER': self.linker}
