@@ -87,17 +87,20 @@ bench-python:
 #   CPU=x86-64-v2       the processors that the library may be used on, by default all of the target's
 #   SHARED=1            also a shared library for C, which goblin_c-shared.pc finds
 export CPU TARGET SHARED
-# (these names may have any characters, too)
-install uninstall dist: export PREFIX ?= /usr/local
-install uninstall dist: export LIBDIR ?= lib
-install uninstall dist: export DESTDIR ?=
+PREFIX ?= /usr/local
+LIBDIR ?= lib
+# (the first and the last may have any characters, too)
+install uninstall dist: export AT := $(value PREFIX)
+install uninstall dist: export BELOW := $(value LIBDIR)
+install uninstall dist: export ROOT := $(value DESTDIR)
+unexport PREFIX LIBDIR DESTDIR
 install:
-	@LIBDIR="$${LIBDIR#"$$PREFIX"/}" sh faces/install.sh "$$DESTDIR$$PREFIX"
+	@LIBDIR="$${BELOW#"$$AT"/}" sh faces/install.sh "$$ROOT$$AT"
 
 uninstall:
-	@LIBDIR='' sh faces/install.sh --uninstall "$$DESTDIR$$PREFIX"
+	@LIBDIR='' sh faces/install.sh --uninstall "$$ROOT$$AT"
 
 dist:
-	@LIBDIR="$${LIBDIR#"$$PREFIX"/}" sh faces/install.sh --archive
+	@LIBDIR="$${BELOW#"$$AT"/}" sh faces/install.sh --archive
 
 .PHONY: help try show test gate faces compare edits margin bench bench-faces bench-python install uninstall dist

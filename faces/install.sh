@@ -36,6 +36,7 @@ esac
 libdir=${LIBDIR:-lib}
 case /$libdir/ in
 //* | */../* | */./* | *//*) fail "LIBDIR is $libdir: it must be a folder below PREFIX, such as lib/x86_64-linux-gnu" ;;
+*[!A-Za-z0-9._+/-]*) fail "LIBDIR is $libdir: it may have letters, digits and . _ + - / alone, since it is written into files" ;;
 esac
 case $target-${SHARED:-} in
 *- | *-0) shared= ;;
@@ -102,8 +103,7 @@ put_edited() {
 
 # Installs the files of a folder, or those that further arguments of find select: put_all FOLDER NAME [ARGUMENT ..]
 put_all() {
-    from=$1
-    below=$2
+    from=$1 below=$2
     shift 2
     find "$from" -type f "$@" | sort > "$folder/found"
     while read -r file; do put "$file" "$below${file#"$from"}"; done < "$folder/found"
@@ -271,7 +271,7 @@ remove_from() {
     rm -rf "$below/share/goblin_c/python/goblin_elf/__pycache__"
     # (lists of earlier versions name no folders)
     if [ -d "$below/share/goblin_c" ]; then find "$below/share/goblin_c" -depth -type d -empty -delete; fi
-    sed '/^\.\.\//d' "$folder/made" | LC_ALL=C sort -r | while read -r made; do remove_empty "$below/$made"; done
+    sed '/^\.\.\//d' "$folder/made" | sort -r | while read -r made; do remove_empty "$below/$made"; done
     above=$below
     sed -n '/^\.\.\//p' "$folder/made" | sort -u | while read -r made; do
         above=$(dirname "$above")
@@ -341,14 +341,12 @@ program=
 if [ "$target" = x86_64-unknown-linux-gnu ]; then
     program=${PROGRAM:-}
     if [ -z "$program" ] && sh commands/show.sh is_built; then program=crates/goblin_show/out/goblin_show; fi
-fi
-if [ "$target" = x86_64-unknown-linux-gnu ] && [ -z "$program" ]; then
-    echo "goblin_show is left out: it is not proved and built of these sources, which \`make show FILE=/bin/true\` does"
+    [ "$program" ] || echo "goblin_show is left out: it is not proved and built of these sources, which \`make show FILE=/bin/true\` does"
 fi
 if [ "$1" != --archive ]; then
     install_below "$1"
     echo "goblin_c $version for $target is installed below $1"
-    if [ "$shared" ] && [ -z "${DESTDIR:-}" ]; then
+    if [ "$shared" ] && [ -z "${ROOT:-}" ]; then
         echo "programs find ${shared##*/} after ldconfig, or if they are linked with -Wl,-rpath,$(CDPATH='' cd "$1" && pwd)/$libdir"
     fi
     exit 0

@@ -60,6 +60,13 @@ cp -R "$folder/staged/." "$folder/rooted"
 quietly sh faces/install.sh --uninstall "$folder/rooted/usr/."
 for own in include lib; do [ -d "$folder/rooted/usr/$own" ] || fail "an uninstallation removes $own, which others made"; done
 ends_with 0 '' find "$folder/rooted" -type f
+# A folder of the installation may have any name, and one of libraries some.
+# shellcheck disable=SC2016 # (it is the name)
+quietly make install PREFIX="$folder"'/$(touch made)$b'
+# shellcheck disable=SC2016
+quietly make uninstall PREFIX="$folder"'/$(touch made)$b'
+[ ! -e made ] || fail 'make runs what a name of a folder has'
+ends_with 2 "LIBDIR is lib&64: *" env LIBDIR='lib&64' sh faces/install.sh "$root"
 # A wheel that can't be written is no archive that is.
 mkdir -p "$folder/taken/goblin_elf-$version-py3-none-linux_x86_64.whl"
 ends_with 1 '*' sh faces/install.sh --archive "$folder/taken/goblin_c.tar.gz"
