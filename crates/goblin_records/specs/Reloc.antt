@@ -1,4 +1,5 @@
 -- Relocations of either class, with an addend or without, and lists of them (System V gABI, "Relocation").
+use Rattle.std.specs.Prelude.{◌-◌, negsuc}
 use Rattle.std.specs.Prelude.{◌%◌, ℤ, pos, Bool, false, true, Option, Some, None, unwrap_or, IsSomeAnd, [], ◌∷◌}
 use Rattle.std.specs.Prelude.{slice_index, ◌≡◌, ◌<◌, ◌^◌, ℕ, List}
 use Rattle.goblin_records.specs.Common.{Container, Endian, field, Layout, Shape, shaped, converted, widened, low_bits}
@@ -152,6 +153,22 @@ reloc_of is_rela class order = (reloc_layout is_rela class order).read
 -- the bytes that a relocation is written as
 abbrev pub reloc_image : Bool → Container → Endian → Reloc → List ℕ
 reloc_image is_rela class order = (reloc_layout is_rela class order).image
+
+-- a relocation has the low bits of the offset, the symbol and the type of another one, as many as a class holds
+abbrev pub KeepsLow : Container → (whole low : Reloc) → Type 0
+KeepsLow Little whole low =
+    (low.r_offset ≡ whole.r_offset % 2 ^ 32) × (low.r_sym ≡ whole.r_sym % 2 ^ 24) × (low.r_type ≡ whole.r_type % 2 ^ 8)
+KeepsLow Big whole low =
+    (low.r_offset ≡ whole.r_offset % 2 ^ 64) × (low.r_sym ≡ whole.r_sym % 2 ^ 32)
+    × (low.r_type ≡ whole.r_type % 2 ^ 32)
+
+-- an addend is another one cut to a width, whose two's complement has the same low bits; 0 where that is missing; and
+-- none where none is written
+abbrev pub KeepsLowAddend : Bool → (width : ℕ) → (whole low : Option ℤ) → Type 0
+KeepsLowAddend false width whole low = low ≡ None
+KeepsLowAddend true width None low = low ≡ Some (pos 0)
+KeepsLowAddend true width (Some (pos x)) low = low ≡ Some (signed_of width (x % 256 ^ width))
+KeepsLowAddend true width (Some (negsuc x)) low = low ≡ Some (signed_of width (256 ^ width - 1 - x % 256 ^ width))
 
 -- the relocation that a stored one means: in a little-endian MIPS64 file its symbol and type are decoded
 abbrev pub as_meant : Bool → Reloc → Reloc

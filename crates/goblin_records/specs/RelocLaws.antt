@@ -1,11 +1,11 @@
 -- Laws of relocations of each class, with an addend or without, of MIPS64 or not: written relocations are read back,
 -- and relocations that were read are written back.
-use Rattle.std.specs.Prelude.{ℤ, pos, unwrap_or, IsSomeAnd}
+use Rattle.std.specs.Prelude.{ℤ, pos, negsuc, unwrap_or, None, IsSomeAnd}
 use Rattle.std.proofs.Common.{refl, lit<, ◌≡◌, ◌<◌, ◌*◌, ◌^◌, ℕ, ◌∙◌, arith, Bool, true, false, Option, Some}
-use Rattle.std.proofs.Common.{subst, sym}
+use Rattle.std.proofs.Common.{subst, sym, ap}
 use Rattle.goblin_records.specs.Common.{Container, Endian, IsRecord, shaped, number_at, Little, Big}
 use Rattle.goblin_records.specs.Common.{FitsSigned, Reloc, RelocCtx}
-use Rattle.std.proofs.Math.Nat.{mod-eq_of_lt}
+use Rattle.std.proofs.Math.Nat.{mod-eq_of_lt, one-le-pow}
 use Rattle.goblin_base.specs.LayoutLaws.{shape_laws, plain_laws, converted_laws, same_in_each_class}
 use Rattle.goblin_base.specs.SignedLaws.{signed_of-complement, complement-lt, complement-mod}
 use Rattle.goblin_base.specs.SignedLaws.{complement-signed_number_at, signed_of-fits}
@@ -14,6 +14,8 @@ use Rattle.goblin_records.specs.Reloc.{rel32, rel64, rela32, rela64, rela32_layo
 use Rattle.goblin_records.specs.Reloc.{reloc_layout, reloc_layout_in, RelocFits, rel_widened32, rela_widened32}
 use Rattle.goblin_records.specs.Reloc.{rel_widened64, rela_widened64, rel_as32, rela_as32, rel_as64, rela_as64}
 use Rattle.goblin_records.specs.Reloc.{as_meant, as_stored, StoredFits, context, SameInEachClass, AddendFits, split}
+use Rattle.goblin_records.specs.Reloc.{KeepsLow, KeepsLowAddend}
+use Rattle.goblin_base.specs.Signed.{signed_low}
 use Rattle.goblin_base.specs.Layout.{word_size}
 use Rattle.goblin_records.specs.RelocInfo.{symbols, types, symbol_in, type_in, info_of}
 use Rattle.goblin_records.specs.RelocInfoLaws.{info_of-parts, joins_its_parts, reversed-lt, reversed-reversed}
@@ -103,6 +105,30 @@ reloc_laws true Big order =
     ((parts.0, parts.1, some.0), rw (parts.2, parts.3, some.1) refl))
     (λ raw fit. (split_fits true Big fit.0 fit.1 fit.2, rw (joins_its_parts Big raw.r_info fit.1) refl))
 
+-- the low bits of a relocation, in plain numbers
+pub keeps_low : (is_rela : Bool) (class : Container) (order : Endian) (r : Reloc)
+    → KeepsLow class r ((reloc_layout is_rela class order).low r)
+keeps_low false Little order r = (refl, omega arith, omega arith)
+keeps_low true Little order r = (refl, omega arith, omega arith)
+keeps_low false Big order r = (refl, omega arith, omega arith)
+keeps_low true Big order r = (refl, omega arith, omega arith)
+
+-- and of its addend
+cut_addend : (width : ℕ) (addend : Option ℤ)
+    → KeepsLowAddend true width addend (Some (signed_low width (unwrap_or addend (pos 0))))
+cut_addend width None =
+    let fits : FitsSigned width (pos 0) = omega (arith, one-le-pow width 256 (omega arith)) in
+    ap (λ z. Some z) (signed_of-complement width (pos 0) fits)
+cut_addend width (Some (pos x)) = refl
+cut_addend width (Some (negsuc x)) = refl
+
+pub keeps_low_addend : (is_rela : Bool) (class : Container) (order : Endian) (r : Reloc)
+    → KeepsLowAddend is_rela (word_size class) r.r_addend ((reloc_layout is_rela class order).low r).r_addend
+keeps_low_addend false Little order r = refl
+keeps_low_addend true Little order r = cut_addend 4 r.r_addend
+keeps_low_addend false Big order r = refl
+keeps_low_addend true Big order r = cut_addend 8 r.r_addend
+
 -- the symbol and the type of a relocation that fits are words of 32 bits
 words : (is_rela : Bool) (class : Container) (r : Reloc)
     → RelocFits is_rela class r → (r.r_sym < 2 ^ 32) × (r.r_type < 2 ^ 32)
@@ -133,3 +159,6 @@ reloc_laws_in c = stored_laws c.is_mips64el c.is_rela c.ctx.container c.ctx.le
 
 pub same_in_classes : SameInEachClass
 same_in_classes is_rela is_mips64el = same_in_each_class (λ class order. stored_laws is_mips64el is_rela class order)
+
+-- for the laws of relocations
+pub ruleset whole_laws = (same_in_classes, keeps_low, keeps_low_addend)

@@ -1,12 +1,13 @@
 //! Relocations of either class, with an addend or without: System V gABI, "Relocation".
 ghost use Rattle.std.specs.Prelude.{◌≡◌, ◌≤◌, ◌/◌, ◌%◌, ◌^◌, Bool, List, ℕ, Some, None, false, true, length};
 ghost use Rattle.goblin_base.specs.Common.{ComparesAndClones, HasPlaces, Writes};
+ghost use Rattle.goblin_base.specs.Layout.{word_size};
 ghost use Rattle.goblin_base.specs.Number.{number, spelled};
 ghost use Rattle.goblin_base.specs.Signed.{signed_of};
 ghost use Rattle.goblin_base.specs.declared.container.Container.TheVariants as class;
 ghost use Rattle.goblin_base.specs.declared.container.Ctx.{Ctx};
 ghost use Rattle.goblin_base.specs.declared.container.Endian.TheVariants as order;
-ghost use Rattle.goblin_records.specs.Reloc.{as_meant, as_stored, reloc_ctx_default, reloc_image, reloc_layout, reloc_layout_in, reloc_of, reloc_size, reloc_zero, SameInEachClass};
+ghost use Rattle.goblin_records.specs.Reloc.{as_meant, as_stored, KeepsLow, KeepsLowAddend, reloc_ctx_default, reloc_image, reloc_layout, reloc_layout_in, reloc_of, reloc_size, reloc_zero, SameInEachClass};
 ghost use Rattle.goblin_records.specs.RelocLaws.{reloc_laws, reloc_laws_in};
 
 pub use crate::{reloc32, reloc64};
@@ -178,11 +179,12 @@ impl LaidOut<RelocCtx> for Reloc {
 }
 
 /// Laws of relocations: where each part of one lies. In a [`RelocCtx`] it lies there too, but if that is of MIPS64, the
-/// symbol is the low half of `r_info`, and the type the other half with its bytes reversed. A list of relocations that
-/// fit both classes is read back the same in each class and byte order. The default relocation has all fields 0 and no
-/// addend. The default context has no addends, isn't MIPS64, and is of the default class and byte order. `==` is true
-/// exactly if all fields are equal. `clone` returns the value, and never fails.
-#[tactic(auto, using(crate::specs::RelocLaws::same_in_classes))]
+/// symbol is the type of a stored one, and the type its symbol with the bytes reversed. Of a relocation that doesn't
+/// fit, the low bits of each field are written. A list of relocations that fit both classes is read back the same in
+/// each class and byte order. The default relocation has all fields 0 and no addend. The default context has no
+/// addends, isn't MIPS64, and is of the default class and byte order. `==` is true exactly if all fields are equal.
+/// `clone` returns the value, and never fails.
+#[tactic(auto, using(crate::specs::RelocLaws::whole_laws))]
 pub fn laws()
     ensures same { SameInEachClass }
     ensures rel32 { HasPlaces
@@ -203,12 +205,27 @@ pub fn laws()
         let c : RelocCtx = record { is_rela = is_rela; ctx = ctx; is_mips64el = false } in
         (⟦<Reloc as LaidOut<RelocCtx>>⟧.layout c).read bytes
         ≡ (⟦<Reloc as LaidOut<(bool, Ctx)>>⟧.layout (is_rela, ctx)).read bytes }
-    ensures mips64 { HasPlaces
-        (λ order. ⟦<Reloc as LaidOut<RelocCtx>>⟧.layout
-        (record { is_rela = true; ctx = record { container = class.Big; le = order }; is_mips64el = true }))
-        (λ n r. (r.r_offset ≡ n 0 8) × (r.r_sym ≡ n 8 8 % 2 ^ 32)
-        × (r.r_type ≡ number order.Big (spelled order.Little 4 (n 8 8 / 2 ^ 32)))
-        × (r.r_addend ≡ Some (signed_of 8 (n 16 8)))) }
+    ensures in_section_image { (is_rela : Bool) (ctx : Ctx) (r : Reloc) →
+        let c : RelocCtx = record { is_rela = is_rela; ctx = ctx; is_mips64el = false } in
+        (⟦<Reloc as LaidOut<RelocCtx>>⟧.layout c).image r
+        ≡ (⟦<Reloc as LaidOut<(bool, Ctx)>>⟧.layout (is_rela, ctx)).image r }
+    ensures mips64 { (is_rela : Bool) (ctx : Ctx) (bytes : List ℕ) →
+        let c : RelocCtx = record { is_rela = is_rela; ctx = ctx; is_mips64el = true } in
+        let stored = (⟦<Reloc as LaidOut<(bool, Ctx)>>⟧.layout (is_rela, ctx)).read bytes in
+        let meant = (⟦<Reloc as LaidOut<RelocCtx>>⟧.layout c).read bytes in
+        (meant.r_offset ≡ stored.r_offset) × (meant.r_sym ≡ stored.r_type)
+        × (meant.r_type ≡ number order.Big (spelled order.Little 4 stored.r_sym))
+        × (meant.r_addend ≡ stored.r_addend) }
+    ensures mips64_image { (is_rela : Bool) (ctx : Ctx) (r : Reloc) →
+        let c : RelocCtx = record { is_rela = is_rela; ctx = ctx; is_mips64el = true } in
+        let symbol = number order.Big (spelled order.Little 4 r.r_type) in
+        (⟦<Reloc as LaidOut<RelocCtx>>⟧.layout c).image r
+        ≡ (⟦<Reloc as LaidOut<(bool, Ctx)>>⟧.layout (is_rela, ctx)).image
+        (record r { r_sym = symbol; r_type = r.r_sym % 2 ^ 32 }) }
+    ensures low { (is_rela : Bool) (ctx : Ctx) (r : Reloc) →
+        let cut = (⟦<Reloc as LaidOut<(bool, Ctx)>>⟧.layout (is_rela, ctx)).low r in
+        KeepsLow ctx.container r cut
+        × KeepsLowAddend is_rela (word_size ctx.container) r.r_addend cut.r_addend }
     ensures zeros { (reloc : Reloc) → ⟦<Reloc as Default>⟧.is_default reloc → reloc ≡ reloc_zero }
     ensures default_ctx { (ctx : RelocCtx) → ⟦<RelocCtx as Default>⟧.is_default ctx → ctx ≡ reloc_ctx_default }
     ensures derived { ComparesAndClones ⟦<Reloc as PartialEq>⟧ ⟦<Reloc as Clone>⟧ }

@@ -1,5 +1,5 @@
 //! Relocations of the 32-bit class: System V gABI, "Relocation" (`Elf32_Rel` and `Elf32_Rela`).
-ghost use Rattle.std.specs.Prelude.{◌≡◌};
+ghost use Rattle.std.specs.Prelude.{◌≡◌, ◌+◌, ◌*◌, ◌%◌, ◌^◌, ℕ};
 ghost use Rattle.goblin_base.specs.Common.{ComparesAndClones, HasPlaces, low_bits, shaped, zero};
 ghost use Rattle.goblin_base.specs.Signed.{signed_of};
 ghost use Rattle.goblin_base.specs.declared.container.Container.TheVariants as class;
@@ -159,8 +159,9 @@ impl LaidOut<Endian> for Rel {
     ghost layout_laws = { rel32_laws };
 }
 
-/// Laws of relocations: the sizes; all fields of the default ones are 0; an `r_info` is the one of its
-/// symbol and its type. `==` is true exactly if all fields are equal. `clone` returns the relocation, and never fails.
+/// Laws of relocations: the sizes; all fields of the default ones are 0; an `r_info` has the low bits of a symbol and a
+/// type, and is the one of its own symbol and type. `==` is true exactly if all fields are equal. `clone` returns the
+/// relocation, and never fails.
 #[tactic(auto, using(crate::specs::RelocInfoLaws::info_laws))]
 pub fn laws()
     ensures sizes { (SIZEOF_RELA ≡ 12) × (SIZEOF_REL ≡ 8) }
@@ -170,6 +171,7 @@ pub fn laws()
         (r.r_offset ≡ n 0 4) × (r.r_info ≡ n 4 4)) }
     ensures rela_places { HasPlaces ⟦<Rela as LaidOut<Endian>>⟧.layout (λ n r.
         (r.r_offset ≡ n 0 4) × (r.r_info ≡ n 4 4) × (r.r_addend ≡ signed_of 4 (n 8 4))) }
+    ensures info { (sym typ : ℕ) → info_of class.Little sym typ ≡ (sym % 2 ^ 24) * 2 ^ 8 + typ % 2 ^ 8 }
     ensures joins { JoinsItsParts class.Little }
     ensures derived_rela { ComparesAndClones ⟦<Rela as PartialEq>⟧ ⟦<Rela as Clone>⟧ }
     ensures derived_rel { ComparesAndClones ⟦<Rel as PartialEq>⟧ ⟦<Rel as Clone>⟧ }

@@ -1,5 +1,5 @@
 //! Relocations of the 64-bit class: System V gABI, "Relocation" (`Elf64_Rel` and `Elf64_Rela`).
-ghost use Rattle.std.specs.Prelude.{◌≡◌, ◌<◌, ◌^◌};
+ghost use Rattle.std.specs.Prelude.{◌≡◌, ◌<◌, ◌+◌, ◌*◌, ◌%◌, ◌^◌, ℕ};
 ghost use Rattle.goblin_base.specs.Common.{ComparesAndClones, HasPlaces, low_bits, shaped, zero};
 ghost use Rattle.goblin_base.specs.Signed.{signed_of};
 ghost use Rattle.goblin_base.specs.declared.container.Container.TheVariants as class;
@@ -174,9 +174,9 @@ impl LaidOut<Endian> for Rel {
     ghost layout_laws = { rel64_laws };
 }
 
-/// Laws of relocations: the sizes; all fields of the default ones are 0; an `r_info` is the one of its
-/// symbol and its type; `mips64el_r_info` and `mips64el_r_info_inverse` undo each other. `==` is true exactly if all
-/// fields are equal. `clone` returns the relocation, and never fails.
+/// Laws of relocations: the sizes; all fields of the default ones are 0; an `r_info` has the low bits of a symbol and a
+/// type, and is the one of its own symbol and type; `mips64el_r_info` and `mips64el_r_info_inverse` undo each other.
+/// `==` is true exactly if all fields are equal. `clone` returns the relocation, and never fails.
 #[tactic(auto, using(crate::specs::RelocInfoLaws::info_laws))]
 pub fn laws()
     ensures sizes { (SIZEOF_RELA ≡ 24) × (SIZEOF_REL ≡ 16) }
@@ -186,6 +186,7 @@ pub fn laws()
         (r.r_offset ≡ n 0 8) × (r.r_info ≡ n 8 8)) }
     ensures rela_places { HasPlaces ⟦<Rela as LaidOut<Endian>>⟧.layout (λ n r.
         (r.r_offset ≡ n 0 8) × (r.r_info ≡ n 8 8) × (r.r_addend ≡ signed_of 8 (n 16 8))) }
+    ensures info { (sym typ : ℕ) → info_of class.Big sym typ ≡ (sym % 2 ^ 32) * 2 ^ 32 + typ % 2 ^ 32 }
     ensures joins { JoinsItsParts class.Big }
     ensures inverse { Mips64elInverse }
     ensures one_to_one { Mips64elOneToOne }
