@@ -1,5 +1,6 @@
 -- The looks that names in a text take: those of its lines, and what is left of them.
 use Rattle.goblin_text.proofs.Common.{◌≡◌, ◌∙◌, ℕ, ◌+◌, ◌*◌, ◌≤◌, List, [], ◌∷◌, ◌++◌, ap}
+use Rattle.std.proofs.Common.{◌==◌, filter, refl}
 use Rattle.goblin_text.proofs.Common.{arith, nat_tests, length, length-append, subst, sym, length-map, CountsAtLeast}
 use Rattle.goblin_text.proofs.Common.{StringTable, vec_items, Header, SectionHeader, parts_text, relocs_text}
 use Rattle.goblin_text.proofs.Common.{symbols_text, strings_in, name_at, section_lines}
@@ -13,6 +14,11 @@ use Rattle.goblin_text.specs.Looks.{names_looks, table_looks}
 pub lines-append : (a b : List ℕ) → lines_in (a ++ b) ≡ lines_in a + lines_in b
 lines-append [] b = omega arith
 lines-append (x ∷ a) b = grind (arith, nat_tests, lines-append a b)
+
+-- the lines of a text are its newlines
+pub lines_filtered : (text : List ℕ) → lines_in text ≡ length (filter (λ b. b == 10) text)
+lines_filtered [] = refl
+lines_filtered (b ∷ text) = grind (arith, nat_tests, lines_filtered text)
 
 pub looks-append : (a b : List ℕ) → names_looks (a ++ b) ≡ names_looks a + names_looks b
 unfolding names_looks

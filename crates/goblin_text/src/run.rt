@@ -1,5 +1,5 @@
 //! A run: from the bytes that a reader gives to the text that a writer holds.
-ghost use Rattle.std.specs.Prelude.{◌≡◌, ◌≢◌, ℕ, ◌+◌, ◌*◌, ◌≤◌, List, IsTrue, OnOk, OnErr, codes, length};
+ghost use Rattle.std.specs.Prelude.{◌≡◌, ◌≢◌, ℕ, ◌+◌, ◌*◌, ◌≤◌, ◌==◌, List, IsTrue, OnOk, OnErr, codes, filter, length};
 ghost use Rattle.std.specs.Io.KnownBytes.{Appends};
 ghost use Rattle.goblin_base.specs.Derives.{ComparesAndClones};
 ghost use Rattle.goblin_text.specs.Common.{refusal_of, refusal_text};
@@ -175,7 +175,9 @@ pub fn run<R: Source, W: Sink>(
     show_file(alloc, writer, &mut file, opts)
 }
 
-/// The limits of a run, and of the looks for names, in numbers, and the line for an input that is too long.
+/// The limits of a run, and of the looks for names, in numbers, and the line for an input that is too long. A text has
+/// as many lines as newlines.
+#[tactic(auto, using(crate::proofs::LineLooks::lines_filtered))]
 pub fn constants()
     ensures input { INPUT_LIMIT ≡ 16777216 }
     ensures reads { READ_LIMIT ≡ 33554432 }
@@ -186,6 +188,7 @@ pub fn constants()
     ensures read_limit { read_limit ≡ 33554432 }
     ensures line_looks { line_looks ≡ 4096 }
     ensures table_looks { table_looks ≡ 1040 }
+    ensures lines { (text : List ℕ) → lines_in text ≡ length (filter (λ b. b == 10) text) }
 {}
 
 /// A law: `==` is true exactly if two outcomes are the same. `clone` returns the outcome, and never fails.
