@@ -38,11 +38,7 @@ const CALL: Reloc = Reloc {
 fn compares_relocations(rt: HostRuntime) {
     let others = with_each_default!(CALL; r_offset r_addend r_sym r_type);
     assert!(rt; is_apart(rt, &CALL, &others));
-    let ctx = RelocCtx {
-        is_rela: true,
-        ctx: BIG32,
-        is_mips64el: true,
-    };
+    let ctx = context(true, BIG32, true);
     let others = with_each_default!(ctx; is_rela ctx is_mips64el);
     assert!(rt; is_apart(rt, &ctx, &others));
 }
@@ -70,13 +66,16 @@ fn compares_raw_relocations_without_addends(rt: HostRuntime) {
 // A little endian relocation of the 32-bit class, without an addend.
 const REL: &[u8] = b"\0\0\0\0\x01\x02\0\0";
 
+// That of the 64-bit class, big endian, without its addend.
+const REL64_BIG: &[u8] = b"\0\0\0\0\0\0\0\x10\0\0\0\x02\0\0\0\x01";
+
 // One of a little endian MIPS64 file.
 const REL_MIPS: &[u8] = b"\xf0\x50\x01\0\0\0\0\0\0\0\0\0\0\0\x12\x03";
 
-// The context of a class and an order, without addends, with the pair or not.
-fn without(ctx: Ctx, is_mips64el: bool) -> RelocCtx {
+// The context of a class and an order, with addends or without, with the pair or not.
+fn context(is_rela: bool, ctx: Ctx, is_mips64el: bool) -> RelocCtx {
     RelocCtx {
-        is_rela: false,
+        is_rela,
         ctx,
         is_mips64el,
     }
@@ -110,30 +109,30 @@ fn reads_and_writes_a_relocation_of_each_class_and_order(rt: HostRuntime) {
     assert!(rt; has_written(rt, &buffer, RELA_LITTLE));
 }
 
-// Whether a relocation without an addend is read from these bytes and written as them, through the pair or not. That is
-// asked for by its context, and by a flag of its own.
-fn goes_through(
-    rt: HostRuntime,
-    reloc: Reloc,
-    ctx: Ctx,
-    is_pair: bool,
-    bytes: &'static [u8],
-) -> bool {
-    let mut buffer = [0xaa; 16];
-    let written = reloc.write_inner(&mut buffer, (false, ctx), is_pair);
+// Whether a relocation is read from these bytes and written as them, through the pair or not. That is asked for by its
+// context, and by a flag of its own.
+fn passes(rt: HostRuntime, reloc: Reloc, ctx: Ctx, is_pair: bool, bytes: &'static [u8]) -> bool {
+    let mut buffer = [0xaa; 25];
+    let is_rela = reloc.r_addend.is_some();
+    let written = reloc.write_inner(&mut buffer, (is_rela, ctx), is_pair);
     returns(rt, written, bytes.len())
         && has_written(rt, &buffer, bytes)
-        && has_form(rt, reloc, without(ctx, is_pair), bytes)
+        && has_form(rt, reloc, context(is_rela, ctx, is_pair), bytes)
 }
 
 #[test]
 fn goes_through_the_pair_where_asked(rt: HostRuntime) {
-    assert!(rt; goes_through(rt, without_addend(0, 2, 1), LITTLE32, false, REL));
-    assert!(rt; goes_through(rt, without_addend(0, 1, 33554432), LITTLE32, true, REL));
+    assert!(rt; passes(rt, without_addend(0, 2, 1), LITTLE32, false, REL));
+    assert!(rt; passes(rt, without_addend(0, 1, 33554432), LITTLE32, true, REL));
     let whole = without_addend(0x150f0, 51511296, 0);
-    assert!(rt; goes_through(rt, whole, LITTLE64, false, REL_MIPS));
+    assert!(rt; passes(rt, whole, LITTLE64, false, REL_MIPS));
     let pair = without_addend(0x150f0, 0, 0x1203);
-    assert!(rt; goes_through(rt, pair, LITTLE64, true, REL_MIPS));
+    assert!(rt; passes(rt, pair, LITTLE64, true, REL_MIPS));
+    let mut pair = without_addend(16, 1, 33554432);
+    assert!(rt; passes(rt, pair, BIG32, true, b"\0\0\0\x10\0\0\x02\x01"));
+    assert!(rt; passes(rt, pair, BIG64, true, REL64_BIG));
+    pair.r_addend = CALL.r_addend;
+    assert!(rt; each_row!(rt; row in WITH_ADDENDS => passes(rt, pair, row.0, true, row.1)));
 }
 
 #[test]
@@ -167,12 +166,17 @@ fn writes_the_low_bits_and_a_missing_addend_as_0(rt: HostRuntime) {
     let bytes = b"\x10\0\0\0\xff\x56\x34\x12\0\0\0\0";
     let reloc = without_addend(16, 0x123456, 0x1ff);
     assert!(rt; writes(rt, reloc, (true, LITTLE32), bytes));
+    let mut wide = without_addend(0x1_0000_0010, 0x100_0002, 0x101);
+    wide.r_addend = Some(0xffff_fffc);
+    assert!(rt; writes(rt, wide, (true, LITTLE32), RELA_LITTLE));
+    let wide = without_addend(16, 0x1_0000_0002, 1);
+    assert!(rt; writes(rt, wide, (false, BIG64), REL64_BIG));
 }
 
 #[test]
 fn changes_nothing_where_a_relocation_has_no_room(rt: HostRuntime) {
     assert!(rt; refuses(rt, CALL, (true, LITTLE32), 7, "type is too big (12) for 7"));
-    let pair = without(BIG64, true);
+    let pair = context(false, BIG64, true);
     assert!(rt; refuses(rt, CALL, pair, 7, "type is too big (16) for 7"));
     let raw = reloc32::Rel::from(CALL);
     assert!(rt; refuses(rt, raw, LE, 7, "type is too big (8) for 7"));
@@ -202,10 +206,10 @@ fn splits_and_joins_an_info(rt: HostRuntime) {
     let info = 0x123456ff;
     let parts = (reloc32::r_sym(info), reloc32::r_type(info));
     assert!(rt; is(rt, parts, (0x123456, 0xff)));
-    assert!(rt; is(rt, reloc32::r_info(0x123456, 0x1ff), info));
+    assert!(rt; is(rt, reloc32::r_info(0x5123456, 0x1ff), info));
     let info = 0x0000002A00000007;
     assert!(rt; is(rt, (reloc64::r_sym(info), reloc64::r_type(info)), (42, 7)));
-    assert!(rt; is(rt, reloc64::r_info(42, 7), info));
+    assert!(rt; is(rt, reloc64::r_info(0x5_0000_002a, 7), info));
 }
 
 // Infos, and what they are turned to.
