@@ -2,7 +2,8 @@
 
 The report is a .csv, a .json, or where pyarrow is installed a .parquet. Files are examined by a process for each processor (--workers), or
 by the workers of a scheduler of Dask that runs already (--scheduler HOST:PORT), which need this package and the same files at the same
-paths. The report is the same in each case. This command listens on no port. `python -m goblin_elf.scan` is the same command.
+paths. The report is the same in each case. This command listens on no port, and runs nothing of the folders. `python -m goblin_elf.scan` is the
+same command, but Python then takes modules of the current folder first.
 
 A cell is empty if such a file does not have the fact, or if it is unknown, and then the column `unknown` names it. If a part of a file is
 refused, `refused` and the columns after it say why.

@@ -6,6 +6,7 @@ import contextlib
 import itertools
 import logging
 import multiprocessing.connection
+import os
 import resource
 import signal
 import sys
@@ -40,17 +41,21 @@ class Worker:
 
     def __init__(self, function: Function, memory: int) -> None:
         self.connection, theirs = SPAWN.Pipe()
-        self.process = SPAWN.Process(target=work, args=(function, theirs, memory), daemon=True)
+        folder = os.getcwd()
+        self.process = SPAWN.Process(target=work, args=(function, theirs, memory, folder), daemon=True)
         self.task: Optional[Task] = None
         self.is_ready = False
-        # (it inherits the mask, so that Ctrl-C ends this process alone; the tracker would change the mask when it starts)
-        resource_tracker.ensure_running()
-        signal.pthread_sigmask(signal.SIG_BLOCK, [signal.SIGINT])
         try:
+            # (as it starts, Python looks for modules in the current folder, which may be a stranger's)
+            os.chdir('/')
+            # (it inherits the mask, so that Ctrl-C ends this process alone; the tracker would change the mask when it starts)
+            resource_tracker.ensure_running()
+            signal.pthread_sigmask(signal.SIG_BLOCK, [signal.SIGINT])
             self.process.start()
         except OSError as error:
             raise Stopped(f'no worker can be started: {error.strerror}') from None
         finally:
+            os.chdir(folder)
             signal.pthread_sigmask(signal.SIG_UNBLOCK, [signal.SIGINT])
             theirs.close()
 
@@ -71,8 +76,9 @@ class Worker:
         self.connection.close()
 
 
-def work(function: Function, connection: Any, memory: int) -> None:
-    """Runs the function on each batch that comes, in little memory, until the other side has ended."""
+def work(function: Function, connection: Any, memory: int, folder: str) -> None:
+    """Runs the function on each batch that comes, in a folder and in little memory, until the other side has ended."""
+    os.chdir(folder)
     _, hard = resource.getrlimit(resource.RLIMIT_DATA)
     resource.setrlimit(resource.RLIMIT_DATA, (memory if hard == resource.RLIM_INFINITY else min(memory, hard), hard))
     with contextlib.suppress(EOFError, ConnectionError):

@@ -425,6 +425,16 @@ class Workers(Folder):
         self.assertEqual([row['refused'] for row in self.rows('r.csv')], ['', 'WORKER_LOST'])
         self.assertIn('2 files, 1 refused', said.getvalue())
 
+    def test_nothing_of_the_folder_is_run(self):
+        """The command of the wheel takes no modules of the current folder, and neither do its workers."""
+        self.put('a.o', made.ALL[0].bytes)
+        self.put('multiprocessing.py', f'open({self.out("run")!r}, "w")'.encode())
+        with open(self.out('goblin-scan'), 'w', encoding='utf-8') as file:
+            file.write("import sys\nfrom goblin_elf.scan import main\nif __name__ == '__main__':\n    sys.exit(main())\n")
+        subprocess.run([sys.executable, self.out('goblin-scan'), '.', '-o', '../r.csv', '--workers', '1'], check=True, cwd=self.files,
+                       stderr=subprocess.PIPE)
+        self.assertEqual(([row['file'] for row in self.rows('r.csv')], os.path.exists(self.out('run'))), (['./a.o'], False))
+
     def test_little_memory(self):
         (_, found), = workers.Workers(take_memory, 1, 256 << 20).results(iter([['128', '512']]))
         self.assertEqual(found, ['128', 'MemoryError'])
