@@ -43,7 +43,8 @@ TYPES = {**dict.fromkeys([*COUNTS, 'offset'], 'uint64'),
          **dict.fromkeys(['pie', 'nx', 'bind_now', 'writable_code', 'canary', 'stripped', 'cut'], 'bool_')}
 BETWEEN = {'compilers': '; '}
 MAGIC, AR = b'\x7fELF', b'!<arch>\n'
-MEMBER, PACKAGE = 64 << 20, 4 << 30  # the most bytes of a member that is unpacked into memory, and of all members of a package
+# The most bytes of a member that is unpacked into memory, of all members of a package, and of the name of a member.
+MEMBER, PACKAGE, NAME = 64 << 20, 4 << 30, 4096
 
 
 def row_of(path: str, member: Optional[str], elf_of: Callable[[], Elf]) -> Row:
@@ -59,7 +60,7 @@ def row_of(path: str, member: Optional[str], elf_of: Callable[[], Elf]) -> Row:
 
 def row_with(path: str, member: Optional[str], **columns: Any) -> Row:
     """Returns a row with some columns."""
-    row = {**dict.fromkeys(COLUMNS), 'member': member, **columns}
+    row = {**dict.fromkeys(COLUMNS), 'member': member and member[:NAME], **columns}
     return {**{column: escaped(value) if isinstance(value, str) else value for column, value in row.items()}, 'file': named(path)}
 
 
@@ -119,7 +120,8 @@ def members(content: memoryview) -> Iterator[Tuple[str, int, memoryview]]:
         if name == b'//':
             names = bytes(member)
         elif name[:1] == b'/' and name[1:].isdigit():
-            name = names[int(name[1:]):].split(b'\n')[0]
+            at = int(name[1:])
+            name = names[at:at + NAME].split(b'\n')[0]
         elif name[:3] == b'#1/' and name[3:].isdigit():
             # (as BSD's ar writes a long name: before the content)
             name, member = bytes(member[:int(name[3:])]).rstrip(b'\0'), member[int(name[3:]):]

@@ -54,17 +54,17 @@ def archive(members):
     long = ''.join(f'{name}/\n' for name, _ in members if len(name) > 15)
     entries = [('//', long.encode())] if long else []
     entries += [(f'/{long.index(name)}' if len(name) > 15 else f'{name}/', content) for name, content in members]
-    bytes_of = b'!<arch>\n'
+    bytes_of = bytearray(b'!<arch>\n')
     for name, content in entries:
         bytes_of += f'{name:16}{0:<12}{0:<6}{0:<6}{"644":8}{len(content):<10}`\n'.encode() + content + b'\n' * (len(content) % 2)
-    return bytes_of
+    return bytes(bytes_of)
 
 
-def package(content):
+def package(content, name='./usr/bin/made'):
     """Returns a .deb whose data has a file."""
     data = io.BytesIO()
     with tarfile.open(fileobj=data, mode='w:xz') as tar:
-        member = tarfile.TarInfo('./usr/bin/made')
+        member = tarfile.TarInfo(name)
         member.size = len(content)
         tar.addfile(member, io.BytesIO(content))
     return archive([('debian-binary', b'2.0\n'), ('data.tar.xz', data.getvalue())])
@@ -178,6 +178,15 @@ class Scan(Folder):
         for line in ('7 files, 2 refused', '  refused: 1 TOO_BIG', '  refused: 1 LEFT_OUT'):
             self.assertIn(line, said)
 
+    def test_long_names_of_members(self):
+        """Of a name at most as many bytes are in a row as a path has."""
+        elf, name = made.ALL[3].bytes, 'x' * 5000
+        self.put('a.a', archive([(name, elf), (name, elf)]))
+        self.put('b.a', archive([('#1/5000', name.encode() + elf)]).replace(b'#1/5000/', b'#1/5000 '))
+        self.put('c.deb', package(elf, name))
+        scan(self.files, '-o', self.out('r.csv'), '--workers', '0')
+        self.assertEqual([(row['member'], row['symbols']) for row in self.rows('r.csv')], [('x' * 4096, '7')] * 4)
+
     def test_folders_that_are_deep_or_can_not_be_read(self):
         self.put('a.o', made.ALL[0].bytes)
         self.addCleanup(subprocess.run, ['rm', '-rf', os.path.join(self.files, 'd')], check=True)
@@ -284,11 +293,14 @@ class Scan(Folder):
                 content[offset:offset + 8] = number.to_bytes(8, 'little')
             self.put(name, content)
             os.truncate(os.path.join(self.files, name), size)
+        # (members whose names all begin in one table of 4 MiB)
+        names = archive([('//', b'\n' * (1 << 22)), *[('/0', b'')] * 5000, ('x.o', file.bytes)])
+        self.put('x.a', names.replace(b'/0/', b'/0 ').replace(b'///', b'// '))
         script = 'import resource, runpy, sys; resource.setrlimit(resource.RLIMIT_DATA, (120 << 20, 120 << 20)); ' \
                  'sys.argv = sys.argv[1:]; runpy.run_module("goblin_elf.scan", run_name="__main__")'
         subprocess.run([sys.executable, '-c', script, 'scan', self.files, '-o', self.out('r.csv'), '--workers', '0'], check=True,
                        stderr=subprocess.PIPE, timeout=120)
-        self.assertEqual([os.path.basename(row['file']) for row in self.rows('r.csv')], ['interpreter', 'notes', 'sections'])
+        self.assertEqual([os.path.basename(row['file']) for row in self.rows('r.csv')], ['interpreter', 'notes', 'sections', 'x.a'])
         self.assertEqual(self.rows('r.csv')[2]['sections'], str((size - 4096) // 64))
 
     def test_names_of_any_bytes(self):
