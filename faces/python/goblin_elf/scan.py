@@ -43,7 +43,7 @@ TYPES = {**dict.fromkeys([*COUNTS, 'offset'], 'uint64'),
          **dict.fromkeys(['pie', 'nx', 'bind_now', 'writable_code', 'canary', 'stripped', 'cut'], 'bool_')}
 BETWEEN = {'compilers': '; '}
 MAGIC, AR = b'\x7fELF', b'!<arch>\n'
-# The most bytes of a member that is unpacked into memory, of all members of a package, and of the name of a member.
+# The most bytes of a member that is unpacked into memory, of the data of a package, and of the name of a member.
 MEMBER, PACKAGE, NAME = 64 << 20, 4 << 30, 4096
 
 
@@ -99,17 +99,16 @@ def rows_of(path: str) -> Iterator[Row]:
         if start[:4] == MAGIC:
             yield row_of(path, None, lambda: Elf.open(path))
         elif start == AR and path.endswith(('.a', '.deb')):
-            archive = mmap.mmap(file.fileno(), 0, access=mmap.ACCESS_READ)
-            for name, start_at, member in members(memoryview(archive)):
+            for name, member in members(memoryview(mmap.mmap(file.fileno(), 0, access=mmap.ACCESS_READ))):
                 if member[:4] == MAGIC:
                     yield row_of(path, name, lambda: Elf(member))
                 elif path.endswith('.deb') and name.startswith('data.tar'):
-                    archive.seek(start_at)
-                    yield from unpacked(path, archive)
+                    yield from unpacked(path, Content(member))
+                    return  # (as dpkg reads no further)
 
 
-def members(content: memoryview) -> Iterator[Tuple[str, int, memoryview]]:
-    """Yields the members of an `ar` archive up to its end or the first damaged one, each after its name and offset."""
+def members(content: memoryview) -> Iterator[Tuple[str, memoryview]]:
+    """Yields the members of an `ar` archive up to its end or the first damaged one, each after its name."""
     end, names = len(AR), b''
     while end + 60 <= len(content):
         header, start = bytes(content[end:end + 60]), end + 60
@@ -125,17 +124,29 @@ def members(content: memoryview) -> Iterator[Tuple[str, int, memoryview]]:
         elif name[:3] == b'#1/' and name[3:].isdigit():
             # (as BSD's ar writes a long name: before the content)
             name, member = bytes(member[:int(name[3:])]).rstrip(b'\0'), member[int(name[3:]):]
-        yield os.fsdecode(name.rstrip(b'/')), start, member
+        yield os.fsdecode(name.rstrip(b'/')), member
+
+
+class Content:
+    """Some bytes as a file that is read once."""
+
+    def __init__(self, left: memoryview) -> None:
+        self.left = left
+
+    def read(self, size: int) -> bytes:
+        part, self.left = bytes(self.left[:size]), self.left[size:]
+        return part
 
 
 def unpacked(path: str, data: Any) -> Iterator[Row]:
     """Yields the rows of the files in a package's data."""
-    left = PACKAGE
+    sizes = 0
     try:
         archive = tarfile.open(fileobj=data, mode='r|*')
         for member in archive:
-            left -= member.size
-            if left < 0:
+            # (a size may be negative, or that of a file with holes; the offset counts headers and long names, too)
+            sizes += abs(member.size)
+            if max(sizes, archive.offset) > PACKAGE:
                 raise ValueError('it has more than 4 GiB')
             file = archive.extractfile(member) if member.isreg() else None
             if file and file.read(4) == MAGIC:

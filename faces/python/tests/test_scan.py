@@ -60,14 +60,21 @@ def archive(members):
     return bytes(bytes_of)
 
 
+def tarred(*members, mode='w'):
+    """Returns a tar of members, each with its name, its content, and what else its header says."""
+    data = io.BytesIO()
+    with tarfile.open(fileobj=data, mode=mode) as tar:
+        for name, content, *fields in members:
+            member = tarfile.TarInfo(name)
+            for field, value in [('size', len(content)), *fields]:
+                setattr(member, field, value)
+            tar.addfile(member, io.BytesIO(content) if content else None)
+    return data.getvalue()
+
+
 def package(content, name='./usr/bin/made'):
     """Returns a .deb whose data has a file."""
-    data = io.BytesIO()
-    with tarfile.open(fileobj=data, mode='w:xz') as tar:
-        member = tarfile.TarInfo(name)
-        member.size = len(content)
-        tar.addfile(member, io.BytesIO(content))
-    return archive([('debian-binary', b'2.0\n'), ('data.tar.xz', data.getvalue())])
+    return archive([('debian-binary', b'2.0\n'), ('data.tar.xz', tarred((name, content), mode='w:xz'))])
 
 
 def linked(needed, soname, interpreter):
@@ -186,6 +193,22 @@ class Scan(Folder):
         self.put('c.deb', package(elf, name))
         scan(self.files, '-o', self.out('r.csv'), '--workers', '0')
         self.assertEqual([(row['member'], row['symbols']) for row in self.rows('r.csv')], [('x' * 4096, '7')] * 4)
+
+    def test_bounds_of_packages(self):
+        """What is unpacked of a package is bounded, whatever its headers say, and only its first data is."""
+        files = [(str(index), made.ALL[3].bytes) for index in range(8)]
+        self.put('a.deb', archive([('data.tar', tarred(*files))]))
+        self.put('b.deb', archive([('data.tar', tarred(('less', b'', ('type', tarfile.DIRTYPE), ('size', -1 << 62)), *files))]))
+        self.put('c.deb', archive([('data.tar', tarred(*[('empty', b'')] * 64, *files))]))
+        self.put('d.deb', archive([('data.tar', tarred(files[0]))] * 3))
+        self.put('e.deb', archive([('data.tar', b''), ('none', tarred(files[0]))]))
+        self.put('f.deb', archive([('#1/8', b'data.tar' + tarred(files[0]))]).replace(b'#1/8/', b'#1/8 '))
+        # (each file has 2,048 bytes with its header)
+        with unittest.mock.patch.object(module, 'PACKAGE', 4 * 2048):
+            scan(self.files, '-o', self.out('r.csv'), '--workers', '0')
+        found = [(os.path.basename(row['file'])[:1], row['member'] or row['refused']) for row in self.rows('r.csv')]
+        self.assertEqual(found, [*[('a', str(index)) for index in range(4)], ('a', 'LEFT_OUT'), ('b', 'LEFT_OUT'), ('c', 'LEFT_OUT'), ('d', '0'),
+                                 ('e', 'LEFT_OUT'), ('f', '0')])
 
     def test_folders_that_are_deep_or_can_not_be_read(self):
         self.put('a.o', made.ALL[0].bytes)
