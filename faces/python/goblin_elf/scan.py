@@ -100,22 +100,25 @@ def rows_of(path: str) -> Iterator[Row]:
             yield row_of(path, None, lambda: Elf.open(path))
         elif start == AR and path.endswith(('.a', '.deb')):
             for name, member in members(memoryview(mmap.mmap(file.fileno(), 0, access=mmap.ACCESS_READ))):
-                if member[:4] == MAGIC:
+                if member is None:
+                    yield row_with(path, None, refused='LEFT_OUT', text='the archive is damaged or cut: it may have more members')
+                elif member[:4] == MAGIC:
                     yield row_of(path, name, lambda: Elf(member))
                 elif path.endswith('.deb') and name.startswith('data.tar'):
                     yield from unpacked(path, Content(member))
                     return  # (as dpkg reads no further)
 
 
-def members(content: memoryview) -> Iterator[Tuple[str, memoryview]]:
-    """Yields the members of an `ar` archive up to its end or the first damaged one, each after its name."""
+def members(content: memoryview) -> Iterator[Tuple[str, Optional[memoryview]]]:
+    """Yields the members of an `ar` archive, each after its name, up to its end or the first damaged one: that is `None`."""
     end, names = len(AR), b''
-    while end + 60 <= len(content):
-        header, start = bytes(content[end:end + 60]), end + 60
+    while end + end % 2 < len(content):
+        start = end + end % 2 + 60
+        header = bytes(content[start - 60:start])
         name, size = header[:16].rstrip(), header[48:58].strip()
         if header[58:] != b'`\n' or not size.isdigit():
-            return
-        member, end = content[start:start + int(size)], start + int(size) + int(size) % 2
+            break
+        member, end = content[start:start + int(size)], start + int(size)
         if name == b'//':
             names = bytes(member)
         elif name[:1] == b'/' and name[1:].isdigit():
@@ -125,6 +128,20 @@ def members(content: memoryview) -> Iterator[Tuple[str, memoryview]]:
             # (as BSD's ar writes a long name: before the content)
             name, member = bytes(member[:int(name[3:])]).rstrip(b'\0'), member[int(name[3:]):]
         yield os.fsdecode(name.rstrip(b'/')), member
+    # (a byte may fill up the last one)
+    if end not in (len(content) - 1, len(content)):
+        yield '', None
+
+
+class Member(tarfile.TarInfo):
+    """A member of a tar. It is refused if its header is damaged or cut, which Python takes for the end."""
+
+    @classmethod
+    def fromtarfile(cls, archive: tarfile.TarFile) -> Any:
+        try:
+            return super().fromtarfile(archive)
+        except tarfile.HeaderError as error:
+            raise error if type(error).__name__ == 'EOFHeaderError' else tarfile.ReadError(str(error))
 
 
 class Content:
@@ -142,7 +159,7 @@ def unpacked(path: str, data: Any) -> Iterator[Row]:
     """Yields the rows of the files in a package's data."""
     sizes = 0
     try:
-        archive = tarfile.open(fileobj=data, mode='r|*')
+        archive = tarfile.open(fileobj=data, mode='r|*', tarinfo=Member)
         for member in archive:
             # (a size may be negative, or that of a file with holes; the offset counts headers and long names, too)
             sizes += abs(member.size)

@@ -2,9 +2,11 @@
 import asyncio
 import contextlib
 import csv
+import gzip
 import importlib.machinery
 import io
 import json
+import lzma
 import os
 import random
 import signal
@@ -209,6 +211,23 @@ class Scan(Folder):
         found = [(os.path.basename(row['file'])[:1], row['member'] or row['refused']) for row in self.rows('r.csv')]
         self.assertEqual(found, [*[('a', str(index)) for index in range(4)], ('a', 'LEFT_OUT'), ('b', 'LEFT_OUT'), ('c', 'LEFT_OUT'), ('d', '0'),
                                  ('e', 'LEFT_OUT'), ('f', '0')])
+
+    def test_damaged_archives(self):
+        """What is not read of one is said."""
+        elf = made.ALL[3].bytes
+        whole, tar = archive([('a.o', elf), ('text', b'odd'), ('b.o', elf)]), tarred(('a', elf), ('b', elf))
+        # (it is cut in a header and in a member, or a size is no number)
+        left = ('', 'the archive is damaged or cut: it may have more members')
+        for content, expected in ((whole, ('b.o', '')), (whole + b'\n', ('b.o', '')), (whole[:1422], left), (whole[:1418], left),
+                                  (whole.replace(b'3         `', b'3x        `'), left)):
+            self.put('x.a', content)
+            scan(self.files, '-o', self.out('r.csv'), '--workers', '0')
+            self.assertEqual([(row['member'], row['text']) for row in self.rows('r.csv')], [('a.o', ''), expected])
+        for data, count in ((tar, 2), (tar[:2048], 1), (tar[:2100], 1), (tar[:2048] + b'c' + tar[2049:], 1), (tar[:4096], 2)):
+            for mode, packed in (('', bytes), ('.gz', gzip.compress), ('.xz', lzma.compress)):
+                self.put('x.deb', archive([(f'data.tar{mode}', packed(data))]))
+                rows = list(module.rows_of(os.path.join(self.files, 'x.deb')))
+                self.assertEqual([row['member'] for row in rows], ['a', 'b'][:count] + [None] * (data != tar))
 
     def test_folders_that_are_deep_or_can_not_be_read(self):
         self.put('a.o', made.ALL[0].bytes)
