@@ -217,18 +217,18 @@ class Report:
         self.path, self.is_csv, self.is_parquet = path, path.endswith('.csv'), path.endswith('.parquet')
         self.lines_path = path + '.json' if self.is_parquet else path
         self.known: Set[str] = set()
+        self.held: List[Row] = []  # those of the last file that was there, until it is examined again
         self.count = 0
         old = self.read() if resume and (os.path.exists(self.lines_path) or os.path.exists(path)) else iter(())
         self.file: TextIO = open(self.lines_path + '.new', 'w', newline='', encoding='utf-8')
         if self.is_csv:
             self.write(dict(zip(COLUMNS, COLUMNS)))
-        held: List[Row] = []
         for file, rows in itertools.groupby(old, lambda row: str(row['file'])):
+            # (of the last file there may be more rows, if it is an archive)
+            held, self.held = self.held, list(rows)
             for row in held:
                 self.known.add(row['file'])
                 self.write(row)
-            # (of the last file there may be more rows, if it is an archive: it is examined again)
-            held = list(rows)
         self.file.flush()
         os.replace(self.lines_path + '.new', self.lines_path)
 
@@ -255,6 +255,8 @@ class Report:
         return dict(zip(COLUMNS, map(unguarded, cells))) if len(cells) == len(COLUMNS) and cells != COLUMNS else None
 
     def write(self, row: Row) -> None:
+        if self.held and row['file'] == self.held[0]['file']:
+            self.held = []
         if self.is_csv:
             csv.writer(self.file, lineterminator='\n').writerow([guarded(row[column]) for column in COLUMNS])
         else:
@@ -262,6 +264,8 @@ class Report:
         self.count += 1
 
     def end(self) -> None:
+        for row in self.held:
+            self.write(row)
         self.file.write('' if self.is_csv else '\n]\n' if self.count else '[]\n')
         self.file.close()
         if self.is_parquet:

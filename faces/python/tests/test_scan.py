@@ -271,8 +271,10 @@ class Scan(Folder):
             # (a program for tables may have saved it with a mark at its start)
             with open(self.out(name), 'wb') as file:
                 file.write(b'\xef\xbb\xbf' + whole)
-            scan(self.files, '-o', self.out(name), '--workers', '0', '--resume')
-            self.assertEqual(read(self.out(name)), whole)
+            # (the last file of the report is not below the second folder)
+            for folder in (self.files, os.path.join(self.files, 'sub')):
+                scan(folder, '-o', self.out(name), '--workers', '0', '--resume')
+                self.assertEqual(read(self.out(name)), whole)
         self.assertEqual([row['file'] for row in json.loads(whole)], [row['file'] for row in self.rows('r.csv')])
 
     def test_parquet(self):
