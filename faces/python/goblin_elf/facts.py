@@ -12,8 +12,8 @@ from .marks import compilers, control_flow, has_canary
 from .names import class_to_str, et_to_str, machine_to_str
 from .refused import Refused, Unknown, within
 
-# The most that a fact is made of: entries of a dynamic section, bytes of a text and of a build ID, and sections.
-ENTRIES, TEXT, ID, SECTIONS = 4096, 4095, 64, 1 << 20
+# The most that a fact is made of: entries of a dynamic section, bytes of a text and of a build ID, sections, and characters of all names.
+ENTRIES, TEXT, ID, SECTIONS, NAMES = 4096, 4095, 64, 1 << 20, 1 << 16
 # (an operator on plain numbers is much faster than one on flags)
 ALLOC, EXECINSTR, WRITE = int(abi.SHF_ALLOC), int(abi.SHF_EXECINSTR), int(abi.SHF_WRITE)
 # The tags, each with a flag or 0, of the entries that say that an ET_DYN is a program, and that a file is bound at its start.
@@ -60,7 +60,11 @@ class Parts(Elf):
         return any((value := self.entries.value(tag)) is not None and value & flag == flag for tag, flag in marks.items())
 
     def _names(self, tag: int) -> Iterator[str]:
-        return (text(self.entries.strings, entry.value) or entry.string for entry in self.entries if entry.tag == tag)
+        left = NAMES
+        for entry in (entry for entry in self.entries if entry.tag == tag):
+            name = within(left, text(self.entries.strings, entry.value) or entry.string)
+            left -= len(name)
+            yield name
 
     def is_cut(self) -> bool:
         """Whether the headers, or the bytes of a section or a segment, are not all in the file. A debug file lacks those of its segments."""

@@ -16,6 +16,7 @@ import argparse
 import collections
 import contextlib
 import csv
+import functools
 import importlib.util
 import itertools
 import json
@@ -77,8 +78,13 @@ FORMULA = r"""(?=[ "]*[=+\-@'\uff1d\uff0b\uff0d\uff20])"""
 
 def escaped(text: str) -> str:
     """Returns a text without characters that do not print."""
-    return ''.join(sign if sign.isprintable() and sign != '\\' else ''.join(f'\\x{byte:02x}' for byte in sign.encode('utf-8', 'surrogateescape'))
-                   for sign in text)
+    return ''.join(map(shown, text))
+
+
+@functools.lru_cache(1 << 12)
+def shown(sign: str) -> str:
+    """Returns a character, or its bytes if it does not print."""
+    return sign if sign.isprintable() and sign != '\\' else ''.join(f'\\x{byte:02x}' for byte in sign.encode('utf-8', 'surrogateescape'))
 
 
 def guarded(cell: Any) -> Any:

@@ -350,8 +350,10 @@ class Scan(Folder):
     def test_names_of_any_bytes(self):
         names = b'caf\xe9.so', b'\xe2\x80\xae\x1b[1m\\', '\u00e9\u0085'.encode()
         self.put('\udce9', linked(needed=names, soname=b'lib\xff\n', interpreter=b'/ld\xe9'))
-        self.put('b', linked(needed=[b'x' * 4000] * 50, soname=b'', interpreter=b''))
-        self.put('c', made.ALL[0].bytes)
+        # (of names that have more than 65,536 characters together none is in the row)
+        self.put('b', linked(needed=[b'\1' * 4000] * 16, soname=b'', interpreter=b''))
+        self.put('c', linked(needed=[b'\1' * 4000] * 17, soname=b'', interpreter=b''))
+        self.put('d', made.ALL[0].bytes)
         for name in ('r.csv', 'r.json'):
             scan(self.files, '-o', self.out(name), '--workers', '0')
             whole = read(self.out(name))
@@ -364,7 +366,8 @@ class Scan(Folder):
             row = rows['\\xe9']
             self.assertEqual((row['needed'], row['soname'], row['interpreter']),
                              ('caf\\xe9.so \\xe2\\x80\\xae\\x1b[1m\\x5c \u00e9\\xc2\\x85', 'lib\\xff\\x0a', '/ld\\xe9'))
-            self.assertEqual((rows['b']['needed'], rows['c']['class']), (' '.join(['x' * 4000] * 50), 'ELF32'))
+            self.assertEqual((rows['b']['needed'], rows['d']['class']), (' '.join(['\\x01' * 4000] * 16), 'ELF32'))
+            self.assertEqual((rows['c']['needed'] or '', rows['c']['unknown']), ('', f"needed {rows['b']['unknown']}"))
         # (what is there and no report is no row of it)
         for junk in (b'\0\xff"\n,,\n', b'[\n{"file": 1},\n7\n'):
             for name in ('r.csv', 'r.json'):
