@@ -1,6 +1,7 @@
 """The shared library by ctypes: where it is, its calls and its structs. The rest of the package is written over `call` and `found`."""
 import ctypes
 import mmap
+import operator
 import os
 import struct
 from typing import Any, List, Optional, Tuple
@@ -150,6 +151,7 @@ def text(name: str, *arguments: Any) -> str:
 
 def unsigned(number: int, bits: int = 64) -> int:
     """Returns a number that the library takes. Raises a ValueError if it does not fit, since ctypes would cut it."""
+    number = operator.index(number)
     if not 0 <= number < 1 << bits:
         raise ValueError(f'{number} is not an unsigned number of {bits} bits')
     return number

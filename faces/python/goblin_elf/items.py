@@ -3,6 +3,7 @@ import contextlib
 import ctypes
 import functools
 import itertools
+import operator
 from array import array
 from typing import TYPE_CHECKING, Any, Dict, Iterable, Iterator, List, NamedTuple, Optional, Sequence, Tuple, Type, TypeVar, Union, overload
 
@@ -260,7 +261,7 @@ class Table(Sequence[T]):
     def __setitem__(self, index: int, item: T) -> None:
         if not isinstance(item, self.item) or isinstance(item, (Note, Dyn)):
             raise TypeError(f'an item of a {type(self).__name__} can not be a {type(item).__name__}, or can not be written')
-        place, struct = range(len(self))[index], self.record.pack(self._raw(item))
+        place, struct = range(len(self))[operator.index(index)], self.record.pack(self._raw(item))
         if not self.elf._write(f'put_{self.one}', self.elf._image, *self._arguments, place, struct):
             raise IndexError(f'there is no item {place} any more')
 
@@ -536,5 +537,5 @@ class Strings:
 
 def named(name: Name) -> Tuple[bytes, int]:
     """Returns a name as the library takes it: its bytes, which are UTF-8 of a str, and their number."""
-    encoded = name.encode('utf-8', 'surrogateescape') if isinstance(name, str) else name
+    encoded = name.encode('utf-8', 'surrogateescape') if isinstance(name, str) else bytes(memoryview(name))
     return encoded, len(encoded)

@@ -254,6 +254,8 @@ class Refusals(unittest.TestCase):
         self.assertFalse(names.is_at(0, 'caf') or names.is_at(0, b'caf\xe9\0') or names.is_at(0, 'caf\xe9') or names.is_at(8, ''))
         self.assertTrue(names.starts_at(0, 'caf') and names.starts_at(0, b'caf\xe9') and names.starts_at(7, '') and names.starts_at(5, 'e'))
         self.assertFalse(names.starts_at(0, 'af') or names.starts_at(5, 'ends') or names.starts_at(8, '') or names.starts_at(4, '\0'))
+        self.assertTrue(names.is_at(0, bytearray(b'caf\xe9')) and names.starts_at(0, memoryview(b'caf')))
+        self.assertRaises(TypeError, names.is_at, 0, 1)
         self.assertEqual([names.get_closed(offset) for offset in (0, 4, 5, 8)], [b'caf\xe9', b'', None, None])
         starts = [names.get_start(*given) for given in ((0, 2), (0, 4), (0, 9), (4, 1), (5, 9), (5, 0), (8, 1))]
         self.assertEqual(starts, [b'ca', b'caf\xe9', b'caf\xe9', b'', b'end', b'', None])
@@ -429,6 +431,7 @@ class Written(unittest.TestCase):
             self.assertRaises(ValueError, symbols.__setitem__, 1, symbols[1]._replace(st_value=value))
         self.assertRaises(IndexError, symbols.__setitem__, 7, symbols[1])
         self.assertRaises(TypeError, symbols.__setitem__, 1, relocations[1])
+        self.assertRaises(TypeError, symbols.__setitem__, slice(1, 2), symbols[1])
         self.assertEqual(changed, file.bytes)
 
     def test_header_and_numbers(self):
@@ -638,6 +641,7 @@ class Library(unittest.TestCase):
                      lambda number: Notes(elf, 0, 0, number), lambda number: elf.sections[1]._replace(sh_link=number).linked):
             for number in (-1, 1 << 64):
                 self.assertRaises(ValueError, call, number)
+            self.assertRaises(TypeError, call, 1.0)
         self.assertEqual(_library.RECORDS['symbol'].size, 40)
 
     def test_what_others_say_of_the_calls_of_python(self):
