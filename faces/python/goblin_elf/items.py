@@ -23,6 +23,7 @@ Name = Union[str, bytes]
 CHUNK, AHEAD, NEAR, TEXTS = 2048, 64, 8, 1 << 24
 
 
+@functools.total_ordering
 class Entry:
     """What items have: a `repr`, and comparisons by the standard's fields, which are all but the index and the table."""
     __slots__ = ()
@@ -35,23 +36,18 @@ class Entry:
             parts.insert(0, f'name={self.name!r}')
         return f'{type(self).__name__}({", ".join(parts)})'
 
+    def _key(self: Any) -> Tuple[Any, ...]:
+        """What it is sorted by."""
+        return tuple(self[:-2])
+
     def __eq__(self: Any, other: Any) -> bool:
         return type(other) is type(self) and bool(self[:-2] == other[:-2])
 
     def __hash__(self: Any) -> int:
-        return hash(self[:-2])
+        return hash(self._key())
 
     def __lt__(self: Any, other: Any) -> Any:
-        return self[:-2] < other[:-2] if type(other) is type(self) else NotImplemented
-
-    def __le__(self: Any, other: Any) -> Any:
-        return self[:-2] <= other[:-2] if type(other) is type(self) else NotImplemented
-
-    def __gt__(self: Any, other: Any) -> Any:
-        return self[:-2] > other[:-2] if type(other) is type(self) else NotImplemented
-
-    def __ge__(self: Any, other: Any) -> Any:
-        return self[:-2] >= other[:-2] if type(other) is type(self) else NotImplemented
+        return self._key() < other._key() if type(other) is type(self) else NotImplemented
 
 
 class Held(Entry):
@@ -183,7 +179,11 @@ class Relocation(Entry, RelocFields):
     def symbol(self) -> Optional[Symbol]:
         """The symbol that it refers to, or `None` for none or one past the end. Refused as the symbols are."""
         symbols = self.table.symbols if self.r_sym else ()
-        return symbols[self.r_sym] if self.r_sym < len(symbols) else None
+        return symbols[self.r_sym] if unsigned(self.r_sym) < len(symbols) else None
+
+    def _key(self) -> Tuple[Any, ...]:
+        # (one that has no addend of its own comes first)
+        return self[0], self[1], self.r_addend is not None, self.r_addend or 0, self.r_type
 
 
 class Dyn(Entry, DynFields):
@@ -211,12 +211,21 @@ class Dyn(Entry, DynFields):
         return found
 
 
-class Note(NamedTuple):
-    """A note."""
+class NoteFields(NamedTuple):
+    """What a note has."""
 
     n_type: int  # its type, whose meaning depends on the name
     name: str  # its name, without its last byte, zero in most files
     desc: memoryview  # its descriptor, without a copy
+
+
+class Note(Entry, NoteFields):
+    """A note."""
+    __slots__ = ()
+    __eq__, __hash__ = NoteFields.__eq__, Entry.__hash__
+
+    def _key(self) -> Tuple[Any, ...]:
+        return self.n_type, self.name, bytes(self.desc)
 
     def __repr__(self) -> str:
         return f'Note(n_type={self.n_type}, name={self.name!r}, desc={self.desc.hex()!r})'

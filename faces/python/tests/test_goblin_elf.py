@@ -180,6 +180,13 @@ class Sequences(unittest.TestCase):
         self.assertEqual((first < first, first <= again.symbols[first.index], first >= again.symbols[first.index]), (False, True, True))
         self.assertEqual(sorted([*elf.symbols, *again.symbols])[:2], [elf.symbols[0], again.symbols[0]])
         self.assertRaises(TypeError, lambda: elf.segments[0] < elf.sections[1])
+        # (that has an addend or none, and whose descriptor is in bytes that can be written)
+        relocations = [*again.section('.rela.text').relocations, *elf.section('.rel.text').relocations]
+        self.assertEqual([relocation.r_addend for relocation in sorted(relocations)], [None, -4, None, 0x7ffffff0])
+        note, other = *elf.notes, *again.notes
+        self.assertEqual((note, hash(note), {note}), (other, hash(other), {other}))
+        less = other._replace(desc=memoryview(b'\0'))
+        self.assertEqual((sorted([note, less]), max(less, other), note >= other, note == tuple(note)), ([less, note], other, True, True))
         self.assertIn("name='main', st_name=1, st_value=0x1004, st_size=8, st_shndx=1, st_info=0x12", repr(elf.symbols[1]))
         self.assertIn("r_offset=0x10, r_sym=1, r_addend=-4, r_type=2, index=0", repr(elf.section('.rela.text').relocations[0]))
         self.assertIn('e_machine=0x3e', repr(elf.header))
@@ -638,7 +645,8 @@ class Library(unittest.TestCase):
     def test_numbers_are_not_cut(self):
         elf = Elf(MADE.bytes)
         for call in (elf.symbol_at, elf.offset_of, lambda number: elf.number(number, 1), lambda number: elf.section('', number),
-                     lambda number: Notes(elf, 0, 0, number), lambda number: elf.sections[1]._replace(sh_link=number).linked):
+                     lambda number: Notes(elf, 0, 0, number), lambda number: elf.section('.rela.text').relocations[0]._replace(r_sym=number).symbol,
+                     lambda number: elf.sections[1]._replace(sh_link=number).linked):
             for number in (-1, 1 << 64):
                 self.assertRaises(ValueError, call, number)
             self.assertRaises(TypeError, call, 1.0)
