@@ -396,7 +396,8 @@ from ._library import text, unsigned
     for comment, name, arguments in re.findall(pattern, read(HEADER), re.S):
         kind, number = arguments.split(', ')[-3].split()
         lines = textwrap.fill(f'"""Returns the name of {words_of(comment)}"""', WIDTH - 4)
-        value = f'unsigned({number}, {kind[4:-2]})'
+        # (flags have 64 bits in a file: one past those that have names is as all of these at once, which have none)
+        value = 'min(unsigned(flag), 0xffffffff)' if number == 'flag' else f'unsigned({number}, {kind[4:-2]})'
         if 'name_len' not in arguments:
             text += f'\n\ndef {name}({number}: int) -> str:\n{textwrap.indent(lines, "    ")}\n    return text({name!r}, {value})\n'
             continue

@@ -638,9 +638,10 @@ class Library(unittest.TestCase):
     def test_names_of_numbers(self):
         names = [goblin_elf.class_to_str(2), goblin_elf.et_to_str(3), goblin_elf.machine_to_str(62), goblin_elf.pt_to_str(1),
                  goblin_elf.sht_to_str(1), goblin_elf.shf_to_str(SHF_ALLOC), goblin_elf.bind_to_str(1), goblin_elf.type_to_str(2),
-                 goblin_elf.visibility_to_str(2), goblin_elf.note_type_to_str('GNU', 3), goblin_elf.sht_to_str(99)]
+                 goblin_elf.visibility_to_str(2), goblin_elf.note_type_to_str('GNU', 3), goblin_elf.sht_to_str(99), goblin_elf.shf_to_str(1 << 63)]
         self.assertEqual(names, ['ELF64', 'DYN', 'X86_64', 'PT_LOAD', 'SHT_PROGBITS', 'SHF_ALLOC', 'GLOBAL', 'FUNC', 'HIDDEN',
-                                 'NT_GNU_BUILD_ID', 'UNKNOWN_SHT'])
+                                 'NT_GNU_BUILD_ID', 'UNKNOWN_SHT', 'SHF_UNKNOWN'])
+        self.assertRaises(ValueError, goblin_elf.shf_to_str, 1 << 64)
 
     def test_numbers_are_not_cut(self):
         elf = Elf(MADE.bytes)
