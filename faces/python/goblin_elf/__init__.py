@@ -7,7 +7,8 @@
 
 Each call of the library is proved; this package passes its results on and is tested. A file, or a part of it, that is refused raises
 `Refused`, and nothing that a file holds raises anything else, unless memory runs out. Offsets and sizes are in bytes. Arrays need numpy,
-which nothing else does.
+which nothing else does. Where types are checked, import constants by name or all from goblin_elf.constants: mypy finds none by
+`from goblin_elf import *`.
 """
 from . import constants
 from .constants import *  # noqa: F401, F403
