@@ -216,6 +216,11 @@ def found_below(folder: str) -> Iterator[str]:
             yield path  # (which is then examined, and is a row that says why it can't be read)
 
 
+def is_row(row: Any) -> bool:
+    """Whether what is in a report is a row of it."""
+    return isinstance(row, dict) and list(row) == COLUMNS and isinstance(row['file'], str)
+
+
 class Report:
     """A report that is written row by row, each in a line. A .parquet is made of a .json at the end."""
 
@@ -242,15 +247,16 @@ class Report:
         """Yields the rows of the report that is there. Its last line may be a part of one."""
         if not os.path.exists(self.lines_path):
             import pyarrow.parquet
-            yield from (row for row in pyarrow.parquet.read_table(self.path).to_pylist() if list(row) == COLUMNS)
+            with contextlib.suppress(ValueError):
+                yield from filter(is_row, pyarrow.parquet.read_table(self.path).to_pylist())
             return
         csv.field_size_limit(sys.maxsize)  # (a list of libraries may be long)
         with open(self.lines_path, newline='\n', encoding='utf-8-sig', errors='replace') as file:
             for line in file:
                 # (what is no row is left out)
-                with contextlib.suppress(ValueError, csv.Error):
+                with contextlib.suppress(ValueError, RecursionError, csv.Error):
                     row = self.row(line)
-                    if isinstance(row, dict) and list(row) == COLUMNS:
+                    if is_row(row):
                         yield row
 
     def row(self, line: str) -> Any:

@@ -301,6 +301,11 @@ class Scan(Folder):
                 json.dump([{name: value for name, value in row.items() if name != 'unknown'} for row in rows], file)
             scan(self.files, '-o', self.out('r.parquet'), '--workers', '0', '--resume')
             self.assertEqual(json.loads(read(self.out('r.parquet'))), rows)
+            # (and so are those of one that can't be read)
+            with open(self.out('r.parquet'), 'w', encoding='utf-8') as file:
+                file.write('PAR1')
+            scan(self.files, '-o', self.out('r.parquet'), '--workers', '0', '--resume')
+            self.assertEqual(json.loads(read(self.out('r.parquet'))), rows)
         # (a module that is None can not be found)
         with unittest.mock.patch.dict(sys.modules, pyarrow=None), contextlib.redirect_stderr(io.StringIO()) as said:
             self.assertRaises(SystemExit, module.main, [self.files, '-o', self.out('s.parquet')])
@@ -369,7 +374,7 @@ class Scan(Folder):
             self.assertEqual((rows['b']['needed'], rows['d']['class']), (' '.join(['\\x01' * 4000] * 16), 'ELF32'))
             self.assertEqual((rows['c']['needed'] or '', rows['c']['unknown']), ('', f"needed {rows['b']['unknown']}"))
         # (what is there and no report is no row of it)
-        for junk in (b'\0\xff"\n,,\n', b'[\n{"file": 1},\n7\n'):
+        for junk in (b'\0\xff"\n,,\n', b'[\n{"file": 1},\n7\n', b'[' * 100000, json.dumps({**dict.fromkeys(module.COLUMNS), 'file': []}).encode()):
             for name in ('r.csv', 'r.json'):
                 with open(self.out('junk' + name[1:]), 'wb') as file:
                     file.write(junk)
