@@ -299,9 +299,10 @@ def is_shown() -> bool:
     return sys.stderr is not None and sys.stderr.isatty()
 
 
-def line_end() -> str:
-    """Returns what ends the line of the progress."""
-    return '\n' if is_shown() else ''
+def say(*lines: str) -> None:
+    """Ends the line of the progress, and prints lines for a person, who may have left."""
+    with contextlib.suppress(OSError):
+        print(*[''] * is_shown(), *lines, sep='\n', file=sys.stderr, flush=True)
 
 
 def report_on(results: workers.Results, report: Report) -> None:
@@ -322,9 +323,9 @@ def report_on(results: workers.Results, report: Report) -> None:
             print(f'\r{files} files, {files / (time.perf_counter() - start):.0f} a second {bar:40}', end='', file=sys.stderr, flush=True)
     report.end()
     seconds = time.perf_counter() - start
-    print(f'{line_end()}{files} files, {sum(refused.values())} refused, {seconds:.1f} seconds, {files / seconds:.0f} files a second',
-          *(f'  refused: {count} {kind}' for kind, count in sorted(refused.items())),
-          *(f'  slow: {taken * 1000:.1f} ms {path}' for taken, path in slowest), sep='\n', file=sys.stderr)
+    say(f'{files} files, {sum(refused.values())} refused, {seconds:.1f} seconds, {files / seconds:.0f} files a second',
+        *(f'  refused: {count} {kind}' for kind, count in sorted(refused.items())),
+        *(f'  slow: {taken * 1000:.1f} ms {path}' for taken, path in slowest))
 
 
 def runner_of(options: argparse.Namespace) -> Callable[[Iterator[workers.Batch]], workers.Results]:
@@ -392,7 +393,7 @@ def main(arguments: Optional[List[str]] = None) -> int:
 
 def stopped(why: str, report: str, status: int) -> int:
     """Prints why this ends before all files are examined, and returns the exit status."""
-    print(f'{line_end()}goblin-scan: {why}{report and f"; --resume goes on with {report}"}', file=sys.stderr)
+    say(f'goblin-scan: {why}{report and f"; --resume goes on with {report}"}')
     return status
 
 

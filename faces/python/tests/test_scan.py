@@ -325,6 +325,14 @@ class Scan(Folder):
         with unittest.mock.patch.object(sys, 'stderr', None), contextlib.redirect_stdout(io.StringIO()):
             self.assertEqual(module.main([self.out('files/a.o'), '-o', self.out('s.csv'), '--workers', '0']), 0)
         self.assertEqual(read(self.out('s.csv')), read(self.out('r.csv')))
+        # (and a reader of what it prints may have left)
+        ends = os.pipe()
+        os.close(ends[0])
+        for name, status in (('t.csv', 0), ('absent/t.csv', 2)):
+            ended = subprocess.run([*SCAN, self.out('files/a.o'), '-o', self.out(name), '--workers', '0'], stderr=ends[1])
+            self.assertEqual(ended.returncode, status)
+        os.close(ends[1])
+        self.assertEqual(read(self.out('t.csv')), read(self.out('r.csv')))
 
     def test_hostile_files(self):
         # sparse files of 256 MiB: with 4 million section headers, with notes without an end, and with a path as long
