@@ -225,13 +225,23 @@ class Report:
     """A report that is written row by row, each in a line. A .parquet is made of a .json at the end."""
 
     def __init__(self, path: str, resume: bool) -> None:
-        self.path, self.is_csv, self.is_parquet = path, path.endswith('.csv'), path.endswith('.parquet')
+        self.is_csv, self.is_parquet = path.endswith('.csv'), path.endswith('.parquet')
+        self.path = path = os.path.realpath(path)
         self.lines_path = path + '.json' if self.is_parquet else path
         self.known: Set[str] = set()
         self.held: List[Row] = []  # those of the last file that was there, until it is examined again
         self.count = 0
         old = self.read() if resume and (os.path.exists(self.lines_path) or os.path.exists(path)) else iter(())
         self.file: TextIO = open(self.lines_path + '.new', 'w', newline='', encoding='utf-8')
+        try:
+            self.begin(old)
+            os.replace(self.lines_path + '.new', self.lines_path)
+        except BaseException:
+            os.remove(self.lines_path + '.new')
+            raise
+
+    def begin(self, old: Iterator[Row]) -> None:
+        """Writes what is there of the report."""
         if self.is_csv:
             self.write(dict(zip(COLUMNS, COLUMNS)))
         for file, rows in itertools.groupby(old, lambda row: str(row['file'])):
@@ -241,7 +251,6 @@ class Report:
                 self.known.add(row['file'])
                 self.write(row)
         self.file.flush()
-        os.replace(self.lines_path + '.new', self.lines_path)
 
     def read(self) -> Iterator[Row]:
         """Yields the rows of the report that is there. Its last line may be a part of one."""
