@@ -17,7 +17,6 @@ import collections
 import contextlib
 import csv
 import functools
-import importlib.util
 import itertools
 import json
 import mmap
@@ -375,8 +374,11 @@ def options_of(arguments: Optional[List[str]]) -> argparse.Namespace:
     options = parser.parse_args(arguments)
     if not options.output.endswith(('.csv', '.json', '.parquet')):
         parser.error('the report must end with .csv, .json or .parquet')
-    if options.output.endswith('.parquet') and not importlib.util.find_spec('pyarrow'):
-        parser.error('pyarrow is not installed, which writes a .parquet')
+    if options.output.endswith('.parquet'):
+        try:
+            import pyarrow.parquet  # noqa: F401
+        except ImportError:
+            parser.error('pyarrow is not installed, which writes a .parquet')
     for folder in itertools.filterfalse(os.path.exists, options.folders):
         parser.error(f'{folder} is not there')
     return options

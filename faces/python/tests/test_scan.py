@@ -307,9 +307,10 @@ class Scan(Folder):
             scan(self.files, '-o', self.out('r.parquet'), '--workers', '0', '--resume')
             self.assertEqual(json.loads(read(self.out('r.parquet'))), rows)
         # (a module that is None can not be found)
-        with unittest.mock.patch.dict(sys.modules, pyarrow=None), contextlib.redirect_stderr(io.StringIO()) as said:
-            self.assertRaises(SystemExit, module.main, [self.files, '-o', self.out('s.parquet')])
-        self.assertIn('pyarrow is not installed', said.getvalue())
+        for modules in ({'pyarrow': None}, {'pyarrow': StandInForPyarrow(), 'pyarrow.parquet': None}):
+            with unittest.mock.patch.dict(sys.modules, modules), contextlib.redirect_stderr(io.StringIO()) as said:
+                self.assertRaises(SystemExit, module.main, [self.files, '-o', self.out('s.parquet')])
+            self.assertIn('pyarrow is not installed', said.getvalue())
 
     def test_what_is_not_there(self):
         with contextlib.redirect_stderr(io.StringIO()) as said:
