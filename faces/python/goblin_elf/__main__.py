@@ -1,9 +1,10 @@
 """Prints what a person wants to know first of ELF files: python -m goblin_elf [--json] FILE..
 
-What a file does not hold is unknown. The exit status is 0, or 1 if a file can't be read, or it or a part of it is refused. What is printed
-is not proved, but tested.
+What a file does not hold is unknown. The exit status is 0, or 1 if a file can't be read, or it or a part of it is refused, or 2 if the output
+can't be written. What is printed is not proved, but tested.
 """
 import argparse
+import contextlib
 import io
 import json
 import signal
@@ -36,7 +37,7 @@ def lines(found: Dict[str, Any]) -> Iterator[str]:
             value = ', '.join(map(str, value)) or 'none' * (name != 'numbers')
         elif name in ('entry', 'offset'):
             value = f'{value:#x}'
-        if value not in (None, '') and name != 'unknown' and (name != 'sizes' or value == 'unknown'):
+        if (value not in (None, '') or name == 'file') and name != 'unknown' and (name != 'sizes' or value == 'unknown'):
             line = value if name == 'file' else f'  {name.replace("_", " "):16} {value}'
             yield ''.join(sign if sign.isprintable() else '\N{REPLACEMENT CHARACTER}' for sign in line)
 
@@ -47,7 +48,13 @@ def main(arguments: Optional[List[str]] = None) -> int:
     parser.add_argument('files', nargs='+', metavar='FILE')
     options = parser.parse_args(arguments)
     all_found = [described(path) for path in options.files]
-    print(json.dumps(all_found, indent=1) if options.json else '\n'.join(line for found in all_found for line in lines(found)))
+    try:
+        print(json.dumps(all_found, indent=1) if options.json else '\n'.join(line for found in all_found for line in lines(found)), flush=True)
+    except OSError as error:
+        print(f'{parser.prog}: the output can not be written: {error.strerror}', file=sys.stderr)
+        with contextlib.suppress(OSError):
+            sys.stdout.close()  # (Python would write it again at its end)
+        return 2
     return int(any('refused' in found or 'error' in found for found in all_found))
 
 

@@ -709,6 +709,12 @@ class Program(unittest.TestCase):
                                    stderr=subprocess.PIPE, env={**os.environ, 'PYTHONIOENCODING': 'ascii'})
             self.assertEqual((found.stdout.decode('ascii').split('\n')[0], b'\nodd?\n' in found.stdout, b'\n?\n' in found.stdout, found.stderr),
                              ('made.o', True, True, b''))
+            # (one that is full is said in a line)
+            with open('/dev/full', 'w') as full:
+                found = subprocess.run([sys.executable, '-m', 'goblin_elf', *paths], stdout=full, stderr=subprocess.PIPE, universal_newlines=True)
+            self.assertEqual((found.returncode, found.stderr),
+                             (2, 'python -m goblin_elf: the output can not be written: No space left on device\n'))
+            self.assertEqual(self.run_it(''), (1, '\n  error            No such file or directory\n'))
             status, said = self.run_it('--json', *paths[:1])
             found = json.loads(said)[0]
             self.assertEqual((status, found['type'], found['entry'], found['needed'], found['sizes']['code']), (0, 'REL', 0x1004, [], 128))
