@@ -454,7 +454,11 @@ class Notes(Table[Note]):
         return map(self.__getitem__, range(first, end))
 
     def _made(self, fields: Fields, index: int) -> Note:
-        return note_of(self.elf, fields, self._errors)
+        try:
+            return note_of(self.elf, fields, self._errors)
+        except UnicodeDecodeError:  # (as in `Strings.get`)
+            strict = found('note', self.record, self.elf._file, self.elf._image, *self._arguments, self._places[index])
+            return note_of(self.elf, strict or fields)
 
 
 def note_with(n_type: int, name: str, desc: bytes) -> Note:
@@ -484,9 +488,12 @@ class Strings:
 
     def get(self, offset: int, errors: str = 'strict') -> Optional[str]:
         """Returns the string at an offset, or `None` past the end. Refused if the table is not inside the file, or if the string is not
-        UTF-8. With other `errors` than 'strict', such as 'replace' or 'surrogateescape', it is decoded as they mean instead."""
+        UTF-8. With other `errors` of `bytes.decode` than 'strict', such as 'replace' or 'surrogateescape', it is decoded as they mean instead."""
         place = found('string' if errors == 'strict' else 'string_bytes', RANGE, self._file, self._range, unsigned(offset))
-        return str(self._file.part(*place), 'utf-8', errors) if place else None
+        try:
+            return str(self._file.part(*place), 'utf-8', errors) if place else None
+        except UnicodeDecodeError:  # ('surrogatepass' does not take each byte: the library says what is wrong)
+            return self.get(offset)
 
     def get_bytes(self, offset: int) -> Optional[bytes]:
         """Returns the bytes of the string at an offset, which need not be UTF-8, as `get` does."""

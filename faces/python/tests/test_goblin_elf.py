@@ -254,6 +254,9 @@ class Refusals(unittest.TestCase):
         self.assertEqual((error.kind, error.offset), (Kind.BAD_INPUT, len(MADE.bytes)))
         self.assertEqual(odd.get_all([4, 0, 5, 2], 'surrogateescape'), ['', 'caf\udce9', None, 'f\udce9'])
         self.assertEqual(refusal(Strings(elf, 64, 1 << 40).get_all, [0], 'replace').kind, Kind.STRTAB_RANGE)
+        for read in (odd.get_all, lambda offsets, errors: odd.get(offsets[1], errors)):
+            self.assertEqual(refusal(read, [4, 0], 'surrogatepass').item, Item.INVALID_UTF8)
+        self.assertEqual(Strings(Elf(MADE.bytes + b'\xed\xa0\x80'), len(MADE.bytes), 3).get(0, 'surrogatepass'), '\ud800')
 
     def test_of_strings_in_place(self):
         names = Strings(Elf(MADE.bytes + b'caf\xe9\0end'), len(MADE.bytes), 8)
@@ -288,6 +291,7 @@ class Refusals(unittest.TestCase):
         error = refusal(Notes, elf, offset, size, 4)
         self.assertEqual((error.kind, error.item), (Kind.BAD_INPUT, Item.INVALID_UTF8))
         self.assertEqual([note.name for note in Notes(elf, offset, size, 4, 'surrogateescape')], ['\udce9N'])
+        self.assertEqual(refusal(list, Notes(elf, offset, size, 4, 'surrogatepass')).item, Item.INVALID_UTF8)
         error = refusal(Notes, elf, offset, size - 1, 4, 'replace')
         self.assertEqual((error.kind, error.item, error.offset), (Kind.TOO_BIG, Item.NOTE_DESC, offset))
 
