@@ -281,7 +281,9 @@ class Table(Sequence[T]):
         return f'<{type(self).__name__}: {len(self)} items>'
 
     def array(self) -> Any:
-        """Returns all items as a structured array of numpy, which owns its memory. Its fields have the names of the items'."""
+        """Returns all items as a structured array of numpy, which owns its memory. Its fields have the names of the items', with two exceptions.
+        Of relocations it has `has_addend`, too, and 0 in place of an `r_addend` of `None`. Of notes it has `n_type`, the ranges `name_offset`,
+        `name_size`, `desc_offset` and `desc_size`, and `next`, the offset of the next one."""
         import numpy
         items = numpy.empty(len(self), self.record.dtype())
         filled = self._fill(0, items.ctypes.data, len(self))
