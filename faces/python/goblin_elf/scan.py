@@ -42,7 +42,7 @@ COLUMNS = ['file', 'member', 'class', 'order', 'type', 'kind', 'machine', 'build
 TYPES = {**dict.fromkeys([*COUNTS, 'offset'], 'uint64'),
          **dict.fromkeys(['pie', 'nx', 'bind_now', 'writable_code', 'canary', 'stripped', 'cut'], 'bool_')}
 BETWEEN = {'compilers': '; '}
-MAGIC, AR = b'\x7fELF', b'!<arch>\n'
+MAGIC, AR, THIN = b'\x7fELF', b'!<arch>\n', b'!<thin>\n'
 # The most bytes of a member that is unpacked into memory, of the data of a package, and of the name of a member.
 MEMBER, PACKAGE, NAME = 64 << 20, 4 << 30, 4096
 
@@ -112,6 +112,8 @@ def rows_of(path: str) -> Iterator[Row]:
                 elif path.endswith('.deb') and name.startswith('data.tar'):
                     yield from unpacked(path, Content(member))
                     return  # (as dpkg reads no further)
+        elif start == THIN and path.endswith('.a'):
+            yield row_with(path, None, refused='LEFT_OUT', text='a thin archive, whose members are files of their own')
 
 
 def members(content: memoryview) -> Iterator[Tuple[str, Optional[memoryview]]]:

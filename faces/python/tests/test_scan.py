@@ -173,6 +173,8 @@ class Scan(Folder):
         self.put('sub/x.a', archive([('x.o', elf), ('a_name_that_is_long.o', elf), ('no.o', b'odd')]))
         # (as BSD's ar writes a long name)
         self.put('sub/y.a', archive([('#1/20', b'a long name.o\0\0\0\0\0\0\0' + elf)]).replace(b'#1/20/', b'#1/20 '))
+        # (a thin one holds the names of its members alone)
+        self.put('sub/z.a', b'!<thin>\n')
         self.put('y.deb', package(elf))
         self.put('z.deb', archive([('data.tar.xz', b'no such data')]))
         os.symlink('b.o', os.path.join(self.files, 'link'))
@@ -180,11 +182,11 @@ class Scan(Folder):
         rows = self.rows('r.csv')
         self.assertEqual([(os.path.relpath(row['file'], self.files), row['member'], row['refused']) for row in rows],
                          [('a\\x0a', '', 'TOO_BIG'), ('b.o', '', ''), ('sub/x.a', 'x.o', ''), ('sub/x.a', 'a_name_that_is_long.o', ''),
-                          ('sub/y.a', 'a long name.o', ''), ('y.deb', './usr/bin/made', ''), ('z.deb', '', 'LEFT_OUT')])
+                          ('sub/y.a', 'a long name.o', ''), ('sub/z.a', '', 'LEFT_OUT'), ('y.deb', './usr/bin/made', ''), ('z.deb', '', 'LEFT_OUT')])
         self.assertEqual([(row['class'], row['order'], row['type'], row['build_id'], row['symbols'], row['code']) for row in rows[1:2]],
                          [('ELF64', 'big', 'REL', made.BUILD_ID.hex(), '7', '128')])
         self.assertEqual((rows[0]['numbers'], rows[0]['text']), ('64 63', 'type is too big (64) for 63'))
-        for line in ('7 files, 2 refused', '  refused: 1 TOO_BIG', '  refused: 1 LEFT_OUT'):
+        for line in ('8 files, 3 refused', '  refused: 1 TOO_BIG', '  refused: 2 LEFT_OUT'):
             self.assertIn(line, said)
 
     def test_long_names_of_members(self):
