@@ -6,8 +6,9 @@ import os
 import sys
 
 from goblin_elf import Elf, Refused
+from goblin_elf.scan import escaped
 
-sys.stdout.reconfigure(errors='surrogateescape')  # (names need not be UTF-8)
+sys.stdout.reconfigure(errors='replace')  # (it need not take each sign)
 ROOT = ''.join(sys.argv[2:3])
 SYSTEM = '/lib64:/usr/lib64:/lib/x86_64-linux-gnu:/usr/lib/x86_64-linux-gnu:/lib:/usr/lib'
 
@@ -32,14 +33,14 @@ def show(file, margin='    ', above=(), seen=set()):
     for name in elf.needed:
         paths = [ROOT + name] if '/' in name else [os.path.join(folder, name) for folder in searched]
         path = next((path for path in paths if fits(path, elf.header)), None)
-        print(f'{margin}{name} => {path or "not found"}')
+        print(escaped(f'{margin}{name} => {path or "not found"}'))
         if path and path not in seen:
             seen.add(path)
             show(path, margin + '    ', rpath)
 
 
 try:
-    print(f'{sys.argv[1]} (interpreter => {Elf.open(sys.argv[1]).interpreter})')
+    print(escaped(f'{sys.argv[1]} (interpreter => {Elf.open(sys.argv[1]).interpreter})'))
     show(sys.argv[1])
 except Refused as error:
     sys.exit(f'refused: {error}')

@@ -150,14 +150,19 @@ class Example(unittest.TestCase):
                                  ('made/runpath/libsecond.so.1', 'cut_headers'), ('usr/lib/libsecond.so.1', 'two_compilers')):
                 os.makedirs(os.path.dirname(os.path.join(root, name)), exist_ok=True)
                 shutil.copy(stored(f'facts/{source}'), os.path.join(root, name))
-            said = [subprocess.run([sys.executable, '-c', run, script, stored(f'facts/{name}'), root], stdout=subprocess.PIPE,
-                                   stderr=subprocess.PIPE, encoding='utf-8') for name in ('full', 'cut_dynamic')]
+            # (what a terminal takes as a command is not printed)
+            odd = os.path.join(root, 'odd')
+            with open(odd, 'wb') as file:
+                file.write(content_of(stored('facts/full')).replace(b'libfirst', b'\x1bib\xffirst'))
+            said = [subprocess.run([sys.executable, '-c', run, script, path, root], stdout=subprocess.PIPE, stderr=subprocess.PIPE,
+                                   encoding='utf-8') for path in (stored('facts/full'), stored('facts/cut_dynamic'), odd)]
         path = stored('facts/full')
         self.assertEqual(said[0].stdout, f'{path} (interpreter => /lib/ld-made.so.1)\n    libfirst.so.1 => {root}/lib/libfirst.so.1\n'
                                          f'    libsecond.so.1 => {root}/made/runpath/libsecond.so.1\n'
                                          f'        libfirst.so.1 => {root}/lib/libfirst.so.1\n'
                                          f'        libsecond.so.1 => {root}/made/runpath/libsecond.so.1\n')
-        self.assertEqual([(one.returncode, one.stderr) for one in said], [(0, ''), (1, 'refused: type is too big (384) for 40\n')])
+        self.assertEqual(said[2].stdout.split('\n')[1], '    \\x1bib\\xffirst.so.1 => not found')
+        self.assertEqual([(one.returncode, one.stderr) for one in said], [(0, ''), (1, 'refused: type is too big (384) for 40\n'), (0, '')])
 
 
 if __name__ == '__main__':
