@@ -7,7 +7,7 @@ import os
 import stat
 from typing import Any, Iterable, Iterator, List, Optional, Tuple, Union
 
-from ._library import FUNCTIONS, HEADER, RANGE, RECORDS, File, call, found, unsigned
+from ._library import FUNCTIONS, HEADER, RANGE, File, call, found, unsigned
 from .constants import (DT_NEEDED, DT_RPATH, DT_RUNPATH, DT_SONAME, ELFCLASS64, ELFDATA2MSB, NT_GNU_BUILD_ID, PT_INTERP, PT_NOTE, SHT_DYNAMIC,
                         SHT_DYNSYM, SHT_NOTE, SHT_SYMTAB)
 from .items import Dynamic, Fields, Header, Name, Note, Section, Sections, Segment, Segments, Symbol, Symbols, T, Table, named, note_of, read_notes

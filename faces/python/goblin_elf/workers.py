@@ -143,7 +143,7 @@ class Workers:
             place = self.tasks.index(task)
             self.tasks[place:place + 1] = [Task([path]) for path in task.batch]
         elif task:
-            task.ends, task.is_given = task.ends + 1, False
+            task.ends += 1
             task.is_done = task.is_given = task.ends == TRIES
 
 

@@ -79,7 +79,6 @@ class Theirs:
         holders += [s for s in self.elf.iter_sections() if isinstance(s, NoteSection)]
         return [[(number(n['n_type'], NT), n['n_name'], bytes(n['n_descdata'])) for n in holder.iter_notes()] for holder in holders]
 
-
     def linking(self):
         segments = list(self.elf.iter_segments())
         tags = [(tag.entry.d_tag, tag) for segment in segments if isinstance(segment, DynamicSegment) for tag in segment.iter_tags()]
