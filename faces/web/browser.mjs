@@ -13,7 +13,8 @@ import { setTimeout } from 'node:timers/promises';
 import { pathToFileURL } from 'node:url';
 import { inflateSync } from 'node:zlib';
 import { Chromium, Firefox, PATIENCE, waited } from './browsers.mjs';
-import { code, elf_file, note, noted_file, packed, patched, relocations, symbols_file } from './elves.mjs';
+import { code, dynamic_file, elf_file, longs, note, noted_file, packed, patched, relocations,
+    symbols_file } from './elves.mjs';
 
 const [, , kind, program, page, dump, made_files, stored_folder] = process.argv, stored = resolve(stored_folder);
 const made = join(made_files, 'little64'), content = readFileSync(made),
@@ -261,9 +262,8 @@ check('If the section headers are refused, no list that is made from them is sho
 });
 
 check('Packed relocations and what only the dynamic section leads to are listed, as not proved', async () => {
-    const words = [[0x1000, 8], [0b1011, 8], [0b11, 8], [0x2000, 8]],
-        wanted = ['0x1000', '0x1008', '0x1018', '0x1200', '0x2000'];
-    const file = elf_file({ type: 3, sections: [{ name: '.relr.dyn', type: 19, flags: 2, bytes: packed(...words) }] });
+    const bytes = longs(0x1000, 0b1011, 0b11, 0x2000), wanted = ['0x1000', '0x1008', '0x1018', '0x1200', '0x2000'];
+    const file = elf_file({ type: 3, sections: [{ name: '.relr.dyn', type: 19, flags: 2, bytes }] });
     await pick_written('packed', file, 'relocations');
     await has_texts({ '#tab-relocations span': '5',
         '#panel .others': /packed relocations .* outside of what is proved/i });
@@ -338,17 +338,15 @@ check('All libraries are in one row, up to a number, with how many there are and
         const names = Array.from({ length: all }, (_, i) => (i < 260 ? `l${i}.so` : `libc.so.${i}`));
         const strings = Buffer.from(`\0${names.map((name) => `${name}\0`).join('')}`);
         const entries = [...names.map((name) => [1, strings.indexOf(`\0${name}\0`) + 1]), [5, 0x400000],
-            [10, strings.length], [0, 0]].flat().map((number) => [number, 8]);
-        await pick_written('needed', elf_file({ type: 3, segments: [{ vaddr: 0x400000, bytes: strings },
-            { type: 2, bytes: packed(...entries) }] }));
+            [10, strings.length], [0, 0]];
+        await pick_written('needed', dynamic_file(strings, entries));
         assert.equal(value_in(await facts(), 'libraries'), `${all}: ${names.slice(0, 300).join(', ')}${more}`);
     }
     // (in a damaged file each name may be long, and of signs that are shown as several)
     const long = Buffer.alloc(4097, 1).fill(0, 0, 1).fill(0, 4096), text = Buffer.alloc(65536, 'x');
-    const entries = [...Array.from({ length: 20 }, () => [1, 1]), [5, 0x400000], [10, long.length], [0, 0]].flat()
-        .map((number) => [number, 8]);
-    await pick_written('long', elf_file({ type: 3, sections: [{ name: '.comment', type: 1, bytes: text }],
-        segments: [{ vaddr: 0x400000, bytes: long }, { type: 2, bytes: packed(...entries) }] }));
+    const entries = [...Array(20).fill([1, 1]), [5, 0x400000], [10, long.length], [0, 0]];
+    await pick_written('long', dynamic_file(long, entries,
+        { sections: [{ name: '.comment', type: 1, bytes: text }] }));
     const rows = await facts();
     const libraries = `20: ${Array(8).fill('U+0001'.repeat(4095)).join(', ')} and 12 more`;
     assert.ok(value_in(rows, 'libraries') === libraries && value_in(rows, 'compiler').startsWith(`${text}`));
@@ -445,9 +443,8 @@ check('A core has its signal, command, threads with registers, and mapped files,
     const process = put(136, [24, 70, 4]);
     process.write('program', 40);
     process.write('./program --all', 56);
-    const ranges = [[0x400000, 0x401000, 0], [0x401000, 0x402000, 1], [0x7f0000, 0x7f1000, 0]].flat()
-        .map((number) => [number, 8]);
-    const mapped = Buffer.concat([packed([3, 8], [4096, 8], ...ranges), Buffer.from('/bin/a\0/bin/a\0/lib/b c\0')]);
+    const ranges = [[0x400000, 0x401000, 0], [0x401000, 0x402000, 1], [0x7f0000, 0x7f1000, 0]];
+    const mapped = Buffer.concat([longs(3, 4096, ...ranges), Buffer.from('/bin/a\0/bin/a\0/lib/b c\0')]);
     const others = Array.from({ length: 299 }, (_, i) => thread(100 + i, 0x402000, 0x7ffd00));
     const notes = [thread(71, 0x401234, 0x7fff00), note('CORE', 3, process), note('CORE', 0x46494c45, mapped),
         thread(72, 0x401300, 0x7ffe00), ...others];
@@ -1047,7 +1044,7 @@ check('Of a refused table nothing can be saved, and by no way another table is',
         const content = elf_file({ sections: [{ name: '.read', ...table }, { name: '.refused', ...table },
             { name: '.data', type: 1, bytes }] });
         // (the offset of section 2, after the header and section 1, and its size)
-        const place = packed([64 + 72, 8], [1n << 40n, 8]);
+        const place = longs(64 + 72, 1n << 40n);
         place.copy(content, header_at(content, 2) + 0x18);
         for (const opened of [[2], [1, 2], [1, 3]]) {
             await pick_written(`refused-${name}`, content);
@@ -1145,7 +1142,7 @@ check_program('A row has as many bytes as fit, a field shows its bytes, and a by
     const lit = (place) => each_of(`#chosen ${place}`, 'item.textContent').then((texts) => texts.join(''));
     const is_lit = async (name, number) =>
         assert.deepEqual([await lit('tr.lit th'), await lit('.hex .cell:nth-child(2) .lit')],
-            [name, packed([number, 8]).toString('hex')]);
+            [name, longs(number).toString('hex')]);
     await press_button('sh_size');
     await until_there('#chosen .hex .lit');
     await is_lit('sh_size', size);
@@ -1225,7 +1222,7 @@ check('Paper has the summary, and all rows of the open list, over as many sheets
     const all = await sheets();
     assert.ok(all > rows / 100 && all < rows / 20, `${all} sheets`);
     // (what is said of the table is printed, too)
-    await pick_written('relr', elf_file({ sections: [{ name: '.relr.dyn', type: 19, bytes: packed([0x1000, 8]) }] }),
+    await pick_written('relr', elf_file({ sections: [{ name: '.relr.dyn', type: 19, bytes: longs(0x1000) }] }),
         'relocations');
     await waited('the texts', async () => (await shown())[0].length === 1);
     await evaluate(`void dispatchEvent(new Event('beforeprint'))`);

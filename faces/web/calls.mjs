@@ -7,7 +7,7 @@ import { existsSync, readdirSync, readFileSync } from 'node:fs';
 import { join, resolve } from 'node:path';
 import { pathToFileURL } from 'node:url';
 import { runInNewContext } from 'node:vm';
-import { elf_file, note, packed, symbol } from './elves.mjs';
+import { dynamic_file, elf_file, longs, note, symbol } from './elves.mjs';
 import { import_goblin } from './tested.mjs';
 
 const [, , web, ...paths] = process.argv;
@@ -685,9 +685,7 @@ check('Strings are compared, closed by a zero byte, and found many at once', () 
 // Its entries, of which several are read at a time, end before DT_NULL.
 check('The dynamic section is that of a segment, or without program headers a section', () => {
     const { DT_NULL, DT_NEEDED, DT_STRTAB, DT_SONAME, DT_STRSZ } = goblin, text = Buffer.from('\0liba\0libb\0');
-    const bytes_of = (entries) => packed(...entries.flat().map((number) => [number, 8]));
-    const with_segment = (entries) => elf_file({ type: 3,
-        segments: [{ vaddr: 0x1000, bytes: text }, { type: 2, bytes: bytes_of(entries) }] });
+    const with_segment = (entries) => dynamic_file(text, entries);
     const pairs = (elf, most) => elf.dynamic(most).map(({ d_tag, d_val }) => [d_tag, d_val]);
     for (const count of [1, 63, 64, 65, 128, 200]) {
         const all = Array.from({ length: count }, (_, i) => [DT_NEEDED, BigInt(i)]);
@@ -696,8 +694,8 @@ check('The dynamic section is that of a segment, or without program headers a se
             for (const most of [undefined, 0, 1, 64, 100]) assert.deepEqual(pairs(elf, most), all.slice(0, most));
         }
     }
-    const entries = [[DT_NEEDED, 6n], [DT_NEEDED, 1n], [DT_STRTAB, 0x1000n], [DT_STRSZ, 11n]],
-        bytes = bytes_of([...entries, [DT_NULL, 0n], [DT_SONAME, 1n]]);
+    const entries = [[DT_NEEDED, 6n], [DT_NEEDED, 1n], [DT_STRTAB, 0x400000n], [DT_STRSZ, 11n]],
+        bytes = longs(...entries, [DT_NULL, 0n], [DT_SONAME, 1n]);
     const sections = [{ name: '.dynamic', type: 6, link: 2, bytes }, { name: '.dynstr', type: 3, bytes: text }];
     const whole = with_segment([...entries, [DT_NULL, 0n], [DT_SONAME, 1n]]), of_section = elf_file({ sections });
     for (const elf of [whole, of_section].map(Elf.parse)) {
@@ -718,7 +716,7 @@ check('The dynamic section is that of a segment, or without program headers a se
     for (const elf of [whole.subarray(0, -1), long].map(Elf.parse))
         for (const read of ['dynamic', 'dynamic_value', 'dynamic_strings'])
             assert.throws(() => elf[read](1), is_refusal(Kind.TOO_BIG));
-    assert.throws(() => Elf.parse(with_segment([[DT_STRTAB, 0x1000n], [DT_STRSZ, 999n]])).dynamic_strings(),
+    assert.throws(() => Elf.parse(with_segment([[DT_STRTAB, 0x400000n], [DT_STRSZ, 999n]])).dynamic_strings(),
         is_refusal(Kind.TOO_BIG));
 });
 

@@ -13,6 +13,9 @@ export function packed(...fields) {
     return bytes;
 }
 
+/** Returns numbers of eight bytes each. */
+export const longs = (...numbers) => packed(...numbers.flat().map((number) => [number, 8]));
+
 /** Returns a copy of bytes with other numbers, each with its offset and its width in bytes. */
 export function patched(bytes, ...numbers) {
     const copy = Buffer.from(bytes);
@@ -53,6 +56,10 @@ export const code = (bytes, given) => ({ name: '.text', type: 1, flags: 6, bytes
 /** Returns a file whose segments are notes and perhaps others. It is a core, unless another type is given. */
 export const noted_file = (notes, { segments = [], ...given } = {}) =>
     elf_file({ type: 4, segments: [{ type: 4, bytes: Buffer.concat(notes) }, ...segments], ...given });
+
+/** Returns a shared library with bytes that are loaded at 0x400000, and with entries of a dynamic section. */
+export const dynamic_file = (bytes, entries, given) => elf_file({ type: 3,
+    segments: [{ vaddr: 0x400000, bytes }, { type: 2, bytes: longs(...entries) }], ...given });
 
 /** Returns a file with sections and segments, of the fields below. The section at index 0 and the section names at the
  * end are added. */

@@ -8,7 +8,7 @@ import { tmpdir } from 'node:os';
 import { join } from 'node:path';
 import { csv_line } from './csv.js';
 import { demangled, may_hold } from './demangle.js';
-import { elf_file, note, noted_file, packed, patched, symbols_file } from './elves.mjs';
+import { dynamic_file, elf_file, longs, note, noted_file, packed, patched, symbols_file } from './elves.mjs';
 import { import_goblin } from './tested.mjs';
 
 const COPIES = 150, FEW = 3, WHOLE = 20, FIRST = 16;
@@ -91,7 +91,7 @@ function check_bounds(of) {
         ['build_id', (size) => of_notes(note('GNU', 3, Buffer.alloc(size, 171))), 64, 'ab'.repeat(64)],
         ['build_id', (count) => of_notes(repeat(count, other), id), 65534, '69642e2e'],
         ['control_flow', (size) => of_notes(marks(size)), 65536, ['IBT']],
-        ['pie', (count) => of_segments({ type: 2, bytes: repeat(count, packed([21, 8], [1, 8])) }), 4096, true],
+        ['pie', (count) => of_segments({ type: 2, bytes: repeat(count, longs(21, 1)) }), 4096, true],
         ['compilers', comment, 65536, ['a']], ['canary', canaries, 64, true],
     ]) {
         const [last, past] = [most, most + 1].map(read);
@@ -107,9 +107,8 @@ async function check_versions(Elf) {
         packed([1, 2], [0xffff, 2], [1, 4], [1600 - 16 * i, 4], [16, 4]));
     const names = Array.from({ length: 5000 }, () => packed([0, 8], [1, 4], [16, 4])),
         bytes = Buffer.concat([...libraries, ...names, Buffer.from('\0a\0')]);
-    const entries = [[0x6ffffffe, 0], [0x6fffffff, 100], [5, bytes.length - 3], [10, 3], [0, 0]].flat()
-        .map((number) => [number, 8]);
-    file.elf = Elf.parse(elf_file({ type: 3, segments: [{ bytes }, { type: 2, bytes: packed(...entries) }] }));
+    file.elf = Elf.parse(dynamic_file(bytes, [[0x6ffffffe, 0x400000], [0x6fffffff, 100],
+        [5, 0x400000 + bytes.length - 3], [10, 3], [0, 0]]));
     const [[name, all], ...others] = versions();
     assert.deepEqual([name, others], ['a', []]);
     assert.ok(all.length > 4000 && all.length <= 4096, `${all.length} versions`);
@@ -118,7 +117,7 @@ async function check_versions(Elf) {
 // What each entry, flag, name and note says alone, by the numbers of the standard.
 function check_made_facts(of) {
     const with_entry = (...entry) => of(elf_file({ type: 3, segments: [{ type: 3, bytes: Buffer.from('/ld\0') },
-        { type: 2, bytes: packed(...entry.map((number) => [number, 8])) }] }));
+        { type: 2, bytes: longs(...entry) }] }));
     for (const [tag, value, kind, is_now] of [[21, 0, 'program', false], [0x6ffffffb, 0x8000000, 'program', false],
         [24, 0, 'library', true], [30, 8, 'library', true], [0x6ffffffb, 1, 'library', true],
         [30, 0xfff7, 'library', false], [0x6ffffffb, 0xf7fffffe, 'library', false]]) {
@@ -137,7 +136,7 @@ function check_made_facts(of) {
     assert.deepEqual([[6], [7, 6], [6, 7], []].map((flags) => of(elf_file({ type: 2, segments: stacks(...flags) })).nx),
         [true, false, false, false]);
     const [whole, part] = [undefined, -1].map((end) =>
-        of(elf_file({ type: 2, segments: [{ type: 2, bytes: packed([1, 8], [2, 8]) }] }).subarray(0, end)));
+        of(elf_file({ type: 2, segments: [{ type: 2, bytes: longs(1, 2) }] }).subarray(0, end)));
     assert.deepEqual([whole.kind, whole.unknown[0], part.kind, part.needed, part.unknown.includes('needed')],
         ['program', 'needed', 'program', null, true]);
     const { kind, nx, pie, bind_now } = of(elf_file({ type: 0xfe00, segments: stacks(6) }));
