@@ -283,6 +283,15 @@ check('Packed relocations and what only the dynamic section leads to are listed,
     await is_listed(3, '.rela.plt', /R_\w+ +[0-9a-f]+ ([^@ ]+)/g);
 });
 
+// Returns the entries of a dynamic section that has a hash table of some kind.
+const hash_entries = (tag) => [[tag, 0x400000], [5, 0x400010], [10, 8], [6, 0x400010], [0, 0]];
+
+check('A damaged file takes no long time, whatever its numbers say', async () => {
+    const buckets = packed([0xffffffff, 4], [1, 4], [1, 4], [0, 4]);
+    for (const content of [dynamic_file(buckets, hash_entries(0x6ffffef5))])
+        await timed(() => pick_written('long', content).then(() => facts()));
+});
+
 // Returns the rows of the summary, or of some of its blocks: the name and value of each, and the mark above them.
 async function facts(path, title = '') {
     if (path) await pick(path);
@@ -859,6 +868,14 @@ check('Each row of a list that is higher than an element can be is reached', asy
     await until_chosen('s2');
 });
 
+// Fails if what is done takes the browser's processes long.
+async function timed(act) {
+    const { seconds } = browser.cost();
+    await act();
+    const taken = browser.cost().seconds - seconds;
+    assert.ok(taken < 6, `${taken} seconds`);
+}
+
 // The first ones read the names. They take a few seconds of a busy processor, and not one for each 10,000.
 check('Searches and sorts of 184,833 symbols of C++ are fast, and say how much is done', async () => {
     const count = 184832, end = 'EEEE4some3mapERKSt6vectorISt4pairIPKcS0_ISsEESaIS6_EEi';
@@ -866,12 +883,6 @@ check('Searches and sorts of 184,833 symbols of C++ are fast, and say how much i
         ({ text: `_ZN5spaceINS_5ClassIiLi${i}${end}`, info: 0x12, shndx: 3, value: value_of(i) });
     const all = Array.from({ length: count }, (_, i) => symbol(i)), [, second] = all.map(({ text }) => text).sort();
     const path = await pick_written('symbols', symbols_file(all, code(Buffer.alloc(64))), 'symbols');
-    const timed = async (act) => {
-        const { seconds } = browser.cost();
-        await act();
-        const taken = browser.cost().seconds - seconds;
-        assert.ok(taken < 6, `${taken} seconds`);
-    };
     const signs = (word) => evaluate(`signs.some((sign) => /^${word} … \\d+ %$/.test(sign))`);
     const watch = (selector) => evaluate(`void new MutationObserver(() => signs.push(${one(selector)}.textContent))
         .observe(${one(selector)}, { childList: true })`);

@@ -9,7 +9,8 @@ const MOST_VERSIONS = 4096, MOST_ITEMS = 1n << 20n;
 
 const word = () => (is_wide() ? 8n : 4n);
 /** Returns a number at an offset of the file, or 0 if it is not inside. */
-export const number_at = (at, width) => read_or(0n, () => file.elf.number(BigInt.asUintN(64, at), Number(width)));
+export const number_at = (at, width) =>
+    (at + BigInt(width) > BigInt(file.content.length) ? 0n : file.elf.number(at, Number(width)));
 export const value_of = once((tag) => read_or(undefined, () => file.elf.dynamic_value(tag)));
 // Returns the offset in the file of what is loaded at the address that is the value of a tag.
 const offset_of = (tag) => (value_of(tag) === undefined ? undefined
