@@ -993,6 +993,9 @@ check('A symbol names its section by an index that does not fit in it, and a sec
         assert.equal(await evaluate(`${with_text('#chosen button', 'Copy link')} !== undefined`), has_link);
     }
     await follow('.s6');
+    const at = header_at(content, 3) + 0x18; // (the indices may be said to be past all offsets)
+    await pick_written('far', patched(content, [at, (1n << 64n) - 8n], [at + 8, 1n << 40n]), 'symbols');
+    assert.deepEqual(await cells(7), ['undefined', '.s5', 'extended index']);
 });
 
 // Returns what a button copies.

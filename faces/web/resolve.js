@@ -1,6 +1,7 @@
 // Resolves symbols, relocations and addresses: to sections, segments, symbols and bytes of the file.
 import * as goblin from './goblin.js';
 import { demangled } from './demangle.js';
+import { number_at } from './dynamic.js';
 import { called, file, name_at, own_segments, read_or, section_at, sections, segment_of, segments, SYMBOL_TYPES,
     symbol_tables } from './file.js';
 import { hex, name_of, once } from './text.js';
@@ -21,8 +22,7 @@ export function section_of_symbol(table, index, { st_shndx }) {
     if (st_shndx === goblin.SHN_XINDEX) {
         const indices = extended_of(table);
         if (!indices || BigInt(index) * 4n + 4n > indices.sh_size) return undefined;
-        return Number(read_or(undefined, () => file.elf.number(indices.sh_offset + BigInt(index) * 4n, 4)) ?? 0)
-            || undefined;
+        return Number(number_at(indices.sh_offset + BigInt(index) * 4n, 4)) || undefined;
     }
     return st_shndx === 0n || st_shndx >= goblin.SHN_LORESERVE ? undefined : Number(st_shndx);
 }
