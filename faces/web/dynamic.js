@@ -5,7 +5,7 @@ import { file, is_wide, name_at, own_sections, read_or, RELR, sections, size_of,
 import { once } from './text.js';
 
 // How many versions, and how many symbols of a hash table, packed relocations or words of these are read at most.
-const MOST_VERSIONS = 4096, MOST_ITEMS = 1n << 20n;
+const MOST_VERSIONS = 4096, MOST_ITEMS = 1n << 20n, END = (1n << 64n) - 1n;
 
 const word = () => (is_wide() ? 8n : 4n);
 /** Returns a number at an offset of the file, or 0 if it is not inside. */
@@ -53,7 +53,7 @@ export function find_own_sections() {
     const add = (tag, sh_type, sh_size, links = { sh_link: 'DT_SYMTAB' }) => {
         const sh_offset = offset_of(goblin[tag]);
         if (sh_offset !== undefined && sh_size)
-            own_sections.set(tag, { index: tag, sh_type, sh_offset, sh_size, ...links });
+            own_sections.set(tag, { index: tag, sh_type, sh_offset, sh_size: sh_size < END ? sh_size : END, ...links });
     };
     const { SHT_REL, SHT_RELA, SHT_DYNSYM } = goblin, has_addends = value_of(goblin.DT_PLTREL) === goblin.DT_RELA;
     if (lacks(...SYMBOL_TYPES))
