@@ -269,6 +269,10 @@ check('Packed relocations and what only the dynamic section leads to are listed,
         '#panel .others': /packed relocations .* outside of what is proved/i });
     assert.deepEqual([await cells(1), (await saved_rows('relocations')).map(([, offset]) => offset)], [wanted, wanted]);
     await go('relocations/1/3', 'packed relocation 3', { r_offset: /^0x1200/ });
+    for (const [at, value] of [[0x18, (1n << 64n) - 8n], [0x20, 1n << 40n]]) {
+        await pick_written('past', patched(file, [header_at(file, 1) + at, value]));
+        assert.equal(await text_of('#tab-relocations span'), 'refused');
+    }
     const output = listed(program_file);
     await pick_written('headless', Buffer.from(program_bytes).fill(0, 0x28, 0x30).fill(0, 0x3a, 0x40), 'symbols');
     const [symbols, dyn, plt] = ['.dynsym', '.rela.dyn', '.rela.plt'].map((name) => sections[name].size / 24);

@@ -66,9 +66,10 @@ export function find_own_sections() {
 }
 
 /** Returns the offsets of packed relocations: an even word is one, and a bit of an odd word stands for one of the words
- * that follow. */
+ * that follow. Throws if they are not inside the file. */
 export function packed_offsets({ sh_offset, sh_size }) {
     const width = word(), most = MOST_ITEMS * width, end = sh_size < most ? sh_size : most, found = [];
+    if (end >= width) file.elf.number_in({ sh_type: RELR, sh_offset, sh_size }, sh_size - width, Number(width));
     for (let at = 0n, next = 0n; at + width <= end && found.length < MOST_ITEMS; at += width) {
         const entry = number_at(sh_offset + at, width), is_place = !(entry & 1n), bits = is_place ? 1n : entry >> 1n;
         if (is_place) next = entry;
