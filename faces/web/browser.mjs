@@ -294,8 +294,12 @@ check('Packed relocations and what only the dynamic section leads to are listed,
 const hash_entries = (tag) => [[tag, 0x400000], [5, 0x400010], [10, 8], [6, 0x400010], [0, 0]];
 
 check('A damaged file takes no long time, whatever its numbers say', async () => {
+    const empty = { name: '', type: 2, bytes: Buffer.alloc(0) }, bytes = Buffer.alloc(24 * 20000),
+        tables = elf_file({ type: 3, sections: [{ ...empty, bytes }, ...Array(20000).fill(empty)] });
+    for (let i = 2; i < 20000; i++)
+        tables.copy(tables, header_at(tables, i), header_at(tables, 1), header_at(tables, 2));
     const buckets = packed([0xffffffff, 4], [1, 4], [1, 4], [0, 4]);
-    for (const content of [dynamic_file(buckets, hash_entries(0x6ffffef5))])
+    for (const content of [tables, dynamic_file(buckets, hash_entries(0x6ffffef5))])
         await timed(() => pick_written('long', content).then(() => facts()));
 });
 

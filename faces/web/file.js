@@ -122,9 +122,11 @@ export const all_sections = () => [...sections(), ...own_sections.values()];
 /** Reports whether a section has debug information, which its name says. */
 export const is_debug = (section) => !(section.sh_flags & 2n)
     && /^\.(z?debug_|gdb_index|stab|line$)/.test(name_of_section(section));
-/** Returns the indices of all symbol tables, and the name of the page's own. */
-export const symbol_tables = () =>
-    all_sections().filter(({ sh_type }) => SYMBOL_TYPES.includes(sh_type)).map(({ index }) => index);
+/** How many tables of a kind are listed and searched at most. */
+export const MOST_TABLES = 200;
+/** Returns the indices of the first symbol tables, of which one of the page's own has a name instead. */
+export const symbol_tables = () => all_sections().filter(({ sh_type }) => SYMBOL_TYPES.includes(sh_type))
+    .slice(0, MOST_TABLES).map(({ index }) => index);
 
 /** Returns the name at an offset of a table, cut if it is long, or an empty text without a name or a table. */
 export function name_at(strtab, offset) {

@@ -4,8 +4,8 @@
 import init, * as goblin from './goblin.js';
 import { csv_line } from './csv.js';
 import { address_details, header_fields, is_address, item_details, offset_details } from './details.js';
-import { all_sections, called, file, header_refusal, list_refusal, own_segments, part, read_or, RELOCATION_TYPES, RELR,
-    size_of, SYMBOL_TYPES } from './file.js';
+import { all_sections, called, file, header_refusal, list_refusal, MOST_TABLES, own_segments, part, read_or,
+    RELOCATION_TYPES, RELR, size_of, SYMBOL_TYPES } from './file.js';
 import { find_own_sections, packed_offsets } from './dynamic.js';
 import { find } from './find.js';
 import * as labels from './labels.js';
@@ -32,7 +32,6 @@ async function bytes_of(given) {
 }
 
 // Returns the first sections that hold a list, each with its name and number of items, and the number of all.
-const MOST_TABLES = 200;
 function tables(types, list_of) {
     const all = all_sections().filter(({ sh_type }) => types.includes(sh_type));
     const found = all.slice(0, MOST_TABLES).map((section) => {
