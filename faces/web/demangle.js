@@ -186,8 +186,8 @@ export function demangled(name) {
         return undefined; // (names of Rust's old form look like ones of C++)
     const reader = new Reader(name.slice(2));
     try {
-        const text = reader.encoding(), [rest] = reader.text.slice(reader.at).match(/(?:\.[a-z\d_]+)*$/);
-        return reader.at + rest.length < reader.text.length ? undefined
+        const text = reader.encoding(), rest = reader.match(/(?:\.[a-z\d_]+)*/y);
+        return reader.at < reader.text.length ? undefined
             : text + rest.replace(/\.[a-z\d_]+(?:\.\d+)*/g, ' [clone $&]');
     } catch (error) {
         // (one that is nested too deep for the stack is left alone, too)

@@ -182,6 +182,9 @@ function check_may_hold() {
     for (const [name, text] of rows.map((row) => row.toLowerCase().split('\t')))
         for (const [word] of text.matchAll(/[\w:]+/g)) assert.ok(may_hold(word)(name), `${word} in ${name}`);
     assert.deepEqual([may_hold('std::vector')('_z3foov'), may_hold('foo(')('_z3foov')], [false, true]);
+    const { user } = process.cpuUsage(), long = `_Z1fv${'.a'.repeat(508)}!`; // (which is left alone)
+    for (let i = 0; i < 500; i++) assert.equal(demangled(long), undefined);
+    assert.ok(process.cpuUsage().user - user < 5e5, `${process.cpuUsage().user - user} microseconds`);
 }
 
 // The names in goblin.h of the fields that have other names in goblin.js.
