@@ -269,6 +269,8 @@ check('Packed relocations and what only the dynamic section leads to are listed,
         '#panel .others': /packed relocations .* outside of what is proved/i });
     assert.deepEqual([await cells(1), (await saved_rows('relocations')).map(([, offset]) => offset)], [wanted, wanted]);
     await go('relocations/1/3', 'packed relocation 3', { r_offset: /^0x1200/ });
+    await pick_written('last', patched(file, [64, (1n << 64n) - 16n], [72, (1n << 64n) - 1n]), 'relocations');
+    assert.deepEqual((await cells(1)).slice(0, 4), ['0xfffffffffffffff0', '0xfffffffffffffff8', '0x0', '0x8']);
     for (const [at, value] of [[0x18, (1n << 64n) - 8n], [0x20, 1n << 40n]]) {
         await pick_written('past', patched(file, [header_at(file, 1) + at, value]));
         assert.equal(await text_of('#tab-relocations span'), 'refused');
@@ -423,6 +425,9 @@ check('What is broken is in one row, with links to its places', async () => {
     await go('address/0x470', 'address 0x470', { section: '.text', offset: /^none/ });
     await go('offset/0x2d0', 'offset 0x2d0');
     assert.deepEqual([(await side()).includes('.comment'), await field_of('address')], [true, null]);
+    const high = elf_file({ type: 2, segments: [{ vaddr: (1n << 64n) - 16n, bytes: Buffer.alloc(64, 1) }] });
+    await pick_written('high', high);
+    await go('offset/0x98', 'offset 0x98', { address: '0x10, address' });
     // (section 0 may have any type)
     const first = symbols_file([{ text: 'a' }]);
     await pick_written('first', patched(first, [header_at(first, 0) + 4, 2, 4]), 'symbols');

@@ -73,7 +73,8 @@ export function packed_offsets({ sh_offset, sh_size }) {
     for (let at = 0n, next = 0n; at + width <= end && found.length < MOST_ITEMS; at += width) {
         const entry = number_at(sh_offset + at, width), is_place = !(entry & 1n), bits = is_place ? 1n : entry >> 1n;
         if (is_place) next = entry;
-        for (let bit = 0n; bits >> bit; bit++) if (bits >> bit & 1n) found.push(next + bit * width);
+        for (let bit = 0n; bits >> bit; bit++)
+            if (bits >> bit & 1n) found.push(BigInt.asUintN(Number(8n * width), next + bit * width));
         next += is_place ? width : (8n * width - 1n) * width;
     }
     return found;

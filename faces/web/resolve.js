@@ -2,8 +2,8 @@
 import * as goblin from './goblin.js';
 import { demangled } from './demangle.js';
 import { number_at } from './dynamic.js';
-import { called, file, name_at, own_segments, read_or, section_at, sections, segment_of, segments, SYMBOL_TYPES,
-    symbol_tables } from './file.js';
+import { called, file, is_wide, name_at, own_segments, read_or, section_at, sections, segment_of, segments,
+    SYMBOL_TYPES, symbol_tables } from './file.js';
 import { hex, name_of, once } from './text.js';
 
 /** Reports whether the file has addresses. In an object file they are offsets in sections. */
@@ -142,7 +142,7 @@ export function address_of_offset(offset) {
     const at = BigInt(offset),
         is_there = ({ p_type, p_offset, p_filesz }) => p_type === goblin.PT_LOAD && holds(p_offset, p_filesz, at);
     const segment = has_addresses() ? own_segments().find(is_there) : undefined;
-    return segment && segment.p_vaddr + at - segment.p_offset;
+    return segment && BigInt.asUintN(is_wide() ? 64 : 32, segment.p_vaddr + at - segment.p_offset);
 }
 
 /** Returns the symbol for an address: its table, index and name, and the distance from its start; or nothing. */
