@@ -289,7 +289,9 @@ check('Packed relocations and what only the dynamic section leads to are listed,
     await is_listed(3, '.rela.plt', /R_\w+ +[0-9a-f]+ ([^@ ]+)/g);
     // (a hash table of s390 may say that symbols have more bytes than a number can)
     await pick_written('hash', dynamic_file(longs(1, 1n << 61n, 0, 0), hash_entries(4), { machine: 22 }));
-    assert.equal(await text_of('#tab-symbols span'), 'refused');
+    await open_list('symbols/DT_SYMTAB', 'refused');
+    await has_texts({ '#panel .refused': / while reading the symbols of DT_SYMTAB: offset /, '#panel pre': null,
+        '#tab-symbols span': 'refused' });
 });
 
 // Returns the entries of a dynamic section that has a hash table of some kind.

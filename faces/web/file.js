@@ -90,9 +90,10 @@ function range_refusal(error, what, title, offset, size, marks) {
 }
 
 export function section_refusal(error, what, index) {
-    const { sh_offset, sh_size } = section_at(index);
-    const marks = marks_of('section', header_at('section', index), 'sh_offset', 'sh_size');
-    return range_refusal(error, `${what} of section ${index}`, called(index), sh_offset, sh_size, marks);
+    const { sh_offset, sh_size } = section_at(index), is_own = typeof index === 'string';
+    const marks = is_own ? [] : marks_of('section', header_at('section', index), 'sh_offset', 'sh_size');
+    const words = `${what} of ${is_own ? '' : 'section '}${index}`;
+    return range_refusal(error, words, called(index), sh_offset, sh_size, marks);
 }
 
 export function segment_refusal(error, index) {
