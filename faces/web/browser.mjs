@@ -683,6 +683,8 @@ check('While a file is read, the previous one stays and can be used, and the pag
     truncateSync(large, 4e8);
     await browser.pick('#pick', large);
     await until(is_busy);
+    await evaluate(`void (${one('#goto')}.value = '.text', ${one('#goto')}.onfocus())`);
+    await until_there('#found:not([hidden]) li');
     for (const row of [1, 2, 3]) {
         await click_row(row);
         assert.ok(await evaluate(is_busy), 'the file is read before its test is done');
@@ -695,6 +697,7 @@ check('While a file is read, the previous one stays and can be used, and the pag
     const is_undimmed = async () =>
         assert.deepEqual([await text_of('#loading'), await evaluate(`${one('.dimmed')} === null`)], ['', true]);
     await is_undimmed();
+    assert.equal(await is_hidden('found'), true);
     // (the file is in the memory once)
     await waited('no second copy of the file is kept', () => browser.cost().memory - memory < 1.6 * 4e8);
     // (a file that another one replaces before it is read does not dim that one; timers are late, as that one may be)

@@ -27,7 +27,7 @@ function mark(at) {
 // Goes to a result. If its digits can be read in two ways, says which one is taken, with a link to the other.
 async function take({ title, to, read }) {
     const other = read && found.find((place) => place.read && place.read !== read);
-    close();
+    close_found();
     await go(to);
     focus_chosen();
     if (read) say(`${title}, ${read}`, other && ', or ',
@@ -38,7 +38,8 @@ async function take({ title, to, read }) {
 const NONE = 'The file has nothing at that offset or address, and nothing with that name.', SOON = 100;
 const report = (text) => Object.assign(get('none'), { textContent: text, hidden: !text });
 
-function close() {
+/** Hides the results, and forgets what was searched. */
+export function close_found() {
     show([]);
     report('');
     asked = '';
@@ -47,7 +48,7 @@ function close() {
 // Searches for a text, and returns whether the results are shown.
 async function search(text) {
     asked = text;
-    if (!text) { close(); return false; }
+    if (!text) { close_found(); return false; }
     const slow = setTimeout(() => { if (asked === text) report('searching …'); }, SOON);
     const places = await ask('find', text);
     clearTimeout(slow);
@@ -65,7 +66,7 @@ function look() {
 }
 
 async function press(event) {
-    if (event.key === 'Escape') close();
+    if (event.key === 'Escape') close_found();
     if (event.key === 'Enter' && await look() && found[active]) take(found[active]);
     const step = { ArrowDown: 1, ArrowUp: -1 }[event.key];
     if (!step || !found.length) return;
@@ -76,7 +77,7 @@ async function press(event) {
 export function set_up_goto() {
     const field = get('goto');
     const look_if_here = () => { if (document.activeElement === field) look(); };
-    Object.assign(field, { oninput: after_typing(look_if_here), onkeydown: press, onblur: close, onfocus: look });
+    Object.assign(field, { oninput: after_typing(look_if_here), onkeydown: press, onblur: close_found, onfocus: look });
     addEventListener('keydown', (event) => {
         if (event.key !== '/' || event.target.closest('input, select') || field.offsetParent === null) return;
         event.preventDefault();

@@ -1,6 +1,6 @@
 // The page: opens files, each in its own worker, and shows the location that the address bar has.
 import { button, count, fill, get, in_bytes, inflated, make, put_text, say, visible } from './dom.js';
-import { set_up_goto } from './goto.js';
+import { close_found, set_up_goto } from './goto.js';
 import { lines_of, refusal_of } from './hex.js';
 import { mark_range, set_up_map, show_map } from './map.js';
 import { ask, is_supported, Reader, shown_file } from './reader.js';
@@ -132,6 +132,7 @@ function show_part(part, file, ...words) {
     for (const name of ['start', 'refused', 'shown']) get(name).hidden = name !== part;
     get('search').hidden = part !== 'shown';
     get('trouble').hidden = true;
+    close_found();
     document.body.classList.remove('chosen', 'wide');
     document.title = `${visible(file.name)}: goblin`;
     fill(get('file'), put_text(make('b', { title: visible(file.name) }), file.name),
