@@ -9,8 +9,9 @@ import { addend, section_word, symbol_of_relocation } from './lists.js';
 import { title_of } from './notes.js';
 import { kind_of, kind_of_segment, part_at, parts, pieces_at, title_of_segment } from './pieces.js';
 import { address_of_offset, address_of_symbol, with_offset, bytes_of_symbol, has_addresses, name_of_symbol,
-    offset_of_address, place_of_relocation, section_of_address, section_of_symbol, segments_of_address,
-    symbol_of_address, symtab_at, title_of_symbol, to_address, to_offset, to_section, to_symbol } from './resolve.js';
+    offset_of_address, place_of_relocation, section_called, section_of_address, section_of_symbol, segments_of_address,
+    symbol_called, symbol_of_address, symtab_at, title_of_symbol, to_address, to_offset, to_section,
+    to_symbol } from './resolve.js';
 import { count, hex, in_bytes } from './text.js';
 
 const { named, prefixed } = labels;
@@ -26,9 +27,9 @@ const at_address = (address) =>
     (has_addresses() && address > 0n ? { ...to_address(address), text: 'address' } : undefined);
 const at_offset = (offset) =>
     (Number(offset) < file.content.length ? { ...to_offset(offset), text: 'offset' } : undefined);
-// Returns a location by a name, if the name is whole and UTF-8.
-const link_by_name = (kind, name) =>
-    (name && name.isWellFormed() && !name.endsWith('…') ? `${kind}=${encodeURIComponent(name)}` : undefined);
+// Returns a location by a name, if the name is whole and UTF-8, and leads to what has it.
+const link_by_name = (kind, name, is_there) => (name && name.isWellFormed() && !name.endsWith('…') && is_there(name)
+    ? `${kind}=${encodeURIComponent(name)}` : undefined);
 
 const record = (word, kind, at, size = size_of(kind)) => ({ word, at, size, fields: fields_at(kind, at) });
 const entry = (of, index, kind) =>
@@ -68,7 +69,7 @@ function section_details(item, index) {
     const { sh_type, sh_flags, sh_addr, sh_offset, sh_size, sh_link } = item;
     return {
         title: called(index, item), what: `section ${count(index)}`, kind: kind_of(item),
-        link: link_by_name('section', name_of_section(item)),
+        link: link_by_name('section', name_of_section(item), (own) => section_called(own)?.index === index),
         fields: fields_of(item, {
             sh_name: '', sh_type: [prefixed('SHT_', labels.section_type(sh_type)), list_of(item, index)],
             sh_flags: labels.section_flags(sh_flags), sh_addr: ['', sh_flags & 2n ? at_address(sh_addr) : undefined],
@@ -113,6 +114,9 @@ function segment_details(item, index) {
 // Returns the field of a name of C++ as it is written there, if it is one that is read.
 const in_source = (name) => demangled(name) && field('demangled', demangled(name), 'not proved');
 
+// Reports whether a symbol is another one or that one in another table.
+const is_same = (symbol, { st_value, st_shndx }) => symbol?.st_value === st_value && symbol.st_shndx === st_shndx;
+
 function symbol_details(item, index, table) {
     const { st_size, st_info, st_other } = item, name = name_of_symbol(table, index, item);
     const of = section_of_symbol(table, index, item), place = bytes_of_symbol(table, index, item);
@@ -124,7 +128,8 @@ function symbol_details(item, index, table) {
         title: title_of_symbol(table, index, item),
         what: `symbol ${count(index)} of ${called(table)}`,
         kind: section && kind_of(section),
-        link: link_by_name('symbol', item.st_name ? name : ''), // (else it is the name of its section)
+        // (without a name of its own it has that of its section)
+        link: link_by_name('symbol', item.st_name ? name : '', (own) => is_same(symbol_called(own)?.symbol, item)),
         fields: [
             in_source(name),
             ...fields_of(item, {

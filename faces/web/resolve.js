@@ -70,8 +70,15 @@ function read_name(table, index, symbol) {
 
 /** Returns the first symbol with each of some names in each table that has one. */
 export const symbols_called = (...names) => symbol_tables().flatMap((table) => names
-    .map((name) => ({ table, name, index: read_or(undefined, () => symtab_at(table).by_name(name)) })))
-    .filter(({ index }) => index !== undefined);
+    .map((name) => ({ table, name, ...read_or(undefined, () => symtab_at(table).symbol_by_name(name)) })))
+    .filter(({ symbol }) => symbol);
+
+/** Returns the symbol that a link by a name leads to: the first one that is defined, or else the first one. */
+export function symbol_called(name) {
+    const all = symbols_called(name);
+    return all.find(({ symbol }) => symbol.st_shndx) ?? all[0];
+}
+export const section_called = (name) => read_or(undefined, () => file.elf.section_by_name(name));
 
 const MOST_TRIED = 10000;
 /** Reports whether a table has a name of C++ that is read, among its first ones. */

@@ -11,7 +11,7 @@ import { code_without_symbol, largest } from './inside.js';
 import * as labels from './labels.js';
 import { notes_of } from './notes.js';
 import { is_compressed, parts, titled } from './pieces.js';
-import { has_addresses, symbols_called, to_address, to_section, to_symbol } from './resolve.js';
+import { has_addresses, section_called, symbols_called, to_address, to_section, to_symbol } from './resolve.js';
 import { count, hex, in_bytes, once, plural } from './text.js';
 
 const { ET_CORE, ET_REL, SHT_NOBITS, SHT_SYMTAB } = goblin;
@@ -27,7 +27,6 @@ const to_segment = (type) => {
     const found = segment_of(type);
     return found && { text: `segment ${found.index}`, to: `segments/${found.index}` };
 };
-const section_called = (name) => read_or(undefined, () => file.elf.section_by_name(name));
 // Returns the first items of a list, and what a function returns for the number of others, if there are any.
 const shortened = (items, most, rest) =>
     (items.length <= most ? items : [...items.slice(0, most), rest(count(items.length - most))]);

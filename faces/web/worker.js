@@ -13,7 +13,7 @@ import { arranged, as_shown, cells_of, columns_of, go_over, open_source } from '
 import { notes_of } from './notes.js';
 import { CLASSES, inside, sizes, under } from './inside.js';
 import { KINDS, parts, titled } from './pieces.js';
-import { symbols_called, symtab_at, to_symbol } from './resolve.js';
+import { section_called, symbol_called, symtab_at, to_section, to_symbol } from './resolve.js';
 import { all_facts, kind_in_words, summary } from './summary.js';
 import { hex, visible } from './text.js';
 
@@ -186,13 +186,10 @@ const calls = {
     offset: (offset) => (offset < file.content.length ? offset_details(Number(offset)) : undefined),
     address: (address) => (address !== undefined && is_address(address) ? address_details(address) : undefined),
     find: (text) => find(text, begin('find')),
-    // Returns the location of the section or symbol with a name. Of symbols the first one that is defined is preferred.
+    // Returns the location of the section or symbol with a name.
     named([kind, name]) {
-        const section = kind === 'section' && read_or(undefined, () => file.elf.section_by_name(name));
-        if (kind === 'section') return section && `sections/${section.index}`;
-        const all = symbols_called(name);
-        const best = all.find(({ table, index }) => symtab_at(table).get(index).st_shndx) ?? all[0];
-        return best && to_symbol(best).to;
+        const found = kind === 'section' ? section_called(name) : symbol_called(name);
+        return found && (kind === 'section' ? to_section(found.index) : to_symbol(found)).to;
     },
     summary, inside, under, sizes,
 };
