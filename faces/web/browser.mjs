@@ -116,14 +116,12 @@ async function bytes_shown() {
     return lines.join(' ').replaceAll(/\s/g, '');
 }
 
+const type = (text) => evaluate(`void (${one('#panel input')}.value = ${quoted(text)},
+    ${one('#panel input')}.dispatchEvent(new Event('input')))`);
 async function search(text, shown) {
     await until_there('#panel output');
-    await evaluate(`(() => {
-        const box = document.querySelector('#panel input');
-        document.querySelector('#panel output').textContent = '';
-        box.value = ${quoted(text)};
-        box.dispatchEvent(new Event('input'));
-    })()`);
+    await evaluate(`void (${one('#panel output')}.textContent = '')`);
+    await type(text);
     await until(`document.querySelector('#panel output').textContent === ${quoted(shown)}
         && (${drawn} || ${quoted(shown)} === 'none')`);
 }
@@ -866,8 +864,8 @@ check_program('A search finds texts and addresses, and Enter opens what it finds
     await until_active('#chosen h2');
     assert.equal(await fragment(), `${symtab}/${second.index}`);
     // (a search in a list that another one replaces before it begins is given up)
-    const { index, size } = sections['.dynsym'], box = one('#panel input');
-    await evaluate(`void (${box}.value = 'init', ${box}.dispatchEvent(new Event('input')))`);
+    const { index, size } = sections['.dynsym'];
+    await type('init');
     await open_list(`symbols/${index}`, decimal(size / 24));
     await setTimeout(300);
     await click_row(1);
@@ -932,12 +930,14 @@ check('Searches and sorts of 184,833 symbols of C++ are fast, and say how much i
     await search('Li777E', `1 of ${decimal(count + 1)}`);
     await waited('a saved list', () => readdirSync(browser.downloads).some((name) => name.endsWith('.csv')));
     assert.equal(await text_of('#panel output'), `1 of ${decimal(count + 1)}`);
-    // (Enter opens what a search finds that runs, and what is searched is not forgotten meanwhile)
+    // (Enter opens what a search finds that runs, unless another text is typed, and what is searched is not forgotten)
     await pick(path);
     await open_tab('symbols');
-    await evaluate(`void (${one('#panel input')}.value = 'Li778E',
-        ${one('#panel input')}.dispatchEvent(new Event('input')))`);
+    await type('Li77');
+    await press('#panel input', 'Enter');
+    await type('Li778E');
     await setTimeout(250);
+    assert.equal(await fragment(), 'symbols');
     await press('#panel input', 'Enter');
     await until_chosen(all[778].text);
     // (the field for a name says that it searches, too, here in names that are not read yet)

@@ -183,9 +183,10 @@ async function list_panel(mine, wanted) {
     return [bar, mine.below, mine.grid.box];
 }
 
-// Shows the list again, for its search and order, if it is still the open one.
-async function refresh(mine) {
-    if (open !== mine) return;
+// Shows the list again, for its search and order, and promises whether it is shown: if it is still the open one.
+const refresh = (mine) => (mine.shown = show_list(mine));
+async function show_list(mine) {
+    if (open !== mine) return false;
     const { name, of, query, column, is_descending, output, below, grid } = mine;
     const word = query ? 'searching' : column || is_descending ? 'sorting' : 'reading';
     output.textContent = `${word} …`;
@@ -194,7 +195,7 @@ async function refresh(mine) {
     };
     const { is_over, refused, is_none, length, all } =
         await ask('view', { list: name, of, is_demangled, query, column, is_descending });
-    if (is_over || open !== mine) return;
+    if (is_over || open !== mine) return false;
     fill(below, ...await notices_of(mine, { refused, is_none }));
     const is_shown = !refused && !is_none;
     grid.box.hidden = !is_shown;
@@ -203,6 +204,7 @@ async function refresh(mine) {
     mine.saving.hidden = !is_shown || length === 0;
     grid.show(is_shown ? length : 0);
     if (is_shown) prepare_paper(mine);
+    return true;
 }
 
 // Returns the message for a list that is refused, missing or incomplete.
@@ -282,20 +284,17 @@ function demangling(mine, switched) {
 }
 
 function search_field(mine) {
-    // Searches for the text in the field, unless that has begun, and promises that the list is shown for it.
+    // Searches for the text in the field, unless that has begun, and promises whether the list is shown for it.
     const look = () => {
         const query = mine.search.value.trim();
-        if (query !== mine.query) mine.shown = refresh(Object.assign(mine, { query }));
-        return mine.shown;
+        return query === mine.query ? mine.shown : refresh(Object.assign(mine, { query }));
     };
     return make('input', {
         type: 'search', placeholder: 'Search: text or 0x…',
         'aria-label': `Search ${mine.name} by text, offset or address`, spellcheck: 'false', autocomplete: 'off',
         oninput: after_typing(look),
         onkeydown: async ({ key }) => {
-            if (key !== 'Enter') return;
-            await look();
-            if (mine.grid.length > 0) open_row(mine, 0);
+            if (key === 'Enter' && await look() && mine.grid.length > 0) open_row(mine, 0);
         },
     });
 }
