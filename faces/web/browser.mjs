@@ -1127,7 +1127,8 @@ check('A sentence says that a folder is dropped, that of two files one is opened
 check('Control characters and those that turn the direction of a text are escaped, in saved lists, too', async () => {
     const codes = (from, to) => Array.from({ length: to - from + 1 }, (_, i) => from + i);
     const directions = [0x200e, 0x200f, ...codes(0x2028, 0x202e), ...codes(0x2066, 0x2069)],
-        groups = [codes(1, 0x1f), codes(0x7f, 0x9f), directions];
+        fillers = [0x34f, 0x115f, 0x180b, 0x2800, 0x3164, 0xfe0f, 0xffa0, 0xe0100],
+        groups = [codes(1, 0x1f), codes(0x7f, 0x9f), directions, fillers];
     const names = groups.map((group) => `a${String.fromCodePoint(...group)}`);
     await pick_written('unseen', symbols_file(names.map((text) => ({ text }))), 'symbols');
     const shown = groups.map((group) =>

@@ -31,8 +31,8 @@ export function name_of(bytes) {
 }
 
 /** Characters that are invisible or change how others look: control and format characters, separators, lone surrogates
- * (which stand for bytes that are not UTF-8), and spaces that look like others. */
-export const UNSEEN = /([\p{Cc}\p{Cf}\p{Zl}\p{Zp}\p{Cs}\p{Co}\p{Cn}]|(?! )\p{Zs})/gu;
+ * (which stand for bytes that are not UTF-8), fillers, the empty sign of Braille, and spaces that look like others. */
+export const UNSEEN = /([\p{Cc}\p{Cf}\p{Zl}\p{Zp}\p{Cs}\p{Co}\p{Cn}\p{DI}\u2800]|(?! )\p{Zs})/gu;
 
 /** Returns what is shown of such a character. */
 export function shown(sign) {
