@@ -930,8 +930,12 @@ check('Searches and sorts of 184,833 symbols of C++ are fast, and say how much i
     await search('Li777E', `1 of ${decimal(count + 1)}`);
     await waited('a saved list', () => readdirSync(browser.downloads).some((name) => name.endsWith('.csv')));
     assert.equal(await text_of('#panel output'), `1 of ${decimal(count + 1)}`);
-    // (Enter opens what a search finds that runs, unless another text is typed, and what is searched is not forgotten)
+    // (what is read once is not said to be read again, as while symbols are)
+    await watch('#loading');
     await pick(path);
+    const said = new Set(await evaluate(`signs.filter((sign) => /^Reading/.test(sign))`));
+    assert.ok(said.size < 4, [...said].join());
+    // (Enter opens what a search finds that runs, unless another text is typed, and what is searched is not forgotten)
     await open_tab('symbols');
     await type('Li77');
     await press('#panel input', 'Enter');

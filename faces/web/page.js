@@ -117,7 +117,10 @@ function show_loading(file, reader) {
     };
     document.body.ariaBusy = 'true';
     setTimeout(() => { is_soon = false; show(); }, SOON);
-    reader.on_progress = ({ done }) => { left = file.size * (1 - done); show(); };
+    reader.on_progress = ({ progress, done }) => {
+        if (progress === 'open') left = file.size * (1 - done);
+        show();
+    };
 }
 
 function end_loading() {
