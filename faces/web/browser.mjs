@@ -1368,6 +1368,8 @@ check('What is narrower than a pixel is drawn as a pixel', async () => {
     const [[largest, name], second] = await facts('', 'Largest sections');
     assert.deepEqual([largest.startsWith('65,311 bytes, '), name, ...second.slice(0, 2)],
         [true, '.shstrtab', '8 bytes, 0.0 %', 'section 1']);
+    await go('header/e_shnum', 'e_shnum', { value: '0, sh_size of section 0 has it' });
+    await go('header/e_shstrndx', 'e_shstrndx', { value: '65535, sh_link of section 0 has it, .shstrtab' });
     await click('#tab-sections');
     const wanted = await bar_of(content.length) * count * 8 / await each_row(), many = await pixels_of('constants', 12);
     assert.ok(wanted > 500 && Math.abs(many - wanted) < 5, `${many} pixels, not ${wanted}`);

@@ -257,6 +257,10 @@ export function address_details(address) {
 
 const to_headers = (offset) => (offset ? at_offset(offset) : undefined);
 
+// Returns a function that says of a number that is none itself which field of section 0 has it.
+const in_first = (none, field_of_it) => (number) =>
+    (number === none && sections().length > 0 ? `${field_of_it} of section 0 has it` : '');
+
 // What each field means, in a few words, and functions of its number that return its name and its link, if it has them.
 const FIELDS = {
     ei_class: ['class', (number) => named('', labels.file_class(number))],
@@ -271,10 +275,10 @@ const FIELDS = {
     e_phoff: ['offset of the program headers', undefined, to_headers],
     e_shoff: ['offset of the section headers', undefined, to_headers],
     e_flags: ['flags of the machine'], e_ehsize: ['size of this header'], e_phentsize: ['size of a program header'],
-    e_phnum: ['number of program headers', (number) => (number === 0xffff ? 'sh_info of section 0 has it' : '')],
-    e_shentsize: ['size of a section header'], e_shnum: ['number of section headers'],
-    e_shstrndx: ['index of the section with the names of sections', undefined,
-        (number) => read_or(undefined, () => to_section_number(number))],
+    e_phnum: ['number of program headers', in_first(0xffff, 'sh_info')],
+    e_shentsize: ['size of a section header'], e_shnum: ['number of section headers', in_first(0, 'sh_size')],
+    e_shstrndx: ['index of the section with the names of sections', in_first(0xffff, 'sh_link'),
+        (number) => to_section_number(number === 0xffff ? sections()[0]?.sh_link : number)],
 };
 
 export function header_fields() {
