@@ -645,7 +645,7 @@ const SHORT_FORMS = Array.from({ length: 8 }, (_, i) => `S_IS${i}_S${i}_E`).join
     VERY_LONG = `_Z1f1aIiiE${SHORT_FORMS}${'S8_'.repeat(250)}`; // (of 1.3 million signs)
 const LEFT_ALONE = [VERY_LONG, `_Z1fv${'.1'.repeat(60)}!`, `_Z1f${'F'.repeat(1019)}`, '_Z1fILi1EEvRAT__c',
     '_ZZ1fvENKUlvE_clEv', '_ZN4core3fmt17h0123456789abcdefE', '_Z',
-    '_ZN', 'main', '_Z1fS9_'];
+    '_ZN', 'main', '_Z1fS9_', '_Z1fIiiEvT0A_', '_ZTVTh8_i'];
 
 check('Names of C++ are demangled as by c++filt, or left alone', async () => {
     const rows = readFileSync(join(stored, 'mangled'), 'utf8').trim().split('\n').map((line) => line.split('\t'));

@@ -57,12 +57,13 @@ class Reader {
     note(item) { return length_of(item) > MOST_SIGNS ? this.fail() : this.known[this.known.push(item) - 1]; }
     // Reads a number that ends with an underscore: without digits it is 0, and others count from 1 on.
     number(base) {
-        const digits = this.need(this.match(/[\dA-Z]*_/y)).slice(0, -1);
+        const digits = this.need(this.match(base === 10 ? /\d*_/y : /[\dA-Z]*_/y)).slice(0, -1);
         return digits ? parseInt(digits, base) + 1 : 0;
     }
     encoding() {
-        const special = SPECIAL.get(this.match(/T[VTIS]|GV/y)), thunk = this.match(/Thn?\d+_|Tvn?\d+_n?\d+_/y);
+        const special = SPECIAL.get(this.match(/T[VTIS]|GV/y));
         if (special) return `${special} ${listed([this.type()])}`;
+        const thunk = this.match(/Thn?\d+_|Tvn?\d+_n?\d+_/y);
         if (thunk) return `${thunk[1] === 'h' ? 'non-' : ''}virtual thunk to ${this.encoding()}`;
         const { left: name, after = '', args, is_bare } = this.name();
         if (this.at === this.text.length) return name + after;
