@@ -885,6 +885,14 @@ check('Each row of a list that is higher than an element can be is reached', asy
     }
     await press('#panel .grid', 'ArrowDown');
     await until_chosen('s2');
+    // (the rows at its start may be forgotten, and another file be shown)
+    await evaluate(`(async () => { for (let at = 0; at < 80; at++) {
+        ${one('#panel .grid')}.scrollTop = 7e4 * at;
+        for (let frames = 0; frames < 2; frames++) await new Promise(requestAnimationFrame);
+    } })()`);
+    await pick(made);
+    await setTimeout(250);
+    assert.equal(await text_of('#said'), '');
 });
 
 // Fails if what is done takes the browser's processes long.

@@ -89,7 +89,8 @@ export class Grid {
 
     draw_soon() {
         if (this.frame) return;
-        this.frame = requestAnimationFrame(() => { this.frame = 0; this.draw(); });
+        // (one that another list has replaced asks for no rows)
+        this.frame = requestAnimationFrame(() => { this.frame = 0; if (this.scroller.isConnected) this.draw(); });
     }
 
     // Gives the column with the greatest share its least width, and each other one that, or what its texts seen so far
