@@ -1073,7 +1073,8 @@ check('A saved list holds nothing that a spreadsheet would run or that ends a ce
     // (numbers that the page shows as words and signs are saved as numbers)
     const content = elf_file({ segments: [{ flags: 5, bytes: Buffer.alloc(4096) }],
         sections: [relocations({ type: 2, addend: (1n << 64n) - 16n })] });
-    await pick_written('numbers', content);
+    await pick_written('numbers', content, 'relocations');
+    for (const text of ['-0x10', '−0x10']) await search(text, '1 of 1');
     const saved_cells = (name) => open_tab(name).then(() => saved_rows(name));
     assert.deepEqual([(await saved_cells('relocations'))[0][4], (await saved_cells('segments'))[0][2]],
         ['-0x10', '0x5']);

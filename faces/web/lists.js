@@ -121,8 +121,9 @@ const sources = {
     relocations({ address }, of) {
         const section = section_at(of), half = 1n << 63n, is_packed = section.sh_type === RELR;
         const type = ({ r_type }) => (is_packed ? 'packed, relative' : labels.relocation_type(r_type));
-        const added = { is_right: true, plain: (item) => addend(item).replace('−', '-'),
-            number: ({ r_addend = 0n }) => r_addend + half };
+        const with_hyphen = (text) => text.replace('−', '-'), plain = (item) => with_hyphen(addend(item));
+        const finder = (wanted) => (item) => plain(item).includes(with_hyphen(wanted));
+        const added = { is_right: true, plain, finder, number: ({ r_addend = 0n }) => r_addend + half };
         // (packed relocations have nothing but their offsets)
         const offsets = is_packed ? packed_offsets(section) : [];
         const packed = list_of(offsets.length, (at) => ({ r_offset: offsets[at], r_type: 0, r_sym: 0 }));
