@@ -1362,6 +1362,12 @@ check_program('At most a third is the map, no word is broken, and only the list 
         await click_row(1);
         await until_chosen(title);
         assert.deepEqual([await is_visible('#chosen'), await is_visible('#panel')], [true, width > 1000]);
+        // (with the arrow keys one walks through the list, which has the focus, too, once one is back there)
+        await click('#back');
+        if (width <= 1000) await until_active('#panel .grid');
+        await press('#panel .grid', 'ArrowDown');
+        await until_chosen((await cells(1))[2]);
+        assert.equal(await is_visible('#panel'), true);
         await evaluate('history.back()');
         await until(`document.getElementById('panel').offsetParent !== null`);
     }

@@ -52,7 +52,7 @@ async function found_by_name(place) {
 }
 
 let shown_places = 0;
-async function show_place(given) {
+async function show_place(given, is_step = false) {
     const mine = ++shown_places;
     if (!shown_file.summary) return;
     const place = await found_by_name(given) || 'summary';
@@ -69,8 +69,9 @@ async function show_place(given) {
     if (mine !== shown_places) return;
     const is_all = [tab.name, tab.of, item].filter((part) => part !== undefined).join('/') === place;
     if (!details && (item !== undefined || !is_all)) say(`The page finds nothing at #${visible(place)} in this file.`);
-    // (in a narrow window the side is visible while something is chosen, else the list)
-    document.body.classList.toggle('chosen', Boolean(details));
+    // (in a narrow window the side is visible while something is chosen, unless by a step in the list, else the list)
+    const is_in_list = is_step && get('panel').contains(document.activeElement);
+    document.body.classList.toggle('chosen', Boolean(details) && !is_in_list);
     const [block] = details?.blocks ?? [];
     mark_range(block?.at === undefined ? undefined : block, details?.title);
     await show_side(details ?? unchosen());
@@ -229,7 +230,10 @@ function start() {
     if (!is_supported()) { get('unsupported').hidden = false; return; }
     get('drop').hidden = false;
     get('limit').textContent = LIMIT_WORDS;
-    get('chosen').before(button('‹ List', () => document.body.classList.remove('chosen'), { id: 'back' }));
+    get('chosen').before(button('‹ List', () => {
+        document.body.classList.remove('chosen');
+        get('panel').querySelector('.grid')?.focus();
+    }, { id: 'back' }));
     set_up_map();
     set_up_side();
     set_up_tabs();

@@ -13,7 +13,7 @@ export function on_place(shows) {
 /** Goes to a location. The previous one stays in the history, unless it is to be replaced. */
 export function go(place, is_replaced = false) {
     note_place(place, is_replaced);
-    return show(place);
+    return show(place, is_replaced);
 }
 
 /** Writes a location that is already shown into the address bar. */
