@@ -814,6 +814,13 @@ check_program('The field goes to an offset, an address and a name, and says how 
     await go_by_field('there is no such name');
     await until_text('#none:not([hidden])',
         'The file has nothing at that offset or address, and nothing with that name.');
+    // (a touch may scroll the results, and a click chooses one)
+    await evaluate(`void (${one('#goto')}.value = '.dynsym', ${one('#goto')}.onfocus())`);
+    await until_text('#found li b', '.dynsym');
+    await evaluate(`void ${one('#found li')}.dispatchEvent(new PointerEvent('pointerdown', { bubbles: true }))`);
+    assert.equal(await is_hidden('found'), false);
+    await click('#found li');
+    await until_chosen('.dynsym');
     // (nothing is found for one who has left the field)
     await evaluate(`(() => {
         const field = document.getElementById('goto');

@@ -11,7 +11,7 @@ function show(places) {
     get('found').hidden = places.length === 0;
     get('goto').setAttribute('aria-expanded', places.length > 0);
     fill(get('found'), ...places.map((place, i) => make('li', {
-        role: 'option', id: `found-${i}`, onpointerdown: (event) => { event.preventDefault(); take(place); },
+        role: 'option', id: `found-${i}`, onmousedown: (event) => event.preventDefault(), onclick: () => take(place),
     }, put_text(make('b'), place.title),
         put_text(make('span'), place.read ? `${place.read}: ${place.detail}` : place.detail))));
     mark(0);
