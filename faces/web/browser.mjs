@@ -1664,6 +1664,7 @@ check('The keyboard reaches the described parts of the map, a row of a list, and
     const active = `document.activeElement.getAttribute('aria-activedescendant')`;
     assert.equal(await evaluate(`document.getElementById(${active}).children[1].textContent`), '.text');
     await click('#tab-header');
+    await until_there('#canvas[aria-valuetext="nothing is chosen"][aria-valuenow="0"]');
     await click('[popovertarget]');
     await until_there('body:has(#keys:popover-open) .fields.header[role=grid]');
     await evaluate(`${one('#keys')}.hidePopover()`);

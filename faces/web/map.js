@@ -262,6 +262,7 @@ async function describe(byte) {
 export function mark_range(range, title = '') {
     map.chosen = range && range.size > 0 && range.at < map.size
         ? { start: range.at, end: range.at + range.size } : undefined;
+    Object.assign(canvas, { ariaValueNow: 0, ariaValueText: 'nothing is chosen' });
     if (!map.chosen) { draw_map(); return; }
     const { start, end } = map.chosen;
     if (map.at < start || map.at >= end) map.at = start;
