@@ -1663,6 +1663,8 @@ check('The keyboard reaches the described parts of the map, a row of a list, and
     await until_chosen('.text');
     const active = `document.activeElement.getAttribute('aria-activedescendant')`;
     assert.equal(await evaluate(`document.getElementById(${active}).children[1].textContent`), '.text');
+    await browser.press('ArrowRight');
+    await until(`document.getElementById(${active}).textContent === '.text'`);
     await click('#tab-header');
     await until_there('#canvas[aria-valuetext="nothing is chosen"][aria-valuenow="0"]');
     await click('[popovertarget]');

@@ -135,12 +135,15 @@ export class Grid {
         });
         if (this.scroller.clientWidth > 0) this.measure();
         if (this.fitted !== `${this.needs} ${this.scroller.clientWidth}`) this.fit();
-        this.scroller.setAttribute('aria-activedescendant', this.active_line?.id ?? '');
+        // (the whole row, unless another cell than its first one is active)
+        const line = this.active_line, active = this.column ? line?.children[this.column] : line;
+        this.scroller.setAttribute('aria-activedescendant', active?.id ?? '');
     }
 
     make_line() {
         const cells = this.columns.map(({ is_right, is_dim }) =>
-            make('div', { class: `cell ${is_right ? 'right' : ''} ${is_dim ? 'dim' : ''}`, role: 'gridcell' }));
+            make('div', { class: `cell ${is_right ? 'right' : ''} ${is_dim ? 'dim' : ''}`, role: 'gridcell',
+                id: `cell-${++ids}` }));
         return make('div', { class: 'row', role: 'row', id: `row-${++ids}` }, ...cells);
     }
 
