@@ -1124,6 +1124,8 @@ check('A sentence says that a folder is dropped, that of two files one is opened
     mkdirSync(inside);
     await browser.drop(inside);
     await until_text('#trouble:not([hidden])', 'inside is a folder. Drop an ELF file that is in it.');
+    const dragged = `new DragEvent('dragenter', { dataTransfer: new DataTransfer(), cancelable: true })`;
+    assert.equal(await evaluate(`dispatchEvent(${dragged}) && ${one('.over')} === null`), true); // (no file)
     await browser.drop(program_file, made);
     await until_text('#said', 'The page shows one file at a time: x86_64_program. Of the 2 that were dropped, little64'
         + ' is not opened.');

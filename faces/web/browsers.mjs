@@ -341,7 +341,8 @@ export class Firefox extends Browser {
         await this.run(`(() => {
             const given = ${JSON.stringify(given)}, files = given.map(([name]) => new File(['no ELF file'], name)),
                 items = given.map(([, isDirectory]) => ({ webkitGetAsEntry: () => ({ isDirectory }) }));
-            dispatchEvent(Object.assign(new Event('drop', { cancelable: true }), { dataTransfer: { files, items } }));
+            dispatchEvent(Object.assign(new Event('drop', { cancelable: true }),
+                { dataTransfer: { types: ['Files'], files, items } }));
         })()`);
     }
 }

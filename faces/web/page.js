@@ -204,13 +204,12 @@ function set_up_files() {
     get('example').addEventListener('click', async () => open(new File([await inflated('example-file')], 'example')));
     let inside = 0;
     const over = (by) => { inside = Math.max(inside + by, 0); document.body.classList.toggle('over', inside > 0); };
-    addEventListener('dragenter', (event) => { event.preventDefault(); over(1); });
-    addEventListener('dragleave', () => over(-1));
-    addEventListener('dragover', (event) => event.preventDefault());
-    addEventListener('drop', (event) => {
+    const acts = { dragenter: () => over(1), dragleave: () => over(-1), dragover: () => {},
+        drop: ({ dataTransfer }) => { over(-inside); drop(dataTransfer); } };
+    for (const [name, act] of Object.entries(acts)) addEventListener(name, (event) => {
+        if (!event.dataTransfer.types.includes('Files')) return; // (a text, which a field may take)
         event.preventDefault();
-        over(-inside);
-        drop(event.dataTransfer);
+        act(event);
     });
 }
 
