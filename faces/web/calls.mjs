@@ -667,6 +667,11 @@ check('Strings are compared, closed by a zero byte, and found many at once', () 
     for (const [offset, start] of [[1, 'ain'], [9, 'ends'], [5, '\0'], [12, '']])
         assert.equal(names.starts_with(offset, start), false);
     assert.deepEqual([names.get_start(1, 3), names.get_start(12, 3)], [new Uint8Array(Buffer.from('mai')), undefined]);
+    // (a name may be bytes of the file, which a call may move: here the memory ends two bytes after the file)
+    const whole = Elf.parse(own), { sh_name } = whole.section('.text'), at = whole.shdr_strtab().range.offset,
+        more = Buffer.alloc(65534 - (whole.bytes.byteOffset + own.length) % 65536);
+    const near = Elf.parse(Buffer.concat([own, more]));
+    assert.ok(near.shdr_strtab().is(sh_name, near.bytes.subarray(Number(at + sh_name)).subarray(0, 5)));
     const closed = [0, 1, 9, 12].map((offset) => names.get_closed_bytes(offset)?.length);
     assert.deepEqual(closed, [0, 4, undefined, undefined]);
     const offsets = Array.from({ length: 200 }, (_, i) => i % 14);

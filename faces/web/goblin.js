@@ -1761,7 +1761,8 @@ export class Strtab {
     }
 
     #compare(name, offset, text) {
-        const memory = this.#memory, bytes = typeof text === 'string' ? encoder.encode(text) : bytes_of(text);
+        // (bytes of the file itself are copied, as passing them may move the file)
+        const memory = this.#memory, bytes = typeof text === 'string' ? encoder.encode(text) : bytes_of(text).slice();
         const passed = memory.pass_bytes(bytes);
         return memory.test(name, memory.pass(NAMES, 'range', this.range), unsigned(offset, 64), ...passed);
     }
