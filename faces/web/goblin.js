@@ -1547,7 +1547,7 @@ export class Symtab extends List {
      * ```
      * @returns {AddressMap}
      */
-    address_map() { return new AddressMap(this, (index) => this.#held_by(index)); }
+    address_map() { return new AddressMap(this, this.#held_by()); }
 
     /**
      * Returns the index of the first symbol with a name, if there is one. Throws if the string table is not
@@ -1576,14 +1576,16 @@ export class Symtab extends List {
         return memory.find('goblin_symbol_by_name', 'symbol', table, names, ...bytes, unsigned(first, 64));
     }
 
-    // Returns the first and the last address that the section at an index holds, if it holds one.
-    #held_by(index) {
+    // Returns a function of an index: the first and the last address that the section there holds, if it holds any.
+    #held_by() {
         const memory = this.#memory, { e_type } = read(memory.view, Number(memory.header), records.header);
-        const section = index < SHN_LORESERVE
-            ? memory.call('goblin_section', 'section', memory.header, unsigned(index, 64)) : undefined;
-        if (!section?.sh_size || (e_type !== ET_REL && !is_alloc(section))) return undefined;
-        const first = e_type === ET_REL ? 0n : section.sh_addr;
-        return { first, last: last_of(first, section.sh_size) };
+        return (index) => {
+            const section = index < SHN_LORESERVE
+                ? memory.call('goblin_section', 'section', memory.header, unsigned(index, 64)) : undefined;
+            if (!section?.sh_size || (e_type !== ET_REL && !is_alloc(section))) return undefined;
+            const first = e_type === ET_REL ? 0n : section.sh_addr;
+            return { first, last: last_of(first, section.sh_size) };
+        };
     }
 }
 
