@@ -784,10 +784,7 @@ export class Elf {
      * @param {ProgramHeader} segment
      * @returns {Uint8Array | undefined}
      */
-    segment_data(segment) {
-        const range = this.range(segment);
-        return range && this.#memory.bytes(range);
-    }
+    segment_data(segment) { return this.section_data(segment); }
 
     /**
      * Returns those bytes of a section or a segment that are inside the file. Their number is 0 if they start at the
@@ -1116,23 +1113,16 @@ function reloc({ r_offset, r_sym, r_addend, r_type, has_addend }) {
 const ranges_of = ({ name_offset, name_size, desc_offset, desc_size }) =>
     [plain({ offset: name_offset, size: name_size }), plain({ offset: desc_offset, size: desc_size })];
 
-function note(memory, fields) {
+// Returns a function that returns a note, whose name is read as a `string` or as `bytes`.
+const note_of = (form) => (memory, fields) => {
     const [name_range, desc_range] = ranges_of(fields), { n_type, next } = fields;
     return plain({
         n_type, name_range, desc_range, next,
-        get name() { return memory.string(name_range); },
+        get name() { return memory[form](name_range); },
         get desc() { return memory.bytes(desc_range); },
     });
-}
-
-function note_bytes(memory, fields) {
-    const [name_range, desc_range] = ranges_of(fields), { n_type, next } = fields;
-    return plain({
-        n_type, name_range, desc_range, next,
-        get name() { return memory.bytes(name_range); },
-        get desc() { return memory.bytes(desc_range); },
-    });
-}
+};
+const note = note_of('string'), note_bytes = note_of('bytes');
 
 function all_notes({ notes, refusal }) {
     if (refusal) throw refusal;
