@@ -813,7 +813,7 @@ check_program('The field goes to an offset, an address and a name, and says how 
     await until_chosen('.dynstr');
     await go_by_field('there is no such name');
     await until_text('#none:not([hidden])',
-        'The file has nothing at that offset or address, and nothing with that name.');
+        'The file has nothing at that offset or address, and no such name as it is in the file.');
     // (a touch may scroll the results, and a click chooses one)
     await evaluate(`void (${one('#goto')}.value = '.dynsym', ${one('#goto')}.onfocus())`);
     await until_text('#found li b', '.dynsym');

@@ -35,7 +35,7 @@ async function take({ title, to, read }) {
 }
 
 // Says what there is in place of results.
-const NONE = 'The file has nothing at that offset or address, and nothing with that name.', SOON = 100;
+const NONE = 'The file has nothing at that offset or address, and no such name as it is in the file.', SOON = 100;
 const report = (text) => Object.assign(get('none'), { textContent: text, hidden: !text });
 
 /** Hides the results, and forgets what was searched. */
