@@ -101,7 +101,8 @@ function what_it_is() {
         stripped && kind !== 'object' && 'stripped', kind !== 'core' && sections().length > 0 && debug];
     return [row('kind', sentence.filter(Boolean).join(', ')),
         { ...row('broken', also.length > 0 ? 'yes:'
-            : 'no: tables, sections and segments lie in the file, and no sections overlap'), also },
+            : `no: tables${file.has_segments ? ', sections and segments' : ' and sections'} lie in the file, and no`
+                + ' sections overlap'), also },
         e_entry && row('starts at', '', has_addresses() ? to_address(e_entry) : undefined),
         said('own name', 'soname')];
 }
