@@ -1,5 +1,4 @@
-// The sizes: the file's pieces, and the functions and variables inside them, as areas. One that is twice as large has
-// twice as many bytes.
+// The sizes: the file's pieces, and the functions and variables inside them, as areas in proportion to their bytes.
 import { count, get, in_bytes, make, put_text, visible } from './dom.js';
 import { readable_on } from './map.js';
 import { ask, shown_file } from './reader.js';

@@ -1,8 +1,7 @@
 // Tests the page in a browser, beside readelf and C: browser.mjs NAME BROWSER PAGE DUMP MADE STORED
-// NAME is chromium or firefox, DUMP is the program of faces/c/dump.c, and MADE is the folder of the files that
-// faces/c/made.c makes. STORED is checks/files, which has files with what readelf printed of them, and what it and
-// c++filt call relocations and symbols. The test picks each file as a person does, and follows the page's links. The
-// page may send no request, no script may fail, and no name may be markup.
+// NAME is chromium or firefox, DUMP the program of faces/c/dump.c, MADE the folder of the files that faces/c/made.c
+// makes, and STORED checks/files, with what readelf printed of files, and what it and c++filt call relocations and
+// symbols. Files are picked as by a person. The page may send no request, no script may fail, and no name be markup.
 import assert from 'node:assert/strict';
 import { spawnSync } from 'node:child_process';
 import { randomBytes } from 'node:crypto';
@@ -29,8 +28,7 @@ const checks = [];
 const evaluate = (expression) => browser.evaluate(expression);
 const until = (expression) => browser.until(expression);
 
-// Expressions for an element, and for the first one of several with a text; and the results of an expression for
-// several items.
+// Expressions for an element, and for the first one with a text, and the results of one for several items.
 const one = (selector) => `document.querySelector(${quoted(selector)})`;
 const with_text = (place, text) =>
     `[...document.querySelectorAll(${quoted(place)})].find((item) => item.textContent === ${quoted(text)})`;
@@ -99,8 +97,7 @@ async function has_texts(wanted, read = text_of) {
         (text instanceof RegExp ? assert.match : assert.equal)(await read(name), text, name);
 }
 
-// Goes to a location, back or forward, or to that of a link, and waits until the title of what is chosen has a text.
-// There fields have texts.
+// Goes to a location, back or forward, or along a link, until what is chosen has a title. There fields have texts.
 const go = (place, title, fields = {}) =>
     set_place(place).then(() => until_chosen(title)).then(() => has_texts(fields, field_of));
 const go_in_history = (way, title) => evaluate(`history.${way}()`).then(() => until_chosen(title));
@@ -316,8 +313,7 @@ async function facts(path, title = '') {
 const lines_of = (title) => facts('', title).then((rows) => rows.map(([name, value]) => `${name}, ${value}`));
 const value_in = (rows, name) => rows.find(([title]) => title === name)?.[1];
 
-// What rests on what the page reads itself is below a mark, one a block. What a cut file lacks is unknown. (test.mjs
-// compares all facts with their table.)
+// What rests on what the page reads itself is below a mark, one a block. What a cut file lacks is unknown.
 check('The first tab says in words what readelf lists of a program, in the order of what a person asks', async () => {
     const rows = await facts(program_file), of = (name) => [value_in(rows, name)].filter(Boolean);
     assert.deepEqual(await each_of('#panel .summary h3', 'item.textContent'), ['What it is', 'What protects it',
@@ -636,8 +632,7 @@ check('Names depend on the machine and the owner, and numbers without a name are
         h1: 'goblin what an ELF file holds' });
 });
 
-// Names of C++: some of each form that is read, and some that are left alone: very long ones, with an expression, a
-// lambda, and an older name of Rust.
+// Names of C++: some of each form that is read, and some that are left alone, as long ones, and those of an old Rust.
 const READ = ['_ZN5space5ClassILi5ELb1ELm7EEC2ERKS1_', '_ZNKSs4sizeEv',
     '_ZStlsISt11char_traitsIcEERSt13basic_ostreamIcT_ES5_PKc', '_ZTVN1a1bE', '_ZN1aIiEaSEOS0_', '_Z3mapIPFvPKciEET_S3_',
     '_ZThn16_N1a1bEv', '_ZN3fooB5cxx11ILN1k1eE3EJidEE3barEv.part.0', '_ZNO1a1bEVPKi', '_ZN12_GLOBAL__N_11aD1Ev',
@@ -832,8 +827,7 @@ check_program('The field goes to an offset, an address and a name, and says how 
     })()`);
     await setTimeout(500);
     assert.equal(await is_hidden('found'), true);
-    // Digits without 0x are decimal or hexadecimal. The page says how it reads them, and has a link to the
-    // other reading.
+    // Digits without 0x are decimal or hexadecimal. The page says how it reads them, and links to the other reading.
     const readings = ['offset 0x64, read as decimal', 'offset 0x100, read as hexadecimal'];
     for (const [text, [taken, other]] of [['100', readings], ['0000000000000100', readings.toReversed()]]) {
         await go_by_field(text, taken.split(',')[0]);
@@ -1408,8 +1402,7 @@ check('What is narrower than a pixel is drawn as a pixel', async () => {
         /each below 0.05 %: ELF header, header tables, symbols and names, notes, padding/);
 });
 
-// The number of bytes of the map's rows, the map's place, the width of a row without its offset, and a wait for the
-// line above the map.
+// The bytes of a row of the map, the map's place, the width of a row's bar, and a wait for the line above the map.
 const each_row = async () =>
     Number(/each row has ([\d,]+) bytes/.exec(await text_of('#readout'))[1].replaceAll(',', ''));
 const canvas_box = () => evaluate(`document.getElementById('canvas').getBoundingClientRect().toJSON()`);
@@ -1456,8 +1449,7 @@ check_program('A segment is outlined in each of its rows on the map', async () =
     assert.deepEqual(rows, Array.from({ length: last - first + 1 }, (_, i) => first + i));
 });
 
-// Points at the map, whose line above says what is below the pointer, until that leaves. Returns the line, and the
-// offset that it names.
+// Points at the map, whose line above says what is below the pointer. Returns the line, and the offset in it.
 async function pointed(x, y) {
     await browser.point(5, 5);
     await readout(/^\d+ parts, drawn to scale/);

@@ -19,8 +19,7 @@ export async function waited(what, find) {
     throw new Error(`not so after ${PATIENCE / 1000} seconds: ${what}`);
 }
 
-// A WebSocket for texts (RFC 6455). Node 20 has none without an option, and with the option one that stops after
-// 4,096 messages.
+// A WebSocket for texts (RFC 6455). Node 20 has one by an option alone, which stops after 4,096 messages.
 class Socket {
     #rest = Buffer.alloc(0);
     #parts = [];

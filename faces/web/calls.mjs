@@ -1,7 +1,6 @@
 // Tests the calls of goblin.js against its comments: calls.mjs FOLDER FILE..
-// The files are read whole, cut and damaged. The call that makes a list must throw, or each way to iterate over the
-// list must have all items. It also tests that the constants are the library's, and that the package and the
-// declarations have all that goblin.js exports.
+// The files are read whole, cut and damaged. The call that makes a list must throw, or each way to iterate over it
+// must have all items. The constants must be the library's, and the package and the declarations must be complete.
 import assert from 'node:assert/strict';
 import { existsSync, readdirSync, readFileSync } from 'node:fs';
 import { join, resolve } from 'node:path';
@@ -42,8 +41,7 @@ check('Without 64-bit memories an error says which engines have them', async () 
     WebAssembly.validate = validate;
 });
 
-// Returns a module with another name for one of its exports. Their names, each after its length, come before those of
-// all functions.
+// Returns a module in which an export has another name. (Such names, after their lengths, come before all others.)
 function without(module, name) {
     const copy = Buffer.from(module), at = copy.indexOf(Buffer.from([name.length, ...Buffer.from(name)]));
     assert.ok(at > 0, name);
@@ -195,8 +193,7 @@ function has_each(list, items, what) {
     assert.equal(JSON.stringify(list), JSON.stringify(items), what);
 }
 
-// Returns the lists of a file: a title, the call that makes the list, how many bytes from the start of the file it
-// needs, and the items.
+// Returns the lists of a file: a title, the call that makes it, how many of the first bytes it needs, and the items.
 function lists_of(whole) {
     const { e_phoff, e_phnum, e_shoff, e_shnum } = whole.header,
         [of_segment, of_section] = whole.is_64() ? [56n, 64n] : [32n, 40n];
@@ -617,8 +614,7 @@ check('Addresses have offsets in the file', () => {
     assert.throws(() => Elf.parse(own.subarray(0, 64)).address_to_offset(0), is_refusal(Kind.BUFFER_TOO_SHORT));
 });
 
-// The type of the file is at offset 16, and the address of its entry at 24 (the files for this machine are
-// little endian).
+// The type of the file is at offset 16, and the address of its entry at 24. (These files are little endian.)
 check('The entry and whether a file is a library are those of its header', () => {
     assert.equal(Elf.parse(own).entry(), own.readBigUInt64LE(24));
     for (const [type, is_lib] of [[1, false], [2, false], [3, true], [4, false], [0x300, false]]) {

@@ -1,5 +1,4 @@
-// What the notes of a core file of Linux hold, read by numbers. The library reads the notes; what their descriptors
-// mean is not proved.
+// What the notes of a core of Linux hold, read by numbers. The library reads the notes; what they mean is not proved.
 import * as goblin from './goblin.js';
 import { number_at } from './dynamic.js';
 import { file, is_wide, name_at } from './file.js';

@@ -33,8 +33,7 @@ const length_of = ({ left, right, pack }) =>
     (pack ? pack.reduce((all, item) => all + length_of(item) + 2, 0) : left.length + right.length);
 
 // A reader of one name. What it reads is { left, right }, between which a name of that type would be. Of a name it is
-// also the last part, the arguments if that is a template, and the words after the parameters. It can be read again by
-// its number in `known`.
+// also the last part, a template's arguments, and the words after the parameters. It is read again from `known`.
 class Reader {
     at = 0; known = []; signs = 0;
     constructor(text) { this.text = text; }
@@ -158,8 +157,7 @@ class Reader {
             : this.is(/[NS\d]/y) ? this.name() : this.fail();
         return given.pack ? this.fail() : given;
     }
-    // Returns a type with words or a mark: `*`, `&` or `&&`. A reference to a reference is one to a value only
-    // if both are.
+    // Returns a type with words or a mark: `*`, `&` or `&&`. A reference to a reference is `&&` only if both are.
     marked(mark, { left, right, form = '' }) {
         const is_word = mark[0] === ' ', is_reference = form[0] === '&';
         if (is_reference ? mark[0] !== '&' : is_word && form === 'function') this.fail();

@@ -1,5 +1,4 @@
-// Elements of the page and their texts. A text of a file is always inserted as text, with invisible characters
-// made visible.
+// Elements of the page and their texts. A text of a file is inserted as text, with invisible characters made visible.
 import { shown, UNSEEN } from './text.js';
 
 export * from './text.js';

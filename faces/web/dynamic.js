@@ -33,8 +33,7 @@ export function versions() {
     return all;
 }
 
-// Returns the number of dynamic symbols: that of the hash table, or that of the last chain of a table of GNU's form,
-// which ends at an odd number.
+// Returns the number of dynamic symbols: that of the hash table, or of the last chain of GNU's, which an odd one ends.
 function symbol_count() {
     const hash = offset_of(goblin.DT_HASH), gnu = offset_of(goblin.DT_GNU_HASH);
     const wide = file.elf.header.e_machine === goblin.EM_S390 ? word() : 4n;

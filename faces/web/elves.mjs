@@ -35,8 +35,7 @@ export function note(owner, type, descriptor) {
 export const symbol = ({ name = 0, info = 0, other = 0, shndx = 0, value = 0, size = 0 }) =>
     packed([name, 4], [info, 1], [other, 1], [shndx, 2], [value, 8], [size, 8]);
 
-/** Returns a file with a symbol table: a symbol of zeros, and others, each with its name as `text`. Other sections are
- * after it. */
+/** Returns a file with a symbol of zeros, other symbols, whose names are their `text`, and then other sections. */
 export function symbols_file(symbols, ...others) {
     const names = Buffer.from(`\0${symbols.map(({ text = '' }) => `${text}\0`).join('')}`);
     let next = 1;
@@ -61,8 +60,7 @@ export const noted_file = (notes, { segments = [], ...given } = {}) =>
 export const dynamic_file = (bytes, entries, given) => elf_file({ type: 3,
     segments: [{ vaddr: 0x400000, bytes }, { type: 2, bytes: longs(...entries) }], ...given });
 
-/** Returns a file with sections and segments, of the fields below. The section at index 0 and the section names at the
- * end are added. */
+/** Returns a file with sections and segments, of the fields below. Section 0 and the section names are added. */
 export function elf_file({ type = 1, machine = 62, osabi = 0, sections = [], segments = [] }) {
     const parts = [];
     let at = 64 + 56 * segments.length;

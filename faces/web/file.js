@@ -1,5 +1,4 @@
-// The file that the worker reads, with what several modules need of it: sizes, names of sections, and texts
-// of refusals.
+// The file that the worker reads, and what modules share of it: sizes, names of sections, and texts of refusals.
 import * as goblin from './goblin.js';
 import { count, hex, name_of, NAME, once, two_digits } from './text.js';
 
@@ -7,8 +6,7 @@ export const file = { elf: undefined, bytes: new Uint8Array(0), has_segments: tr
     get content() { return this.elf?.bytes ?? this.bytes; } };
 export const is_wide = () => file.elf.is_64();
 
-// The fields of records with their sizes if these are not four bytes, in files of each class. A `w` is 4 or 8, by the
-// class.
+// The fields of records in files of each class, with sizes of other than 4 bytes. A `w` is 4 or 8, by the class.
 const RECORDS = {
     header: ['magic ei_class:1 ei_data:1 ei_version:1 ei_osabi:1 ei_abiversion:1 padding:7 e_type:2 e_machine:2'
         + ' e_version e_entry:w e_phoff:w e_shoff:w e_flags e_ehsize:2 e_phentsize:2 e_phnum:2 e_shentsize:2'
@@ -54,8 +52,7 @@ export const part = (read, refused) => read_part(read, (error) => ({ refused: re
 /** Returns the result of reading a part, or a default if it is refused. */
 export const read_or = (other, read) => read_part(read, () => other);
 
-/** Returns a refusal for the page: the library's text, what was being read, the bytes that hold its offset, and perhaps
- * what that means. */
+/** Returns a refusal: the library's text, what was read, the bytes that hold its offset, and perhaps what it means. */
 export const refusal = ({ message: text, kind }, what, marks, words) => ({ text, kind, what, marks, words });
 
 // Returns in words that something ends past the end of the file, or nothing if it doesn't.

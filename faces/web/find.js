@@ -1,5 +1,4 @@
-// Finds what a text means: an offset, an address, or names. Each result is { title, detail, to }, and of digits without
-// 0x also { read }.
+// Finds what a text means: an offset, an address or names, as { title, detail, to }, and of bare digits also { read }.
 import { called, file, name_of_section, sections, symbol_tables, read_or } from './file.js';
 import { address_details, header_fields, is_address, offset_details } from './details.js';
 import { go_over, open_source } from './lists.js';
@@ -9,8 +8,7 @@ import { hex } from './text.js';
 
 const MOST = 40;
 
-// Returns the numbers that a text may mean, and how it is read if it has no 0x: first as decimal, unless it starts with
-// a zero, as in nm.
+// Returns the numbers that a text may mean, and how it is read: first as decimal, unless it starts with 0x or a zero.
 function numbers_in(text) {
     if (/^(0x[0-9a-f]{1,16}|0*\d)$/i.test(text)) return [{ value: BigInt(text) }];
     const decimal = /^\d{1,19}$/.test(text) ? [{ value: BigInt(text), read: 'read as decimal' }] : [];

@@ -1,5 +1,4 @@
-// Names of numbers: the library's, which are goblin's, if they are right for the file's machine and system; else the
-// page's own, or digits.
+// Names of numbers: the library's, if they are right for the file's machine and system; else the page's own, or digits.
 import * as goblin from './goblin.js';
 import { file, is_wide } from './file.js';
 import * as own from './names.js';

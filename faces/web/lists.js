@@ -12,9 +12,8 @@ import { count, hex, once } from './text.js';
 
 const { st_bind, st_type, st_visibility } = goblin;
 const SPECIAL = new Map([[0n, 'undefined'], [0xfff1n, 'absolute'], [0xfff2n, 'common'], [0xffffn, 'extended index']]);
-// A column has a title, a hint, such as the standard's name of the field, the least width, which of the columns gets
-// more of it first, a function that returns an item's text, and perhaps another one for a saved list, a number to sort
-// by, and a function that finds a text.
+// A column has a title, a hint, such as the field's name, the least width, which of the columns gets more of it first,
+// a function that returns an item's text, and perhaps one for a saved list, a number to sort by, and a finder of texts.
 const column = (title, hint, least, share, text, given) => ({ title, hint, least, share, text, ...given });
 // A column of the numbers that a function returns, and one of a field's numbers.
 const number = (title, hint, least, share, of, say = hex, given = { is_number: true }) =>

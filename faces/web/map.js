@@ -1,5 +1,4 @@
-// The map: the file's parts, drawn to scale, with the functions inside them, what their bytes are like, what is loaded,
-// and what is chosen.
+// The map: the file's parts, to scale, with functions, what their bytes are like, what is loaded, and what is chosen.
 import { clamp, fill, get, hex, in_bytes, is_of_browser, make, plural, put_text, two_digits, visible } from './dom.js';
 import { ask, shown_file } from './reader.js';
 import { go } from './route.js';

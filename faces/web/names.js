@@ -134,8 +134,7 @@ const RELOCATIONS = {
         PLT32 SET_ULEB128 SUB_ULEB128 TLSDESC_{HI20,LOAD_LO12,ADD_LO12,CALL} @191 VENDOR`)],
 };
 
-/** Returns the name of a relocation's type, with its prefix. In 64-bit files for MIPS a number has three types, one in
- * each byte. */
+/** Returns the name of a relocation's type, with its prefix. In 64-bit files for MIPS there are three, one a byte. */
 export function relocation_type(type, machine, is_wide) {
     const [prefix, names] = RELOCATIONS[machine] ?? [];
     if (machine !== EM.MIPS || !is_wide) return names?.has(type) ? prefix + names.get(type) : undefined;

@@ -1,5 +1,4 @@
-// The workers, each of which reads one file. The page shows what the current one sends. A new one replaces it once its
-// file is read.
+// The workers, each of which reads one file. A new one replaces the one that the page shows once its file is read.
 import { get, inflated } from './dom.js';
 
 // A module with only a 64-bit memory.

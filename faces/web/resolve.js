@@ -34,8 +34,7 @@ const names = once((table) => new Array(symtab_at(table).length));
 export const name_of_symbol = (table, index, symbol) => (names(table)[index] ??= read_name(table, index, symbol));
 export const title_of_symbol = (table, index, symbol) => name_of_symbol(table, index, symbol) || `symbol ${index}`;
 
-// How many names are read at once, and of how many bytes the longest string of their table may be then. (In a damaged
-// table each name may be all of it.)
+// How many names are read at once, and the longest string of their table then. (In a damaged one each may be all.)
 const AT_ONCE = 1024, LONGEST = 1 << 14;
 const has_short_strings = once((table) => {
     const { offset, size } = symtab_at(table).strtab.range,
@@ -89,8 +88,7 @@ export const has_mangled = once((table) => {
     return false;
 });
 
-/** Returns the address of a symbol. (For ARM the lowest bit marks a function in Thumb code. Thread-local symbols have
- * offsets instead.) */
+/** Returns the address of a symbol. (For ARM its lowest bit marks Thumb code. Thread-local symbols have offsets.) */
 export function address_of_symbol({ st_value, st_info }) {
     const type = goblin.st_type(st_info);
     if (file.elf.header.e_machine === goblin.EM_ARM && type === goblin.STT_FUNC) return st_value & ~1n;

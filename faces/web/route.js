@@ -1,5 +1,4 @@
-// The locations of the page, in the address bar: `sections/5`, `symbols/6/12` (symbol 12 of section 6),
-// `offset/0x2020`.
+// The locations of the page, in the address bar: `sections/5`, `symbols/6/12` (symbol 12 of section 6), `offset/0x20`.
 
 let show = () => {};
 

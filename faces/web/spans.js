@@ -9,8 +9,7 @@ export function first_after(ends, byte) {
     return low;
 }
 
-/** Returns the indices of ranges from a byte to another: those of a least size, and of smaller ones that lie so close
- * together the first. */
+/** Returns the indices of ranges between bytes: those of a least size, and the first of smaller ones close together. */
 export function* visible_ranges(starts, ends, from, to, least) {
     for (let i = first_after(ends, from); starts[i] < to;) {
         yield i;

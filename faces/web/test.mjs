@@ -1,6 +1,5 @@
 // Tests goblin.js against C: test.mjs FOLDER DUMP FILE.. What goblin.js in FOLDER reads of the files and of damaged
-// copies must be, line by line, what DUMP prints, the program of faces/c/dump.c. The module must have no imports, and
-// goblin.js goblin.h's structs and refusals.
+// copies must be what DUMP (faces/c/dump.c) prints. The module must have no imports, and goblin.h's structs and kinds.
 import assert from 'node:assert/strict';
 import { spawnSync } from 'node:child_process';
 import { mkdtempSync, readFileSync, rmSync, writeFileSync } from 'node:fs';
@@ -152,8 +151,7 @@ function check_made_facts(of) {
     assert.deepEqual([of_debug.kind, of_debug.cut], ['debug file', false]);
 }
 
-// Cells that a spreadsheet would run as formulas if it splits lines at commas or at semicolons, and characters that
-// can't be seen.
+// Cells that a spreadsheet would run as formulas if it splits lines at commas or semicolons, and unseen characters.
 function check_csv() {
     const cells = [
         ['=1+1', `"'=1+1"`], ['+1', `"'+1"`], ['-1+1', `"'-1+1"`], ['@a', `"'@a"`], ["'a", `"''a"`], [' =1', `"' =1"`],
@@ -438,8 +436,7 @@ function any(below) {
     return Number(state % BigInt(below));
 }
 
-// Returns a copy with some bytes changed, most of them among those that hold offsets and sizes, or with the
-// end cut off.
+// Returns a copy with some bytes changed, most of them among those of offsets and sizes, or with the end cut off.
 function damaged(content) {
     const copy = Buffer.from(any(4) ? content : content.subarray(0, any(content.length + 1)));
     for (let changes = any(9); changes > 0 && copy.length > 0; changes--) {

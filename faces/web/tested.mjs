@@ -3,8 +3,7 @@ import { existsSync } from 'node:fs';
 import { join, resolve } from 'node:path';
 import { pathToFileURL } from 'node:url';
 
-/** Returns what goblin.js of a folder exports. If a file is missing there, as in a checkout, prints how to make it, and
- * exits. */
+/** Returns what goblin.js of a folder exports. If a file is missing there, prints how to make it, and exits. */
 export async function import_goblin(folder) {
     const missing = ['goblin.js', 'constants.js', 'goblin_c.wasm']
         .filter((name) => !existsSync(join(folder ?? '', name)));

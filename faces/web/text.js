@@ -6,11 +6,8 @@ const strict = new TextDecoder('utf-8', { fatal: true, ignoreBOM: true });
 // (a stack may have no room for more arguments)
 const MANY = 1 << 13;
 
-/**
- * Returns the text of bytes. If they are not UTF-8, each byte from 0x80 on is the character U+DC00 plus the byte, which
- * UTF-8 doesn't have. (Most names are ASCII. In Chromium the text that a decoder makes of one is made, searched and
- * sorted several times as slowly as this one.)
- */
+/** Returns the text of bytes. If they are not UTF-8, each byte from 0x80 on is the character U+DC00 plus it, which
+ * UTF-8 doesn't have. (Most names are ASCII. In Chromium a decoder's text of one is searched and sorted slowly.) */
 export function text_of(bytes) {
     const text = bytes.length > MANY ? Array.from(bytes, (byte) => String.fromCharCode(byte)).join('')
         : String.fromCharCode.apply(null, bytes);

@@ -1,6 +1,5 @@
-// Reads one file for the page. A message { id, call, given } is answered with { id, result } or { id, error }. A
-// refusal of the library is { refused } in `result`. What takes long is done in steps, and ends if the same is
-// requested again.
+// Reads one file for the page. { id, call, given } is answered with { id, result } or { id, error }, and a refusal of
+// the library is { refused } in `result`. What takes long is done in steps, and ends if the same is requested again.
 import init, * as goblin from './goblin.js';
 import { csv_line } from './csv.js';
 import { address_details, header_fields, is_address, item_details, offset_details } from './details.js';
