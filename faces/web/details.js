@@ -77,10 +77,8 @@ function section_details(item, index) {
             sh_link: ['', to_section_number(sh_link)], sh_info: [INFO_WORDS[sh_type] ?? '', info_link(item)],
             sh_addralign: '', sh_entsize: '',
         }),
-        blocks: [
-            block('bytes', () => file.elf.range(item), (error) => section_refusal(error, 'the bytes', index)),
-            record('section header', 'section', header_at('section', index)),
-        ],
+        blocks: [block('bytes', () => file.elf.range(item), (error) => section_refusal(error, 'the bytes', index)),
+            record('section header', 'section', header_at('section', index))],
     };
 }
 
@@ -104,10 +102,8 @@ function segment_details(item, index) {
             }),
             first.length > 0 && field('sections', '', is_cut ? `the first ${MOST_SECTIONS}` : '', ...first),
         ],
-        blocks: [
-            block('bytes', () => file.elf.range(item), (error) => segment_refusal(error, index)),
-            record('program header', 'segment', header_at('segment', index)),
-        ],
+        blocks: [block('bytes', () => file.elf.range(item), (error) => segment_refusal(error, index)),
+            record('program header', 'segment', header_at('segment', index))],
     };
 }
 
@@ -140,11 +136,9 @@ function symbol_details(item, index, table) {
                     : [`section ${of}`, to_section_number(of)],
             }),
         ],
-        blocks: [
-            ...(place ? [{ ...place,
+        blocks: [...(place ? [{ ...place,
                 word: !place.section ? 'bytes' : st_size ? `bytes in ${called(of)}` : from_place(of) }] : []),
-            entry(table, index, 'symbol'),
-        ],
+            entry(table, index, 'symbol')],
     };
 }
 
@@ -164,11 +158,9 @@ function relocation_details(item, index, of) {
                 field('r_type', r_type, named('', labels.relocation_type(r_type))),
                 field('r_sym', r_sym, '', symbol_link(section.sh_link, r_sym)), field('r_addend', addend(item))]),
         ],
-        blocks: [
-            ...(place ? [{ ...place, word: from_place(place.section) }] : []),
+        blocks: [...(place ? [{ ...place, word: from_place(place.section) }] : []),
             is_packed ? block('all of them', () => ({ offset: section.sh_offset, size: section.sh_size }))
-                : entry(of, index, item.r_addend === undefined ? 'rel' : 'rela'),
-        ],
+                : entry(of, index, item.r_addend === undefined ? 'rel' : 'rela')],
     };
 }
 
@@ -179,19 +171,15 @@ function note_details(item, index, by) {
     const registers = is_status && file.elf.header.e_type === goblin.ET_CORE ? registers_of(item) : [];
     return {
         title: title_of(item), what: `note ${count(index)} of ${by}`, kind: 'notes',
-        fields: [
-            field('name', note.name),
+        fields: [field('name', note.name),
             field('n_type', hex(note.n_type), named('NT_', type)),
             field('n_descsz', note.desc_range.size, in_bytes(note.desc_range.size)), field('from', '', '', of),
             thread !== undefined && field('thread', thread),
             registers.length > 0 && field('registers', '', 'not proved: read by this page, by numbers'),
             ...registers.map(([register, value]) =>
-                field(register, hex(value), '', is_address(value) ? at_address(value) : undefined)),
-        ],
-        blocks: [
-            block('descriptor', () => note.desc_range),
-            record('whole note', 'note', start, Math.min(end, file.content.length) - start),
-        ],
+                field(register, hex(value), '', is_address(value) ? at_address(value) : undefined))],
+        blocks: [block('descriptor', () => note.desc_range),
+            record('whole note', 'note', start, Math.min(end, file.content.length) - start)],
     };
 }
 
@@ -202,10 +190,8 @@ function part_details(index) {
     return {
         title: top?.title ?? 'gap', kind: top?.kind,
         what: depth > 1 ? `part ${count(index)}, ${depth} pieces overlap` : `part ${count(index)}`,
-        fields: [
-            field('from', hex(start), '', at_address(address_of_offset(start) ?? 0n)), field('to', hex(end)),
-            top && field('piece', '', '', link(top)), others.length > 0 && field('also', '', '', ...others.map(link)),
-        ],
+        fields: [field('from', hex(start), '', at_address(address_of_offset(start) ?? 0n)), field('to', hex(end)),
+            top && field('piece', '', '', link(top)), others.length > 0 && field('also', '', '', ...others.map(link))],
         blocks: [{ word: 'bytes', at: bytes.start, size: bytes.end - bytes.start }],
     };
 }
@@ -221,11 +207,9 @@ export function offset_details(offset) {
     const symbol = address === undefined ? undefined : symbol_of_address(address);
     return {
         title: `offset ${hex(offset)}`, what: pieces[0] ? `in ${pieces[0].title}` : 'in a gap', kind: pieces[0]?.kind,
-        fields: [
-            inside.length > 0 && field('in', '', '', ...inside),
+        fields: [inside.length > 0 && field('in', '', '', ...inside),
             address !== undefined && field('address', hex(address), '', at_address(address)),
-            symbol && field('symbol', '', '', to_symbol(symbol)),
-        ],
+            symbol && field('symbol', '', '', to_symbol(symbol))],
         blocks: [{ word: 'bytes from there on', at: offset, size: end - offset }],
     };
 }
@@ -244,12 +228,10 @@ export function address_details(address) {
         title: `address ${hex(address)}`,
         what: symbol ? `in ${symbol.name}` : section ? `in ${called(index)}` : 'in memory',
         kind: section ? kind_of(section) : pieces[0]?.kind,
-        fields: [
-            symbol && field('symbol', '', '', to_symbol(symbol)), of && field('section', '', '', of),
+        fields: [symbol && field('symbol', '', '', to_symbol(symbol)), of && field('section', '', '', of),
             inside.length > 0 && field('segment', '', '', ...inside.map(to_segment)),
             at === undefined ? field('offset', 'none', 'no bytes in the file')
-                : field('offset', hex(at), '', at_offset(at)),
-        ],
+                : field('offset', hex(at), '', at_offset(at))],
         blocks: at === undefined ? []
             : [{ word: 'bytes from there on', at, size: (pieces[0]?.end ?? file.content.length) - at }],
     };

@@ -24,16 +24,13 @@ export function hex_view(at, size, each, fields = []) {
     const node_of = (text, byte) => {
         const tint = fields.findIndex((field) => holds(field, byte)), title = fields[tint]?.name;
         const given = { 'data-field': title, 'data-tint': tint % 4, title, class: title === lit && 'lit' };
-        return title ? make('i', given, text)
-            : holds({ at, size }, byte) ? text : make('span', { class: 'dim' }, text);
+        return title ? make('i', given, text) : holds({ at, size }, byte) ? text : make('span', { class: 'dim' }, text);
     };
     const put = (of, between) => (cell, row = []) => fill(cell, ...row.flatMap((byte, i) =>
         [node_of(of(byte), row.at + i), i < each - 1 && between]));
     const wide = Math.ceil((3 * each - 1) * 7.3) + 10;
-    const columns = [
-        { least: 74, is_dim: true }, { least: wide, put: put(two_digits, ' ') },
-        { least: 60, share: 1, put: put(printed) },
-    ];
+    const columns = [{ least: 74, is_dim: true }, { least: wide, put: put(two_digits, ' ') },
+        { least: 60, share: 1, put: put(printed) }];
     const rows = async (from, count) => {
         const bytes = await ask('bytes', [first + from * each, count * each]);
         return Array.from({ length: Math.ceil(bytes.length / each) }, (_, i) => {

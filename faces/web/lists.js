@@ -58,15 +58,13 @@ const list_of = (length, get) => ({ length, get, *from(at = 0) { for (; at < len
 const sources = {
     sections: ({ address, offset, align, index }) => ({
         list: file.elf.section_headers(), place: 30,
-        columns: [
-            column('Name', 'sh_name', 126, 4, name_of_section),
+        columns: [column('Name', 'sh_name', 126, 4, name_of_section),
             column('Type', 'sh_type', 92, 0.6, ({ sh_type }) => labels.section_type(sh_type)),
             field('Address', 'sh_addr', address, 0.4), field('Offset', 'sh_offset', offset, 0.3),
             field('Size', 'sh_size', offset, 0.3),
             column('Flags', 'sh_flags', 118, 0.3, ({ sh_flags }) => labels.section_flags(sh_flags)),
             field('Link', 'sh_link', index, 0, String), field('Info', 'sh_info', index, 0, String),
-            field('Align', 'sh_addralign', align, 0, String), field('Entry', 'sh_entsize', 36, 0, String),
-        ],
+            field('Align', 'sh_addralign', align, 0, String), field('Entry', 'sh_entsize', 36, 0, String)],
         mark: is_refused,
         holds: ({ sh_addr, sh_offset, sh_size, sh_type, sh_flags }, value) =>
             (sh_flags & 2n && within(sh_addr, sh_size, value))
@@ -75,14 +73,12 @@ const sources = {
 
     segments: ({ address, offset }) => ({
         list: file.elf.program_headers(), place: 40,
-        columns: [
-            column('Type', 'p_type', 104, 1, ({ p_type }) => labels.segment_type(p_type)),
+        columns: [column('Type', 'p_type', 104, 1, ({ p_type }) => labels.segment_type(p_type)),
             column('Flags', 'p_flags', 46, 0, ({ p_flags }) => labels.segment_flags(p_flags),
                 { plain: ({ p_flags }) => hex(p_flags) }),
             field('Offset', 'p_offset', offset, 0.5), field('File size', 'p_filesz', offset, 0.5),
             field('Address', 'p_vaddr', address, 1), field('Memory size', 'p_memsz', Math.max(offset, 80), 0.5),
-            field('Physical', 'p_paddr', address, 1), field('Align', 'p_align', 66),
-        ],
+            field('Physical', 'p_paddr', address, 1), field('Align', 'p_align', 66)],
         mark: is_refused,
         holds: ({ p_offset, p_filesz, p_vaddr, p_memsz }, value) => within(p_offset, p_filesz, value)
             || within(p_vaddr, p_memsz, value),
@@ -102,8 +98,7 @@ const sources = {
             (item, index) => in_source(item, index) || name(item, index), { plain: in_source, finder });
         return {
             list, place: 48, has_demangled,
-            columns: [
-                column('Name', 'st_name', 180, 5, name), ...(has_demangled ? [in_cpp] : []),
+            columns: [column('Name', 'st_name', 180, 5, name), ...(has_demangled ? [in_cpp] : []),
                 field('Value', 'st_value', address, 0.3), field('Size', 'st_size', 62, 0, String),
                 column('Type', 'st_info, its low four bits', 74, 0,
                     ({ st_info }) => labels.symbol_type(st_type(st_info))),
@@ -111,8 +106,7 @@ const sources = {
                     ({ st_info }) => labels.symbol_binding(st_bind(st_info))),
                 column('Visibility', 'st_other', 78, 0,
                     ({ st_other }) => labels.symbol_visibility(st_visibility(st_other))),
-                column('Section', 'st_shndx', 90, 0.5, (item, index) => section_word(table, index, item)),
-            ],
+                column('Section', 'st_shndx', 90, 0.5, (item, index) => section_word(table, index, item))],
             holds: ({ st_value, st_size }, value) => st_value === value || within(st_value, st_size, value),
         };
     },
@@ -128,13 +122,11 @@ const sources = {
         const packed = list_of(offsets.length, (at) => ({ r_offset: offsets[at], r_type: 0, r_sym: 0 }));
         return {
             list: is_packed ? packed : file.elf.relocs(section), place: 48,
-            columns: [
-                field('Offset', 'r_offset', address, 0.6),
+            columns: [field('Offset', 'r_offset', address, 0.6),
                 column('Type', 'r_type', 165, 0.5, type, { number: ({ r_type }) => r_type }),
                 column('Symbol', 'the name of r_sym', 190, 4, (item) => symbol_of_relocation(section.sh_link, item)),
                 column('Addend', 'r_addend', address, 0.6, addend, added),
-                field('Index', 'r_sym', 56, 0, (index) => (is_packed ? '' : `${index}`)),
-            ],
+                field('Index', 'r_sym', 56, 0, (index) => (is_packed ? '' : `${index}`))],
             holds: ({ r_offset }, value) => r_offset === value,
         };
     },
@@ -143,15 +135,13 @@ const sources = {
         const { items } = notes_of(by), of_thread = { is_right: true, number: ({ thread = 0n }) => thread };
         return {
             list: list_of(items.length, (at) => items[at]), place: 40,
-            columns: [
-                column('From', 'the section or segment', 120, 1, ({ holder }) => holder.title),
+            columns: [column('From', 'the section or segment', 120, 1, ({ holder }) => holder.title),
                 column('Owner', 'the name', 72, 0.6, ({ note }) => note.name),
                 column('Type', 'n_type', 130, 0.8, ({ note }) => labels.note_type(note),
                     { number: ({ note }) => note.n_type }),
                 column('Thread', 'of a core', 60, 0, ({ thread = '' }) => `${thread}`, of_thread),
                 number('Size', 'n_descsz', 56, 0, ({ note }) => note.desc_range.size, String),
-                column('Descriptor', 'its first bytes', 160, 2, ({ note }) => digits_of(note.desc_range, 64)),
-            ],
+                column('Descriptor', 'its first bytes', 160, 2, ({ note }) => digits_of(note.desc_range, 64))],
             holds: ({ start, end }, value) => within(BigInt(start), BigInt(end - start), value),
         };
     },
@@ -161,16 +151,14 @@ const sources = {
         const share = (bytes) => (100 * bytes / file.content.length).toFixed(2);
         return {
             list: list_of(tops.length, (at) => at), place: 56,
-            columns: [
-                number('From', 'offset', offset, 0, (at) => starts[at]),
+            columns: [number('From', 'offset', offset, 0, (at) => starts[at]),
                 number('To', 'offset', offset, 0, (at) => ends[at]),
                 number('Bytes', 'size', 96, 0, size, count, { plain: (at) => `${size(at)}` }),
                 number('Share', 'of the file', 72, 0, size, (bytes) => `${share(bytes)} %`,
                     { plain: (at) => share(size(at)) }),
                 column('What', 'the piece that is drawn', 160, 2, (at) => (tops[at] ? titled(tops[at]).title : 'gap')),
                 column('Overlap', 'how many pieces lie there', 120, 1,
-                    (at) => (depths[at] > 1 ? `${depths[at]} pieces overlap` : ''), { number: (at) => depths[at] }),
-            ],
+                    (at) => (depths[at] > 1 ? `${depths[at]} pieces overlap` : ''), { number: (at) => depths[at] })],
             holds: (at, value) => within(BigInt(starts[at]), BigInt(size(at)), value),
         };
     },

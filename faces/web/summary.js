@@ -66,8 +66,7 @@ export function kind_in_words() {
     return `${words} for ${MACHINES[e_machine] ?? labels.machine(e_machine)}`;
 }
 
-const debug_sections = once(() =>
-    sections().filter((section) => is_debug(section) && section.sh_type !== SHT_NOBITS));
+const debug_sections = once(() => sections().filter((section) => is_debug(section) && section.sh_type !== SHT_NOBITS));
 
 // Returns lines that say what is wrong with the file, each with links to the places.
 function damage() {
@@ -161,8 +160,7 @@ function what_protects_it() {
     const has_stack = segment_of(goblin.PT_GNU_STACK), { kind } = all_facts();
     const flow = said('control-flow marks', 'control_flow', (names) => names.join(', ') || 'none');
     const signature = parts().added.find(({ title }) => title === 'module signature');
-    return [
-        kind !== 'library' && said('position-independent', 'pie', either('yes')),
+    return [kind !== 'library' && said('position-independent', 'pie', either('yes')),
         said('read-only relocations', 'relro', (word) => (word === 'no' ? 'no PT_GNU_RELRO' : word),
             to_segment(goblin.PT_GNU_RELRO)),
         said('functions are bound', 'bind_now', either('at the start', 'when they are first called')),
@@ -172,12 +170,10 @@ function what_protects_it() {
         said('stack canary', 'canary', either('yes', 'no symbol of one'), to_canary()),
         ['program', 'library'].includes(kind) && changes_code() && row('relocations of code', 'yes (DT_TEXTREL)'),
         flow && own(flow.name, flow.value),
-        signature && own('signature', 'there is one, which is not verified', { text: 'its bytes', to: signature.to }),
-    ];
+        signature && own('signature', 'there is one, which is not verified', { text: 'its bytes', to: signature.to })];
 }
 
-const first_rows = (rows, name, to) =>
-    shortened(rows, MOST_ROWS, (others) => own(name, others, { text: 'notes', to }));
+const first_rows = (rows, name, to) => shortened(rows, MOST_ROWS, (others) => own(name, others, { text: 'notes', to }));
 
 // Returns the rows of a core's threads. Those at the same instruction have one row.
 const POINTERS = new Set(['rip', 'rsp', 'eip', 'esp', 'pc', 'sp']);
