@@ -118,10 +118,7 @@ function show_loading(file, reader) {
     };
     document.body.ariaBusy = 'true';
     setTimeout(() => { is_soon = false; show(); }, SOON);
-    reader.on_progress = ({ progress, done }) => {
-        if (progress === 'open') left = file.size * (1 - done);
-        show();
-    };
+    reader.on_progress = ({ progress, done }) => { if (progress === 'open') left = file.size * (1 - done); show(); };
 }
 
 function end_loading() {
@@ -173,12 +170,10 @@ async function show_refusal(file, reader, { refused, start }) {
     const box = await refusal_of(is_elf ? refused : { ...refused, marks: [] });
     if (shown_file.reader !== reader) return;
     const other = OTHERS.find(([begin]) => String.fromCharCode(...start).startsWith(begin));
-    const words = is_elf ? [] : [
-        make('h2', {}, 'This is not an ELF file'),
+    const words = is_elf ? [] : [make('h2', {}, 'This is not an ELF file'),
         other && make('p', {}, `By its first bytes it is ${other[1]}.`),
         make('p', { class: 'what' }, 'An ELF file starts with 7f 45 4c 46. This one starts with:'),
-        lines_of(start, 0, (byte) => byte < MAGIC.length && start[byte] !== MAGIC[byte]),
-    ];
+        lines_of(start, 0, (byte) => byte < MAGIC.length && start[byte] !== MAGIC[byte])];
     show_part('refused', file);
     fill(get('refused'), ...words, ...box.childNodes);
 }
@@ -229,10 +224,8 @@ function start() {
     if (!is_supported()) { get('unsupported').hidden = false; return; }
     get('drop').hidden = false;
     get('limit').textContent = LIMIT_WORDS;
-    get('chosen').before(button('‹ List', () => {
-        document.body.classList.remove('chosen');
-        get('panel').querySelector('.grid')?.focus();
-    }, { id: 'back' }));
+    const back = () => { document.body.classList.remove('chosen'); get('panel').querySelector('.grid')?.focus(); };
+    get('chosen').before(button('‹ List', back, { id: 'back' }));
     set_up_map();
     set_up_side();
     set_up_tabs();
