@@ -283,22 +283,20 @@ check('Packed relocations and what only the dynamic section leads to are listed,
     await open_list('relocations/DT_JMPREL', plt);
     await is_listed(3, '.rela.plt', /R_\w+ +[0-9a-f]+ ([^@ ]+)/g);
     // (a hash table of s390 may say that symbols have more bytes than a number can)
-    await pick_written('hash', dynamic_file(longs(1, 1n << 61n, 0, 0), hash_entries(4), { machine: 22 }));
+    const tables = [[4, 0x400000], [6, 0x400000], [0, 0]];
+    await pick_written('hash', dynamic_file(longs(1, 1n << 61n), tables, { machine: 22 }));
     await open_list('symbols/DT_SYMTAB', 'refused');
     await has_texts({ '#panel .refused': / while reading the symbols of DT_SYMTAB: offset /, '#panel pre': null,
         '#tab-symbols span': 'refused' });
 });
 
-// Returns the entries of a dynamic section that has a hash table of some kind.
-const hash_entries = (tag) => [[tag, 0x400000], [5, 0x400010], [10, 8], [6, 0x400010], [0, 0]];
-
 check('A damaged file takes no long time, whatever its numbers say', async () => {
     const empty = { name: '', type: 2, bytes: Buffer.alloc(0) }, bytes = Buffer.alloc(24 * 20000),
         tables = elf_file({ type: 3, sections: [{ ...empty, bytes }, ...Array(20000).fill(empty)] });
-    for (let i = 2; i < 20000; i++)
-        tables.copy(tables, header_at(tables, i), header_at(tables, 1), header_at(tables, 2));
-    const buckets = packed([0xffffffff, 4], [1, 4], [1, 4], [0, 4]);
-    for (const content of [tables, dynamic_file(buckets, hash_entries(0x6ffffef5))])
+    const [first, second, last] = [1, 2, 20000].map((index) => header_at(tables, index));
+    tables.fill(Buffer.from(tables.subarray(first, second)), second, last);
+    const buckets = dynamic_file(longs(0x1ffffffffn, 1), [[0x6ffffef5, 0x400000], [6, 0x400000], [0, 0]]);
+    for (const content of [tables, buckets])
         await timed(() => pick_written('long', content).then(() => facts()));
 });
 
@@ -363,8 +361,7 @@ check('All libraries are in one row, up to a number, with how many there are and
     // (in a damaged file each name may be long, and of signs that are shown as several)
     const long = Buffer.alloc(4097, 1).fill(0, 0, 1).fill(0, 4096), text = Buffer.alloc(65536, 'x');
     const entries = [...Array(20).fill([1, 1]), [5, 0x400000], [10, long.length], [0, 0]];
-    await pick_written('long', dynamic_file(long, entries,
-        { sections: [{ name: '.comment', type: 1, bytes: text }] }));
+    await pick_written('long', dynamic_file(long, entries, { sections: [{ name: '.comment', type: 1, bytes: text }] }));
     const rows = await facts();
     const libraries = `20: ${Array(8).fill('U+0001'.repeat(4095)).join(', ')} and 12 more`;
     assert.ok(value_in(rows, 'libraries') === libraries && value_in(rows, 'compiler').startsWith(`${text}`));
@@ -800,31 +797,23 @@ check_program('The field goes to an offset, an address and a name, and says how 
     await go_by_field('main', 'main');
     assert.equal(await fragment(), main_place);
     // (Enter waits for a search that has begun)
-    await evaluate(`(() => {
-        const field = document.getElementById('goto');
-        field.value = '.dynstr';
-        field.onfocus();
-        field.dispatchEvent(new KeyboardEvent('keydown', { key: 'Enter' }));
-    })()`);
+    const field = one('#goto');
+    await evaluate(`void (${field}.value = '.dynstr', ${field}.onfocus(),
+        ${field}.dispatchEvent(new KeyboardEvent('keydown', { key: 'Enter' })))`);
     await until_chosen('.dynstr');
     await go_by_field('there is no such name');
     await until_text('#none:not([hidden])',
         'The file has nothing at that offset or address, and no such name as it is in the file.');
     // (a touch may scroll the results, and a click chooses one)
-    await evaluate(`void (${one('#goto')}.value = '.dynsym', ${one('#goto')}.onfocus())`);
+    await evaluate(`void (${field}.value = '.dynsym', ${field}.onfocus())`);
     await until_text('#found li b', '.dynsym');
     await evaluate(`void ${one('#found li')}.dispatchEvent(new PointerEvent('pointerdown', { bubbles: true }))`);
     assert.equal(await is_hidden('found'), false);
     await click('#found li');
     await until_chosen('.dynsym');
     // (nothing is found for one who has left the field)
-    await evaluate(`(() => {
-        const field = document.getElementById('goto');
-        field.focus();
-        field.value = 'main';
-        field.dispatchEvent(new Event('input'));
-        field.blur();
-    })()`);
+    await evaluate(`void (${field}.focus(), ${field}.value = 'main', ${field}.dispatchEvent(new Event('input')),
+        ${field}.blur())`);
     await setTimeout(500);
     assert.equal(await is_hidden('found'), true);
     // Digits without 0x are decimal or hexadecimal. The page says how it reads them, and links to the other reading.
@@ -888,10 +877,8 @@ check('Each row of a list that is higher than an element can be is reached', asy
     await press('#panel .grid', 'ArrowDown');
     await until_chosen('s2');
     // (the rows at its start may be forgotten, and another file be shown)
-    await evaluate(`(async () => { for (let at = 0; at < 80; at++) {
-        ${one('#panel .grid')}.scrollTop = 7e4 * at;
-        for (let frames = 0; frames < 2; frames++) await new Promise(requestAnimationFrame);
-    } })()`);
+    for (let at = 0; at < 80; at++)
+        await evaluate(`(${one('#panel .grid')}.scrollTop = ${7e4 * at}, new Promise(requestAnimationFrame))`);
     await pick(made);
     await setTimeout(250);
     assert.equal(await text_of('#said'), '');
@@ -1050,14 +1037,10 @@ check_program('Cells, rows, bytes and whole lists are copied and saved', async (
     await click(`${active_row} :nth-child(2)`);
     await until_chosen('main');
     assert.equal(await copied('Copy cell'), 'main');
-    assert.equal(await evaluate(`(() => {
-        const grid = document.querySelector('#panel .grid');
-        const event = new ClipboardEvent('copy',
-            { clipboardData: new DataTransfer(), bubbles: true, cancelable: true });
-        grid.focus();
-        grid.dispatchEvent(event);
-        return event.clipboardData.getData('text/plain');
-    })()`), 'main');
+    await focus('#panel .grid');
+    assert.equal(await evaluate(`((event) => ${one('#panel .grid')}.dispatchEvent(event)
+        || event.clipboardData.getData('text/plain'))(new ClipboardEvent('copy',
+        { clipboardData: new DataTransfer(), bubbles: true, cancelable: true }))`), 'main');
     const cells_of_main = [main.index, 'main', main_address, main.size, 'FUNC', 'GLOBAL', 'DEFAULT', '.text'];
     assert.equal(await copied('Copy row'), cells_of_main.join('\t'));
     assert.equal((await copied('Copy hex')).replaceAll(' ', ''), bytes_of(program_file, main_at, main.size));

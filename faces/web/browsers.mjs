@@ -163,13 +163,10 @@ export class Chromium extends Browser {
 
     // Subscribes to the requests and failures of a page, and to its workers before they start.
     async #watch(session) {
-        await Promise.all([
-            this.#ask('Network.enable', {}, session), this.#ask('Runtime.enable', {}, session),
-            this.#ask('Log.enable', {}, session),
-            this.#ask('Target.setAutoAttach',
-                { autoAttach: true, waitForDebuggerOnStart: true, flatten: true }, session),
-        ]);
-        await this.#ask('Runtime.runIfWaitingForDebugger', {}, session);
+        const ask = (method, given = {}) => this.#ask(method, given, session);
+        await Promise.all([ask('Network.enable'), ask('Runtime.enable'), ask('Log.enable'),
+            ask('Target.setAutoAttach', { autoAttach: true, waitForDebuggerOnStart: true, flatten: true })]);
+        await ask('Runtime.runIfWaitingForDebugger');
     }
 
     /** Runs a script before the scripts of each page. */

@@ -353,8 +353,7 @@ check('A writer says whether there is such an item, and what is refused changes 
         }
         assert.deepEqual([writer.put_header(header), writer.put_number(16, 2, header.e_type),
             writer.put_number_in(text, 2, 2, elf.number_in(text, 2, 2))], [undefined, undefined, undefined]);
-        for (const [put, kind, offset] of [
-            [() => writer.put_symbol({ ...table, sh_type: 1 }, 0, symbol), SECTION_TYPE],
+        for (const [put, kind, offset] of [[() => writer.put_symbol({ ...table, sh_type: 1 }, 0, symbol), SECTION_TYPE],
             [() => writer.put_reloc({ ...rela, sh_type: 1 }, 1, reloc), SECTION_TYPE],
             [() => writer.put_reloc(rela, 1, { ...reloc, r_addend: undefined }), INTEGER_FIT],
             [() => writer.put_reloc(rela, 1, wide), INTEGER_FIT, rela.sh_offset + of_rela + of_info],
@@ -365,8 +364,7 @@ check('A writer says whether there is such an item, and what is refused changes 
             [() => writer.put_number(3, 1, 256), INTEGER_FIT, 3n],
             [() => writer.put_number_in(text, 3, 1, 256), INTEGER_FIT, text.sh_offset + 3n],
             [() => writer.put_number_in(text, text.sh_size, 1, 0), BAD_OFFSET, text.sh_offset + text.sh_size],
-            [() => writer.put_number(content.length, 1, 0), BAD_OFFSET],
-        ]) assert.throws(put, is_refusal(kind, offset));
+            [() => writer.put_number(content.length, 1, 0), BAD_OFFSET]]) assert.throws(put, is_refusal(kind, offset));
         assert.equal(error_of(() => writer.put_reloc(rela, 1, wide)).numbers[0], 1n << 40n);
         // (nor is a number cut that fits no field)
         for (const [put, item, name, ...wrong] of [
@@ -420,9 +418,8 @@ check('A section links to the one at sh_link, unless that is 0, past the end or 
             if (found) linked++;
         }
         const without_bytes = sections.findIndex(({ sh_type }) => sh_type === goblin.SHT_NOBITS);
-        for (const sh_link of [0, sections.length, without_bytes < 0 ? 0 : without_bytes]) {
+        for (const sh_link of [0, sections.length, Math.max(without_bytes, 0)])
             assert.equal(elf.linked_section({ ...sections[0], sh_link }), undefined);
-        }
         assert.equal(elf.strtab(elf.linked_section(sections[0])).get(0), undefined);
     }
     assert.ok(linked > files.length, `${linked} sections`);
@@ -708,8 +705,7 @@ check('The dynamic section is that of a segment, or without program headers a se
         assert.throws(() => elf.dynamic_value(-1), RangeError);
     }
     const without = [elf_file({ segments: [{ bytes: text }], sections }), with_segment([[DT_NULL, 0n]]), noted];
-    for (const elf of without.map(Elf.parse))
-        assert.deepEqual([elf.dynamic(), elf.dynamic_value(1)], [[], undefined]);
+    for (const elf of without.map(Elf.parse)) assert.deepEqual([elf.dynamic(), elf.dynamic_value(1)], [[], undefined]);
     for (const content of [...without, with_segment(entries.slice(0, 3)), with_segment(entries.slice(1, 2))])
         assert.equal(Elf.parse(content).dynamic_strings().range.size, 0n);
     const long = new Uint8Array(of_section), writer = Elf.parse(long).writer(long);

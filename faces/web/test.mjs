@@ -18,8 +18,7 @@ const header = readFileSync(new URL('../c/goblin.h', import.meta.url), 'utf8');
 
 // Each byte of a struct's first field must be 1, of its second 2, and so on, as goblin_layout fills them.
 function check_layout() {
-    const fields = { refusal: 7, range: 2, header: 18, section: 10, segment: 8, symbol: 6, reloc: 5, note: 6,
-        dyn: 2 };
+    const fields = { refusal: 7, range: 2, header: 18, section: 10, segment: 8, symbol: 6, reloc: 5, note: 6, dyn: 2 };
     const layout = goblin.layout();
     assert.deepEqual(Object.keys(layout), Object.keys(fields));
     for (const [kind, { item, size, library_size }] of Object.entries(layout)) {
@@ -329,10 +328,8 @@ class Dump {
             if (index >= FEW) continue;
             this.write('goblin_put_segment', (writer) => writer.put_program_header(index, changed));
             const last = BigInt.asUintN(64, p_filesz - 1n);
-            for (const [offset, width, value] of [[0n, 8, 0x7f], [half, 2, 0x7f000], [last, 1, 0x7f]]) {
-                this.write('goblin_put_number_in',
-                    (writer) => writer.put_number_in(segment, offset, width, value));
-            }
+            for (const [offset, width, value] of [[0n, 8, 0x7f], [half, 2, 0x7f000], [last, 1, 0x7f]])
+                this.write('goblin_put_number_in', (writer) => writer.put_number_in(segment, offset, width, value));
         }
         this.ask('goblin_segment', () => list.get(list.length));
     }
@@ -430,9 +427,8 @@ class Dump {
 // Returns the next number of a sequence that is the same in each run.
 let state = 88172645463325252n;
 function any(below) {
-    for (const [by, left] of [[13n, true], [7n, false], [17n, true]]) {
+    for (const [by, left] of [[13n, true], [7n, false], [17n, true]])
         state ^= BigInt.asUintN(64, left ? state << by : state >> by);
-    }
     return Number(state % BigInt(below));
 }
 
