@@ -283,8 +283,7 @@ check('Packed relocations and what only the dynamic section leads to are listed,
     await open_list('relocations/DT_JMPREL', plt);
     await is_listed(3, '.rela.plt', /R_\w+ +[0-9a-f]+ ([^@ ]+)/g);
     // (a hash table of s390 may say that symbols have more bytes than a number can)
-    const tables = [[4, 0x400000], [6, 0x400000], [0, 0]];
-    await pick_written('hash', dynamic_file(longs(1, 1n << 61n), tables, { machine: 22 }));
+    await pick_written('hash', dynamic_file(longs(1, 1n << 61n), [[4, 0x400000], [6, 0x400000]], { machine: 22 }));
     await open_list('symbols/DT_SYMTAB', 'refused');
     await has_texts({ '#panel .refused': / while reading the symbols of DT_SYMTAB: offset /, '#panel pre': null,
         '#tab-symbols span': 'refused' });
@@ -296,8 +295,7 @@ check('A damaged file takes no long time, whatever its numbers say', async () =>
     const [first, second, last] = [1, 2, 20000].map((index) => header_at(tables, index));
     tables.fill(Buffer.from(tables.subarray(first, second)), second, last);
     const buckets = dynamic_file(longs(0x1ffffffffn, 1), [[0x6ffffef5, 0x400000], [6, 0x400000], [0, 0]]);
-    for (const content of [tables, buckets])
-        await timed(() => pick_written('long', content).then(() => facts()));
+    for (const content of [tables, buckets]) await timed(() => pick_written('long', content).then(() => facts()));
 });
 
 // Returns the rows of the summary, or of some of its blocks: the name and value of each, and the mark above them.

@@ -158,7 +158,9 @@ export class Chromium extends Browser {
             this.faults.push(params.exceptionDetails.exception?.description ?? params.exceptionDetails.text);
         // (without hints on rendering)
         if (method === 'Log.entryAdded' && params.entry.source !== 'rendering') this.refusals.push(params.entry.text);
-        if (method === 'Target.attachedToTarget') this.#watch(params.sessionId);
+        // (a worker may end before it is watched)
+        if (method === 'Target.attachedToTarget')
+            this.#watch(params.sessionId).catch(({ message }) => /^Session/.test(message) || this.faults.push(message));
     }
 
     // Subscribes to the requests and failures of a page, and to its workers before they start.
