@@ -11,6 +11,7 @@ endian, PN_XNUM, names from 64 KiB on, and nine notes.
 import glob
 import os
 import re
+import struct
 import subprocess
 import sys
 import tempfile
@@ -104,6 +105,63 @@ def differing(status, wanted, input, arguments=(), programs=PROGRAMS, output=Non
     return wrong
 
 
+def changed(file, *places, more=b''):
+    """A file with other bytes at some places, and more after its end."""
+    content = bytearray(Path(file).read_bytes())
+    for place, other in places:
+        content[place:place + len(other)] = other
+    return bytes(content) + more
+
+
+def widest():
+    """A 64-bit file with the greatest numbers of each column, and what is to be shown of it: a section that is not in the file, 65,537 symbols,
+    of which the last one has these numbers, and relocations with the least and the greatest addend and without one."""
+    most, count = 2 ** 64 - 1, 65_537
+    symbols = bytes(24 * (count - 1)) + struct.pack('<IBBHQQ', 0, 0x12, 0, 0xffff, most, most)
+    addends = struct.pack('<QQqQQq', most, most, -2 ** 63, 0, 0, 2 ** 63 - 1)
+    parts = [(8, most, b'', most), (2, 64, symbols, len(symbols)), (4, 64 + len(symbols), addends, len(addends)),
+             (9, 64 + len(symbols), addends[:16], 16)]
+    headers = b''.join(struct.pack('<IIQQQQIIQQ', 0, kind, 0, 0, offset, size, 0, 0, 0, 0) for kind, offset, _, size in parts)
+    start = b'\x7fELF\2\1\1'.ljust(16, b'\0') + struct.pack('<HHIQQQIHHHHHH', 3, 62, 1, most, 0, 64 + len(symbols + addends), 0, 64, 56,
+                                                             65_534, 64, len(parts), 0)
+    names = ['SHT_NOBITS', 'SHT_SYMTAB', 'SHT_RELA', 'SHT_REL']
+    lines = [f'header ELF64 little DYN X86_64 entry {most:#x} phnum 65534 shnum 4',
+             *(f'section {at} {names[at]} offset {offset:#x} size {size} name=' for at, (_, offset, _, size) in enumerate(parts)),
+             *(f'symbol 1 {at} NOTYPE LOCAL DEFAULT value 0x0 size 0 name=' for at in range(count - 1)),
+             f'symbol 1 65536 FUNC GLOBAL DEFAULT value {most:#x} size {most} name=',
+             f'reloc 2 0 offset {most:#x} sym 4294967295 type 4294967295 addend -9223372036854775808',
+             'reloc 2 1 offset 0x0 sym 0 type 0 addend 9223372036854775807',
+             f'reloc 3 0 offset {most:#x} sym 4294967295 type 4294967295 addend -', '']
+    return start + symbols + addends + headers, '\n'.join(lines)
+
+
+def others(names, symbols):
+    """Files that were changed by hand, each after its options and before what is to be printed: two refusals, of which the first one is, and
+    what a strict or permissive reading makes of fields that contradict each other."""
+    text, strict, permissive, bad = text_of(names.with_name('stdout')), (), ('permissive',), b'\xff'
+    signs = bytes(range(1, 128))
+    printed = ''.join('?' if sign < 32 or sign == 127 else chr(sign) for sign in signs)
+    outside = lambda size, offset: f'refused: Malformed entity: Section 0 size ({size}) + offset ({offset}) is out of bounds. Overflowed: false\n'
+    return [
+        (strict, *widest()),
+        # each sign of ASCII in a name
+        (strict, changed(names, (112, b'\x88\0\0\0\x81'), more=b'\0' + signs + b'\0'),
+         text.replace('offset 0x34 size 4 name=.s', f'offset 0x88 size 129 name={printed}')),
+        # sizes in the order of sections, from section 0 on
+        (strict, changed(symbols, (148, b'\xd0'), (188, b'\xd0')), outside(208, 52)),
+        (strict, changed(symbols, (108, b'\xd1')), outside(209, 0)),
+        # names of sections before those of symbols, and tables in the order of sections
+        (strict, changed(symbols, (50, b'\2'), (53, bad), (76, bad)), 'refused: bad input invalid utf8 (12)\n'),
+        (strict, changed(symbols, (132, b'\2'), (152, b'\2'), (53, bad), (76, bad)), 'refused: bad input invalid utf8 (12)\n'),
+        (permissive, changed(symbols, (132, b'\x09'), (149, b'\1'), (172, b'\x09'), (189, b'\1')), 'refused: type is too big (260) for 156\n'),
+        # the field e_shnum is printed, though section 0 has the number
+        (strict, changed(names, (48, b'\0'), (76, b'\2')),
+         text.replace('shnum 2', 'shnum 0').replace('SHT_NULL offset 0x0 size 0', 'SHT_NULL offset 0x0 size 2')),
+        # a string table that is cut, and a size of symbols that is not theirs
+        (permissive, changed(names, (116, b'\xc8')), text.replace('size 4', 'size 200')),
+        (strict, changed(symbols, (204, b'\x20')), wanted_of(symbols))]
+
+
 def main():
     usage, strict, permissive = b'usage: goblin_show [permissive]\n', (), ('permissive',)
     file, shown = Path('crates/goblin_show/stdin'), Path('crates/goblin_show/stdout').read_bytes()
@@ -119,6 +177,9 @@ def main():
         # (a folder can be opened, and each read of it fails)
         rows += [(2, b'', folder, strict), (2, b'', folder, permissive), *((2, b'', input, strict, PROGRAMS, full) for input in (file, damaged))]
         examples = (0, Path('checks/files/uses.shown').read_bytes(), 'checks/files/uses', strict, EXAMPLES)
+        for at, (arguments, content, text) in enumerate(others(file, FILES[0])):
+            Path(folder, f'{at}').write_bytes(content)
+            rows.append((int(text.startswith('refused: ')), text.encode(), Path(folder, f'{at}'), arguments))
         wrong = sum(differing(*row) for row in [*rows, examples, *((0, text.encode(), path) for path, text in texts.items())])
     lines = sum(text.count('\n') for text in texts.values())
     print(f'program: {len(PROGRAMS) * len(rows)} runs with arguments or what fails, and {len(FILES)} files, {lines} lines compared with readelf: '
