@@ -1,5 +1,6 @@
 //! The header of an ELF file: System V gABI, "ELF Header" and "ELF Identification".
-ghost use Rattle.std.specs.Prelude.{◌≡◌, ◌≤◌, ◌++◌, length, drop, [], ◌∷◌, ℕ, List, take};
+ghost use Rattle.std.specs.Prelude.{◌≡◌, ◌≤◌, ◌++◌, length, drop, [], ◌∷◌, ℕ, List, take, ◌%◌, ◌^◌, map};
+ghost use Rattle.goblin_base.specs.declared.container.Endian.{Endian};
 ghost use Rattle.goblin_base.specs.Common.{ComparesAndClones, HasPlaces};
 ghost use Rattle.goblin_base.specs.declared.container.Container.TheVariants as class;
 ghost use Rattle.goblin_headers.specs.Constants.{class_numbers, data_numbers, file_type_numbers, ident_place_numbers, ident_size_numbers, system_numbers, unnamed_machine_numbers};
@@ -239,6 +240,7 @@ impl IntoCtx<Ctx> for Header {
 ///
 /// - Each field of a header lies at its offset in its class.
 /// - The image of a header is the only list of bytes that is read as that header.
+/// - Of one that doesn't fit 32 bits, the low bits of each field are kept.
 /// - A header that was read fits. A header fits exactly if the fields after its identification are
 ///   their own low bits.
 /// - A header that fits the class that it names is read back from its image in that class, whatever
@@ -262,6 +264,8 @@ pub fn laws()
         ∷ h.e_phentsize ∷ h.e_phnum ∷ h.e_shentsize ∷ h.e_shnum ∷ h.e_shstrndx ∷ []
         ≡ n 16 2 ∷ n 18 2 ∷ n 20 4 ∷ n 24 8 ∷ n 32 8 ∷ n 40 8 ∷ n 48 4 ∷ n 52 2 ∷ n 54 2 ∷ n 56 2 ∷ n 58 2
         ∷ n 60 2 ∷ n 62 2 ∷ []) }
+    ensures low32 { (order : Endian) (h : Header) → let cut = (header_layout class.Little order).low h in
+        cut.e_entry ∷ cut.e_phoff ∷ cut.e_shoff ∷ [] ≡ map (λ n. n % 2 ^ 32) (h.e_entry ∷ h.e_phoff ∷ h.e_shoff ∷ []) }
     ensures image { OneImage }
     ensures fits { EachFits }
     ensures reads_back { ReadsBack }

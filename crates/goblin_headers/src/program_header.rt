@@ -1,7 +1,8 @@
 //! Program headers, which describe how a file is loaded: System V gABI, "Program Header".
 ghost use Rattle.std.specs.Int.{IsBitSet};
 ghost use Rattle.std.specs.Int.Bits.{bit_or};
-ghost use Rattle.std.specs.Prelude.{◌≡◌, ◌↔◌, IsTrue, IfErr, IsOk, find, replicate, [], ◌∷◌};
+ghost use Rattle.std.specs.Prelude.{◌≡◌, ◌↔◌, IsTrue, IfErr, IsOk, find, replicate, [], ◌∷◌, ◌%◌, ◌^◌, map};
+ghost use Rattle.goblin_base.specs.declared.container.Endian.{Endian};
 ghost use Rattle.goblin_base.specs.Common.{ComparesAndClones, Gives, HasPlaces, IsSameInEachClass, Refuses, Returns, values_of};
 ghost use Rattle.goblin_base.specs.declared.container.Container.TheVariants as class;
 ghost use Rattle.goblin_headers.specs.Constants.{segment_flag_numbers, segment_type_numbers};
@@ -223,8 +224,9 @@ impl LaidOut<Ctx> for ProgramHeader {
 }
 
 /// Laws: a list of program headers that fit both classes is read back the same in each class and byte
-/// order. Where each field of a program header lies, and of a raw one. All fields of the default one are 0. `==` is
-/// true exactly if all fields are equal. `clone` returns the program header, and never fails.
+/// order. Where each field of a program header lies, and of a raw one. The low bits of one that doesn't fit 32 bits.
+/// All fields of the default one are 0. `==` is true exactly if all fields are equal. `clone` returns the program
+/// header, and never fails.
 #[tactic(auto, using(crate::specs::ProgramHeaderLaws::same_program_headers))]
 pub fn laws()
     ensures same { IsSameInEachClass program_header_layout }
@@ -242,6 +244,13 @@ pub fn laws()
         (λ order. ⟦<ProgramHeader as LaidOut<Ctx>>⟧.layout (record { container = class.Big; le = order }))
         (λ n h. h.p_type ∷ h.p_flags ∷ h.p_offset ∷ h.p_vaddr ∷ h.p_paddr ∷ h.p_filesz ∷ h.p_memsz ∷ h.p_align ∷ []
         ≡ n 0 4 ∷ n 4 4 ∷ n 8 8 ∷ n 16 8 ∷ n 24 8 ∷ n 32 8 ∷ n 40 8 ∷ n 48 8 ∷ []) }
+    ensures low32 { (order : Endian) (h : ProgramHeader) →
+        let cut =
+        (⟦<ProgramHeader as LaidOut<Ctx>>⟧.layout (record { container = class.Little; le = order })).low h in
+        cut.p_type ∷ cut.p_offset ∷ cut.p_vaddr ∷ cut.p_paddr ∷ cut.p_filesz ∷ cut.p_memsz ∷ cut.p_flags ∷ cut.p_align
+        ∷ []
+        ≡ map (λ n. n % 2 ^ 32)
+        (h.p_type ∷ h.p_offset ∷ h.p_vaddr ∷ h.p_paddr ∷ h.p_filesz ∷ h.p_memsz ∷ h.p_flags ∷ h.p_align ∷ []) }
     ensures zeros { (h : ProgramHeader) → ⟦<ProgramHeader as Default>⟧.is_default h
         → values_of (program_header64.fields (as64 h)) ≡ replicate 8 0 }
     ensures derived { ComparesAndClones ⟦<ProgramHeader as PartialEq>⟧ ⟦<ProgramHeader as Clone>⟧ }

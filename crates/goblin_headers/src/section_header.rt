@@ -1,6 +1,7 @@
 //! Section headers, which describe what a file holds: System V gABI, "Section Header".
 ghost use Rattle.std.specs.Int.{IsBitSet};
-ghost use Rattle.std.specs.Prelude.{◌≡◌, ◌↔◌, IsTrue, IfErr, IsNone, IsOk, IfOk, IfSome, map, replicate, vec_capacity, [], ◌∷◌};
+ghost use Rattle.std.specs.Prelude.{◌≡◌, ◌↔◌, IsTrue, IfErr, IsNone, IsOk, IfOk, IfSome, map, replicate, vec_capacity, [], ◌∷◌, ◌%◌, ◌^◌, ◌+◌, ◌<◌, ◌≤◌, ◌⊎◌, ℕ};
+ghost use Rattle.goblin_base.specs.declared.container.Endian.{Endian};
 ghost use Rattle.goblin_base.specs.Common.{ComparesAndClones, Gives, HasPlaces, IsSameInEachClass, Refuses, Returns, values_of};
 ghost use Rattle.goblin_base.specs.declared.container.Container.TheVariants as class;
 ghost use Rattle.goblin_headers.specs.Constants.{section_flag_numbers, section_index_numbers, section_type_numbers};
@@ -309,8 +310,10 @@ impl LaidOut<Ctx> for SectionHeader {
 }
 
 /// Laws: a list of section headers that fit both classes is read back the same in each class and byte
-/// order. Where each field of a section header lies, and of a raw one. All fields of the default one are 0. `==` is
-/// true exactly if all fields are equal. `clone` returns the section header, and never fails.
+/// order. Where each field of a section header lies, and of a raw one. The low bits of one that doesn't fit. A section
+/// passes `check_size` exactly if its type is 8, its size is 0, or it lies in the file and its addresses end below
+/// 2 ^ 64. All fields of the default one are 0. `==` is true exactly if all fields are equal. `clone` returns the
+/// section header, and never fails.
 #[tactic(auto, using(crate::specs::SectionHeaderLaws::same_section_headers))]
 pub fn laws()
     ensures same { IsSameInEachClass section_header_layout }
@@ -332,6 +335,18 @@ pub fn laws()
         (λ n h. h.sh_name ∷ h.sh_type ∷ h.sh_flags ∷ h.sh_addr ∷ h.sh_offset ∷ h.sh_size ∷ h.sh_link ∷ h.sh_info
         ∷ h.sh_addralign ∷ h.sh_entsize ∷ []
         ≡ n 0 4 ∷ n 4 4 ∷ n 8 8 ∷ n 16 8 ∷ n 24 8 ∷ n 32 8 ∷ n 40 4 ∷ n 44 4 ∷ n 48 8 ∷ n 56 8 ∷ []) }
+    ensures low32 { (order : Endian) (h : SectionHeader) →
+        let cut =
+        (⟦<SectionHeader as LaidOut<Ctx>>⟧.layout (record { container = class.Little; le = order })).low h in
+        cut.sh_name ∷ cut.sh_type ∷ cut.sh_flags ∷ cut.sh_addr ∷ cut.sh_offset ∷ cut.sh_size ∷ cut.sh_link
+        ∷ cut.sh_info ∷ cut.sh_addralign ∷ cut.sh_entsize ∷ []
+        ≡ map (λ n. n % 2 ^ 32) (h.sh_name ∷ h.sh_type ∷ h.sh_flags ∷ h.sh_addr ∷ h.sh_offset ∷ h.sh_size ∷ h.sh_link
+        ∷ h.sh_info ∷ h.sh_addralign ∷ h.sh_entsize ∷ []) }
+    ensures low64 { (order : Endian) (h : SectionHeader) →
+        ((⟦<SectionHeader as LaidOut<Ctx>>⟧.layout (record { container = class.Big; le = order })).low h).sh_name
+        ≡ h.sh_name % 2 ^ 32 }
+    ensures checked { (len : ℕ) (s : SectionHeader) → IsOk (size_checked len s) ↔ ((s.sh_type ≡ 8) ⊎ ((s.sh_size ≡ 0)
+        ⊎ ((s.sh_offset + s.sh_size ≤ len) × (s.sh_addr + s.sh_size < 2 ^ 64)))) }
     ensures zeros { (h : SectionHeader) → ⟦<SectionHeader as Default>⟧.is_default h
         → values_of (section_header64.fields (as64 h)) ≡ replicate 10 0 }
     ensures derived { ComparesAndClones ⟦<SectionHeader as PartialEq>⟧ ⟦<SectionHeader as Clone>⟧ }

@@ -1,5 +1,6 @@
 //! Symbols of either class: System V gABI, "Symbol Table".
-ghost use Rattle.std.specs.Prelude.{◌≡◌, ◌<◌, ◌/◌, ◌↔◌, IsTrue, length, codes, IsOk, [], ◌∷◌};
+ghost use Rattle.std.specs.Prelude.{◌≡◌, ◌<◌, ◌/◌, ◌↔◌, IsTrue, length, codes, IsOk, [], ◌∷◌, ◌%◌, ◌^◌, ℕ};
+ghost use Rattle.goblin_base.specs.declared.container.Endian.{Endian};
 ghost use Rattle.goblin_base.specs.Common.{ComparesAndClones, HasPlaces, IsSameInEachClass, buffer_too_short, Gives, Refuses};
 ghost use Rattle.goblin_base.specs.declared.container.Container.TheVariants as class;
 ghost use Rattle.goblin_records.specs.Constants.{bind_numbers, type_numbers, visibility_numbers};
@@ -181,8 +182,9 @@ pub fn get_type(info: u8) -> &'static str
 }
 
 /// Laws of symbols: a list of symbols that fit both classes is read back the same in each class and
-/// byte order. Where each field lies in each class. All fields of the default symbol are 0. `==` is true exactly if all
-/// fields are equal. `clone` returns the symbol, and never fails.
+/// byte order. Where each field lies in each class. The low bits of one that doesn't fit. The visibility has three
+/// bits. All fields of the default symbol are 0. `==` is true exactly if all fields are equal. `clone` returns the
+/// symbol, and never fails.
 #[tactic(auto, using(crate::specs::SymLaws::same_symbols))]
 pub fn laws()
     ensures same { IsSameInEachClass sym_layout }
@@ -194,6 +196,15 @@ pub fn laws()
         (λ order. ⟦<Sym as LaidOut<Ctx>>⟧.layout (record { container = class.Big; le = order }))
         (λ n s. s.st_name ∷ s.st_info ∷ s.st_other ∷ s.st_shndx ∷ s.st_value ∷ s.st_size ∷ []
         ≡ n 0 4 ∷ n 4 1 ∷ n 5 1 ∷ n 6 2 ∷ n 8 8 ∷ n 16 8 ∷ []) }
+    ensures low32 { (order : Endian) (s : Sym) →
+        let cut = (⟦<Sym as LaidOut<Ctx>>⟧.layout (record { container = class.Little; le = order })).low s in
+        cut.st_name ∷ cut.st_value ∷ cut.st_size ∷ cut.st_info ∷ cut.st_other ∷ cut.st_shndx ∷ []
+        ≡ s.st_name % 2 ^ 32 ∷ s.st_value % 2 ^ 32 ∷ s.st_size % 2 ^ 32 ∷ s.st_info % 2 ^ 8 ∷ s.st_other % 2 ^ 8
+        ∷ s.st_shndx % 2 ^ 16 ∷ [] }
+    ensures low64 { (order : Endian) (s : Sym) →
+        let cut = (⟦<Sym as LaidOut<Ctx>>⟧.layout (record { container = class.Big; le = order })).low s in
+        (cut.st_name ≡ s.st_name % 2 ^ 32) × (cut.st_shndx ≡ s.st_shndx % 2 ^ 16) }
+    ensures visibility { (other : ℕ) → visibility_of other ≡ other % 8 }
     ensures zeros { (sym : Sym) → ⟦<Sym as Default>⟧.is_default sym → sym ≡ sym_zero }
     ensures derived { ComparesAndClones ⟦<Sym as PartialEq>⟧ ⟦<Sym as Clone>⟧ }
 {}

@@ -14,6 +14,7 @@ returns c = record {
   ident = ident;
   places32 = λ order bytes. refl;
   places64 = λ order bytes. refl;
+  low32 = λ order h. refl;
   image = one_image;
   fits = each_fits;
   reads_back = reads_back;
