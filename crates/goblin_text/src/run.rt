@@ -1,12 +1,13 @@
 //! A run: from the bytes that a reader gives to the text that a writer holds.
-ghost use Rattle.std.specs.Prelude.{◌≡◌, ◌≢◌, ℕ, ◌+◌, ◌*◌, ◌≤◌, ◌==◌, List, IsTrue, OnOk, OnErr, codes, filter, length};
+ghost use Rattle.std.specs.Prelude.{◌≡◌, ◌≢◌, ℕ, ◌+◌, ◌*◌, ◌≤◌, ◌==◌, List, IsTrue, OnOk, OnErr, codes, filter, length, ◌<◌, ◌⊎◌, Option, Result};
 ghost use Rattle.std.specs.Io.KnownBytes.{Appends};
 ghost use Rattle.goblin_base.specs.Derives.{ComparesAndClones};
-ghost use Rattle.goblin_text.specs.Common.{refusal_of, refusal_text};
+ghost use Rattle.goblin_text.specs.Common.{Consumes, Error as ReadError, refusal_of, refusal_text};
 ghost use Rattle.goblin_text.specs.Looks.{IsShort, IsUnread, LooksAtMost, ReadsNames, line_looks, lines_in, section_count, shown_looks, table_looks, tables_looks};
-ghost use Rattle.goblin_text.specs.RunOutcome.{HasRun, IsReasonOf, WritesRefusal, input_limit, read_limit, status_of};
+ghost use Rattle.goblin_text.specs.RunOutcome.{HasRun, ReadsAtMostOneMore, IsReasonOf, WritesRefusal, input_limit, read_limit, status_of};
 ghost use Rattle.goblin_text.specs.Shown.{shown};
-ghost use Rattle.goblin_text.specs.StreamMarks.{StopsAtError};
+ghost use Rattle.goblin_text.specs.ShownLines.{printable};
+ghost use Rattle.goblin_text.specs.StreamMarks.{StopsAtError, StreamMarks, after_read};
 
 use crate::accept::accept;
 use crate::block_runs::{BLOCK, BLOCKS};
@@ -176,7 +177,8 @@ pub fn run<R: Source, W: Sink>(
 }
 
 /// The limits of a run, and of the looks for names, in numbers, and the line for an input that is too long. A text has
-/// as many lines as newlines.
+/// as many lines as newlines. Of names the bytes below 32 and 127 are printed as `?`, and all others as they are. A
+/// read after a failure or the end counts as reading on.
 #[tactic(auto, using(crate::proofs::LineLooks::lines_filtered))]
 pub fn constants()
     ensures input { INPUT_LIMIT ≡ 16777216 }
@@ -189,6 +191,12 @@ pub fn constants()
     ensures line_looks { line_looks ≡ 4096 }
     ensures table_looks { table_looks ≡ 1040 }
     ensures lines { (text : List ℕ) → lines_in text ≡ length (filter (λ b. b == 10) text) }
+    ensures printable { (byte : ℕ) → (byte < 32 → printable byte ≡ 63) × (printable 127 ≡ 63)
+        × (32 ≤ byte → byte ≢ 127 → printable byte ≡ byte) }
+    ensures most { (old new : Option (List ℕ)) → ReadsAtMostOneMore old new
+        → (bytes : List ℕ) × Consumes old new bytes × (length bytes ≤ 16777217) }
+    ensures read_on { (m : StreamMarks) (answer : Result ℕ ReadError) (buf : List ℕ)
+        → (IsTrue m.reported_failure ⊎ IsTrue m.reported_end) → IsTrue (after_read m answer buf).read_on }
 {}
 
 /// A law: `==` is true exactly if two outcomes are the same. `clone` returns the outcome, and never fails.

@@ -1,7 +1,12 @@
 //! The text that is shown of a file, written line by line.
-ghost use Rattle.std.specs.Prelude.{◌≡◌, IfErr, IsTrue, OnErr, OnOk, string_bytes};
+ghost use Rattle.std.specs.Prelude.{◌≡◌, ℕ, List, Ok, Err, IfErr, IsTrue, OnErr, OnOk, string_bytes};
 ghost use Rattle.std.specs.Io.KnownBytes.{Appends};
 ghost use Rattle.goblin.specs.Refusal.{Gives, Refuses};
+ghost use Rattle.goblin.specs.Header.{ctx_of};
+ghost use Rattle.goblin.specs.SectionHeaders.{section_headers_of_tested};
+ghost use Rattle.goblin.specs.Steps.{refuse_as};
+ghost use Rattle.goblin_base.specs.declared.container.Ctx.{Ctx};
+ghost use Rattle.goblin_text.specs.Common.{Header, Refusal, read_header, refusal_of};
 ghost use Rattle.goblin_text.specs.Accepted.{accepted_text, relocs_text, symbols_text};
 ghost use Rattle.goblin_text.specs.StringRanges.{strings_in};
 ghost use Rattle.goblin_text.specs.ShownLines.{section_line, symbol_line};
@@ -211,10 +216,16 @@ pub fn text_of(alloc: Global, bytes: &[u8], opts: &ParseOptions) -> error::Resul
     Ok(target.text)
 }
 
-/// A law: if strict options show a text, permissive ones show the same.
-#[tactic(auto, using(crate::proofs::StrictAndPermissive::permissive_shows_strict))]
+/// Laws: if strict options show a text, permissive ones show the same. A header that is refused, or the section headers
+/// of another one, are refused before memory is taken.
+#[tactic(auto, using(crate::proofs::StrictAndPermissive::permissive_shows_strict), unfolding(crate::specs::Shown::tested))]
 pub fn laws()
-    ensures { PermissiveShowsStrict }
+    ensures permissive { PermissiveShowsStrict }
+    ensures header { (bytes : List ℕ) (r : Refusal)
+        → refuse_as refusal_of (read_header bytes) ≡ Err r → tested bytes ≡ Err r }
+    ensures sections { (bytes : List ℕ) (h : Header) (size : ℕ) (ctx : Ctx) (r : Refusal)
+        → read_header bytes ≡ Ok (h, size) → ctx_of h ≡ Ok ctx
+        → section_headers_of_tested bytes h.e_shoff h.e_shnum ctx ≡ Err r → tested bytes ≡ Err r }
 {
     goblin::strtab::laws();
 }
