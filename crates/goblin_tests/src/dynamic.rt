@@ -233,7 +233,7 @@ fn section_of(bytes: &[u8], headers: &[u8]) -> (usize, usize, usize) {
     };
     match Dynamic::strings_by_sections(bytes, &sections) {
         Ok(Some(found)) => (count, found.offset, found.size),
-        Ok(None) => (count, 0, 0),
+        Ok(None) => (count, 600, 0),
         Err(Error::Scroll(scroll::Error::BadOffset(offset))) => (count, 400, offset),
         Err(_) => (count, 500, 0),
     }
@@ -246,10 +246,10 @@ fn finds_the_section_and_its_strings_by_sections(rt: HostRuntime) {
     // Of the type without bytes in the file, as in a file of debug information; and without a section of strings.
     let mut headers = *SECTIONS;
     headers[79] = 8;
-    assert!(rt; section_of(IN_BIG64, &headers) == (200, 0, 0));
+    assert!(rt; section_of(IN_BIG64, &headers) == (200, 600, 0));
     headers[79] = 6;
     headers[115] = 0;
-    assert!(rt; section_of(IN_BIG64, &headers) == (4, 0, 0));
+    assert!(rt; section_of(IN_BIG64, &headers) == (4, 600, 0));
     // With strings from the end of the file on.
     headers[115] = 2;
     headers[167] = 104;

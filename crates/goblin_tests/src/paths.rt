@@ -106,7 +106,7 @@ fn leads_to_the_names_of_symbols(rt: HostRuntime) {
 fn leads_to_the_parts_of_symbols(rt: HostRuntime) {
     assert!(rt; is_on_each_path!(rt; sym::st_bind(0x23) => 2));
     assert!(rt; is_on_each_path!(rt; sym::st_type(0x23) => 3));
-    assert!(rt; is_on_each_path!(rt; sym::st_visibility(0x1b) => 3));
+    assert!(rt; is_on_each_path!(rt; sym::st_visibility(0x1e) => 6));
     assert!(rt; is_on_each_path!(rt; sym::is_import(0x12, 0) => true));
 }
 

@@ -256,7 +256,7 @@ fn reads_the_parts_of_symbols(rt: HostRuntime) {
     assert!(rt; has_parts(rt, 0x30, 3, 0));
     assert!(rt; has_parts(rt, 0xfe, 15, 14));
     let free = (st_visibility(0x0b), sym32::st_visibility(0xf8));
-    assert!(rt; is(rt, free, (3, 0)));
+    assert!(rt; is(rt, free, (3, 0)) && is(rt, sym64::st_visibility(0xfe), 6));
     assert!(rt; is(rt, (FUNCTION.st_visibility(), WIDE.st_visibility()), (0, 3)));
 }
 
@@ -266,6 +266,7 @@ const IMPORTS: &[(u8, u64, bool)] = &[
     (STT_FUNC, 0, false),
     (STB_GLOBAL << 4, 1, false),
     (0x30, 0, false),
+    (0xa2, 0, false),
 ];
 
 #[test]
