@@ -178,16 +178,22 @@ static void notes(const goblin_header_t *h, goblin_range_t range) {
     }
 }
 
+/* Returns how many items a call has written, which it says at GOBLIN_OK alone: else the number is unchanged. */
+static uint64_t filled_of(const char *call, uint32_t status, uint64_t filled, size_t capacity) {
+    if (status == GOBLIN_OK ? filled > capacity : filled != UINT64_MAX) return wrong(call, status), 0;
+    return status == GOBLIN_OK ? filled : 0;
+}
+
 /* Reads some items of a list at once. They must be those of the call for one item, and no item after them
    is changed. */
 #define SEVERAL(one, all, type, last, ...) \
     do { \
         type items[BATCH], single; \
-        uint64_t first = any(2) ? any(9) : odd(), filled = 0; \
+        uint64_t first = any(2) ? any(9) : odd(), filled = UINT64_MAX; \
         size_t capacity = (size_t)any(BATCH + 1), size = offsetof(type, last) + sizeof single.last; \
         blank(items, sizeof items); \
         uint32_t status = all(bytes, len, __VA_ARGS__, first, items, capacity, &filled, &why); \
-        if (filled > capacity || (status != GOBLIN_OK && filled != 0)) wrong(#all, status), filled = 0; \
+        filled = filled_of(#all, status, filled, capacity); \
         check(#all, status, items, status == GOBLIN_OK ? 0 : sizeof items); \
         if (!is_blank(items + filled, sizeof *items * (BATCH - filled))) wrong(#all ": after the items", status); \
         for (uint64_t i = 0; i < filled; i++) add(items + i, size); \
@@ -426,12 +432,12 @@ static bool plain_value(const goblin_header_t *h, goblin_range_t range, uint64_t
 /* Reads some entries of a range at once. They must be those that are read by numbers. */
 static void entries(const goblin_header_t *h, goblin_range_t range) {
     goblin_dyn_t items[BATCH], entry;
-    uint64_t filled = 0, first = any(2) ? any(9) : any(2) ? any(range.size / 8 % 0x1000 + 2) : odd();
+    uint64_t filled = UINT64_MAX, first = any(2) ? any(9) : any(2) ? any(range.size / 8 % 0x1000 + 2) : odd();
     size_t capacity = (size_t)any(BATCH + 1);
     begins(range.offset, range.offset);
     blank(items, sizeof items);
     uint32_t status = goblin_dynamic_entries(bytes, len, h, &range, first, items, capacity, &filled, &why);
-    if (filled > capacity || (status != GOBLIN_OK && filled != 0)) wrong("goblin_dynamic_entries", status), filled = 0;
+    filled = filled_of("goblin_dynamic_entries", status, filled, capacity);
     check("goblin_dynamic_entries", status, items, status == GOBLIN_OK ? 0 : sizeof items);
     if (!is_blank(items + filled, sizeof *items * (BATCH - filled)))
         wrong("goblin_dynamic_entries: after the items", status);
@@ -719,6 +725,11 @@ static void table(const goblin_header_t *h, goblin_range_t range, goblin_range_t
             || !FINDS(goblin_symbol_by_name, index, found, SYMBOL, h, &range, &names, text, (size_t)name.size, at)
             || index != at || memcmp(&found, &symbol, SYMBOL))
             wrong("goblin_symbol_by_name", GOBLIN_END);
+        /* (names in another range, which may be refused, also where no symbol is left) */
+        goblin_range_t other = {odd(), odd()};
+        begins(range.offset, other.offset);
+        (void)FINDS(goblin_symbol_by_name, index, found, SYMBOL, h, &range, &other, text, (size_t)name.size, odd());
+        begins(range.offset, names.offset);
         if (FINDS(goblin_symbol_by_name, index, found, SYMBOL, h, &range, &names, text, (size_t)name.size, at + 1)
             && (index <= at || !READS(goblin_symbol, same, h, &range, index) || memcmp(&found, &same, SYMBOL)))
             wrong("goblin_symbol_by_name: the next", GOBLIN_OK);
