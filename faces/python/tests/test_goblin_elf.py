@@ -294,6 +294,8 @@ class Refusals(unittest.TestCase):
         self.assertEqual(refusal(list, Notes(elf, offset, size, 4, 'surrogatepass')).item, Item.INVALID_UTF8)
         error = refusal(Notes, elf, offset, size - 1, 4, 'replace')
         self.assertEqual((error.kind, error.item, error.offset), (Kind.TOO_BIG, Item.NOTE_DESC, offset))
+        changed[offset + 12:offset + 15] = b'n\xc3\xa9'
+        self.assertEqual([note.name for note in Notes(Elf(changed), offset, size, 4)], ['n\xe9'])
 
     def test_it_can_be_pickled(self):
         error = refusal(Elf, bytes(16))
