@@ -240,7 +240,7 @@ impl IntoCtx<Ctx> for Header {
 ///
 /// - Each field of a header lies at its offset in its class.
 /// - The image of a header is the only list of bytes that is read as that header.
-/// - Of one that doesn't fit 32 bits, the low bits of each field are kept.
+/// - Of one that doesn't fit 32 bits, the low bits of the entry and of both offsets are kept.
 /// - A header that was read fits. A header fits exactly if the fields after its identification are
 ///   their own low bits.
 /// - A header that fits the class that it names is read back from its image in that class, whatever
