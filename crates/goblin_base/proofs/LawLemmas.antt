@@ -8,14 +8,15 @@ use Rattle.goblin_base.proofs.Common.{List, [], length, take, drop, map, refl, s
 use Rattle.goblin_base.proofs.Common.{Err, cases_lt, cases_Bool, cond-true, cond-false, lt-ltb, le-ltb, both_ways}
 use Rattle.goblin_base.proofs.Common.{length-drop, take_all, length-range_with_len, prefix_len-le-length}
 use Rattle.goblin_base.proofs.Common.{IsUtf8-from_is_utf8, is_utf8-from_IsUtf8, range_with_len, is_ok, result_ok}
-use Rattle.goblin_base.proofs.Common.{is_utf8, ParseMode, Strict, Permissive, text_of, piece, piece_start, is_readable}
-use Rattle.goblin_base.proofs.Common.{is_bad_start, first_bad, text_at, Refusal, malformed, ◌>>=◌, refuse_as}
-use Rattle.goblin_base.proofs.Common.{StringTable, range_in, strtab_of, table_of, walked, plain, look_up, invalid_utf8}
+use Rattle.goblin_base.proofs.Common.{is_utf8, ParseMode, Strict, Permissive, text_of, entries, piece, piece_start}
+use Rattle.goblin_base.proofs.Common.{is_readable, is_bad_start, first_bad, text_at, Refusal, malformed, ◌>>=◌}
+use Rattle.goblin_base.proofs.Common.{refuse_as, StringTable, range_in, strtab_of, table_of, walked, plain, look_up}
+use Rattle.goblin_base.proofs.Common.{invalid_utf8}
 use Rattle.goblin_base.specs.declared.error.Fault.{Fault}
 use Rattle.goblin_base.specs.declared.error.Fault.TheVariants.{StrtabOffset, StrtabRange}
-use Rattle.goblin_base.specs.Strtab.{or_cut}
+use Rattle.goblin_base.specs.Strtab.{or_cut, texts_of}
 use Rattle.goblin_base.specs.StrtabLaws.{TextIsUtf8, ClosedForm, JoinsAgain, PermissiveAccepts, StrictIsPermissive}
-use Rattle.goblin_base.specs.StrtabLaws.{LookUpHasPlain, StrictLookUpIsPlain, DependsOnRange, joined}
+use Rattle.goblin_base.specs.StrtabLaws.{LookUpHasPlain, StrictLookUpIsPlain, DependsOnRange, StringsJoin, joined}
 use Rattle.goblin_base.proofs.PiecesLemmas.{start_to, start_of_start}
 use Rattle.goblin_base.proofs.WalkLemmas.{entries_closed, no_entry_place}
 use Rattle.goblin_base.proofs.LookUpLemmas.{text_at_readable, text_at_inside}
@@ -53,6 +54,20 @@ pub joins_again : JoinsAgain
 joins_again bytes d es h =
     ap (λ x. joined bytes d (map text_of x)) (walked_entries Strict bytes d es h)
     ∙ joined_again bytes d (good_if_walked bytes d es h)
+
+-- the strings of a walk are the texts of its entries
+walk_of : (walk : Result (List (ℕ × List ℕ)) Refusal) (strings : List (List ℕ))
+    → texts_of walk ≡ Ok strings
+    → (es : List (ℕ × List ℕ)) × (walk ≡ Ok es) × (map text_of es ≡ strings)
+walk_of (Ok es) strings h = (es, refl, cc)
+walk_of (Err e) strings h = cc
+
+pub strings_join : StringsJoin
+strings_join t strings raw h =
+    let raw_walk = walked Strict t.bytes t.delim in
+    let is = cond-false t.is_parsed (Ok (entries t.bytes t.delim)) raw_walk raw in
+    let walk = walk_of raw_walk strings (ap texts_of (sym is) ∙ h) in
+    ap (joined t.bytes t.delim) (sym walk.2) ∙ joins_again t.bytes t.delim walk.0 walk.1
 
 -- ---- tables of ranges
 abbrev whole : List ℕ → ℕ → StringTable

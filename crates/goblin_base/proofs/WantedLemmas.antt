@@ -5,15 +5,17 @@
 -- the text, without a search for the piece's end, and the UTF-8 of the name is that of the piece (`stands_Decides`).
 use Rattle.goblin_base.proofs.Common.{◌≡◌, ℕ, ◌<◌, ◌≤◌, Bool, true, false, if◌then◌else◌, not, ◌&&◌, eqb, leb, ltb}
 use Rattle.goblin_base.proofs.Common.{◌||◌, List, length, get_or, take, drop, refl, sym, ap, subst, ◌∙◌, ⊎_elim, arith}
-use Rattle.goblin_base.proofs.Common.{Ok, Err, cases_lt, le-leb, leb-true, and_parts, and_from, or_cases, or_left}
-use Rattle.goblin_base.proofs.Common.{or_right, not-true, not_from_false, false_from_ne_true, both_ways, false≢true}
-use Rattle.goblin_base.proofs.Common.{same_from_decides, get_or-take, length-take-le, length-take, list_any_at}
-use Rattle.goblin_base.proofs.Common.{list_any_none, prefix_len-le-length, fails_before_first, passes_at_first}
-use Rattle.goblin_base.proofs.Common.{position_or_len_is, position_or_len, list_any, bytes_eq, is_utf8, piece, Refusal}
+use Rattle.goblin_base.proofs.Common.{Result, Ok, Err, cases_lt, lt-ltb, ltb-true, le-leb, leb-true, and_parts}
+use Rattle.goblin_base.proofs.Common.{and_from, or_cases, or_left, or_right, not-true, not_from_false}
+use Rattle.goblin_base.proofs.Common.{false_from_ne_true, both_ways, false≢true, same_from_decides, get_or-take}
+use Rattle.goblin_base.proofs.Common.{length-take-le, length-take, list_any_at, list_any_none, prefix_len-le-length}
+use Rattle.goblin_base.proofs.Common.{fails_before_first, passes_at_first, position_or_len_is, position_or_len}
+use Rattle.goblin_base.proofs.Common.{list_any, bytes_eq, is_utf8, piece, Refusal}
 use Rattle.std.proofs.lemmas.Slice.Eq.{bytes_eq-Decides}
 use Rattle.std.proofs.Math.Seq.{take-take}
 use Rattle.std.specs.Bool.{Decides}
-use Rattle.goblin_base.specs.Strtab.{has_name, is_text_of}
+use Rattle.goblin_base.specs.Strtab.{has_name, is_text_of, plain}
+use Rattle.goblin_base.specs.StrtabLaws.{NamesAreRead, PiecesAreCompared, PiecesBegin}
 use Rattle.goblin_base.specs.Wanted.{can_be_string, is_apart, is_piece, stands_at, starts_piece}
 
 module _ (bytes : List ℕ) (d o : ℕ) where
@@ -181,3 +183,30 @@ pub piece_begins : (bytes : List ℕ) (d o : ℕ) (text : List ℕ)
 unfolding starts_piece
 piece_begins bytes d o text =
     ap (λ b. ltb o (length bytes) && b) (same_from_decides _ _ (begins_Decides bytes d o text) (bool_Decides _))
+
+-- as propositions they are what the laws say
+within_Decides : (o n : ℕ) (b : Bool) (P : Type 0) → Decides b P → Decides (ltb o n && b) ((o < n) × P)
+within_Decides o n b P is = (
+  (λ t.
+      let parts = and_parts _ _ t in
+      (ltb-true o n parts.0, is.0 parts.1)),
+  (λ h. and_from _ _ (lt-ltb o n h.0) (is.1 h.1)),
+)
+
+text_Decides : (reading : Result (List ℕ) Refusal) (name : List ℕ)
+    → Decides (is_text_of name reading) (reading ≡ Ok name)
+text_Decides (Ok text) name =
+    ((λ t. ap Ok ((bytes_eq-Decides text name).0 t)), (λ h. (bytes_eq-Decides text name).1 (cc)))
+text_Decides (Err refusal) name = ((λ t. absurd (false≢true t)), (λ h. cc))
+
+pub names_are_read : NamesAreRead
+unfolding has_name
+names_are_read bytes d o name = within_Decides o (length bytes) _ _ (text_Decides (plain bytes d o) name)
+
+pub pieces_are_compared : PiecesAreCompared
+unfolding is_piece
+pieces_are_compared bytes d o text = within_Decides o (length bytes) _ _ (bytes_eq-Decides (piece bytes d o) text)
+
+pub pieces_begin : PiecesBegin
+unfolding starts_piece
+pieces_begin bytes d o text = within_Decides o (length bytes) _ _ (bytes_eq-Decides _ text)

@@ -1,15 +1,18 @@
 -- Laws of string tables. They speak of the definitions only.
-use Rattle.std.specs.Prelude.{◌≡◌, ◌↔◌, ℕ, ◌-◌, ◌^◌, ◌<◌, ◌≤◌, ◌==◌, ◌&&◌, Bool, true, List, [], ◌∷◌, ◌++◌, map, length}
-use Rattle.std.specs.Prelude.{take, drop, nat_lt, slice_index, if◌then◌else◌, IsTrue, IsOk, Some, Ok, unwrap_or}
+use Rattle.std.specs.Prelude.{◌≡◌, ◌↔◌, ℕ, ◌-◌, ◌^◌, ◌<◌, ◌≤◌, ◌==◌, ◌&&◌, Bool, true, false, List, [], ◌∷◌, ◌++◌}
+use Rattle.std.specs.Prelude.{map, length, take, drop, nat_lt, slice_index, if◌then◌else◌, IsTrue, IsOk, Some, Ok}
+use Rattle.std.specs.Prelude.{unwrap_or}
+use Rattle.std.specs.Bool.{Decides}
 use Rattle.std.specs.List.{join_with_byte}
 use Rattle.std.specs.Result.{result_ok}
 use Rattle.std.specs.Str.{IsUtf8, is_utf8}
 use Rattle.goblin_base.specs.declared.options.ParseMode.{ParseMode}
 use Rattle.goblin_base.specs.declared.options.ParseMode.TheVariants.{Strict, Permissive}
 use Rattle.goblin_base.specs.Entries.{text_of}
-use Rattle.goblin_base.specs.Pieces.{entries, entries_by_place}
+use Rattle.goblin_base.specs.Pieces.{piece, entries, entries_by_place}
 use Rattle.goblin_base.specs.Search.{digits}
-use Rattle.goblin_base.specs.Strtab.{StringTable, walked, range_in, strtab_of, plain, look_up}
+use Rattle.goblin_base.specs.Strtab.{StringTable, walked, range_in, strtab_of, plain, look_up, has_name, strings_of}
+use Rattle.goblin_base.specs.Wanted.{is_piece, starts_piece}
 
 -- the test passes exactly if the bytes are well-formed UTF-8: the joined shortest spellings of scalar values
 abbrev pub TextIsUtf8 : Type 0
@@ -74,3 +77,24 @@ NamesArePlain = (table : StringTable) (offset : ℕ) → table.is_parsed ≡ tru
 -- a number has at most n binary digits exactly if it is below 2 ^ n
 abbrev pub DigitsCount : Type 0
 DigitsCount = (k n : ℕ) → (digits k ≤ n) ↔ (k < 2 ^ n)
+
+-- the strings of a table that wasn't parsed, joined by its delimiter, are its bytes
+abbrev pub StringsJoin : Type 0
+StringsJoin = (table : StringTable) (strings : List (List ℕ))
+    → table.is_parsed ≡ false → strings_of table ≡ Ok strings → joined table.bytes table.delim strings ≡ table.bytes
+
+-- a name is at an offset exactly if the plain reading there is the name
+abbrev pub NamesAreRead : Type 0
+NamesAreRead = (bytes : List ℕ) (delim o : ℕ) (name : List ℕ)
+    → Decides (has_name bytes delim o name) ((o < length bytes) × (plain bytes delim o ≡ Ok name))
+
+-- the piece at an offset is a text exactly if their bytes are the same
+abbrev pub PiecesAreCompared : Type 0
+PiecesAreCompared = (bytes : List ℕ) (delim o : ℕ) (text : List ℕ)
+    → Decides (is_piece bytes delim o text) ((o < length bytes) × (piece bytes delim o ≡ text))
+
+-- and begins with a text exactly if its first bytes are the text's
+abbrev pub PiecesBegin : Type 0
+PiecesBegin = (bytes : List ℕ) (delim o : ℕ) (text : List ℕ)
+    → Decides (starts_piece bytes delim o text)
+    ((o < length bytes) × (take (length text) (piece bytes delim o) ≡ text))

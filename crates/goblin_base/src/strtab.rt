@@ -13,7 +13,8 @@ ghost use Rattle.goblin_base.specs.Strtab.{table_of};
 ghost use Rattle.goblin_base.specs.Wanted.{can_be_string, stands_at};
 ghost use Rattle.goblin_base.specs.StrtabLaws.{ClosedForm, DependsOnRange, DigitsCount, JoinsAgain, LookUpHasPlain};
 ghost use Rattle.goblin_base.specs.StrtabLaws.{PermissiveAccepts, StrictIsPermissive, StrictLookUpIsPlain, TextIsUtf8};
-ghost use Rattle.goblin_base.specs.StrtabLaws.{NamesArePlain, TextIsTaken};
+ghost use Rattle.goblin_base.specs.StrtabLaws.{NamesArePlain, TextIsTaken, StringsJoin, NamesAreRead};
+ghost use Rattle.goblin_base.specs.StrtabLaws.{PiecesAreCompared, PiecesBegin};
 
 use crate::ascii::{ascii_piece, len_before, short_len_before};
 use crate::entries::{Entries, Looked, Probes};
@@ -451,4 +452,8 @@ pub fn laws()
     ensures text_is_taken { TextIsTaken }
     ensures names_are_plain { NamesArePlain }
     ensures digits_count { DigitsCount }
+    ensures strings_join { StringsJoin }
+    ensures names_are_read { NamesAreRead }
+    ensures pieces_are_compared { PiecesAreCompared }
+    ensures pieces_begin { PiecesBegin }
 {}
