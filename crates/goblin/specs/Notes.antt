@@ -117,3 +117,10 @@ abbrev pub FewNotes : Type 0
 FewNotes =
     (bytes : List ℕ) (size offset : ℕ) (ctx : ℕ × Ctx)
     → length (note_items bytes size offset ctx) ≤ div_ceil (size - offset) nhdr32_size
+
+-- the items of ranges are those of each, one range after another: a refusal ends its own range alone
+abbrev pub RangeByRange : Type 0
+RangeByRange =
+    (it : NoteIterator)
+    → all_items_left it
+    ≡ flat_map (λ range. note_items range.bytes.now range.size range.offset range.ctx) (drop it.index it.iters.items)

@@ -4,7 +4,7 @@ ghost use Rattle.std.specs.Prelude.{⊤, ◌⊎◌, ◌≡◌, ◌+◌, ◌≤�
 ghost use Rattle.std.specs.Iterator.{MakesProgress, UpTo, YieldsFirstBy, at_most};
 ghost use Rattle.std.specs.Iterator.SizeHint.{IsWithinCount};
 ghost use Rattle.goblin_base.specs.Common.{ComparesAndClones, Returns};
-ghost use Rattle.goblin.specs.Notes.{NoteByNote, NotesAdvance, FewNotes, PlacesLieWithin, WholeIsNote};
+ghost use Rattle.goblin.specs.Notes.{NoteByNote, NotesAdvance, FewNotes, PlacesLieWithin, WholeIsNote, RangeByRange};
 ghost use Rattle.goblin.specs.NoteType.{note_type_name};
 ghost use Rattle.goblin.specs.Note.{FindsParts, bytes_at, note_at, utf8_at, whole_places, with_part};
 
@@ -427,8 +427,9 @@ pub fn constants()
 {}
 
 /// Laws of notes: how the items of a range follow one another, where the parts of a note are, where
-/// it ends, how many items a range has, and which note is a whole note. `==` is true exactly if two
-/// places or two parts are the same. `clone` returns the value, and never fails.
+/// it ends, how many items a range has, which note is a whole note, and that a refusal ends its own
+/// range alone. `==` is true exactly if two places or two parts are the same. `clone` returns the
+/// value, and never fails.
 #[tactic(auto, using(crate::specs::NoteLaws::note_laws))]
 pub fn laws()
     ensures items { NoteByNote }
@@ -436,6 +437,7 @@ pub fn laws()
     ensures advance { NotesAdvance }
     ensures few { FewNotes }
     ensures whole { WholeIsNote }
+    ensures ranges { RangeByRange }
     ensures derived_places { ComparesAndClones ⟦<NotePlaces as PartialEq>⟧ ⟦<NotePlaces as Clone>⟧ }
     ensures derived_part { ComparesAndClones ⟦<NotePart as PartialEq>⟧ ⟦<NotePart as Clone>⟧ }
 {}
