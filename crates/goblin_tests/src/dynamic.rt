@@ -1,12 +1,12 @@
 //! Worked rows, by bytes written by hand: entries in each class and byte order, and where the section and its strings
 //! lie by the segments and by the sections of two small files.
 use crate::container::{BIG32, BIG64, LITTLE32, LITTLE64};
+use crate::record::has_form;
 use goblin::elf::program_header::ProgramHeader;
 use goblin::elf::section_header::SectionHeader;
 use goblin_base::container::Ctx;
 use goblin_base::error::Error;
 use goblin_base::scroll;
-use goblin_base::scroll::{TryFromCtx, TryIntoCtx};
 use goblin_dynamic::dynamic::{Dynamic, FileRange};
 use goblin_dynamic::entry::Dyn;
 use goblin_dynamic::tags::{DT_NEEDED, DT_NULL, DT_SONAME, DT_STRSZ, DT_STRTAB};
@@ -133,37 +133,28 @@ fn refuses_ranges_that_are_cut(rt: HostRuntime) {
     assert!(rt; count_in(IN_LITTLE32, 56, 0) == (0, 0, 0));
 }
 
-// Reports whether an entry is read from these bytes, and written as them.
-fn has_form(d_tag: u64, d_val: u64, ctx: Ctx, bytes: &[u8]) -> bool {
-    let entry = Dyn { d_tag, d_val };
-    let mut buffer = [0xaa; 16];
-    let written = match entry.try_into_ctx(&mut buffer, ctx) {
-        Ok(size) => size == bytes.len() && buffer.starts_with(bytes),
-        Err(_) => false,
-    };
-    match Dyn::try_from_ctx(bytes, ctx) {
-        Ok((read, size)) => read == entry && size == bytes.len() && written,
-        Err(_) => false,
-    }
+fn entry(d_tag: u64, d_val: u64) -> Dyn {
+    Dyn { d_tag, d_val }
 }
 
 #[test]
 fn reads_and_writes_entries(rt: HostRuntime) {
     let most = b"\xfe\xff\xff\xff\xff\xff\xff\xff";
-    assert!(rt; has_form(0xffff_fffe, 0xffff_ffff, LITTLE32, most));
+    assert!(rt; has_form(rt, entry(0xffff_fffe, 0xffff_ffff), LITTLE32, most));
     let bytes = b"\x6f\xff\xfe\xf5\x01\x02\x03\x04";
-    assert!(rt; has_form(0x6fff_fef5, 0x0102_0304, BIG32, bytes));
+    assert!(rt; has_form(rt, entry(0x6fff_fef5, 0x0102_0304), BIG32, bytes));
     let bytes = b"\xfb\xff\xff\x6f\0\0\0\0\x01\0\0\x08\0\0\0\x80";
-    assert!(rt; has_form(0x6fff_fffb, 0x8000_0000_0800_0001, LITTLE64, bytes));
+    let wide = entry(0x6fff_fffb, 0x8000_0000_0800_0001);
+    assert!(rt; has_form(rt, wide, LITTLE64, bytes));
     let bytes = b"\0\0\0\0\0\0\0\x1e\0\0\0\0\0\0\0\x08";
-    assert!(rt; has_form(30, 8, BIG64, bytes));
+    assert!(rt; has_form(rt, entry(30, 8), BIG64, bytes));
 }
 
 // Three program headers: the strings and entries are loaded at 0x1000, and two segments are of the dynamic section, of
 // which the second lies past the end.
 static SEGMENTS: &[u8; 96] =
     b"\x01\0\0\0\0\0\0\0\0\x10\0\0\0\0\0\0\x38\0\0\0\x38\0\0\0\x04\0\0\0\0\0\0\0\
-    \x02\0\0\0\x08\0\0\0\x08\x10\0\0\0\0\0\0\x30\0\0\0\x30\0\0\0\x04\0\0\0\x04\0\0\0\
+    \x02\0\0\0\x08\0\0\0\x08\x10\0\0\0\0\0\0\x30\0\0\0\x31\0\0\0\x04\0\0\0\x04\0\0\0\
     \x02\0\0\0\x00\x01\0\0\0\0\0\0\0\0\0\0\x30\0\0\0\x30\0\0\0\x04\0\0\0\x04\0\0\0";
 
 // The offset and the size of the strings of a file by so many of the segments from an offset on, what is missing, or
@@ -250,8 +241,13 @@ fn finds_the_section_and_its_strings_by_sections(rt: HostRuntime) {
     headers[79] = 6;
     headers[115] = 0;
     assert!(rt; section_of(IN_BIG64, &headers) == (4, 600, 0));
+    // With strings that have no bytes in the file, and with a second section of the type as strings.
+    (headers[115], headers[143]) = (2, 8);
+    assert!(rt; section_of(IN_BIG64, &headers) == (4, 600, 0));
+    headers[143] = 6;
+    assert!(rt; section_of(IN_BIG64, &headers) == (4, 0, 8));
     // With strings from the end of the file on.
-    headers[115] = 2;
+    headers[143] = 3;
     headers[167] = 104;
     assert!(rt; section_of(IN_BIG64, &headers) == (4, 400, 104));
 }

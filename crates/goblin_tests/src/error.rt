@@ -14,7 +14,7 @@ const NEAR: u64 = 18446744073709551566;
 
 // Errors and their texts. Each text that has a number has one of 10 or more, so that it differs in decimal and
 // hexadecimal digits.
-static ERRORS: [(Error, &str); 24] = rows![
+static ERRORS: [(Error, &str); 25] = rows![
     Error::Malformed(Fault::InvalidClass(200)), "Malformed entity: Invalid class in Header: 200";
     Error::Malformed(Fault::InvalidEndianness(200)),
         "Malformed entity: Invalid endianness in Header: 200";
@@ -51,6 +51,7 @@ static ERRORS: [(Error, &str); 24] = rows![
     Error::Scroll(scroll::Error::BadOffset(20)), "bad offset 20";
     Error::Scroll(scroll::Error::BadInput { size: 30, msg: "invalid utf8" }),
         "bad input invalid utf8 (30)";
+    Error::Scroll(scroll::Error::BadInput { size: 80, msg: "too long" }), "bad input too long (80)";
     Error::Memory(AllocError), "Out of memory";
 ];
 

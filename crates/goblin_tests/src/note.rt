@@ -140,7 +140,9 @@ const CUT_NAME: &[u8] = b"\x05\0\0\0\0\0\0\0\x01\0\0\0CORE";
 const EMPTY: &[u8] = b"\0\0\0\0\0\0\0\0\x07\0\0\0";
 // A note of type 7 with no name but a zero byte, and one byte of a descriptor: each is padded.
 const PADDED: &[u8] = b"\x01\0\0\0\x01\0\0\0\x07\0\0\0\0\0\0\0\xAA";
-// A note whose name is not UTF-8.
+// A note with a name of two bytes that are one letter, and one whose name is not UTF-8.
+const ACCENT: &[u8] = b"\x03\0\0\0\0\0\0\0\x07\0\0\0\xC3\xA9\0\0";
+
 const NO_TEXT: &[u8] = b"\x02\0\0\0\0\0\0\0\x01\0\0\0\xFF\0";
 // Notes whose name and whose descriptor are the longest that a header can ask for.
 const LONG_NAME: &[u8] = b"\xFF\xFF\xFF\xFF\0\0\0\0\x01\0\0\0GNU\0";
@@ -167,6 +169,7 @@ const READ: &[Read] = &[
     (BUILD_BIG, (4, BIG32), (3, "GNU", DESC, 20)),
     (BARE, (4, LITTLE64), (1, "GNU", b"", 16)),
     (EMPTY, (0, LITTLE64), (7, "", b"", 12)),
+    (ACCENT, (4, LITTLE64), (7, "\u{e9}", b"", 16)),
     (PADDED, (0, LITTLE64), (7, "", b"\xAA", 20)),
     (PADDED, (1, LITTLE64), (7, "", b"\xAA", 20)),
     (PADDED, (2, LITTLE64), (7, "", b"\xAA", 20)),
@@ -259,22 +262,18 @@ fn is_last(rt: HostRuntime, item: Option<Result<Note<'_>>>) -> bool {
 
 // Whether the notes of a range have just these types.
 fn has_types(rt: HostRuntime, mut notes: NoteDataIterator, types: &[u32]) -> bool {
-    for n_type in types {
-        if !is_next(rt, notes.next(), *n_type) {
-            return false;
-        }
-    }
-    is_last(rt, notes.next())
+    types
+        .iter()
+        .all(|n_type| is_next(rt, notes.next(), *n_type))
+        && is_last(rt, notes.next())
 }
 
 // Whether the notes of ranges, one range after another, have just these types.
 fn all_have_types(rt: HostRuntime, mut notes: NoteIterator, types: &[u32]) -> bool {
-    for n_type in types {
-        if !is_next(rt, notes.next(), *n_type) {
-            return false;
-        }
-    }
-    is_last(rt, notes.next())
+    types
+        .iter()
+        .all(|n_type| is_next(rt, notes.next(), *n_type))
+        && is_last(rt, notes.next())
 }
 
 // The three notes of a program in three ranges, and two of them around a range of none.
@@ -319,10 +318,17 @@ const RANGES: &[(&[(usize, usize)], usize, &[u32])] = &[
     (&[(0, 32)], usize::MAX, &[]),
 ];
 
+// Whether the first note is refused, and ends its own range alone.
+fn ends_its_own_range(rt: HostRuntime, mut notes: NoteIterator) -> bool {
+    matches!(notes.next(), Some(Err(_))) && notes.index == 0 && all_have_types(rt, notes, &[1])
+}
+
 #[test]
 fn returns_the_notes_of_ranges(rt: HostRuntime) {
     assert!(rt; has_types(rt, range(THREE, 0, 132, 4), &[1, 3, 5]));
     assert!(rt; each_row!(rt; row in RANGES => ranges_have_types(rt, row.0, row.1, row.2)));
+    let refused = ranges(rt.alloc(), &[(8, 32), (0, 32)], 0);
+    assert!(rt; refused.is_ok_and(|notes| ends_its_own_range(rt, notes)));
 }
 
 // Whether the first item of a range is the fault of this text, the last one, and moves the offset to
@@ -388,6 +394,7 @@ fn bytes_of(rt: HostRuntime, ends: &[(usize, usize)]) -> Result<usize> {
 
 #[test]
 fn serves_a_loop_and_a_count(rt: HostRuntime) {
+    assert!(rt; is(rt, range(THREE, 0, 132, 4).size_hint(), (1, Some(11))));
     assert!(rt; is(rt, count(range(THREE, 0, 132, 4)), 3));
     assert!(rt; is(rt, count(range(THREE, 0, usize::MAX, 4)), 4));
     assert!(rt; returns(rt, build_of(range(THREE, 0, 132, 4)), Some(&THREE[48..68])));

@@ -284,13 +284,14 @@ fn finds_imports(rt: HostRuntime) {
 }
 
 // Section indices, and whether each is that of a section of the file: not 0 and below 0xff00, or the escape 0xffff.
-static SECTION_INDICES: [(usize, bool); 6] = [
+static SECTION_INDICES: [(usize, bool); 7] = [
     (0, false),
     (1, true),
     (0xfeff, true),
     (0xff00, false),
     (0xfff1, false),
     (0xffff, true),
+    (0x1_0001, false),
 ];
 
 // Reports whether a symbol with this section index lies in a section of the file.
