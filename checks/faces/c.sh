@@ -225,6 +225,10 @@ check_programs() {
     prints_wanted "$folder/needed" "$folder/cut"
     ends_with 0 'int*needed libf*needed: no zero byte closes a string *1048576*runpath: no zero *60' "$folder/needed" checks/files/facts/open_names
     echo "needed.c lists the same by the program headers if the last section header is cut, and says which names are not closed"
+    for program in nm needed truncated size; do
+        # shellcheck disable=SC2016 # (they are of the shell that is run)
+        ends_with 2 'stdout: No space left on device' sh -c '"$0" "$1" > /dev/full' "$folder/$program" $program_file
+    done
     echo "nm.c lists $(echo "$symbols_made" | wc -l) symbols in each class and byte order"
 }
 

@@ -42,3 +42,8 @@ static inline const char *refusal_text(void) {
 static inline int print_refusal(const char *what) {
     return fprintf(stderr, "%s: %s\n", what, refusal_text()), 1;
 }
+
+/* Returns the exit status, or 2 if the output can't be written. */
+static inline int written(int status) {
+    return fflush(stdout) == 0 && !ferror(stdout) ? status : (perror("stdout"), 2);
+}

@@ -31,5 +31,5 @@ int main(int argc, char **argv) {
         if (!store(path)) return perror(path), 2;
     }
     printf("%c %s\n", flags & GOBLIN_PF_X ? 'X' : '-', path);
-    return 0;
+    return written(0);
 }

@@ -23,5 +23,5 @@ int main(int argc, char **argv) {
         || goblin_section(bytes, len, &header, index, &section, &why) != GOBLIN_OK)
         return print_refusal("flag");
     printf("%s: flags 0x%" PRIx64 ", now 0x%" PRIx64 "\n", name, before, section.sh_flags);
-    return 0;
+    return written(0);
 }

@@ -29,5 +29,5 @@ int main(int argc, char **argv) {
             : entry.d_tag == GOBLIN_DT_RPATH ? "rpath" : entry.d_tag == GOBLIN_DT_RUNPATH ? "runpath" : NULL;
         if (name) status = print(name, &strings, entry.d_val);
     }
-    return status <= GOBLIN_END ? 0 : print_refusal("needed");
+    return written(status <= GOBLIN_END ? 0 : print_refusal("needed"));
 }

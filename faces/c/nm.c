@@ -95,5 +95,5 @@ int main(int argc, char **argv) {
     goblin_section_t table;
     uint64_t index;
     bool is_there = goblin_section_by_type(bytes, len, &header, type, 0, &index, &table, &why) == GOBLIN_OK;
-    return is_there ? list(index, &table) : 0;
+    return written(is_there ? list(index, &table) : 0);
 }

@@ -34,5 +34,5 @@ int main(int argc, char **argv) {
         failed |= load(argv[i]) ? add_up(argv[i]) : (perror(argv[i]), 1);
         free(bytes);
     }
-    return failed;
+    return written(failed);
 }

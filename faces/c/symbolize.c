@@ -156,5 +156,5 @@ int main(int argc, char **argv) {
         if (status > GOBLIN_END) return print_refusal("symbolize: symbols");
         printf("%s\n??:0\n", status == GOBLIN_OK ? (const char *)bytes + name.offset : "??");
     }
-    return 0;
+    return written(0);
 }

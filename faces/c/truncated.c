@@ -33,5 +33,5 @@ int main(int argc, char **argv) {
     printf("%" PRIu64 " of %" PRIu64 " headers are whole\n", left, count);
     for (uint64_t i = 0; goblin_section(bytes, end, &whole, i, &section, &why) == GOBLIN_OK; i++)
         show(end, i, &section);
-    return 0;
+    return written(0);
 }
