@@ -229,6 +229,9 @@ check_programs() {
         # shellcheck disable=SC2016 # (they are of the shell that is run)
         ends_with 2 'stdout: No space left on device' sh -c '"$0" "$1" > /dev/full' "$folder/$program" $program_file
     done
+    # (a folder is opened, and can't be read)
+    # shellcheck disable=SC2016
+    ends_with 1 "*	$program_file" sh -c 'ulimit -n 16 && exec "$@"' sh "$folder/size" . . . . . . . . . . . . . . . . . . . . $program_file
     echo "nm.c lists $(echo "$symbols_made" | wc -l) symbols in each class and byte order"
 }
 

@@ -1,5 +1,6 @@
 /* What the examples share: the file that is read, its header, why a call refused it, and how that is printed. */
 #include "goblin.h"
+#include <errno.h>
 #include <inttypes.h>
 #include <stdio.h>
 #include <stdlib.h>
@@ -15,7 +16,11 @@ static inline bool load(const char *path) {
     FILE *file = fopen(path, "rb");
     long size = file && fseek(file, 0, SEEK_END) == 0 ? ftell(file) : -1;
     bytes = size < 0 ? NULL : (uint8_t *)malloc((size_t)size + 1);
-    if (!bytes) return false;
+    if (!bytes) {
+        int reason = errno;
+        if (file) fclose(file);
+        return errno = reason, false;
+    }
     rewind(file);
     len = fread(bytes, 1, (size_t)size, file);
     return fclose(file) == 0 && len == (size_t)size;
