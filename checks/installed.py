@@ -117,7 +117,8 @@ class Unpacked:
         """Builds nm.c by CMake with some lines that find and link the library, and runs it."""
         package, module = f'find_package(goblin_c {self.version.rpartition(".")[0]} REQUIRED)', 'find_package(PkgConfig REQUIRED)'
         none = ('find_package(goblin_c 99 QUIET)\nif(goblin_c_FOUND)\nmessage(FATAL_ERROR "version 99 is found")\nendif()\n'
-                'if(NOT CMAKE_VERSION VERSION_LESS 3.19)\nfind_package(goblin_c 0.1...<99 REQUIRED)\nendif()\n')
+                'if(NOT CMAKE_VERSION VERSION_LESS 3.19)\nfind_package(goblin_c 0.1...<99 REQUIRED)\n'
+                f'set(INCLUDE include)\nfind_package(goblin_c 0.1...{self.version} REQUIRED)\nendif()\n')
         ways = {'package': f'{none}{package}\ntarget_link_libraries(listing goblin_c::goblin_c)'}
         if shutil.which('pkg-config'):
             ways['module'] = (f'{module}\npkg_check_modules(GOBLIN REQUIRED IMPORTED_TARGET goblin_c={self.version})\n'
