@@ -20,6 +20,11 @@ for file in "$files"/*; do
 done
 example() { (name=$1; shift; "$examples/$name" "$@"); }
 try_examples symbols relocations needed segments truncated flag
+for name in symbols relocations needed segments truncated flag; do
+    case $name in flag) section=.text ;; *) section= ;; esac
+    # shellcheck disable=SC2016 # (they are of the shell that is run)
+    ends_with 1 "$name: *: No space left on device *" sh -c '"$@" > /dev/full' sh "$examples/$name" $program_file ${section:+"$section"}
+done
 oldest=$(awk -F '"' '/^rust-version = / { print $2 }' $crate)
 if /usr/bin/rustc --version 2> "$folder/output" | grep -qF "rustc $oldest."; then
     quietly env PATH=/usr/bin:/bin CARGO_TARGET_DIR="$folder/oldest" /usr/bin/cargo test --offline --manifest-path $crate

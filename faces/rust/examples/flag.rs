@@ -5,6 +5,7 @@
 use goblin_rs::section_header::SHF_WRITE;
 use goblin_rs::Elf;
 use std::env;
+use std::io::{self, Write};
 use std::process::ExitCode;
 
 mod common;
@@ -19,8 +20,7 @@ fn change(elf: &Elf, bytes: &[u8]) -> common::Result {
     let mut bytes = bytes.to_vec();
     elf.header.put_section_header(&mut bytes, index, &section)?;
     let changed = Elf::parse(&bytes)?.section_header(index)?.ok_or_else(missing)?;
-    println!("{name}: flags {before:#x}, now {:#x}", changed.sh_flags);
-    Ok(())
+    Ok(writeln!(io::stdout(), "{name}: flags {before:#x}, now {:#x}", changed.sh_flags)?)
 }
 
 fn main() -> ExitCode {

@@ -9,7 +9,7 @@ mod common;
 fn print(name: &str, strings: &Strtab, offset: u64) -> common::Result {
     match strings.get_c_str(offset as usize)? {
         Some(string) => io::stdout().write_all(&[name.as_bytes(), b" ", string.to_bytes(), b"\n"].concat())?,
-        None => println!("{name}: no zero byte closes a string at offset {offset}"),
+        None => writeln!(io::stdout(), "{name}: no zero byte closes a string at offset {offset}")?,
     }
     Ok(())
 }
