@@ -52,6 +52,15 @@ if has pkg-config 'no library is looked for by it'; then
     quietly env -u GOBLIN_C_LIB PKG_CONFIG_LIBDIR="$folder/a folder" cargo build --offline --manifest-path "$folder/copied/Cargo.toml"
     ! grep -q Compiling "$folder/output" || fail "the crate is compiled again: $(cat "$folder/output")"
 fi
+# It finds the library that it is installed with, also after both were moved.
+mkdir -p "$folder/installed/lib" "$folder/installed/share/goblin_c"
+cp "$folder/libgoblin_c.a" "$folder/installed/lib/"
+cp -R faces/rust "$folder/installed/share/goblin_c/rust"
+for place in installed moved; do
+    [ -e "$folder/$place" ] || mv "$folder/installed" "$folder/$place"
+    quietly env -u GOBLIN_C_LIB -u CARGO_TARGET_DIR PKG_CONFIG_LIBDIR="$folder" cargo build --offline --example symbols \
+        --manifest-path "$folder/$place/share/goblin_c/rust/Cargo.toml"
+done
 quietly cargo package --offline --allow-dirty --manifest-path $crate
 # Puts into the file lints the flags of the stored lints, those of Rust 1.95, that a program of this version has, too, and that match a
 # pattern: lints PROGRAM PATTERN. They are errors. What else is found is printed.

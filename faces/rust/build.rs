@@ -43,9 +43,14 @@ fn named() -> Option<PathBuf> {
     env::var_os("GOBLIN_C_LIB").filter(|folder| !folder.is_empty()).map(PathBuf::from)
 }
 
+/// Returns the folder of this file, which may have been moved since this program was compiled.
+fn here() -> PathBuf {
+    PathBuf::from(env::var_os("CARGO_MANIFEST_DIR").unwrap_or_default())
+}
+
 /// Returns the folders to look in. They are absolute, since rustc may run in another folder than this program.
 fn folders() -> Vec<PathBuf> {
-    let here = Path::new(env!("CARGO_MANIFEST_DIR"));
+    let here = &here();
     if let Some(folder) = named() {
         return vec![here.join(folder)];
     }
@@ -79,7 +84,7 @@ fn warn(folders: &[PathBuf], processors: &str) {
             env!("CARGO_PKG_VERSION")
         );
     }
-    if named().is_none() && beside(Path::new(env!("CARGO_MANIFEST_DIR"))).is_none() {
+    if named().is_none() && beside(&here()).is_none() {
         println!(
             "cargo:warning=no folder beside this crate was looked in: it is a copy, outside of its installation and \
              its repository"
