@@ -2,22 +2,35 @@
 //! its offset, the number of its type, the index and the name of its symbol, and its addend.
 use goblin_rs::error::Result;
 use goblin_rs::reloc::Reloc;
-use goblin_rs::sym::{Symtab, STT_SECTION};
+use goblin_rs::section_header::{SectionHeader, SHN_LORESERVE, SHN_XINDEX, SHT_SYMTAB_SHNDX};
+use goblin_rs::sym::{Sym, Symtab, STT_SECTION};
 use goblin_rs::Elf;
 use std::io::{self, Write};
 use std::process::ExitCode;
 
 mod common;
 
+/// Returns the index of a symbol's section. One that doesn't fit the symbol stands in a section of its own.
+fn section_of(elf: &Elf, table: u32, reloc: &Reloc, symbol: &Sym) -> Result<Option<usize>> {
+    if symbol.st_shndx != SHN_XINDEX {
+        return Ok(Some(symbol.st_shndx).filter(|index| *index < SHN_LORESERVE));
+    }
+    let is_of_table = |section: &SectionHeader| section.sh_type == SHT_SYMTAB_SHNDX && section.sh_link == table;
+    let indices = elf.section_headers()?.iter().find(is_of_table);
+    let index = indices.map(|indices| elf.number_in(&indices, 4 * reloc.r_sym as u64, 4)).transpose()?;
+    Ok(index.flatten().map(|index| index as usize))
+}
+
 /// Returns the name of a relocation's symbol. The symbol of a section has the section's name.
-fn name_of<'a>(elf: &Elf<'a>, symbols: &Symtab<'a>, reloc: &Reloc) -> Result<&'a str> {
+fn name_of<'a>(elf: &Elf<'a>, table: u32, symbols: &Symtab<'a>, reloc: &Reloc) -> Result<&'a str> {
     let symbol = match symbols.get(reloc.r_sym) {
         Some(symbol) if reloc.r_sym != 0 => symbol,
         _ => return Ok(""),
     };
     let name = symbols.name(&symbol)?.unwrap_or("");
     if symbol.st_type() == STT_SECTION && name.is_empty() {
-        return match elf.section_header(symbol.st_shndx)? {
+        let index = section_of(elf, table, reloc, &symbol)?;
+        return match index.map(|index| elf.section_header(index)).transpose()?.flatten() {
             Some(section) => Ok(elf.section_name(&section)?.unwrap_or("")),
             None => Ok(""),
         };
@@ -32,7 +45,7 @@ fn list(elf: &Elf, _: &[u8]) -> common::Result {
         let linked = elf.section_header(section.sh_link as usize)?.filter(|_| section.sh_link != 0);
         let symbols = linked.map(|linked| elf.symtab(&linked)).transpose()?;
         for reloc in &relocs {
-            let name = symbols.as_ref().map_or(Ok(""), |symbols| name_of(elf, symbols, &reloc))?;
+            let name = symbols.as_ref().map_or(Ok(""), |symbols| name_of(elf, section.sh_link, symbols, &reloc))?;
             write!(out, "{:x} {} {} {}", reloc.r_offset, reloc.r_type, reloc.r_sym, name)?;
             match reloc.r_addend {
                 Some(addend) if addend < 0 => writeln!(out, " - {:x}", addend.unsigned_abs())?,
