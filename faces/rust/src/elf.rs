@@ -62,6 +62,7 @@ impl<'a> Elf<'a> {
     /// [`Elf::program_headers`] return of this file is the same.
     ///
     /// In most files the header of the section names is one of the last. If it is cut off, sections have no names.
+    /// Of a file with more headers the first 65,535 section headers and 65,534 program headers are counted.
     ///
     /// ```
     /// # fn main() -> Result<(), Box<dyn std::error::Error>> {
