@@ -45,13 +45,10 @@ wasm64-unknown-unknown-*) fail "a module for WebAssembly can't be a shared libra
 *) fail "SHARED is $SHARED: it must be 1 for a shared library, else 0" ;;
 esac
 folder=$(mktemp -d)
-begun=
-# Leaves the list of the files that are installed, also if the installation fails or is interrupted, so that they can be removed.
-leave() {
-    if [ "$begun" ]; then install -m 644 "$folder/files" "$begun" || :; fi
-    rm -rf "$folder"
-}
-trap leave EXIT
+# What is installed is noted in this list before it is written, and from the first file on in the list that stays with the installation. So
+# it can be removed also if the installation fails or is interrupted, or the disk is full.
+files=$folder/files
+trap 'rm -rf "$folder"' EXIT
 trap 'exit 1' HUP INT TERM
 
 # Fails if the toolchain doesn't compile for the processors CPU, which it says before it reads a crate: with status 2, and not 1 as for a
@@ -80,18 +77,18 @@ make_folder() {
     if [ -z "$1" ]; then
         above=$(dirname "$to") up=../
         while [ ! -d "$above" ]; do
-            echo "$up" >> "$folder/files"
+            echo "$up" >> "$files"
             above=$(dirname "$above") up=../$up
         done
     fi
-    echo "$1/" >> "$folder/files"
+    echo "$1/" >> "$files"
     install -d -m 755 "$to/$1"
 }
 
 # Installs a file below the folder, with a mode or 644, and notes it in that list: put FILE NAME [MODE]
 put() {
     make_folder "$(dirname "$2")"
-    echo "$2" >> "$folder/files"
+    echo "$2" >> "$files"
     install -m "${3:-644}" "$1" "$to/$2"
 }
 
@@ -111,21 +108,20 @@ put_all() {
 
 install_below() {
     to=$1
-    : > "$folder/files"
+    : > "$files"
     if [ "$target" = wasm64-unknown-unknown ]; then kind=web; else kind=library; fi
     # (what may fail comes before the earlier installation is removed)
     python3 faces/constants.py --made
     if [ "$kind" = library ]; then link_shared; fi
     remove_from "$to" "$kind"
     # (what an earlier installation made and something else keeps is still of this one)
-    while read -r made; do if [ -d "$to/$made" ]; then echo "$made" >> "$folder/files"; fi; done < "$folder/made"
+    while read -r made; do if [ -d "$to/$made" ]; then echo "$made" >> "$files"; fi; done < "$folder/made"
     make_folder share/goblin_c
-    begun=$to/share/goblin_c/$kind.files
     # (which is no folder of the list, but says where they were made)
-    echo "@$(CDPATH='' cd "$to" && pwd -P)/" >> "$folder/files"
+    echo "@$(CDPATH='' cd "$to" && pwd -P)/" >> "$files"
+    install -m 644 "$files" "$to/share/goblin_c/$kind.files"
+    files=$to/share/goblin_c/$kind.files
     "install_$kind"
-    install -m 644 "$folder/files" "$begun"
-    begun=
 }
 
 install_library() {
@@ -155,7 +151,7 @@ install_library() {
         put "$folder/shared" "$shared"
         # (by this name, because -lgoblin_c would take libgoblin_c.so in place of the static library)
         ln -sf "${shared##*/}" "$to/$libdir/libgoblin_c-shared.so"
-        echo "$libdir/libgoblin_c-shared.so" >> "$folder/files"
+        echo "$libdir/libgoblin_c-shared.so" >> "$files"
         put_flags goblin_c-shared
     fi
     if [ "$program" ]; then
@@ -201,7 +197,7 @@ toolchain_bin() {
 # Prints the installed files and folders, each by the start of its name, and what they are.
 each_installed() {
     while read -r start content; do
-        if grep -qF "$start" "$folder/files"; then echo "$start $content"; fi
+        if grep -qF "$start" "$files"; then echo "$start $content"; fi
     done << END
 $libdir/libgoblin_c.a the static library
 $libdir/libgoblin_c.so.$interface the shared library of interface $interface, to which \`libgoblin_c-shared.so\` links
@@ -233,7 +229,7 @@ print_contents() {
     # shellcheck disable=SC2016
     each_installed | while read -r start content; do
         printf '|`%s`|%s|%s|\n' "$start" "$content" \
-            "$(cd "$to" && grep -F "$start" "$folder/files" | grep -v '/$' | tr '\n' '\0' | xargs -0 cat | wc -c)"
+            "$(cd "$to" && grep -F "$start" "$files" | grep -v '/$' | tr '\n' '\0' | xargs -0 cat | wc -c)"
     done
 }
 

@@ -36,11 +36,16 @@ touch "$root/share/goblin_c/rust/src/earlier.rs"
 ends_with 0 '' find "$root" -path '*/x86_64-linux-gnu/*' ! -type d -o -name earlier.rs -o -name '*-shared*'
 quietly make uninstall PREFIX="$root" LIBDIR="$root/lib"
 [ ! -e "$folder/above" ] || fail "an uninstallation leaves: $(find "$folder/above")"
-# (so does what an installation left that failed)
-ends_with 1 '*' env LIBDIR=lib PROGRAM="$folder/none" sh faces/install.sh "$root"
-[ -e "$root/lib/libgoblin_c.a" ] || fail "an installation that fails at the program has installed nothing"
-quietly sh faces/install.sh --uninstall "$root"
-[ ! -e "$folder/above" ] || fail "the uninstallation of what was installed in part leaves: $(find "$folder/above")"
+# (so does what an installation left that failed, also if from then on nothing can be written, as on a disk that is full)
+mkdir "$folder/filling"
+printf '#!/bin/sh\n[ ! -e "%s/lib/libgoblin_c.a" ] || exit 1\nexec /usr/bin/install "$@"\n' "$root" > "$folder/filling/install"
+chmod 755 "$folder/filling/install"
+for path in "$PATH" "$folder/filling:$PATH"; do
+    ends_with 1 '*' env LIBDIR=lib PROGRAM="$folder" PATH="$path" sh faces/install.sh "$root"
+    [ -e "$root/lib/libgoblin_c.a" ] || fail "an installation that fails after the library has installed nothing"
+    quietly sh faces/install.sh --uninstall "$root"
+    [ ! -e "$folder/above" ] || fail "the uninstallation of what was installed in part leaves: $(find "$folder/above")"
+done
 mkdir -p "$root/share/man"
 (umask 022 && quietly env LIBDIR=lib sh faces/install.sh "$root")
 touch "$root/include/own.h"
