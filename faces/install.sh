@@ -21,6 +21,9 @@ fail() {
     echo "$1" >&2
     exit 2
 }
+# (a folder's name may begin with a hyphen, and an empty one is the root)
+case $1 in --archive | --uninstall) option=$1 && shift ;; *) option= ;; esac
+case ${1-/} in -*) set -- "./$1" ;; '') set -- / ;; esac
 sh commands/has.sh goblin_c awk python3
 version=$(awk -F '"' '/^version = / { print $2; exit }' faces/rust/Cargo.toml)
 target=${TARGET:-x86_64-unknown-linux-gnu}
@@ -62,7 +65,7 @@ check_cpu() {
     (cd "$folder/crates/cpu" && rt lib --target "$target" --cpu "$CPU") > "$folder/said" 2>&1 || status=$?
     [ "$status" -ne 2 ] || { grep -F -e "$CPU" "$folder/said" >&2; fail "CPU is $CPU: the toolchain makes no library for it, for the reason above"; }
 }
-if [ "$1" != --uninstall ]; then
+if [ "$option" != --uninstall ]; then
     for made in . crates faces/web faces/python/goblin_elf; do
         [ -w "$made" ] || fail "this folder is read-only, and what is installed is made in it. Use a copy"
     done
@@ -278,10 +281,10 @@ remove_from() {
 # Removes a folder if nothing is in it.
 remove_empty() { if [ -d "$1" ] && [ -z "$(ls -A "$1")" ]; then rmdir "$1"; fi; }
 
-if [ "$1" = --uninstall ]; then
-    [ -e "$2/share/goblin_c/library.files" ] || [ -e "$2/share/goblin_c/web.files" ] || fail "goblin_c is not installed below $2: nothing is removed"
-    remove_from "$2" library web
-    echo "goblin_c is removed from $2"
+if [ "$option" = --uninstall ]; then
+    [ -e "$1/share/goblin_c/library.files" ] || [ -e "$1/share/goblin_c/web.files" ] || fail "goblin_c is not installed below $1: nothing is removed"
+    remove_from "$1" library web
+    echo "goblin_c is removed from $1"
     exit 0
 fi
 
@@ -336,10 +339,11 @@ fi
 program=
 if [ "$target" = x86_64-unknown-linux-gnu ]; then
     program=${PROGRAM:-}
+    [ -z "$program" ] || [ -r "$program" ] || fail "PROGRAM is $program: it can not be read"
     if [ -z "$program" ] && sh commands/show.sh is_built; then program=crates/goblin_show/out/goblin_show; fi
     [ "$program" ] || echo "goblin_show is left out: it is not proved and built of these sources, which \`make show FILE=/bin/true\` does"
 fi
-if [ "$1" != --archive ]; then
+if [ "$option" != --archive ]; then
     install_below "$1"
     echo "goblin_c $version for $target is installed below $1"
     if [ "$shared" ] && [ -z "${ROOT:-}" ]; then
@@ -348,7 +352,7 @@ if [ "$1" != --archive ]; then
     exit 0
 fi
 name=goblin_c-$version-$target
-archive=${2:-out/$name.tar.gz}
+archive=${1:-out/$name.tar.gz}
 install_below "$folder/$name"
 # (others may have made such folders as bin where it is unpacked)
 sed -i '/^@/d; /\/$/{/goblin_c\//!d;}' "$folder/$name/share/goblin_c/$kind.files"

@@ -46,6 +46,7 @@ for path in "$PATH" "$folder/filling:$PATH"; do
     quietly sh faces/install.sh --uninstall "$root"
     [ ! -e "$folder/above" ] || fail "the uninstallation of what was installed in part leaves: $(find "$folder/above")"
 done
+ends_with 2 'PROGRAM is *: it can not be read' env PROGRAM="$folder/none" sh faces/install.sh "$root"
 mkdir -p "$root/share/man"
 (umask 022 && quietly env LIBDIR=lib sh faces/install.sh "$root")
 touch "$root/include/own.h"
@@ -71,6 +72,10 @@ quietly make install PREFIX="$folder"'/$(touch made)$b'
 # shellcheck disable=SC2016
 quietly make uninstall PREFIX="$folder"'/$(touch made)$b'
 [ ! -e made ] || fail 'make runs what a name of a folder has'
+quietly make install PREFIX=-x
+quietly make uninstall PREFIX=-x
+[ ! -e ./-x ] || fail "the uninstallation of a folder whose name begins with a hyphen leaves: $(find ./-x)"
+ends_with 2 '*goblin_c is not installed below /: nothing is removed*' make uninstall PREFIX=
 ends_with 2 "LIBDIR is lib&64: *" env LIBDIR='lib&64' sh faces/install.sh "$root"
 # A wheel that can't be written is no archive that is.
 mkdir -p "$folder/taken/goblin_elf-$version-py3-none-linux_x86_64.whl"
