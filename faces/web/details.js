@@ -82,14 +82,14 @@ function section_details(item, index) {
     };
 }
 
-// How many sections of a segment are named at most.
-const MOST_SECTIONS = 24;
+// How many sections of a segment, and segments of an address, are named at most.
+const MOST_NAMED = 24;
 
 function segment_details(item, index) {
     const { p_type, p_flags, p_offset, p_vaddr, p_filesz, p_memsz } = item;
     const inside = sections().filter((section) => section.index && goblin.segment_holds(item, section));
-    const first = inside.slice(0, MOST_SECTIONS).map(({ index: of }) => to_section(of)),
-        is_cut = inside.length > MOST_SECTIONS;
+    const first = inside.slice(0, MOST_NAMED).map(({ index: of }) => to_section(of)),
+        is_cut = inside.length > MOST_NAMED;
     return {
         title: title_of_segment(index, item),
         what: `segment ${count(index)} of ${count(file.elf.program_headers().length)}`,
@@ -100,7 +100,7 @@ function segment_details(item, index) {
                 p_offset: ['', at_offset(p_offset)], p_vaddr: ['', at_address(p_vaddr)], p_paddr: '',
                 p_filesz: in_bytes(p_filesz), p_memsz: in_bytes(p_memsz), p_align: '',
             }),
-            first.length > 0 && field('sections', '', is_cut ? `the first ${MOST_SECTIONS}` : '', ...first),
+            first.length > 0 && field('sections', '', is_cut ? `the first ${MOST_NAMED}` : '', ...first),
         ],
         blocks: [block('bytes', () => file.elf.range(item), (error) => segment_refusal(error, index)),
             record('program header', 'segment', header_at('segment', index))],
@@ -229,7 +229,8 @@ export function address_details(address) {
         what: symbol ? `in ${symbol.name}` : section ? `in ${called(index)}` : 'in memory',
         kind: section ? kind_of(section) : pieces[0]?.kind,
         fields: [symbol && field('symbol', '', '', to_symbol(symbol)), of && field('section', '', '', of),
-            inside.length > 0 && field('segment', '', '', ...inside.map(to_segment)),
+            inside.length > 0 && field('segment', '', inside.length > MOST_NAMED ? `the first ${MOST_NAMED}` : '',
+                ...inside.slice(0, MOST_NAMED).map(to_segment)),
             at === undefined ? field('offset', 'none', 'no bytes in the file')
                 : field('offset', hex(at), '', at_offset(at))],
         blocks: at === undefined ? []

@@ -50,8 +50,7 @@ async function search(text) {
     asked = text;
     if (!text) { close_found(); return false; }
     const slow = setTimeout(() => { if (asked === text) report('searching …'); }, SOON);
-    const places = await ask('find', text);
-    clearTimeout(slow);
+    const places = await ask('find', text).finally(() => clearTimeout(slow));
     if (!places || asked !== text) return false;
     show(places);
     report(places.length > 0 ? '' : NONE);
