@@ -197,10 +197,11 @@ function what_was_running() {
     const threads = of('PRSTATUS'), in_words = ([name, { start, ranges }]) =>
         own('mapped file', `${name}, ${plural(ranges, 'range')} from ${hex(start)} on`);
     return [...threads.slice(0, 1).map((item) => own('signal', signal_of(item))),
-        ...of('PRPSINFO').map((item) => ({ to: item.to, ...process_of(item) })).filter(({ id }) => id !== undefined)
+        ...of('PRPSINFO').slice(0, 1).map((item) => ({ to: item.to, ...process_of(item) }))
+            .filter(({ id }) => id !== undefined)
             .flatMap(({ to, id, words }) => [own('command', words, { text: 'note', to }), own('process', id)]),
         ...rows_of_threads(threads),
-        ...of('FILE').flatMap((item) =>
+        ...of('FILE').slice(0, 1).flatMap((item) =>
             first_rows(Array.from(mapped_files(item), in_words), 'other mapped files', item.to))];
 }
 
