@@ -3,8 +3,9 @@
 import { count, get, make, visible } from './dom.js';
 import { ask, shown_file } from './reader.js';
 
-// How many rows of a list are printed at most, and the length of a text that may take several lines.
-const MOST = 300000, LONG = 24;
+// How many rows of a list and about how many characters are printed at most, and the length of a text that may take
+// several lines.
+const MOST = 300000, CHARACTERS = 1 << 26, LONG = 24;
 // A function that returns the panel of the summary.
 let summary_panel;
 
@@ -13,13 +14,13 @@ export async function prepare_paper(mine) {
     const { summary } = shown_file;
     mine.text = undefined;
     summary.panel ??= await summary_panel();
-    if (mine.grid) mine.text = await ask('text', { list: mine.name, most: MOST });
+    if (mine.grid) mine.text = await ask('text', { list: mine.name, most: MOST, characters: CHARACTERS });
 }
 
-function table_of({ head, columns }, text) {
+function table_of({ head, columns }, lines) {
     const body = make('tbody'), titles = Array.from(head.children, ({ textContent }, i) =>
         make('th', { class: columns[i].is_right && 'right' }, textContent));
-    for (const line of text ? text.split('\n') : []) {
+    for (const line of lines) {
         const row = body.insertRow();
         line.split('\t').forEach((cell, i) => Object.assign(row.insertCell(), { textContent: cell,
             className: `${columns[i].is_right ? 'right' : ''} ${cell.length > LONG ? 'long' : ''}` }));
@@ -37,8 +38,8 @@ function content_of({ grid, text, below }) {
     if (!grid || grid.box.hidden) return [...get('panel').cloneNode(true).children];
     if (text === undefined)
         return [make('p', {}, 'The list was still being read when this was printed. Print it again in a moment.')];
-    return [below.cloneNode(true), grid.length > MOST && make('p', {}, `These are the first ${count(MOST)} rows.`),
-        table_of(grid, text)];
+    const lines = text ? text.split('\n') : [], first = `These are the first ${count(lines.length)} rows.`;
+    return [below.cloneNode(true), grid.length > lines.length && make('p', {}, first), table_of(grid, lines)];
 }
 
 /** Sets functions that return the open tab, and the panel of the summary. */

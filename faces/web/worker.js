@@ -153,11 +153,16 @@ const calls = {
         });
     },
 
-    // Returns the lines of the list that is shown, at most a number, with tabs between the cells.
-    async text({ list, most }) {
+    // Returns the lines of the list that is shown, at most so many with so many characters. Tabs are between cells.
+    async text({ list, most, characters }) {
+        if (!views[list]?.shown) return undefined; // (another table is chosen meanwhile)
         const is_wanted = begin('text'), lines = [];
-        await over_view(list, 'text', () => is_wanted() && lines.length < most, ({ shown }, item, index) =>
-            lines.push(cells_of(shown, item, index).map(visible).join('\t')));
+        const is_room = () => is_wanted() && lines.length < most && characters > 0;
+        await over_view(list, 'text', is_room, ({ shown }, item, index) => {
+            const line = cells_of(shown, item, index).map(visible).join('\t');
+            characters -= line.length;
+            lines.push(line);
+        });
         return is_wanted() ? lines.slice(0, most).join('\n') : undefined;
     },
 
