@@ -377,6 +377,7 @@ check('A writer says whether there is such an item, and what is refused changes 
         assert.throws(() => elf.strtab({ ...text, sh_type: 3, sh_offset: 1n << 64n }).get(0), RangeError);
         for (const wrong of [undefined, content.buffer, [...content], new DataView(content.buffer)])
             assert.throws(() => elf.writer(wrong), TypeError);
+        assert.doesNotThrow(() => elf.writer(runInNewContext('new Uint8Array(64)')));
         assert.deepEqual(bytes, new Uint8Array(content));
         // (a number in a section is written where it is read)
         writer.put_number_in(text, 2, 2, 0x1234);
@@ -659,6 +660,7 @@ check('Strings are compared, closed by a zero byte, and found many at once', () 
     assert.ok(names.starts_with(1, 'ma') && names.starts_with(0, '') && names.starts_with(6, Uint8Array.of(0xff)));
     for (const [offset, start] of [[1, 'ain'], [9, 'ends'], [5, '\0'], [12, '']])
         assert.equal(names.starts_with(offset, start), false);
+    assert.deepEqual(names.get_start(1, Infinity), names.get_bytes(1));
     assert.deepEqual([names.get_start(1, 3), names.get_start(12, 3)], [new Uint8Array(Buffer.from('mai')), undefined]);
     // (a name may be bytes of the file, which a call may move: here the memory ends two bytes after the file)
     const whole = Elf.parse(own), { sh_name } = whole.section('.text'), at = whole.shdr_strtab().range.offset,

@@ -407,6 +407,9 @@ const is_buffer = (value) => BUFFERS.some((length) => {
     }
 });
 
+// Returns the name of a typed array's type, also of one of another realm, or undefined.
+const TYPE = Object.getOwnPropertyDescriptor(Object.getPrototypeOf(Uint8Array.prototype), Symbol.toStringTag).get;
+
 // Returns the bytes of a buffer or a view.
 function bytes_of(value) {
     if (ArrayBuffer.isView(value)) return new Uint8Array(value.buffer, value.byteOffset, value.byteLength);
@@ -1148,7 +1151,8 @@ export class Writer {
     #memory; #bytes; #header;
 
     constructor(header, bytes) {
-        if (!(bytes instanceof Uint8Array)) throw new TypeError(`a writer needs a Uint8Array, not ${describe(bytes)}`);
+        if (TYPE.call(bytes) !== 'Uint8Array')
+            throw new TypeError(`a writer needs a Uint8Array, not ${describe(bytes)}`);
         this.#memory = Memory.of(bytes);
         this.#memory.pass(HEADER, 'header', header);
         this.#header = header;
@@ -1789,7 +1793,7 @@ export class Strtab {
         this.#is_accepted = true;
         const skipped = unsigned(offset, 64);
         if (skipped >= size) return undefined;
-        const length = size - skipped < BigInt(most) ? size - skipped : BigInt(most);
+        const length = most < size - skipped ? BigInt(most) : size - skipped;
         const range = this.#read('goblin_string_bytes', { offset: start + skipped, size: length }, 0);
         return range && this.#memory.bytes(range);
     }
