@@ -17,6 +17,7 @@ import collections
 import contextlib
 import csv
 import functools
+import importlib
 import itertools
 import json
 import mmap
@@ -45,6 +46,8 @@ BETWEEN = {'compilers': '; '}
 MAGIC, AR, THIN = b'\x7fELF', b'!<arch>\n', b'!<thin>\n'
 # The most bytes of a member that is unpacked into memory, of the data of a package, and of the name of a member.
 MEMBER, PACKAGE, NAME = 64 << 20, 4 << 30, 4096
+# Of each form of packed data its first bytes, and Python's module for it, where there is one.
+PACKED = {b'\x1f\x8b\x08': 'gzip', b'BZh': 'bz2', b'\xfd7zXZ': 'lzma', b']\0\0\x80': 'lzma', b'(\xb5/\xfd': 'compression.zstd'}
 
 
 def row_of(path: str, member: Optional[str], elf_of: Callable[[], Elf]) -> Row:
@@ -110,7 +113,7 @@ def rows_of(path: str) -> Iterator[Row]:
                 elif member[:4] == MAGIC:
                     yield row_of(path, name, lambda: Elf(member))
                 elif path.endswith('.deb') and name.startswith('data.tar'):
-                    yield from unpacked(path, Content(member))
+                    yield from unpacked(path, member)
                     return  # (as dpkg reads no further)
         elif start == THIN and path.endswith('.a'):
             yield row_with(path, None, refused='LEFT_OUT', text='a thin archive, whose members are files of their own')
@@ -162,15 +165,35 @@ class Content:
         return part
 
 
-def unpacked(path: str, data: Any) -> Iterator[Row]:
+class Unpacked:
+    """The data of a package as a file that is unpacked in small parts as it is read. Each byte counts, whatever headers say."""
+
+    def __init__(self, data: memoryview) -> None:
+        content = Content(data)
+        names = [name for start, name in PACKED.items() if data[:len(start)] == start]
+        # (`read` of these modules would lose what comes before damaged data)
+        self.part = importlib.import_module(names[0]).open(content).read1 if names else content.read
+        self.left = PACKAGE
+
+    def read(self, size: int) -> bytes:
+        part: bytes = self.part(min(size, self.left or 1))
+        if len(part) > self.left:
+            raise ValueError('it has more than 4 GiB')
+        self.left -= len(part)
+        return part
+
+
+def unpacked(path: str, data: memoryview) -> Iterator[Row]:
     """Yields the rows of the files in a package's data."""
     sizes = 0
     try:
-        archive = tarfile.open(fileobj=data, mode='r|*', tarinfo=Member)
+        stream: Any = Unpacked(data)
+        archive: Any = tarfile.open(fileobj=stream, mode='r|', tarinfo=Member)
         for member in archive:
-            # (a size may be negative, or that of a file with holes; the offset counts headers and long names, too)
+            archive.members.clear()  # (which it would keep)
+            # (a size may be negative, or that of a file with holes)
             sizes += abs(member.size)
-            if max(sizes, archive.offset) > PACKAGE:
+            if sizes > PACKAGE:
                 raise ValueError('it has more than 4 GiB')
             file = archive.extractfile(member) if member.isreg() else None
             if file and file.read(4) == MAGIC:

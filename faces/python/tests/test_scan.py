@@ -1,5 +1,6 @@
 """Tests of goblin_elf.scan: the same report by one process, by workers of which some are killed, and in parts. Nothing listens meanwhile."""
 import asyncio
+import bz2
 import contextlib
 import csv
 import gzip
@@ -16,6 +17,7 @@ import sys
 import tarfile
 import tempfile
 import time
+import tracemalloc
 import types
 import unittest
 import unittest.mock
@@ -214,6 +216,18 @@ class Scan(Folder):
         self.assertEqual(found, [*[('a', str(index)) for index in range(4)], ('a', 'LEFT_OUT'), ('b', 'LEFT_OUT'), ('c', 'LEFT_OUT'), ('d', '0'),
                                  ('e', 'LEFT_OUT'), ('f', '0')])
 
+    def test_memory_for_packages(self):
+        """A package is unpacked in small parts, and none of them is kept."""
+        zeros = tarred(('zeros', bytes(1 << 22)))
+        packed = gzip.compress(zeros), bz2.compress(zeros), lzma.compress(zeros, preset=0)
+        tracemalloc.start()
+        self.addCleanup(tracemalloc.stop)
+        for data in (*packed, tarred(('empty', b''))[:512] * 2048 + bytes(1024)):
+            self.put('x.deb', archive([('data.tar', data)]))
+            tracemalloc.clear_traces()
+            self.assertEqual(list(module.rows_of(os.path.join(self.files, 'x.deb'))), [])
+            self.assertLess(tracemalloc.get_traced_memory()[1], 1 << 20)
+
     def test_damaged_archives(self):
         """What is not read of one is said."""
         elf = made.ALL[3].bytes
@@ -230,6 +244,10 @@ class Scan(Folder):
                 self.put('x.deb', archive([(f'data.tar{mode}', packed(data))]))
                 rows = list(module.rows_of(os.path.join(self.files, 'x.deb')))
                 self.assertEqual([row['member'] for row in rows], ['a', 'b'][:count] + [None] * (data != tar))
+        # (it may be packed in pieces)
+        for packed in (gzip.compress, bz2.compress, lzma.compress):
+            self.put('x.deb', archive([('data.tar', packed(tar[:2048]) + packed(tar[2048:]))]))
+            self.assertEqual([row['member'] for row in module.rows_of(os.path.join(self.files, 'x.deb'))], ['a', 'b'])
 
     def test_folders_that_are_deep_or_can_not_be_read(self):
         self.put('a.o', made.ALL[0].bytes)
