@@ -44,8 +44,8 @@ TYPES = {**dict.fromkeys([*COUNTS, 'offset'], 'uint64'),
          **dict.fromkeys(['pie', 'nx', 'bind_now', 'writable_code', 'canary', 'stripped', 'cut'], 'bool_')}
 BETWEEN = {'compilers': '; '}
 MAGIC, AR, THIN = b'\x7fELF', b'!<arch>\n', b'!<thin>\n'
-# The most bytes of a member that is unpacked into memory, of the data of a package, and of the name of a member.
-MEMBER, PACKAGE, NAME = 64 << 20, 4 << 30, 4096
+# The most bytes of a member that is unpacked into memory, of the data of a package, of a member's name, and of one that is unpacked.
+MEMBER, PACKAGE, NAME, NAME_READ = 64 << 20, 4 << 30, 4096, 1 << 16
 # Of each form of packed data its first bytes, and Python's module for it, where there is one.
 PACKED = {b'\x1f\x8b\x08': 'gzip', b'BZh': 'bz2', b'\xfd7zXZ': 'lzma', b']\0\0\x80': 'lzma', b'(\xb5/\xfd': 'compression.zstd'}
 
@@ -153,6 +153,15 @@ class Member(tarfile.TarInfo):
         except tarfile.HeaderError as error:
             raise error if type(error).__name__ == 'EOFHeaderError' else tarfile.ReadError(str(error))
 
+    @classmethod
+    def frombuf(cls, buf: Any, encoding: str, errors: str) -> Any:
+        member = super().frombuf(buf, encoding, errors)
+        # (for headers of POSIX.1-2001, sparse files and names without a bound, which dpkg refuses, too, Python may take hours or all memory)
+        most = NAME_READ if member.type in (tarfile.GNUTYPE_LONGNAME, tarfile.GNUTYPE_LONGLINK) else PACKAGE
+        if member.type not in tarfile.SUPPORTED_TYPES or member.type == tarfile.GNUTYPE_SPARSE or not 0 <= member.size <= most:
+            raise tarfile.ReadError('a header has a type or size that is not read')
+        return member
+
 
 class Content:
     """Some bytes as a file that is read once."""
@@ -185,16 +194,11 @@ class Unpacked:
 
 def unpacked(path: str, data: memoryview) -> Iterator[Row]:
     """Yields the rows of the files in a package's data."""
-    sizes = 0
     try:
         stream: Any = Unpacked(data)
         archive: Any = tarfile.open(fileobj=stream, mode='r|', tarinfo=Member)
         for member in archive:
             archive.members.clear()  # (which it would keep)
-            # (a size may be negative, or that of a file with holes)
-            sizes += abs(member.size)
-            if sizes > PACKAGE:
-                raise ValueError('it has more than 4 GiB')
             file = archive.extractfile(member) if member.isreg() else None
             if file and file.read(4) == MAGIC:
                 if member.size > MEMBER:

@@ -65,9 +65,9 @@ def archive(members):
 
 
 def tarred(*members, mode='w'):
-    """Returns a tar of members, each with its name, its content, and what else its header says."""
+    """Returns a tar of members, in the form that dpkg writes, each with its name, its content, and what else its header says."""
     data = io.BytesIO()
-    with tarfile.open(fileobj=data, mode=mode) as tar:
+    with tarfile.open(fileobj=data, mode=mode, format=tarfile.GNU_FORMAT) as tar:
         for name, content, *fields in members:
             member = tarfile.TarInfo(name)
             for field, value in [('size', len(content)), *fields]:
@@ -215,6 +215,17 @@ class Scan(Folder):
         found = [(os.path.basename(row['file'])[:1], row['member'] or row['refused']) for row in self.rows('r.csv')]
         self.assertEqual(found, [*[('a', str(index)) for index in range(4)], ('a', 'LEFT_OUT'), ('b', 'LEFT_OUT'), ('c', 'LEFT_OUT'), ('d', '0'),
                                  ('e', 'LEFT_OUT'), ('f', '0')])
+
+    def test_headers_that_no_package_has(self):
+        """Python may take hours or all memory for some that dpkg refuses, too. What comes before one is in the report."""
+        elf = made.ALL[3].bytes
+        headers = [(kind, b'1' * 4096) for kind in (tarfile.XHDTYPE, tarfile.XGLTYPE, tarfile.SOLARIS_XHDTYPE, tarfile.GNUTYPE_SPARSE, b'V')]
+        headers += [(kind, b'x' * 65537) for kind in (tarfile.GNUTYPE_LONGNAME, tarfile.GNUTYPE_LONGLINK)]
+        refused = None, 'its data can not be unpacked: a header has a type or size that is not read'
+        for fields in (*[(content, ('type', kind)) for kind, content in headers], (b'', ('type', tarfile.DIRTYPE), ('size', -1024))):
+            self.put('x.deb', archive([('data.tar', tarred(('a', elf), ('b', *fields), ('c', elf)))]))
+            rows = list(module.rows_of(os.path.join(self.files, 'x.deb')))
+            self.assertEqual([(row['member'], row['text']) for row in rows], [('a', None), refused])
 
     def test_memory_for_packages(self):
         """A package is unpacked in small parts, and none of them is kept."""
