@@ -5,7 +5,7 @@ import itertools
 import mmap
 import os
 import stat
-from typing import Any, Iterable, Iterator, List, Optional, Tuple, Union
+from typing import IO, Any, Iterable, Iterator, List, Optional, Tuple, Union
 
 from ._library import FUNCTIONS, HEADER, RANGE, File, call, found, unsigned
 from .constants import (DT_NEEDED, DT_RPATH, DT_RUNPATH, DT_SONAME, ELFCLASS64, ELFDATA2MSB, NT_GNU_BUILD_ID, PT_INTERP, PT_NOTE, SHT_DYNAMIC,
@@ -16,6 +16,13 @@ from .refused import Unknown, within
 
 # The most segments, and notes, in which a note is looked for.
 SEGMENTS, NOTES = 1 << 17, 1 << 16
+
+
+def content_of(file: IO[bytes], copy: bool = False) -> Any:
+    """Returns the bytes of an open file that is not read yet, mapped or read as `Elf.open` says."""
+    status = os.fstat(file.fileno())
+    is_mapped = not copy and stat.S_ISREG(status.st_mode) and status.st_size >= 1 << 16
+    return mmap.mmap(file.fileno(), 0, access=mmap.ACCESS_READ) if is_mapped else file.read()
 
 
 class Elf:
@@ -45,9 +52,7 @@ class Elf:
         makes a mapped file shorter, the operating system ends this one when it reads past the new end (SIGBUS). Use `copy` if that may be.
         """
         with open(path, 'rb', buffering=0) as file:
-            status = os.fstat(file.fileno())
-            is_mapped = not copy and stat.S_ISREG(status.st_mode) and status.st_size >= 1 << 16
-            return cls(mmap.mmap(file.fileno(), 0, access=mmap.ACCESS_READ) if is_mapped else file.read())
+            return cls(content_of(file, copy))
 
     def whole(self) -> 'Elf':
         """Returns the same file by a header that counts only what lies in it whole: the headers of a file that is cut. Never refused."""

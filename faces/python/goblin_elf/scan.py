@@ -23,13 +23,14 @@ import json
 import mmap
 import os
 import re
+import stat
 import sys
 import tarfile
 import time
-from typing import Any, Callable, Dict, Iterator, List, Optional, Set, TextIO, Tuple
+from typing import Any, Callable, Dict, FrozenSet, Iterator, List, Optional, Set, TextIO, Tuple
 
 from . import workers
-from .elf import Elf
+from .elf import Elf, content_of
 from .facts import facts, refusal
 from .refused import Refused
 
@@ -99,13 +100,17 @@ def unguarded(cell: str) -> str:
     return re.sub(f"(^|;)'{FORMULA}", r'\1', cell)
 
 
-def rows_of(path: str) -> Iterator[Row]:
+def rows_of(path: str, follow: bool = False) -> Iterator[Row]:
     """Yields the rows of a file: one if it is an ELF file, one for each such member if it is an archive, else none."""
-    with open(path, 'rb') as file:
+    # (since it was found, a FIFO, at which an open would wait, or a link may have come in its place)
+    more = os.O_NONBLOCK | (0 if follow else os.O_NOFOLLOW)
+    with open(path, 'rb', opener=lambda name, flags: os.open(name, flags | more)) as file:
+        status = os.fstat(file.fileno())
         # (of the kernel's files, which have no size, some can't be read to an end)
-        start = file.read(len(AR)) if os.fstat(file.fileno()).st_size else b''
+        start = file.read(len(AR)) if stat.S_ISREG(status.st_mode) and status.st_size else b''
         if start[:4] == MAGIC:
-            yield row_of(path, None, lambda: Elf.open(path))
+            file.seek(0)
+            yield row_of(path, None, lambda: Elf(content_of(file)))
         elif start == AR and path.endswith(('.a', '.deb')):
             for name, member in members(memoryview(mmap.mmap(file.fileno(), 0, access=mmap.ACCESS_READ))):
                 if member is None:
@@ -210,13 +215,13 @@ def unpacked(path: str, data: memoryview) -> Iterator[Row]:
         yield row_with(path, None, refused='LEFT_OUT', text=f'its data can not be unpacked: {str(error) or type(error).__name__}')
 
 
-def examine(paths: List[str]) -> Result:
-    """Examines a batch of files."""
+def examine(paths: List[str], links: FrozenSet[str] = frozenset()) -> Result:
+    """Examines a batch of files, of which these may be links."""
     results = []
     for path in paths:
         start = time.perf_counter()
         try:
-            rows = list(rows_of(path))
+            rows = list(rows_of(path, path in links))
         except (OSError, ValueError) as error:  # (the latter at a file that was emptied meanwhile)
             rows = [row_with(path, None, refused='UNREADABLE', text=getattr(error, 'strerror', None) or 'it can not be read')]
         except MemoryError:
@@ -367,11 +372,12 @@ def report_on(results: workers.Results, report: Report) -> None:
 
 def runner_of(options: argparse.Namespace) -> Callable[[Iterator[workers.Batch]], workers.Results]:
     """Returns what examines batches."""
+    function = functools.partial(examine, links=frozenset(options.folders))
     if options.scheduler:
-        return workers.Scheduled(examine, options.scheduler).results
+        return workers.Scheduled(function, options.scheduler).results
     if options.workers:
-        return workers.Workers(examine, options.workers, options.memory).results
-    return lambda batches: ((batch, examine(batch)) for batch in batches)
+        return workers.Workers(function, options.workers, options.memory).results
+    return lambda batches: ((batch, function(batch)) for batch in batches)
 
 
 def natural(text: str, least: int = 0) -> int:

@@ -3,6 +3,7 @@ import asyncio
 import bz2
 import contextlib
 import csv
+import errno
 import gzip
 import importlib.machinery
 import io
@@ -287,6 +288,32 @@ class Scan(Folder):
         self.put('empty', b'')
         with unittest.mock.patch.object(module, 'open', Unread, create=True):
             self.assertEqual(list(module.rows_of(os.path.join(self.files, 'empty'))), [])
+
+    def test_files_that_are_replaced(self):
+        """What comes in the place of a file that was found is neither waited for nor followed, and one file is read for a row."""
+        def late(*_):
+            raise AssertionError('it waits')
+
+        def replaced(path, *arguments, **given):
+            file = open(path, *arguments, **given)
+            os.replace(os.path.join(self.files, 'b.o'), path)
+            return file
+
+        self.put('a.o', made.ALL[0].bytes)
+        self.put('b.o', made.ALL[3].bytes)
+        os.mkfifo(os.path.join(self.files, 'fifo'))
+        os.symlink('a.o', os.path.join(self.files, 'link'))
+        a, fifo, link = (os.path.join(self.files, name) for name in ('a.o', 'fifo', 'link'))
+        scan(link, '-o', self.out('r.csv'), '--workers', '1')
+        self.assertEqual([row['class'] for row in self.rows('r.csv')], ['ELF32'])
+        self.addCleanup(signal.signal, signal.SIGALRM, signal.signal(signal.SIGALRM, late))
+        self.addCleanup(signal.alarm, 0)
+        signal.alarm(8)
+        found = module.examine([fifo, link])
+        with unittest.mock.patch.object(module, 'open', replaced, create=True):
+            found += module.examine([a])
+        self.assertEqual([[(row['class'], row['text']) for row in rows] for _, rows, _ in found],
+                         [[], [(None, os.strerror(errno.ELOOP))], [('ELF32', None)]])
 
     def test_resumed(self):
         self.put_many(40)
