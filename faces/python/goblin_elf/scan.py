@@ -416,6 +416,13 @@ def options_of(arguments: Optional[List[str]]) -> argparse.Namespace:
             parser.error('pyarrow is not installed, which writes a .parquet')
     for folder in itertools.filterfalse(os.path.exists, options.folders):
         parser.error(f'{folder} is not there')
+    try:
+        os.chdir(os.getcwd())
+    except OSError as error:
+        # (a worker, which starts in /, can't go back to a folder that is removed, or that its user may not enter)
+        if not all(map(os.path.isabs, [*options.folders, options.output])):
+            parser.error(f'the current folder can not be entered, so that each path must start with /: {error.strerror}')
+        os.chdir('/')
     return options
 
 

@@ -556,6 +556,19 @@ class Workers(Folder):
         self.assertEqual([row['refused'] for row in self.rows('r.csv')], ['', 'WORKER_LOST'])
         self.assertIn('2 files, 1 refused', said.getvalue())
 
+    def test_a_folder_that_can_not_be_entered(self):
+        """As one that is removed, and one of another user."""
+        self.put('a.o', made.ALL[0].bytes)
+        self.addCleanup(os.chdir, '/')
+        os.mkdir(self.out('gone'))
+        os.chdir(self.out('gone'))
+        os.rmdir(self.out('gone'))
+        with contextlib.redirect_stderr(io.StringIO()) as said:
+            self.assertRaises(SystemExit, module.main, ['.', '-o', self.out('r.csv'), '--workers', '1'])
+        self.assertIn('the current folder can not be entered', said.getvalue())
+        scan(self.files, '-o', self.out('r.csv'), '--workers', '1')
+        self.assertEqual([row['file'] for row in self.rows('r.csv')], [self.out('files/a.o')])
+
     def test_nothing_of_the_folder_is_run(self):
         """The command of the wheel takes no modules of the current folder, and neither do its workers."""
         self.put('a.o', made.ALL[0].bytes)
