@@ -11,6 +11,7 @@ import json
 import lzma
 import os
 import random
+import shutil
 import signal
 import struct
 import subprocess
@@ -26,6 +27,7 @@ import unittest.mock
 import made
 from goblin_elf import scan as module
 from goblin_elf import workers
+from goblin_elf._library import LIBRARY
 
 try:
     import distributed
@@ -568,6 +570,14 @@ class Workers(Folder):
         self.assertIn('the current folder can not be entered', said.getvalue())
         scan(self.files, '-o', self.out('r.csv'), '--workers', '1')
         self.assertEqual([row['file'] for row in self.rows('r.csv')], [self.out('files/a.o')])
+
+    def test_a_library_of_the_current_folder(self):
+        """Workers load the same one, though they start elsewhere."""
+        self.put('a.o', made.ALL[0].bytes)
+        shutil.copy(LIBRARY._name, self.out('own.so'))
+        subprocess.run([*SCAN, 'files', '-o', 'r.csv', '--workers', '1'], check=True, cwd=self.folder, stderr=subprocess.PIPE,
+                       env={**os.environ, 'GOBLIN_ELF_LIBRARY': './own.so'})
+        self.assertEqual([row['file'] for row in self.rows('r.csv')], ['files/a.o'])
 
     def test_nothing_of_the_folder_is_run(self):
         """The command of the wheel takes no modules of the current folder, and neither do its workers."""
