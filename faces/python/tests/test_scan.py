@@ -633,14 +633,17 @@ class Workers(Folder):
             self.assertEqual((ended.returncode, ended.stderr),
                              (2, f'goblin-scan: {self.out("r.csv")} can not be read or written: File too large\n'))
         os.mkdir(self.out('folder.csv'))
-        running = self.start('-o', self.out('folder.csv'))
-        self.assertEqual(self.check_ended(running, 2), f'goblin-scan: {self.out("folder.csv")} can not be read or written: Is a directory\n')
+        os.mkfifo(self.out('fifo'))
+        os.symlink('fifo', self.out('fifo.csv'))
+        for path, arguments in (('fifo.csv', []), ('folder.csv', []), ('fifo.csv', ['--resume'])):
+            running = self.start('-o', self.out(path), *arguments)
+            self.assertEqual(self.check_ended(running, 2), f'goblin-scan: {self.out(path)} can not be read or written: it is no regular file\n')
         # (the report that a link names is written)
         scan(self.files, '-o', self.out('r.csv'), '--workers', '0')
         os.symlink('r.csv', self.out('link.csv'))
         scan(os.path.join(self.files, 'sub'), '-o', self.out('link.csv'), '--workers', '0')
         self.assertEqual((self.rows('r.csv'), os.path.islink(self.out('link.csv'))), ([], True))
-        self.assertEqual(sorted(os.listdir(self.folder)), ['files', 'folder.csv', 'link.csv', 'r.csv'])
+        self.assertEqual(sorted(os.listdir(self.folder)), ['fifo', 'fifo.csv', 'files', 'folder.csv', 'link.csv', 'r.csv'])
 
 
 @unittest.skipUnless(distributed, 'distributed is not installed')
