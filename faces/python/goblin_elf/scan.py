@@ -112,16 +112,21 @@ def rows_of(path: str, follow: bool = False) -> Iterator[Row]:
             file.seek(0)
             yield row_of(path, None, lambda: Elf(content_of(file)))
         elif start == AR and path.endswith(('.a', '.deb')):
+            left = 'a package without data' if path.endswith('.deb') else ''
             for name, member in members(memoryview(mmap.mmap(file.fileno(), 0, access=mmap.ACCESS_READ))):
                 if member is None:
-                    yield row_with(path, None, refused='LEFT_OUT', text='the archive is damaged or cut: it may have more members')
+                    left = 'the archive is damaged or cut: it may have more members'
                 elif member[:4] == MAGIC:
                     yield row_of(path, name, lambda: Elf(member))
                 elif path.endswith('.deb') and name.startswith('data.tar'):
                     yield from unpacked(path, member)
                     return  # (as dpkg reads no further)
+            if left:
+                yield row_with(path, None, refused='LEFT_OUT', text=left)
         elif start == THIN and path.endswith('.a'):
             yield row_with(path, None, refused='LEFT_OUT', text='a thin archive, whose members are files of their own')
+        elif path.endswith('.deb'):
+            yield row_with(path, None, refused='LEFT_OUT', text='no archive, which a package is')
 
 
 def members(content: memoryview) -> Iterator[Tuple[str, Optional[memoryview]]]:

@@ -258,6 +258,11 @@ class Scan(Folder):
                 self.put('x.deb', archive([(f'data.tar{mode}', packed(data))]))
                 rows = list(module.rows_of(os.path.join(self.files, 'x.deb')))
                 self.assertEqual([row['member'] for row in rows], ['a', 'b'][:count] + [None] * (data != tar))
+        damaged, without, other = left[1], 'a package without data', 'no archive, which a package is'
+        for content, text in ((whole[:1418], damaged), (b'!<arch>\n', without), (archive([('control.tar', tar)]), without), (tar, other),
+                              (b'', other)):
+            self.put('x.deb', content)
+            self.assertEqual([row['text'] for row in module.rows_of(os.path.join(self.files, 'x.deb'))][-1:], [text])
         # (it may be packed in pieces)
         for packed in (gzip.compress, bz2.compress, lzma.compress):
             self.put('x.deb', archive([('data.tar', packed(tar[:2048]) + packed(tar[2048:]))]))
