@@ -5,31 +5,38 @@ use goblin_rs::reloc::Reloc;
 use goblin_rs::section_header::{SectionHeader, SHN_LORESERVE, SHN_XINDEX, SHT_SYMTAB_SHNDX};
 use goblin_rs::sym::{Sym, Symtab, STT_SECTION};
 use goblin_rs::Elf;
+use std::collections::HashMap;
 use std::io::{self, Write};
 use std::process::ExitCode;
 
 mod common;
 
-/// Returns the index of a symbol's section. One that doesn't fit the symbol stands in a section of its own.
-fn section_of(elf: &Elf, table: u32, reloc: &Reloc, symbol: &Sym) -> Result<Option<usize>> {
+/// The section of the indices that don't fit their symbols, for each table of symbols that has one.
+type Indices = HashMap<u32, SectionHeader>;
+
+/// Returns the index of the section of a relocation's symbol.
+fn section_of(elf: &Elf, indices: Option<&SectionHeader>, reloc: &Reloc, symbol: &Sym) -> Result<Option<usize>> {
     if symbol.st_shndx != SHN_XINDEX {
         return Ok(Some(symbol.st_shndx).filter(|index| *index < SHN_LORESERVE));
     }
-    let is_of_table = |section: &SectionHeader| section.sh_type == SHT_SYMTAB_SHNDX && section.sh_link == table;
-    let indices = elf.section_headers()?.iter().find(is_of_table);
-    let index = indices.map(|indices| elf.number_in(&indices, 4 * reloc.r_sym as u64, 4)).transpose()?;
+    let index = indices.map(|indices| elf.number_in(indices, 4 * reloc.r_sym as u64, 4)).transpose()?;
     Ok(index.flatten().map(|index| index as usize))
 }
 
 /// Returns the name of a relocation's symbol. The symbol of a section has the section's name.
-fn name_of<'a>(elf: &Elf<'a>, table: u32, symbols: &Symtab<'a>, reloc: &Reloc) -> Result<&'a str> {
+fn name_of<'a>(
+    elf: &Elf<'a>,
+    indices: Option<&SectionHeader>,
+    symbols: &Symtab<'a>,
+    reloc: &Reloc,
+) -> Result<&'a str> {
     let symbol = match symbols.get(reloc.r_sym) {
         Some(symbol) if reloc.r_sym != 0 => symbol,
         _ => return Ok(""),
     };
     let name = symbols.name(&symbol)?.unwrap_or("");
     if symbol.st_type() == STT_SECTION && name.is_empty() {
-        let index = section_of(elf, table, reloc, &symbol)?;
+        let index = section_of(elf, indices, reloc, &symbol)?;
         return match index.map(|index| elf.section_header(index)).transpose()?.flatten() {
             Some(section) => Ok(elf.section_name(&section)?.unwrap_or("")),
             None => Ok(""),
@@ -40,12 +47,16 @@ fn name_of<'a>(elf: &Elf<'a>, table: u32, symbols: &Symtab<'a>, reloc: &Reloc) -
 
 fn list(elf: &Elf, _: &[u8]) -> common::Result {
     let mut out = io::BufWriter::new(io::stdout().lock());
+    let sections = elf.section_headers()?;
+    let of_indices = sections.iter().filter(|section| section.sh_type == SHT_SYMTAB_SHNDX);
+    let indices: Indices = of_indices.map(|section| (section.sh_link, section)).collect();
     for (section, relocs) in elf.shdr_relocs()? {
         writeln!(out, "{}:", elf.section_name(&section)?.unwrap_or(""))?;
         let linked = elf.section_header(section.sh_link as usize)?.filter(|_| section.sh_link != 0);
         let symbols = linked.map(|linked| elf.symtab(&linked)).transpose()?;
+        let indices = indices.get(&section.sh_link);
         for reloc in &relocs {
-            let name = symbols.as_ref().map_or(Ok(""), |symbols| name_of(elf, section.sh_link, symbols, &reloc))?;
+            let name = symbols.as_ref().map_or(Ok(""), |symbols| name_of(elf, indices, symbols, &reloc))?;
             write!(out, "{:x} {} {} {}", reloc.r_offset, reloc.r_type, reloc.r_sym, name)?;
             match reloc.r_addend {
                 Some(addend) if addend < 0 => writeln!(out, " - {:x}", addend.unsigned_abs())?,
