@@ -1,2 +1,3 @@
 mod Common
+mod DynamicLemmas
 mod FirstEntries

@@ -1,2 +1,3 @@
 pub mod Dyn
 pub mod Dynamic
+pub mod DynamicLaws
