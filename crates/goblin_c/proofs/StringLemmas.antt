@@ -13,7 +13,7 @@ use Rattle.goblin_c.proofs.Common.{symbols_expected, section_converted, symbol_c
 use Rattle.std.proofs.lemmas.Slice.Eq.{bytes_eq-Decides}
 use Rattle.std.proofs.Math.Seq.{drop-drop}
 use Rattle.goblin_base.specs.Strtab.{has_name, plain, range_in}
-use Rattle.goblin_c.specs.Laws.{IsNameAt, RefusesEither, SectionsByName, FindsItemFrom}
+use Rattle.goblin_c.specs.Laws.{IsNameAt, RefusesInTurn, SectionsByName, FindsItemFrom}
 use Rattle.goblin_c.specs.Laws.{StringsAreThere, SymbolsByName, bytes_in}
 use Rattle.goblin_c.proofs.SearchLemmas.{first_found}
 use Rattle.goblin_c.proofs.ListedLemmas.{one_converted}
@@ -106,7 +106,6 @@ named-Decides bytes names name strings offset found = (
       (place_of names offset name, grind (arith, nat_tests), there),
   λ place.
       let there = string_is bytes names offset strings place.0 found place.1 in
-      let read : plain strings 0 offset ≡ Ok name = there.2 ∙ ap Ok (sym there.3 ∙ place.2) in
       grind (arith, nat_tests, there.1, bytes_eq-Decides name name),
 )
 
@@ -118,12 +117,12 @@ module _ {X Y : Type 0} (convert : X → Y) (bytes : List ℕ) (names : GoblinRa
       → ((read : List ℕ) → strings_expected bytes names ≡ Ok read → (x : X)
       → Decides (test read x) (HasTheName (convert x)))
       → let call = item_at (each_converted convert all) in
-      FindsItemFrom first call HasTheName (RefusesEither call (string_expected bytes names))
+      FindsItemFrom first call HasTheName (RefusesInTurn call (string_expected bytes names))
       (all >>= λ items. strings >>= λ read. Ok (first_item convert (test read) first items))
   by_name first (Ok items) (Ok read) found decides =
       first_found convert HasTheName (test read) (decides read found)
-      (RefusesEither (item_at (each_converted convert (Ok items))) (string_expected bytes names)) items first
-  by_name first (Ok items) (Err e) found decides = inr (λ offset. rw found refl)
+      (RefusesInTurn (item_at (each_converted convert (Ok items))) (string_expected bytes names)) items first
+  by_name first (Ok items) (Err e) found decides = inr ((λ k other refused. cc), (λ offset. rw found refl))
   by_name first (Err e) strings found decides = inl (λ index. refl)
 
 pub sections_by_name : SectionsByName

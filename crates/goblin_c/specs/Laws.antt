@@ -285,17 +285,18 @@ FindsItemFrom first call IsSo Refuses (Ok (Some found)) =
 FindsItemFrom first call IsSo Refuses (Ok None) = FindsFrom first call IsSo Refuses (Ok None)
 FindsItemFrom first call IsSo Refuses (Err refusal) = Refuses refusal
 
--- a refusal is that of all items, or of all strings
-abbrev pub RefusesEither :
+-- a refusal is that of all items, or where none of these is refused, of all strings
+abbrev pub RefusesInTurn :
     {Y Z : Type 0} → (ℕ → Result (Option Y) RefusalAt) → (ℕ → Result (Option Z) RefusalAt) → RefusalAt → Type 0
-RefusesEither call strings refusal = RefusesAll call refusal ⊎ RefusesAll strings refusal
+RefusesInTurn call strings refusal =
+    RefusesAll call refusal ⊎ (((k : ℕ) (other : RefusalAt) → call k ≢ Err other) × RefusesAll strings refusal)
 
 -- what is found by a name is the first section or symbol from the index on whose name by the calls is this
 abbrev pub SectionsByName : Type 0
 SectionsByName =
     (bytes : List ℕ) (h : GoblinHeader) (names : GoblinRange) (name : List ℕ) (first : ℕ)
     → let HasTheName = λ (section : GoblinSection). IsNameAt bytes names section.sh_name name in
-    let Refuses = RefusesEither (section_expected bytes h) (string_expected bytes names) in
+    let Refuses = RefusesInTurn (section_expected bytes h) (string_expected bytes names) in
     FindsItemFrom first (section_expected bytes h) HasTheName Refuses
     (section_by_name_expected bytes h names name first)
 
@@ -303,7 +304,7 @@ abbrev pub SymbolsByName : Type 0
 SymbolsByName =
     (bytes : List ℕ) (h : GoblinHeader) (range names : GoblinRange) (name : List ℕ) (first : ℕ)
     → let HasTheName = λ (symbol : GoblinSymbol). IsNameAt bytes names symbol.st_name name in
-    let Refuses = RefusesEither (symbol_expected bytes h range) (string_expected bytes names) in
+    let Refuses = RefusesInTurn (symbol_expected bytes h range) (string_expected bytes names) in
     FindsItemFrom first (symbol_expected bytes h range) HasTheName Refuses
     (symbol_by_name_expected bytes h range names name first)
 

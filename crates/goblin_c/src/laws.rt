@@ -91,7 +91,7 @@ pub fn comparisons()
 /// Laws: `goblin_section_by_name` and `goblin_symbol_by_name` store the index of the first item from an index on whose
 /// string, at the range that `goblin_string` stores, has the bytes of the name, and return the end if
 /// there is none. The item that is stored with the index is the one that `goblin_section` or `goblin_symbol` stores
-/// there. They refuse only what the calls for one item or for one string refuse at each index.
+/// there. They refuse what the calls for one item refuse at each index, and then what those for one string do.
 #[tactic(auto, using(crate::proofs::StringLemmas::sections_by_name, crate::proofs::StringLemmas::symbols_by_name))]
 pub fn searches()
     ensures sections { SectionsByName }

@@ -400,21 +400,21 @@ fn reads_relocations(rt: HostRuntime) {
 
 static PAIR: &[u8; 16] = b"\x10\0\0\0\0\0\0\0\x02\0\0\0\0\0\0\x01";
 
-// Symbol and type of a relocation of 64 bits, by a header that a caller filled.
-fn reads_pair(machine: u16, class: u8, order: u8) -> (u32, u64, u32) {
+// Symbol and type of the relocation at an index of these bytes, by a header that a caller filled.
+fn reads_pair(machine: u16, class: u8, order: u8, index: u64) -> (u32, u64, u32) {
     let mut header = marked_layout().header;
     (header.e_machine, header.ei_class, header.ei_data) = (machine, class, order);
-    stored!(goblin_reloc(PAIR, &header, &range(0, 16), false, 0) => reloc { r_sym, r_type })
+    stored!(goblin_reloc(PAIR, &header, &range(0, 16), false, index) => reloc { r_sym, r_type })
 }
 
 #[test]
 fn reads_each_order_but_2_alike(rt: HostRuntime) {
-    assert!(rt; reads_pair(8, 2, 1) == (0, 2, 1));
-    assert!(rt; reads_pair(8, 2, 0) == (0, 2, 1));
-    assert!(rt; reads_pair(8, 2, 255) == (0, 2, 1));
-    assert!(rt; reads_pair(8, 2, 2) == (0, 0x0200_0000, 1));
-    assert!(rt; reads_pair(62, 2, 3) == (0, 0x0100_0000, 2));
-    assert!(rt; reads_pair(8, 0, 3).2 == 0);
+    assert!(rt; reads_pair(8, 2, 1, 0) == (0, 2, 1));
+    assert!(rt; reads_pair(8, 2, 0, 0) == (0, 2, 1));
+    assert!(rt; reads_pair(8, 2, 255, 0) == (0, 2, 1));
+    assert!(rt; reads_pair(8, 2, 2, 0) == (0, 0x0200_0000, 1));
+    assert!(rt; reads_pair(62, 2, 3, 0) == (0, 0x0100_0000, 2));
+    assert!(rt; reads_pair(8, 0, 3, 1) == (0, 0x1_0000, 0));
 }
 
 // A big endian header of the 32-bit class, whose fields differ from one another: the first 16 bytes are followed
