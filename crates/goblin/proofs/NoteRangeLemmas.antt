@@ -60,7 +60,6 @@ pub skipped : (old : List NoteDataIterator) (i : ℕ) (x : NoteDataIterator)
 skipped old i x h is none =
     let past = at_end x none in
     let same : after_next x ≡ x = rw (le-leb x.size x.offset past) refl in
-    let few : most_left x ≡ 0 = omega arith in
     record {
       ranges = rw same (set_same old i x h is);
       left = rw (drop_is old i x h is, none) refl;

@@ -1,7 +1,7 @@
 -- Laws of notes and of the notes of a range.
 use Rattle.std.proofs.Common.{◌≡◌, ◌+◌, ◌-◌, ◌<◌, ◌≤◌, ℕ, zero, suc, Bool, false, nat_le, List, [], length}
 use Rattle.std.proofs.Common.{take, drop, Result, Ok, Err, IfOk, inl, inr, refl, sym, ap, subst, ◌∙◌, arith}
-use Rattle.std.proofs.lemmas.Bool.{cases_lt, le-leb, lt-leb, leb-false}
+use Rattle.std.proofs.lemmas.Bool.{cases_lt, le-leb, lt-leb}
 use Rattle.std.proofs.lemmas.Bool.Decides.{nat_tests}
 use Rattle.std.proofs.lemmas.List.{length-drop, length-take, take-append-drop}
 use Rattle.std.specs.Int.{div_ceil, next_multiple_of}
@@ -56,9 +56,6 @@ places_fit : (available align : ℕ) (header : Nhdr32)
     → (let p = note_places align header in
     (p.name + p.name_size ≤ available) → (p.desc + p.desc_size ≤ available) → LieWithin available 0 p)
 places_fit available align header range name desc =
-    let place = next_multiple_of (nhdr32_size + header.n_namesz) align in
-    let first = multiple_range (nhdr32_size + header.n_namesz) align range.0 in
-    let last = multiple_range (place + header.n_descsz) align range.0 in
     record { name = omega (arith, name); desc = omega (arith, desc); least = omega arith; most = omega (arith, desc) }
 
 -- the places that are read lie inside the bytes
@@ -159,7 +156,6 @@ places_lie_within bytes offset ctx =
     if_ok_more (read_places ctx.0 ctx.1.le (drop offset bytes)) _ _
     (read_places-fits ctx.0 ctx.1.le (drop offset bytes))
     λ p within.
-    let there = leb-false (length bytes) offset before in
     let rest = length-drop offset bytes in
     grind (arith, within)
 
@@ -205,7 +201,6 @@ note_by_note bytes size offset ctx =
       | inl before ↦
           items_enough (size - offset) (suc (size - offset)) bytes size offset ctx (omega arith) (omega arith)
           ∙ rw (lt-leb size offset before) (same_items (note_at bytes offset ctx) _ _ λ note is.
-          let moved = at_ok (note_at bytes offset ctx) note _ is (notes_advance bytes offset ctx) in
           items_enough (size - offset) (size - (offset + note.1)) bytes size (offset + note.1) ctx (omega arith)
           (omega arith))
     ]

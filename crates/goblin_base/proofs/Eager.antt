@@ -116,7 +116,6 @@ fitting len offset size count zero h fits =
     rw (there, left) refl
 fitting len offset size zero (suc k) h fits = absurd (omega arith)
 fitting len offset size (suc count) (suc k) h fits =
-    let more = size_more k size in
     let there : offset + suc k * size ≡ offset + size + k * size = omega arith in
     let left : suc count - suc k ≡ count - k = omega arith in
     rw (room_of_fits len offset size (omega arith), there, left)
@@ -143,8 +142,6 @@ pub first_without : (len offset size count : ℕ)
 first_without len offset size count some before h =
     let k = (len - offset) / size in
     let place = offset + k * size in
-    let here : k * size ≤ len - offset = div-mul-le_self (len - offset) size in
-    let too_far = (div-lt_iff_lt-mul {k = size} {x = len - offset} {y = k + 1} some).0 (omega arith) in
     let left : count - k ≡ suc (count - (k + 1)) = omega arith in
     let fails : room_of len place size ≡ Ok tt → ⊥ =
     λ e. (let fits = fits-room_of len place size tt e in omega arith) in

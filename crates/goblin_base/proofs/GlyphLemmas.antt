@@ -1,7 +1,7 @@
 -- The digits of a number in some base.
 use Rattle.goblin_base.proofs.Common.{◌≡◌, ℕ, zero, suc, ◌/◌, ◌%◌, ◌^◌, ◌<◌, ◌≤◌, Bool, false, if◌then◌else◌}
 use Rattle.goblin_base.proofs.Common.{List, [], ◌∷◌, ap, arith, eqb, subst, div-eq_of_lt, mod-lt, pow-suc, eq-eqb}
-use Rattle.goblin_base.proofs.Common.{nat_tests, div_below, le-div, digit_glyph, digits, digits_onto, IsAscii}
+use Rattle.goblin_base.proofs.Common.{nat_tests, div_below, digit_glyph, digits, digits_onto, IsAscii}
 use Rattle.std.proofs.lemmas.Str.Ascii.{IsAscii-cons, IsAscii-nil}
 
 -- a digit before others
@@ -9,7 +9,6 @@ pub digits-more : (base k n : ℕ) (acc : List ℕ)
     → 0 < base → base ≤ n
     → digits_onto (suc k) base false n acc ≡ digits_onto k base false (n / base) (digit_glyph false (n % base) ∷ acc)
 digits-more base k n acc some h =
-    let left : 1 ≤ n / base = le-div 1 n base some (omega arith) in
     let more : eqb (n / base) 0 ≡ false = grind (arith, nat_tests) in
     ap (λ b. if b then digit_glyph false (n % base) ∷ acc
     else digits_onto k base false (n / base) (digit_glyph false (n % base) ∷ acc)) more

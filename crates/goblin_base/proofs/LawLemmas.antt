@@ -82,7 +82,6 @@ strict_table : (bytes : List ℕ) (d : ℕ) (t : StringTable)
     → table_of Strict bytes d ≡ Ok t → (whole bytes d ≡ t) × (first_bad bytes d ≡ length bytes)
 strict_table bytes d t h =
     let walk = step (walked Strict bytes d) (λ _. Ok (whole bytes d)) t h in
-    let same : ◌≡◌ {A = Result StringTable Refusal} (Ok (whole bytes d)) (Ok t) = walk.rest in
     (cc, good_if_walked bytes d walk.value walk.is)
 
 -- the range of a strict table

@@ -116,7 +116,6 @@ module _ {R : Type 0} {l : Layout R} (laws : IsRecord l) where
   fits_exactly x = (
     λ fits. sym (laws.reads_low x) ∙ laws.reads_back x fits,
     λ is.
-        let enough = laws.length_image x in
         subst (l.Fits) (laws.reads_low x ∙ is) (laws.reads_fit (l.image x) (laws.image_bytes x) (omega arith)),
   )
 

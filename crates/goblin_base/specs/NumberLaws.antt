@@ -47,7 +47,6 @@ weighted_sum-lt (b ∷ bytes) h =
 pub weighted_sum-low_bytes : (n x : ℕ) → x < 256 ^ n → weighted_sum 0 (low_bytes n x) ≡ x
 weighted_sum-low_bytes zero x h = omega arith
 weighted_sum-low_bytes (suc n) x h =
-    let e = pow-suc 256 n in
     let small : x / 256 < 256 ^ n = omega arith in
     let rest = weighted_sum-low_bytes n (x / 256) small in
     rw weighted_sum-cons (omega (arith, rest))

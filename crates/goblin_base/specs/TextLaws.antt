@@ -151,7 +151,6 @@ unreadable-later bytes d o ascii l from to = false_from_ne_true _ (λ r.
     let size = length-take-le n rest le in
     let head : get_or (take n rest) 0 0 ≡ get_or rest 0 0 = get_or-take n rest 0 0 more in
     let at = IsCharBoundary-start (take n rest) (IsUtf8-from_is_utf8 (take n rest) r) in
-    let bad = at.1 (omega arith) (omega arith) in
     omega arith)
 
 -- so its name is empty

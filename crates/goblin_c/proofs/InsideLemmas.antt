@@ -51,8 +51,6 @@ symbol_is bytes h range index x bound file ends is =
     let read = sym_of (ctx_of h).container (ctx_of h).le in
     let some = (sym_laws (ctx_of h).container (ctx_of h).le).size_positive in
     let count = range.size / own in
-    let most : count * own ≤ range.size = div-mul-le_self range.size own in
-    let not_empty : own ≤ range.size = omega (arith, ends) in
     let list : symbols_expected bytes h range ≡ Ok (records own read count (drop range.offset bytes)) =
     grind (arith, nat_tests, some) in
     listed_item symbol_converted own read bytes range.offset count range.size index (symbols_expected bytes h range) x
@@ -79,7 +77,6 @@ section_is bytes h index x there file ends is =
     let read = section_header_of (ctx_of h).container (ctx_of h).le in
     let positive = (section_header_laws (ctx_of h).container (ctx_of h).le).size_positive in
     let one : own ≤ h.e_shnum * own = omega (arith, ends) in
-    let within : h.e_shnum ≤ length bytes / own = (le-div_iff_mul-le positive).1 (omega (arith, file)) in
     let some : 0 < h.e_shnum = grind (arith, nat_tests, ends, positive) in
     let at_start : (h.e_shoff == 0) ≡ false = grind (arith, nat_tests) in
     let asked : count_asked bytes h.e_shoff h.e_shnum (ctx_of h) ≡ h.e_shnum = grind (arith, nat_tests) in
@@ -105,7 +102,6 @@ segment_is bytes h index x plain file ends is =
     let own = program_header_size (ctx_of h).container in
     let read = program_header_of (ctx_of h).container (ctx_of h).le in
     let positive = (program_header_laws (ctx_of h).container (ctx_of h).le).size_positive in
-    let within : h.e_phnum ≤ length bytes / own = (le-div_iff_mul-le positive).1 (omega (arith, file)) in
     let left : h.e_phnum ≤ (length bytes - h.e_phoff) / own = (le-div_iff_mul-le positive).1 (omega (arith, file)) in
     let test : (h.e_phnum == 0xffff) ≡ false = grind (arith, nat_tests) in
     let few : nat_lt (length bytes / own) h.e_phnum ≡ false = grind (arith, nat_tests) in
@@ -126,7 +122,6 @@ plain_reloc_is bytes h range is_rela index x other file ends is =
     let positive = (reloc_laws is_rela (ctx_of h).container (ctx_of h).le).size_positive in
     let count = range.size / own in
     let plain : is_mips64el h ≡ false = grind (arith, nat_tests) in
-    let some : 0 < range.size = omega (arith, positive, ends) in
     let not_empty : (range.size == 0) ≡ false = grind (arith, nat_tests) in
     let same = records-agree own read count (take range.size (drop range.offset bytes)) (drop range.offset bytes)
     (take-take (count * own) range.size (drop range.offset bytes) (div-mul-le_self range.size own)) in

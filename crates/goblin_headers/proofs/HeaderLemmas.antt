@@ -146,7 +146,6 @@ module _ {R : Type 0} {ident : R → List ℕ} {l : Layout R} (laws : IsHeader i
   -- a header that is its own low bits was read from its image
   own_low_fits : (h : R) → length (ident h) ≡ 16 → IsBytes (ident h) → l.low h ≡ h → l.Fits h
   own_low_fits h long are is =
-      let enough = laws.length_image h long in
       let fit = laws.reads_fit (l.image h) (laws.image_bytes h are) (omega arith) in
       subst (l.Fits) (reads_alone h long ∙ is) fit
 

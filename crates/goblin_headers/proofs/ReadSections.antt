@@ -92,7 +92,6 @@ module _ (bytes : List ℕ) (offset count : ℕ) (ctx : Ctx) (most : ℕ)
   few : most ≤ length bytes / size → section_headers_from_tested bytes offset count ctx ≡ Ok tt
   unfolding section_headers_from_tested
   few enough =
-      let all = found.1 in
       let test : nat_lt (length bytes / size) asked ≡ false = grind (arith, nat_tests) in
       rw (found.0, test) refl
 

@@ -19,7 +19,6 @@ pub turned : (info high low word result : ℕ)
     → result ≡ mips64el_info info
 turned info high low word result l h w is =
     let same : word ≡ reversed (info / 2 ^ 32) = w ∙ swapped high ∙ ap reversed h in
-    let below = reversed-lt (info / 2 ^ 32) in
     is ∙ rw (l, same) (omega arith)
 
 -- and back
@@ -29,7 +28,6 @@ pub turned_back : (info high low word result : ℕ)
     → result ≡ mips64el_info_inverse info
 turned_back info high low word result range l h w is =
     let same : word ≡ reversed (info % 2 ^ 32) = w ∙ swapped low ∙ ap reversed l in
-    let below = reversed-lt (info % 2 ^ 32) in
     is ∙ rw (h, same) (omega arith)
 
 -- the symbol and the type of a relocation that was decoded

@@ -89,7 +89,6 @@ char_start-boundary bytes text i p l size u holds =
           let four = four_go_on bytes p (omega arith, omega arith) in
           let cut = cut_near text (n - 3) u (omega arith) in
           let short : cut.0 < length text = omega (arith, cut.2, four.0) in
-          let same : get_or text cut.0 0 ≡ get_or bytes (i + cut.0) 0 = holds cut.0 short in
           let on = four.1 (i + cut.0) (omega (arith, cut.1, four.0)) (omega (arith, cut.2, four.0)) in
           absurd (omega (arith, cut.3.1 short (omega (arith, on.0)), on.1)))
           (λ (high : 192 ≤ get_or text n 0). high)
@@ -139,7 +138,6 @@ pub whole_to_start : (bytes : List ℕ) (i p k : ℕ) → i ≤ p → p ≤ k �
     → up_to_zero (slice_range bytes i k) ≡ slice_range bytes i k
     → up_to_zero (slice_range bytes i (char_start bytes p)) ≡ slice_range bytes i (char_start bytes p)
 whole_to_start bytes i p k l m h short is =
-    let bounds = char_start_bounds bytes p in
     let size : length (slice_range bytes i k) ≡ k - i = length_of_range bytes i k h in
     let front = slice_range bytes i (char_start bytes p) in
     let length-front : length front ≡ char_start bytes p - i =

@@ -48,7 +48,6 @@ returns-then-len-gt0-clause-value c =
     let i = c.loop-end.invariant in
     let range = slice_range c.args.self.now.bytes c.args.from c.args.to in
     let start = c.loop-end.end - 16 in
-    let n = c.len_to_last-len.result in
     let at : c.loop-end.end - c.args.from ≡ start + 16 - c.args.from = omega (arith, c.loop-end-test.true) in
     let there = range_start c.args.self.now.bytes c.args.byte c.args.from c.args.to start 16
     (omega (arith, c.loop-end-test.true)) (omega (arith, c.loop-end-test.true, i.within)) c.requires.within in
