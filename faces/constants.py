@@ -339,7 +339,7 @@ def py_item(name, comment, fields):
 
 def py_interface():
     header = read(HEADER)
-    refusals, items = re.findall(r'^enum \{\n(.*?)^\};', header, re.M | re.S)[:2]
+    refusals, items = re.findall(r'^enum \w+ \{\n(.*?)^\};', header, re.M | re.S)[:2]
     pattern = r'/\* ((?:(?!\*/).)*) \*/\n +GOBLIN_(\w+) = (\d+)'
     kinds = [(words_of(comment.split('*/')[-1]), name, value) for comment, name, value in re.findall(pattern, refusals, re.S)]
     # (not each item has a comment)

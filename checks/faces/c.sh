@@ -65,7 +65,10 @@ check_examples() {
         checks/files/elf_constants >> "$folder/examples.c"
     for compiler in cc clang; do
         has $compiler "the examples of goblin.h are not compiled by it" || continue
-        for standard in c89 c99 c11; do strictly $compiler -std=$standard -Ifaces/c -c -o "$folder/examples.o" "$folder/examples.c"; done
+        # (a program may have a macro with the name of an attribute)
+        for standard in c89 c99 c11; do
+            strictly $compiler -std=$standard -Dnonnull= -Ifaces/c -c -o "$folder/examples.o" "$folder/examples.c"
+        done
     done
     echo "the $(grep -c '^    { ' "$folder/examples.c") examples of goblin.h can be compiled"
     python3 faces/constants.py --nulls > "$folder/nulls.c"
@@ -182,6 +185,11 @@ check_indices() {
     "$folder/nm" "$folder/indices" > "$folder/listed"
     grep -qx '0*7654321 [?] 65535 absolute' "$folder/listed" || fail "nm.c gives a letter to an unknown binding: $(cat "$folder/listed")"
     [ "$(grep -c -e ' V 2 weak_data$' -e ' absolute$' "$folder/listed")" -eq 2 ] || fail "nm.c lists another table: $(cat "$folder/listed")"
+    # (the first byte of été, so that the name is not UTF-8: nm prints it as it stands)
+    put $((0x10ac)) '\0377'
+    "$folder/nm" "$folder/indices" > "$folder/listed"
+    grep -q "18 T 1 $(printf '\377\251')t" "$folder/listed" \
+        || fail "nm.c does not print a name that is not UTF-8: $(cat "$folder/listed")"
 }
 
 # Runs the programs over each file that made.c makes, and over its first bytes.
@@ -211,6 +219,7 @@ check_programs() {
         case $program in strings) more=', at offset 0' ;; size) more='*' ;; *) more= ;; esac
         ends_with 1 "$program: ${subject}Malformed entity: Too small$more" "$folder/$program" "$short" ${section:+"$section"}
         ends_with '[12]' "$folder/none: No such file or directory*" "$folder/$program" "$folder/none" ${section:+"$section"}
+        ends_with '[12]' "$folder: Is a directory*" "$folder/$program" "$folder" ${section:+"$section"}
         ends_with 2 "usage: $program *" "$folder/$program"
     done
     ends_with 1 'strings: there is no section .no' "$folder/strings" "$file" .no
@@ -225,10 +234,15 @@ check_programs() {
     prints_wanted "$folder/needed" "$folder/cut"
     ends_with 0 'int*needed libf*needed: no zero byte closes a string *1048576*runpath: no zero *60' "$folder/needed" checks/files/facts/open_names
     echo "needed.c lists the same by the program headers if the last section header is cut, and says which names are not closed"
-    for program in nm needed truncated size; do
+    for program in nm needed truncated size values strings; do
+        if [ $program = strings ]; then section=.comment; else section=; fi
         # shellcheck disable=SC2016 # (they are of the shell that is run)
-        ends_with 2 'stdout: No space left on device' sh -c '"$0" "$1" > /dev/full' "$folder/$program" $program_file
+        ends_with 2 'stdout: No space left on device' \
+            sh -c '"$@" > /dev/full' sh "$folder/$program" $program_file ${section:+"$section"}
     done
+    # (in which there is no such program header)
+    # shellcheck disable=SC2016
+    ends_with 2 'stdout: No space left on device' sh -c '"$0" "$1" > /dev/full' "$folder/execstack" "$file"
     # (a folder is opened, and can't be read)
     # shellcheck disable=SC2016
     ends_with 1 "*	$program_file" sh -c 'ulimit -n 16 && exec "$@"' sh "$folder/size" . . . . . . . . . . . . . . . . . . . . $program_file

@@ -14,7 +14,9 @@ static goblin_refusal_t why;
 /* Reads a file into memory of malloc. Returns whether all of it is read. */
 static inline bool load(const char *path) {
     FILE *file = fopen(path, "rb");
-    long size = file && fseek(file, 0, SEEK_END) == 0 ? ftell(file) : -1;
+    /* (a folder can be opened, and has a size, but its first byte can't be read) */
+    bool is_read = file && (getc(file) != EOF || feof(file));
+    long size = is_read && fseek(file, 0, SEEK_END) == 0 ? ftell(file) : -1;
     bytes = size < 0 ? NULL : (uint8_t *)malloc((size_t)size + 1);
     if (!bytes) {
         int reason = errno;
@@ -23,7 +25,8 @@ static inline bool load(const char *path) {
     }
     rewind(file);
     len = fread(bytes, 1, (size_t)size, file);
-    return fclose(file) == 0 && len == (size_t)size;
+    is_read = !ferror(file);
+    return fclose(file) == 0 && is_read;
 }
 
 /* Reads the header, and finds the first program header of a type, and its index. */

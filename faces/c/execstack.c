@@ -20,7 +20,7 @@ int main(int argc, char **argv) {
     uint64_t index;
     uint32_t status = find_segment(GOBLIN_PT_GNU_STACK, &index, &stack);
     if (status > GOBLIN_END) return fprintf(stderr, "execstack: %s: %s\n", path, refusal_text()), 1;
-    if (status == GOBLIN_END && !(clears || sets)) return printf("? %s\n", path) < 0;
+    if (status == GOBLIN_END && !(clears || sets)) return printf("? %s\n", path), written(0);
     if (status == GOBLIN_END)
         return fprintf(stderr, "execstack: %s: there is no program header of type PT_GNU_STACK\n", path), 1;
     uint32_t flags = clears ? stack.p_flags & ~GOBLIN_PF_X : sets ? stack.p_flags | GOBLIN_PF_X : stack.p_flags;

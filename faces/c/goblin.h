@@ -78,9 +78,16 @@ extern "C" {
 /* The version of the package that this file is part of. */
 #define GOBLIN_VERSION_STRING "0.8.0"
 
+/* In C++ the numbers below have the type that calls return, so that `?:` takes a call and a number for one type. */
+#if defined __cplusplus && __cplusplus >= 201103L
+#define GOBLIN_NUMBERS : uint32_t
+#else
+#define GOBLIN_NUMBERS
+#endif
+
 /* What calls return. The comment of each refusal lists the numbers that goblin_refusal_t has for it, from
    `first` on. */
-enum {
+enum GOBLIN_NUMBERS {
     GOBLIN_OK = 0,
     GOBLIN_END = 1,
 
@@ -137,7 +144,7 @@ enum {
 };
 
 /* Values of `item` of goblin_refusal_t: 0 for refusals that have none. */
-enum {
+enum GOBLIN_NUMBERS {
     GOBLIN_INVALID_UTF8 = 1,
     GOBLIN_SECTION_HEADERS = 2,
     GOBLIN_PROGRAM_HEADERS = 3,
@@ -291,8 +298,8 @@ static inline goblin_refusal_t *goblin_unread(void) {
 #pragma clang diagnostic ignored "-Wc99-extensions"
 #endif
 #ifdef __GNUC__
-#define GOBLIN_STATUS(arguments) __attribute__((warn_unused_result, nonnull arguments))
-#define GOBLIN_GIVEN(arguments) __attribute__((nonnull arguments))
+#define GOBLIN_STATUS(arguments) __attribute__((__warn_unused_result__, __nonnull__ arguments))
+#define GOBLIN_GIVEN(arguments) __attribute__((__nonnull__ arguments))
 #else
 #define GOBLIN_STATUS(arguments)
 #define GOBLIN_GIVEN(arguments)

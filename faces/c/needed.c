@@ -22,6 +22,8 @@ int main(int argc, char **argv) {
     if (status == GOBLIN_OK && interpreter.file.size > 0) status = print("interpreter", &interpreter.file, 0);
     if (status <= GOBLIN_END) status = goblin_dynamic(bytes, len, &header, &dynamic, &why);
     if (status <= GOBLIN_END) status = goblin_dynamic_strings(bytes, len, &header, &dynamic, &strings, &why);
+    /* (of strings that no zero byte closes each would be read up to the end) */
+    while (strings.size > 0 && bytes[strings.offset + strings.size - 1] != 0) strings.size--;
     for (i = 0; status <= GOBLIN_END; i++) {
         status = goblin_dynamic_entries(bytes, len, &header, &dynamic, i, &entry, 1, &filled, &why);
         if (status != GOBLIN_OK) break;

@@ -9,10 +9,10 @@
 
 static goblin_section_t names_of_sections;
 
-/* Returns the string at an offset, or an empty one if there is none or it is not UTF-8. */
+/* Returns the string at an offset, which need not be UTF-8, or an empty one if there is none. */
 static goblin_range_t string(const goblin_section_t *strings, uint64_t offset) {
     goblin_range_t found = {0, 0};
-    uint32_t status = goblin_string(bytes, len, &strings->file, offset, &found, GOBLIN_UNREAD);
+    uint32_t status = goblin_string_bytes(bytes, len, &strings->file, offset, &found, GOBLIN_UNREAD);
     if (status != GOBLIN_OK) found.size = 0;
     return found;
 }

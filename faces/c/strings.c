@@ -37,6 +37,6 @@ int main(int argc, char **argv) {
     if (status == GOBLIN_OK) status = goblin_section_bytes(bytes, len, &section, &strings, &why);
     if (status == GOBLIN_END) return fprintf(stderr, "strings: the section %s has no bytes in the file\n", name), 1;
     if (status == GOBLIN_OK) status = list_strings(&strings);
-    if (status <= GOBLIN_END) return 0;
+    if (status <= GOBLIN_END) return written(0);
     return fprintf(stderr, "strings: %s, at offset %" PRIu64 "\n", refusal_text(), why.offset), 1;
 }

@@ -109,7 +109,7 @@ static uint32_t read_symbols(const goblin_range_t *table) {
     if (status != GOBLIN_OK) return status;
     spans = (span_t *)malloc((size_t)(2 * count + 1) * sizeof *spans);
     pieces = (piece_t *)malloc((size_t)(4 * count + 1) * sizeof *pieces);
-    if (!spans || !pieces) exit(2);
+    if (!spans || !pieces) perror("symbolize"), exit(2);
     for (uint64_t first = 0;
          goblin_symbols(bytes, len, &header, table, first, symbols, BATCH, &filled, &why) == GOBLIN_OK; first += filled)
         for (uint64_t i = 0; i < filled; i++) add(&symbols[i], first + i);

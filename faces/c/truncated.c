@@ -24,7 +24,7 @@ int main(int argc, char **argv) {
     uint64_t count = 0, left = 0;
     if (goblin_header(bytes, len, &header, &why) || goblin_section_count(bytes, len, &header, &count, &why))
         return print_refusal("truncated");
-    if (count == 0) return puts("no section headers") < 0;
+    if (count == 0) return puts("no section headers"), written(0);
     uint64_t size = header.ei_class == GOBLIN_ELFCLASS64 ? GOBLIN_SIZEOF_SHDR64 : GOBLIN_SIZEOF_SHDR32;
     size_t end = (size_t)(header.e_shoff + count * size - size / 2);
     if (goblin_section_count(bytes, end, &header, &left, &why)) printf("all headers: %s\n", refusal_text());

@@ -41,15 +41,18 @@ static int list(void) {
 /* Reads a file, and returns whether all of it is read. */
 static bool load(const char *path) {
     FILE *file = fopen(path, "rb");
-    long size = file && fseek(file, 0, SEEK_END) == 0 ? ftell(file) : -1;
+    bool is_read = file && (getc(file) != EOF || feof(file)); /* (no byte of a folder can be read) */
+    long size = is_read && fseek(file, 0, SEEK_END) == 0 ? ftell(file) : -1;
     if (size < 0 || !(bytes = (uint8_t *)malloc((size_t)size + 1))) return false;
     rewind(file);
     len = fread(bytes, 1, (size_t)size, file);
-    return fclose(file) == 0 && len == (size_t)size;
+    is_read = !ferror(file);
+    return fclose(file) == 0 && is_read;
 }
 
 int main(int argc, char **argv) {
     if (argc != 2) return fputs("usage: values FILE\n", stderr), 2;
     if (!load(argv[1])) return perror(argv[1]), 2;
-    return list();
+    int status = list();
+    return fflush(stdout) == 0 && !ferror(stdout) ? status : (perror("stdout"), 2);
 }

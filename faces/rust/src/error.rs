@@ -345,7 +345,7 @@ pub(crate) mod tests {
             let found: Vec<_> = words.iter().filter(|word| word.parse::<u64>().is_ok()).collect();
             assert_eq!(found, [&"101", &"102", &"103", &"1"][..numbers(&comment)], "{comment}");
         }
-        let items = constants_after("0 for refusals that have none. */\nenum {\n");
+        let items = constants_after("0 for refusals that have none. */\n");
         assert_eq!(items.len(), 6);
         for (_, name, item) in items {
             let of_kind = |kind| Error::new(raw::Refusal { kind, item, ..raw::Refusal::default() });
