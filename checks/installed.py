@@ -147,6 +147,8 @@ class Unpacked:
         self.run(f'$RUNNER target/{self.target}/debug/app target/{self.target}/debug/app', wanted=OF_RUST)
         if not self.runner:
             self.run('cargo test --offline --manifest-path "$THERE/share/goblin_c/rust/Cargo.toml"')
+            self.run('cargo package --list --offline --manifest-path "$THERE/share/goblin_c/rust/Cargo.toml"',
+                     wanted='(?m)^LICENSE$')
         # Without the library only linking fails, and cargo prints each folder that was searched, and in which archive the library is.
         os.rename(f'{self.libdir}/libgoblin_c.a', f'{self.folder}/libgoblin_c.a')
         missing = lambda where: (rf'(?s)libgoblin_c\.a is missing for .*{re.escape(where)}.*'

@@ -52,7 +52,7 @@ impl<'a> Elf<'a> {
     /// # Panics
     /// If the library that is linked has another interface than this crate.
     pub fn parse(bytes: &'a [u8]) -> Result<Self> {
-        assert_eq!(sys::goblin_version(), sys::VERSION, "libgoblin_c.a has another interface than goblin_rs");
+        sys::check_interface();
         let header = sys::goblin_header(bytes)?.expect("a file that is not refused has a header");
         Ok(Elf { file: File(bytes), header })
     }

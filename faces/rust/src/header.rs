@@ -24,7 +24,7 @@ impl Header {
 
 /// The calls that write. Each changes the bytes of its record in a file's bytes, in the class and byte order of this
 /// header, and no others. What is written is read again as the same record, unless section 0 has the number of headers
-/// and the call changes it.
+/// and the call changes it. Each panics if the library that is linked has another interface than this crate.
 ///
 /// ```
 /// use goblin_rs::section_header::SHF_WRITE;

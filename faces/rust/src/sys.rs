@@ -147,13 +147,15 @@ searches! {
     fn goblin_symbol_by_name(table: &Range, names: &Range) by name -> Sym;
 }
 
-// A call writes a record into a file's bytes. It returns whether there is one.
+// A call writes a record into a file's bytes. It returns whether there is one. A program need not have called
+// `Elf::parse` before.
 macro_rules! writes {
     ($(fn $name:ident($($given:ident: $type:ty),*);)*) => {$(
         pub fn $name(bytes: &mut [u8], header: &Header $(, $given: $type)*) -> Result<bool> {
             extern "C" {
                 fn $name(bytes: *mut u8, len: usize, header: &Header $(, $given: $type)*, why: *mut Refusal) -> u32;
             }
+            check_interface();
             let mut why = Refusal::default();
             // SAFETY: the pointer of the slice is passed with the slice's length. `why` is this function's own, and all
             // references and slices outlive the call. It writes only numbers.
@@ -217,6 +219,7 @@ macro_rules! texts {
             extern "C" {
                 fn $name($($by: *const u8, _: usize, )? $given: $type, text: *mut u8, capacity: usize) -> u64;
             }
+            check_interface();
             // SAFETY: each pointer is passed with the length of its slice, and all outlive the call.
             unsafe { $name($($by.as_ptr(), $by.len(), )? $given, text.as_mut_ptr(), text.len()) as usize }
         }
@@ -240,12 +243,13 @@ texts! {
 /// The interface that these calls are of: `GOBLIN_VERSION` of `goblin.h`.
 pub const VERSION: u32 = 7;
 
-/// Returns the interface of the library that is linked.
+/// Panics if the library that is linked has another interface. Its calls may take other arguments.
 #[inline]
-pub fn goblin_version() -> u32 {
+pub fn check_interface() {
     extern "C" { fn goblin_version() -> u32; }
     // SAFETY: it takes no argument.
-    unsafe { goblin_version() }
+    let interface = unsafe { goblin_version() };
+    assert_eq!(interface, VERSION, "libgoblin_c.a has another interface than goblin_rs");
 }
 
 #[cfg(test)]
