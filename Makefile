@@ -86,6 +86,8 @@ bench-python:
 #   TARGET=aarch64-unknown-linux-gnu   or wasm64-unknown-unknown, which makes the module, its JavaScript and the page
 #   CPU=x86-64-v2       the processors that the library may be used on, by default all of the target's
 #   SHARED=1            also a shared library for C, which goblin_c-shared.pc finds
+# (not from the environment, where openSUSE has it for all users)
+CPU :=
 export CPU TARGET SHARED
 PREFIX ?= /usr/local
 LIBDIR ?= lib
@@ -95,12 +97,12 @@ install uninstall dist: export BELOW := $(value LIBDIR)
 install uninstall dist: export ROOT := $(value DESTDIR)
 unexport PREFIX LIBDIR DESTDIR
 install:
-	@LIBDIR="$${BELOW#"$$AT"/}" sh faces/install.sh "$$ROOT$$AT"
+	@LIBDIR="$${BELOW#"$${AT%/}"/}" sh faces/install.sh "$$ROOT$$AT"
 
 uninstall:
-	@LIBDIR='' sh faces/install.sh --uninstall "$$ROOT$$AT"
+	@sh faces/install.sh --uninstall "$$ROOT$$AT"
 
 dist:
-	@LIBDIR="$${BELOW#"$$AT"/}" sh faces/install.sh --archive
+	@LIBDIR="$${BELOW#"$${AT%/}"/}" sh faces/install.sh --archive
 
 .PHONY: help try show test gate faces compare edits margin bench bench-faces bench-python install uninstall dist

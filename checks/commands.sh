@@ -38,6 +38,12 @@ cd "$folder/copy"
 refuses '*
 CPU is nope: the toolchain makes no library for it, for the reason above' env CPU=nope sh faces/install.sh "$folder/installed"
 
+# (openSUSE sets CPU to x86_64 for all users, which the toolchain doesn't know)
+# shellcheck disable=SC2016 # (it is make's)
+rule='cpu: ; @echo "CPU=$$CPU"'
+ends_with 0 '*CPU=' env CPU=x86_64 make -s --eval "$rule" cpu
+ends_with 0 '*CPU=x86-64-v2' make -s --eval "$rule" cpu CPU=x86-64-v2
+
 # (the first proof waits while something else has its folder, and is interrupted then, also if this runs in the background)
 said=$(flock crates/goblin_base env --default-signal=INT timeout -s INT 15 sh commands/libraries.sh proof goblin 2>&1 || echo end)
 begun='proof: proving goblin_base (1 of 3 libraries)'
@@ -49,7 +55,7 @@ end") ;; *) fail "a proof that waits should say so, and end its line where it is
 # The program is compiled once, and again from other sources; in a read-only folder it is in the user's cache.
 unproved='make try: this program was not proved. make show proves it first.'
 shows "make try: compiling the program without a proof, which takes up to a minute
-$unproved" env
+$unproved" env TMPDIR=checks
 shows "$unproved" env SHOWN=symbols CDPATH=.
 mv out/try "$folder/goblin_try"
 chmod -R go=rwX "$folder/goblin_try"

@@ -5,9 +5,9 @@
     python3 checks/readme.py LIBRARY ARCHIVE NODE   the lines of C, Rust, Python and JavaScript, over libgoblin_c.a and its archive, by
                                                this command of node with 64-bit memories, if there is one
 
-The languages are tried after `make install`, after a second one for the shared library, in a folder with a space, and in the unpacked
+The languages are tried after `make install`, after a second one for the shared library, in a folder with a space and é, and in the unpacked
 archive. In a line only the folder of the kit or of the installation is replaced, and /bin/true by a file that is everywhere the same. Two
-lines of faces/installed.md are tried, too: one for a folder with a space, where the shell splits what pkg-config prints, and one that
+lines of faces/installed.md are tried, too: one for such a folder, where the shell splits what pkg-config prints, and one that
 links the shared library. What the machine lacks is left out, and a line says so. Run it from the repository's root.
 """
 import glob
@@ -110,7 +110,7 @@ def lines_for(language, setting, prefix):
 def installed(room, library, archive, has_module):
     """Makes each installation in turn, of the module for JavaScript, too, if it has any. Yields what it is, and its folder."""
     install, module = re.search('^After `(make install PREFIX=/usr/local)`.*`(TARGET=.*?)`', text_of('README.md'), re.MULTILINE).groups()
-    for setting in ('alone', 'shared', 'with a space', 'unpacked'):
+    for setting in ('alone', 'shared', 'with a space and é', 'unpacked'):
         prefix = f'{room}/{"installed" if setting == "shared" else setting.replace("alone", "installed")}'
         here, to = install.replace('/usr/local', shlex.quote(prefix)), shlex.quote(prefix)
         made = [f'LIBRARY={shlex.quote(library)} {here}' + ' SHARED=1' * (setting == 'shared'), f'{here} {module}']

@@ -8,7 +8,7 @@
 set -eu
 goal=$1
 show=crates/goblin_show/out/goblin_show
-folder=$(mktemp -d)
+folder=$(realpath "$(mktemp -d)")
 trap 'rm -rf "$folder"' EXIT
 trap 'exit 1' HUP INT TERM
 said=$folder/said
@@ -51,7 +51,7 @@ folder_of_try() {
     for place in out/try ${cache:+"$cache/goblin_try"} "$folder/try"; do
         if mkdir -p "$place" 2> "$said" && [ -w "$place" ]; then break; fi
     done
-    echo "$place"
+    printf '%s\n' "$place"
 }
 
 # Prints checksums of what the program without a proof is compiled from. They are stored likewise.

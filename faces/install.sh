@@ -14,16 +14,19 @@
 #   PROGRAM  a goblin_show to install, for x86-64 alone; else the one in the repository, if it is proved and built of these sources
 # The version is that of faces/rust/Cargo.toml.
 set -eu
-# (the order of lists of files is the same in each locale)
-export LC_ALL=C
+# (the order of lists of files is the same in each locale, and the page is UTF-8, whatever Python prints elsewhere)
+export LC_ALL=C PYTHONIOENCODING=utf-8
 umask 022
 fail() {
-    echo "$1" >&2
+    printf '%s\n' "$1" >&2
     exit 2
 }
 # (a folder's name may begin with a hyphen, and an empty one is the root)
 case $1 in --archive | --uninstall) option=$1 && shift ;; *) option= ;; esac
 case ${1-/} in -*) set -- "./$1" ;; '') set -- / ;; esac
+# (what is installed is listed by lines)
+case ${1-} in *"
+"*) fail "PREFIX is $1: its name has a line break" ;; esac
 sh commands/has.sh goblin_c awk python3
 version=$(awk -F '"' '/^version = / { print $2; exit }' faces/rust/Cargo.toml)
 target=${TARGET:-x86_64-unknown-linux-gnu}
@@ -36,7 +39,7 @@ wasm64-unknown-unknown) every=lime1 ;;
     fail "there is no target $target: TARGET must be x86_64-unknown-linux-gnu, aarch64-unknown-linux-gnu or wasm64-unknown-unknown"
     ;;
 esac
-libdir=${LIBDIR:-lib}
+libdir=${LIBDIR:-lib} libdir=${libdir%/}
 case /$libdir/ in
 //* | */../* | */./* | *//*) fail "LIBDIR is $libdir: it must be a folder below PREFIX, such as lib/x86_64-linux-gnu" ;;
 *[!A-Za-z0-9._+/-]*) fail "LIBDIR is $libdir: it may have letters, digits and . _ + - / alone, since it is written into files" ;;
@@ -47,7 +50,7 @@ wasm64-unknown-unknown-*) fail "a module for WebAssembly can't be a shared libra
 *-1) shared=$libdir/libgoblin_c.so.$interface ;;
 *) fail "SHARED is $SHARED: it must be 1 for a shared library, else 0" ;;
 esac
-folder=$(mktemp -d)
+folder=$(realpath "$(mktemp -d)")
 # What is installed is noted in this list before it is written, and from the first file on in the list that stays with the installation. So
 # it can be removed also if the installation fails or is interrupted, or the disk is full.
 files=$folder/files
@@ -95,9 +98,12 @@ put() {
     install -m "${3:-644}" "$1" "$to/$2"
 }
 
-# Installs a file that sed edits: put_edited SCRIPT FILE NAME
+# What sed writes for names in the files.
+names="s|@VERSION@|$version|; s|@INTERFACE@|$interface|; s|@TARGET@|$target|; s|@LIBDIR@|$libdir|"
+
+# Installs a file that sed edits by this and a script: put_edited SCRIPT FILE NAME
 put_edited() {
-    sed "$1" "$2" > "$folder/edited"
+    sed "$names; $1" "$2" > "$folder/edited"
     put "$folder/edited" "$3"
 }
 
@@ -120,8 +126,8 @@ install_below() {
     # (what an earlier installation made and something else keeps is still of this one)
     while read -r made; do if [ -d "$to/$made" ]; then echo "$made" >> "$files"; fi; done < "$folder/made"
     make_folder share/goblin_c
-    # (which is no folder of the list, but says where they were made)
-    echo "@$(CDPATH='' cd "$to" && pwd -P)/" >> "$files"
+    # (which is no folder of the list, but says where they were made, if they are to stay there; echo may change a backslash)
+    [ "$option${ROOT:-}" ] || printf '@%s/\n' "$(realpath "$to")" >> "$files"
     install -m 644 "$files" "$to/share/goblin_c/$kind.files"
     files=$to/share/goblin_c/$kind.files
     "install_$kind"
@@ -131,10 +137,17 @@ install_library() {
     put "$library" "$libdir/libgoblin_c.a"
     put faces/c/goblin.h include/goblin.h
     up=$(echo "$libdir/pkgconfig" | sed 's|[^/][^/]*|..|g')
+    # shellcheck disable=SC2016 # (it is pkg-config's)
+    prefix='${pcfiledir}'/$up
+    # (from where a link to the folder of the libraries leads, no relative name leads back)
+    make_folder "$libdir/pkgconfig"
+    there=$(realpath "$to")
+    if [ -z "${ROOT:-}" ] && [ "$(realpath "$to/$libdir/pkgconfig/$up")" != "$there" ]; then
+        case $there in *[!A-Za-z0-9._+/-]*) ;; *) prefix=$there ;; esac
+    fi
     put_flags goblin_c
     for file in config config-version; do
-        put_edited "s|@VERSION@|$version|; s|@INTERFACE@|$interface|; s|@UP@|$up/..|; s|@LIBDIR@|$libdir|" "faces/goblin_c-$file.cmake.in" \
-            "$libdir/cmake/goblin_c/goblin_c-$file.cmake"
+        put_edited "s|@UP@|$up/..|" "faces/goblin_c-$file.cmake.in" "$libdir/cmake/goblin_c/goblin_c-$file.cmake"
     done
     put LICENSE share/goblin_c/LICENSE
     put CHANGELOG.md share/goblin_c/CHANGELOG.md
@@ -153,8 +166,8 @@ install_library() {
     if [ "$shared" ]; then
         put "$folder/shared" "$shared"
         # (by this name, because -lgoblin_c would take libgoblin_c.so in place of the static library)
-        ln -sf "${shared##*/}" "$to/$libdir/libgoblin_c-shared.so"
         echo "$libdir/libgoblin_c-shared.so" >> "$files"
+        ln -sf "${shared##*/}" "$to/$libdir/libgoblin_c-shared.so"
         put_flags goblin_c-shared
     fi
     if [ "$program" ]; then
@@ -162,7 +175,7 @@ install_library() {
         put faces/goblin_show.1 share/man/man1/goblin_show.1
     fi
     {
-        sed "s|@VERSION@|$version|; s|@INTERFACE@|$interface|; s|@TARGET@|$target|" faces/installed.md
+        sed "$names" faces/installed.md
         printf '\n## Installed files\n\nBelow the folder of the installation:\n\n'
         # shellcheck disable=SC2016 # (they are markdown's)
         each_installed | while read -r start content; do printf -- '- `%s`: %s\n' "$start" "$content"; done
@@ -171,9 +184,7 @@ install_library() {
 }
 
 # Installs the file for pkg-config of a library: put_flags NAME
-put_flags() {
-    put_edited "s|@NAME@|$1|; s|@VERSION@|$version|; s|@UP@|$up|; s|@LIBDIR@|$libdir|" faces/goblin_c.pc.in "$libdir/pkgconfig/$1.pc"
-}
+put_flags() { put_edited "s|@NAME@|$1|; s|@PREFIX@|$prefix|" faces/goblin_c.pc.in "$libdir/pkgconfig/$1.pc"; }
 
 # The Python package, with a shared library of its own.
 install_python() {
@@ -246,7 +257,7 @@ install_web() {
     python3 faces/web/declarations.py > "$folder/types"
     put "$folder/types" share/goblin_c/web/goblin.d.ts
     put_all faces/web/examples share/goblin_c/web/examples
-    put_edited "s/@VERSION@/$version/" faces/web/package.json.in share/goblin_c/web/package.json
+    put_edited '' faces/web/package.json.in share/goblin_c/web/package.json
     python3 faces/web/pack.py "$library" > "$folder/page"
     put "$folder/page" share/goblin_c/web/index.html
 }
@@ -254,20 +265,20 @@ install_web() {
 # Removes what was installed below a folder, by the lists of its files, and the folders that were made for them, if nothing else is in
 # them: remove_from FOLDER KIND ..
 remove_from() {
-    below=$(CDPATH='' cd "$1" 2> /dev/null && pwd -P) || below=$1
+    below=$(realpath -m "$1")
     shift
     : > "$folder/made"
     for kind; do
         list=$below/share/goblin_c/$kind.files
         [ -e "$list" ] || continue
         # (elsewhere, as where an installation was moved to, others may have made such folders as lib)
-        if grep '^@' "$list" | grep -qvxF "@$below/"; then ours=goblin_c/; else ours=/; fi
+        if [ "${ROOT:-}" ] || grep -qxF "@$below/" "$list"; then ours=/; else ours=goblin_c/; fi
         grep -v '^@' "$list" | grep '/$' | grep -F "$ours" >> "$folder/made" || :
         sed '/\/$/d' "$list" | while read -r file; do rm -f "$below/$file"; done
         rm "$list"
     done
-    # (Python makes it when the package is first imported)
-    rm -rf "$below/share/goblin_c/python/goblin_elf/__pycache__"
+    # (Python makes it when the package is first imported, and cargo the others where the crate is built)
+    for made in python/goblin_elf/__pycache__ rust/target rust/Cargo.lock; do rm -rf "$below/share/goblin_c/$made"; done
     # (lists of earlier versions name no folders)
     if [ -d "$below/share/goblin_c" ]; then find "$below/share/goblin_c" -depth -type d -empty -delete; fi
     sed '/^\.\.\//d' "$folder/made" | sort -r | while read -r made; do remove_empty "$below/$made"; done
@@ -284,7 +295,7 @@ remove_empty() { if [ -d "$1" ] && [ -z "$(ls -A "$1")" ]; then rmdir "$1"; fi; 
 if [ "$option" = --uninstall ]; then
     [ -e "$1/share/goblin_c/library.files" ] || [ -e "$1/share/goblin_c/web.files" ] || fail "goblin_c is not installed below $1: nothing is removed"
     remove_from "$1" library web
-    echo "goblin_c is removed from $1"
+    printf 'goblin_c is removed from %s\n' "$1"
     exit 0
 fi
 
@@ -345,17 +356,15 @@ if [ "$target" = x86_64-unknown-linux-gnu ]; then
 fi
 if [ "$option" != --archive ]; then
     install_below "$1"
-    echo "goblin_c $version for $target is installed below $1"
+    printf 'goblin_c %s for %s is installed below %s\n' "$version" "$target" "$1"
     if [ "$shared" ] && [ -z "${ROOT:-}" ]; then
-        echo "programs find ${shared##*/} after ldconfig, or if they are linked with -Wl,-rpath,$(CDPATH='' cd "$1" && pwd)/$libdir"
+        echo "programs find ${shared##*/} after ldconfig, or if they are linked with -Wl,-rpath,$(realpath -s "$1")/$libdir"
     fi
     exit 0
 fi
 name=goblin_c-$version-$target
 archive=${1:-out/$name.tar.gz}
 install_below "$folder/$name"
-# (others may have made such folders as bin where it is unpacked)
-sed -i '/^@/d; /\/$/{/goblin_c\//!d;}' "$folder/$name/share/goblin_c/$kind.files"
 print_contents > "$folder/$name/README.md"
 mkdir -p "$(dirname "$archive")"
 tar -C "$folder" --sort=name --owner=0 --group=0 --numeric-owner --mode=u=rwX,go=rX --mtime=@0 -cf "$folder/tar" "$name"

@@ -11,7 +11,8 @@ export LIBRARY="$folder/libgoblin_c.a" TARGET='' CPU=''
 printf '#!/bin/sh\ncat "%s/crates/goblin_show/stdout"\n' "$PWD" > "$folder/program"
 for mask in 077 022; do
     mkdir "$folder/$mask&|"
-    (umask $mask && quietly env TMPDIR="$folder/$mask&|" PROGRAM="$folder/program" sh faces/install.sh --archive "$folder/goblin_c.$mask.tar.gz")
+    (umask $mask && quietly env TMPDIR="$(realpath --relative-to=. "$folder/$mask&|")" PROGRAM="$folder/program" \
+        sh faces/install.sh --archive "$folder/goblin_c.$mask.tar.gz")
 done
 quietly cmp "$folder/goblin_c.077.tar.gz" "$folder/goblin_c.022.tar.gz"
 tar -tzf "$folder/goblin_c.022.tar.gz" > "$folder/output"
@@ -34,14 +35,18 @@ echo share/goblin_c/rust/src/earlier.rs >> "$root/share/goblin_c/library.files"
 touch "$root/share/goblin_c/rust/src/earlier.rs"
 (umask 022 && quietly env LIBDIR=lib sh faces/install.sh "$root")
 ends_with 0 '' find "$root" -path '*/x86_64-linux-gnu/*' ! -type d -o -name earlier.rs -o -name '*-shared*'
+# (as if cargo had built the crate, and Python imported the package)
+mkdir "$root/share/goblin_c/rust/target" "$root/share/goblin_c/python/goblin_elf/__pycache__"
+touch "$root/share/goblin_c/rust/target/made" "$root/share/goblin_c/rust/Cargo.lock"
 quietly make uninstall PREFIX="$root" LIBDIR="$root/lib"
 [ ! -e "$folder/above" ] || fail "an uninstallation leaves: $(find "$folder/above")"
 # (so does what an installation left that failed, also if from then on nothing can be written, as on a disk that is full)
-mkdir "$folder/filling"
+mkdir "$folder/filling" "$folder/stopping"
 printf '#!/bin/sh\n[ ! -e "%s/lib/libgoblin_c.a" ] || exit 1\nexec /usr/bin/install "$@"\n' "$root" > "$folder/filling/install"
-chmod 755 "$folder/filling/install"
-for path in "$PATH" "$folder/filling:$PATH"; do
-    ends_with 1 '*' env LIBDIR=lib PROGRAM="$folder" PATH="$path" sh faces/install.sh "$root"
+printf '#!/bin/sh\n/usr/bin/ln "$@"\nexit 1\n' > "$folder/stopping/ln"
+chmod 755 "$folder/filling/install" "$folder/stopping/ln"
+for path in "$PATH" "$folder/filling:$PATH" "$folder/stopping:$PATH"; do
+    ends_with 1 '*' env LIBDIR=lib SHARED=1 PROGRAM="$folder" PATH="$path" sh faces/install.sh "$root"
     [ -e "$root/lib/libgoblin_c.a" ] || fail "an installation that fails after the library has installed nothing"
     quietly sh faces/install.sh --uninstall "$root"
     [ ! -e "$folder/above" ] || fail "the uninstallation of what was installed in part leaves: $(find "$folder/above")"
@@ -66,11 +71,30 @@ cp -R "$folder/staged/." "$folder/rooted"
 quietly sh faces/install.sh --uninstall "$folder/rooted/usr/."
 for own in include lib; do [ -d "$folder/rooted/usr/$own" ] || fail "an uninstallation removes $own, which others made"; done
 ends_with 0 '' find "$folder/rooted" -type f
-# A folder of the installation may have any name, and one of libraries some.
+# What is put into a package has no name of a folder where it was made. It leaves no folder there if it is removed.
+quietly make install PREFIX=/usr DESTDIR="$folder/package" SHARED=1
+ends_with 1 '' grep -rF "$folder" "$folder/package"
+quietly make uninstall PREFIX=/usr DESTDIR="$folder/package"
+[ ! -e "$folder/package" ] || fail "the uninstallation of a package leaves: $(find "$folder/package")"
+# The folder of the libraries may be a link, from where no relative name leads back. (One with a space is not written.)
+mkdir -p "$folder/elsewhere/libraries" "$folder/linking"
+ln -s "$folder/elsewhere/libraries" "$folder/linking/lib"
+quietly sh faces/install.sh "$folder/linking"
+case $folder in
+*[!A-Za-z0-9._+/-]*) ;;
+*)
+    grep -qxF "prefix=$(realpath "$folder/linking")" "$folder/linking/lib/pkgconfig/goblin_c.pc" \
+        || fail 'pkg-config finds no goblin.h'
+    ;;
+esac
+# A folder of the installation may have any name of one line, and one of libraries some.
+ends_with 2 'PREFIX is *line break' sh faces/install.sh "$folder/a
+b"
 # shellcheck disable=SC2016 # (it is the name)
-quietly make install PREFIX="$folder"'/$(touch made)$b'
-# shellcheck disable=SC2016
-quietly make uninstall PREFIX="$folder"'/$(touch made)$b'
+odd=$folder'/$(touch made)$b\n'
+quietly make install PREFIX="$odd/" LIBDIR="$odd/lib/"
+quietly make uninstall PREFIX="$odd"
+[ ! -e "$odd" ] || fail "the uninstallation of a folder whose name has a backslash leaves: $(find "$odd")"
 [ ! -e made ] || fail 'make runs what a name of a folder has'
 quietly make install PREFIX=-x
 quietly make uninstall PREFIX=-x

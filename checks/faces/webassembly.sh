@@ -7,7 +7,7 @@ web=$folder/web
 dump=$folder/dump
 
 has node 'the module for WebAssembly is not tested: install Node.js 24' || exit 0
-quietly env LIBRARY= CPU= TARGET=wasm64-unknown-unknown sh faces/install.sh --archive "$folder/goblin_web.tar.gz"
+quietly env PYTHONIOENCODING=latin-1 LIBRARY= CPU= TARGET=wasm64-unknown-unknown sh faces/install.sh --archive "$folder/goblin_web.tar.gz"
 check_axioms
 build dump -std=c99
 tar -C "$folder" -xzf "$folder/goblin_web.tar.gz"
