@@ -14,28 +14,26 @@ import zipfile
 HERE = os.path.dirname(os.path.abspath(__file__))
 
 
-def content_of(library_path, machine):
+def content_of(version, library_path, machine):
     """Yields the files of the wheel but for the list of them, each with its bytes."""
-    with open(os.path.join(HERE, '..', 'rust', 'Cargo.toml'), encoding='utf-8') as file:
-        version = re.search(r'^version = "(.*)"', file.read(), re.M)[1]
     with open(library_path, 'rb') as file:
         library = file.read()
     package = os.path.join(HERE, 'goblin_elf')
     for name in sorted(os.listdir(package)):
         if name.endswith('.py') or name == 'py.typed':
             with open(os.path.join(package, name), 'rb') as file:
-                yield version, f'goblin_elf/{name}', file.read()
+                yield f'goblin_elf/{name}', file.read()
     with open(os.path.join(package, 'constants.py'), encoding='utf-8') as file:
         interface = re.search(r'^VERSION = (\d+)$', file.read(), re.M)[1]
-    yield version, f'goblin_elf/libgoblin_c.so.{interface}', library
+    yield f'goblin_elf/libgoblin_c.so.{interface}', library
     info = f'goblin_elf-{version}.dist-info'
     for name in ('LICENSE', 'CHANGELOG.md'):
         with open(os.path.join(HERE, '..', '..', name), 'rb') as file:
-            yield version, f'{info}/{name}', file.read()
-    yield version, f'{info}/entry_points.txt', b'[console_scripts]\ngoblin-scan = goblin_elf.scan:main\n'
+            yield f'{info}/{name}', file.read()
+    yield f'{info}/entry_points.txt', b'[console_scripts]\ngoblin-scan = goblin_elf.scan:main\n'
     with open(os.path.join(HERE, 'README.md'), encoding='utf-8') as file:
         page = file.read()
-    yield version, f'{info}/METADATA', f'''Metadata-Version: 2.1
+    yield f'{info}/METADATA', f'''Metadata-Version: 2.1
 Name: goblin_elf
 Version: {version}
 Summary: ELF files, read by a proved library
@@ -48,7 +46,7 @@ Requires-Dist: numpy; extra == 'arrays'
 Description-Content-Type: text/markdown
 
 {page}'''.encode()
-    yield version, f'{info}/WHEEL', f'''Wheel-Version: 1.0
+    yield f'{info}/WHEEL', f'''Wheel-Version: 1.0
 Generator: faces/python/wheel.py
 Root-Is-Purelib: false
 Tag: py3-none-linux_{machine}
@@ -56,14 +54,15 @@ Tag: py3-none-linux_{machine}
 
 
 def main(library, machine, folder):
-    files = list(content_of(library, machine))
-    version = files[0][0]
+    with open(os.path.join(HERE, '..', 'rust', 'Cargo.toml'), encoding='utf-8') as file:
+        version = re.search(r'^version = "(.*)"', file.read(), re.M)[1]
+    files = list(content_of(version, library, machine))
     path = os.path.join(folder, f'goblin_elf-{version}-py3-none-linux_{machine}.whl')
     record = f'goblin_elf-{version}.dist-info/RECORD'
     rows = ''
     os.makedirs(folder, exist_ok=True)
     with zipfile.ZipFile(path, 'w', zipfile.ZIP_DEFLATED) as wheel:
-        for _, name, content in files:
+        for name, content in files:
             digest = base64.urlsafe_b64encode(hashlib.sha256(content).digest()).rstrip(b'=').decode()
             rows += f'{name},sha256={digest},{len(content)}\n'
             write(wheel, name, content)

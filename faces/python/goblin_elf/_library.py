@@ -71,7 +71,7 @@ def load() -> ctypes.CDLL:
     if version != VERSION or not all(hasattr(library, f'goblin_{name}') for name in CALLS) or not is_laid_out(library):
         what = 'has other calls or structs' if version == VERSION else f'has interface {version}, not {VERSION}'
         raise ImportError(f'{"GOBLIN_ELF_LIBRARY is " * is_named}{path}{", which" * is_named} {what}: this goblin_elf needs another version of it')
-    if is_named and os.sep in path:
+    if is_named and os.sep in path and not os.path.isabs(path):
         # (for processes that start in another folder, as workers of goblin-scan do)
         os.environ['GOBLIN_ELF_LIBRARY'] = os.path.join(os.getcwd(), path)
     return library

@@ -7,10 +7,12 @@ import os
 import stat
 from typing import IO, Any, Iterable, Iterator, List, Optional, Tuple, Union
 
+from . import interface, items
 from ._library import FUNCTIONS, HEADER, RANGE, File, call, found, unsigned
 from .constants import (DT_NEEDED, DT_RPATH, DT_RUNPATH, DT_SONAME, ELFCLASS64, ELFDATA2MSB, NT_GNU_BUILD_ID, PT_INTERP, PT_NOTE, SHT_DYNAMIC,
                         SHT_DYNSYM, SHT_NOTE, SHT_SYMTAB)
-from .items import Dynamic, Fields, Header, Name, Note, Section, Sections, Segment, Segments, Symbol, Symbols, T, Table, named, note_of, read_notes
+from .items import (Dynamic, Fields, Header, Name, Note, Relocations, Section, Sections, Segment, Segments, Symbol,
+                    Symbols, T, Table, named, note_of, read_notes)
 from .names import class_to_str, et_to_str, machine_to_str
 from .refused import Unknown, within
 
@@ -244,3 +246,8 @@ class Elf:
     def __repr__(self) -> str:
         names = class_to_str(self.header.ei_class), et_to_str(self.header.e_type), machine_to_str(self.header.e_machine)
         return f'<Elf: {" ".join(names)}, {self._file.length} bytes>'
+
+
+# (typing.get_type_hints looks for what annotations name in their own modules, which can't import it)
+vars(items).update(Elf=Elf)
+vars(interface).update(Dynamic=Dynamic, Relocations=Relocations, Sections=Sections, Segments=Segments, Symbols=Symbols)

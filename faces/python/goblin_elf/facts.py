@@ -3,17 +3,18 @@ tested. All of it is bounded, whatever a file holds: a fact that needs more than
 import contextlib
 import functools
 import itertools
-from typing import Any, Callable, Dict, Iterator, List, Optional
+from typing import Any, Callable, Dict, Iterator, List, Optional, Tuple
 
 from . import constants as abi
 from .elf import SEGMENTS, Elf
-from .items import Dynamic, Section, Segment, Strings
+from .items import Dynamic, Section, Segment, Strings, T, Table
 from .marks import compilers, control_flow, has_canary
 from .names import class_to_str, et_to_str, machine_to_str
 from .refused import Refused, Unknown, within
 
-# The most that a fact is made of: entries of a dynamic section, bytes of a text and of a build ID, sections, and characters of all names.
-ENTRIES, TEXT, ID, SECTIONS, NAMES = 4096, 4095, 64, 1 << 20, 1 << 16
+# The most that a fact is made of: entries of a dynamic section, bytes of a text and of a build ID, sections, and characters of all names; and
+# the most sections, segments and symbols in which one is looked for.
+ENTRIES, TEXT, ID, SECTIONS, NAMES, SEARCHED = 4096, 4095, 64, 1 << 20, 1 << 16, 1 << 24
 # (an operator on plain numbers is much faster than one on flags)
 ALLOC, EXECINSTR, WRITE = int(abi.SHF_ALLOC), int(abi.SHF_EXECINSTR), int(abi.SHF_WRITE)
 # The tags, each with a flag or 0, of the entries that say that an ET_DYN is a program, and that a file is bound at its start.
@@ -27,6 +28,13 @@ class Parts(Elf):
     @functools.cached_property
     def own_segments(self) -> List[Segment]:
         return within(SEGMENTS, self.segments)[:]
+
+    def _search(self, table: Table[T], name: str, *arguments: Any) -> Optional[T]:
+        return super()._search(within(SEARCHED, table), name, *arguments)
+
+    def _dynamic_place(self) -> Optional[Tuple[int, ...]]:
+        within(SEARCHED, self.segments)
+        return super()._dynamic_place()
 
     def has_segment(self, p_type: int, flags: int = 0) -> bool:
         """Whether a segment of a type has all of some flags."""

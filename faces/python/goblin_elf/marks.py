@@ -15,26 +15,26 @@ NT_GNU_PROPERTY_TYPE_0 = 5
 # By machines the property whose bits, from the lowest one on, say that all code is made for these checks.
 X86 = 0xc0000002, ('IBT', 'SHSTK')
 CHECKS: Dict[int, Tuple[int, Tuple[str, ...]]] = {EM_386: X86, EM_X86_64: X86, EM_AARCH64: (0xc0000000, ('BTI', 'PAC'))}
-# The most that is read: names of canaries, and bytes of a note and of .comment. What needs more is unknown.
-CANARIES, BYTES = 64, 1 << 16
+# The most that is read: names of canaries, bytes of a note and of .comment, and bytes of a string table. What needs more is unknown.
+CANARIES, BYTES, STRINGS = 64, 1 << 16, 1 << 30
 
 
 def has_canary(elf: Elf, is_static: Callable[[], bool]) -> bool:
     """Whether a symbol of a table that can be read is one of a stack canary. If none is, it is refused or unknown if a table is, and unknown if
     there is no table that would have it: a static program need not list it among its dynamic symbols."""
     errors: List[Exception] = []
-    for name in ('symbols', 'dynamic_symbols'):
-        try:
-            symbols: Symbols = getattr(elf, name)
-            if any(map(symbols.find, canaries_of(elf, symbols.strings))):
-                return True
-        except (Refused, Unknown) as error:
-            errors.append(error)
-    if errors:
-        try:
+    try:
+        for name in ('symbols', 'dynamic_symbols'):
+            try:
+                symbols: Symbols = getattr(elf, name)
+                if any(map(symbols.find, canaries_of(elf, symbols.strings))):
+                    return True
+            except (Refused, Unknown) as error:
+                errors.append(error)
+        if errors:
             raise errors[0]
-        finally:
-            errors.clear()  # (they refer to this call, and would keep the file until a collection)
+    finally:
+        errors.clear()  # (they refer to this call, and would keep the file until a collection)
     if not elf.section_by_type(SHT_SYMTAB) and (is_static() or not elf.section_by_type(SHT_DYNSYM)):
         raise Unknown
     return False
@@ -44,7 +44,7 @@ def canaries_of(elf: Elf, strings: Strings) -> Iterator[bytes]:
     """Yields the names of canaries that a string table has. Refused if the table is not inside the file."""
     strings.get_bytes(strings.size)
     names: Set[bytes] = set()
-    for match in CANARY.finditer(elf.bytes[strings.offset:strings.offset + strings.size]):
+    for match in CANARY.finditer(within(STRINGS, elf.bytes[strings.offset:strings.offset + strings.size])):
         if match.group() not in names:
             names.add(match.group())
             within(CANARIES, names)

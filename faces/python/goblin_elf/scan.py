@@ -23,6 +23,7 @@ import json
 import mmap
 import os
 import re
+import secrets
 import stat
 import sys
 import tarfile
@@ -47,6 +48,8 @@ BETWEEN = {'compilers': '; '}
 MAGIC, AR, THIN = b'\x7fELF', b'!<arch>\n', b'!<thin>\n'
 # The most bytes of a member that is unpacked into memory, of the data of a package, of a member's name, and of one that is unpacked.
 MEMBER, PACKAGE, NAME, NAME_READ = 64 << 20, 4 << 30, 4096, 1 << 16
+# The most characters of a file's rows. (A package of a few kilobytes may have rows of hundreds of megabytes.)
+ROWS = 64 << 20
 # Of each form of packed data its first bytes, and Python's module for it, where there is one.
 PACKED = {b'\x1f\x8b\x08': 'gzip', b'BZh': 'bz2', b'\xfd7zXZ': 'lzma', b']\0\0\x80': 'lzma', b'(\xb5/\xfd': 'compression.zstd'}
 
@@ -64,12 +67,13 @@ def row_of(path: str, member: Optional[str], elf_of: Callable[[], Elf]) -> Row:
 
 def row_with(path: str, member: Optional[str], **columns: Any) -> Row:
     """Returns a row with some columns."""
-    row = {**dict.fromkeys(COLUMNS), 'member': member and member[:NAME], **columns}
-    return {**{column: escaped(value) if isinstance(value, str) else value for column, value in row.items()}, 'file': named(path)}
+    cells = {**dict.fromkeys(COLUMNS), **columns}
+    row = {column: escaped(value) if isinstance(value, str) else value for column, value in cells.items()}
+    return {**row, 'file': named(path), 'member': member and named(member[:NAME])}
 
 
 def named(path: str) -> str:
-    """Returns a path as a report has it."""
+    """Returns a path, or a member's name, as a report has it: in each locale the same."""
     return escaped(os.fsencode(path).decode('utf-8', 'surrogateescape'))
 
 
@@ -131,7 +135,7 @@ def rows_of(path: str, follow: bool = False) -> Iterator[Row]:
 
 def members(content: memoryview) -> Iterator[Tuple[str, Optional[memoryview]]]:
     """Yields the members of an `ar` archive, each after its name, up to its end or the first damaged one: that is `None`."""
-    end, names = len(AR), b''
+    end, names = len(AR), memoryview(b'')
     while end + end % 2 < len(content):
         start = end + end % 2 + 60
         header = bytes(content[start - 60:start])
@@ -140,13 +144,14 @@ def members(content: memoryview) -> Iterator[Tuple[str, Optional[memoryview]]]:
             break
         member, end = content[start:start + int(size)], start + int(size)
         if name == b'//':
-            names = bytes(member)
+            names = member
         elif name[:1] == b'/' and name[1:].isdigit():
             at = int(name[1:])
-            name = names[at:at + NAME].split(b'\n')[0]
+            name = bytes(names[at:at + NAME]).split(b'\n')[0]
         elif name[:3] == b'#1/' and name[3:].isdigit():
             # (as BSD's ar writes a long name: before the content)
-            name, member = bytes(member[:int(name[3:])]).rstrip(b'\0'), member[int(name[3:]):]
+            at = int(name[3:])
+            name, member = bytes(member[:min(at, NAME)]).rstrip(b'\0'), member[at:]
         yield os.fsdecode(name.rstrip(b'/')), member
     # (a byte may fill up the last one)
     if end not in (len(content) - 1, len(content)):
@@ -163,14 +168,13 @@ class Member(tarfile.TarInfo):
         except tarfile.HeaderError as error:
             raise error if type(error).__name__ == 'EOFHeaderError' else tarfile.ReadError(str(error))
 
-    @classmethod
-    def frombuf(cls, buf: Any, encoding: str, errors: str) -> Any:
-        member = super().frombuf(buf, encoding, errors)
+    def _proc_member(self, archive: tarfile.TarFile) -> Any:
         # (for headers of POSIX.1-2001, sparse files and names without a bound, which dpkg refuses, too, Python may take hours or all memory)
-        most = NAME_READ if member.type in (tarfile.GNUTYPE_LONGNAME, tarfile.GNUTYPE_LONGLINK) else PACKAGE
-        if member.type not in tarfile.SUPPORTED_TYPES or member.type == tarfile.GNUTYPE_SPARSE or not 0 <= member.size <= most:
+        most = NAME_READ if self.type in (tarfile.GNUTYPE_LONGNAME, tarfile.GNUTYPE_LONGLINK) else PACKAGE
+        is_read = self.type in tarfile.SUPPORTED_TYPES and self.type != tarfile.GNUTYPE_SPARSE
+        if not is_read or not 0 <= self.size <= most:
             raise tarfile.ReadError('a header has a type or size that is not read')
-        return member
+        return super()._proc_member(archive)  # type: ignore[misc] # (which tarfile calls for each header)
 
 
 class Content:
@@ -184,14 +188,23 @@ class Content:
         return part
 
 
+def unpacker(name: str) -> Any:
+    """Returns Python's module for a form of packed data. Raises a ValueError if there is none."""
+    try:
+        return importlib.import_module(name)
+    except ImportError:
+        form, since = ('zstd', ' 3.14 or later') if name == 'compression.zstd' else (name, '')
+        raise ValueError(f'it is packed by {form}, which needs Python{since} with its module {name}') from None
+
+
 class Unpacked:
     """The data of a package as a file that is unpacked in small parts as it is read. Each byte counts, whatever headers say."""
 
     def __init__(self, data: memoryview) -> None:
         content = Content(data)
-        names = [name for start, name in PACKED.items() if data[:len(start)] == start]
+        name = next((name for start, name in PACKED.items() if data[:len(start)] == start), None)
         # (`read` of these modules would lose what comes before damaged data)
-        self.part = importlib.import_module(names[0]).open(content).read1 if names else content.read
+        self.part = unpacker(name).open(content).read1 if name else content.read
         self.left = PACKAGE
 
     def read(self, size: int) -> bytes:
@@ -216,8 +229,21 @@ def unpacked(path: str, data: memoryview) -> Iterator[Row]:
                 else:
                     content = MAGIC + file.read()
                     yield row_of(path, member.name, lambda: Elf(content))
+    except MemoryError:  # (the rows before it may take most of the memory)
+        raise
     except Exception as error:  # (Python's modules for archives raise many types of exceptions at damaged data)
         yield row_with(path, None, refused='LEFT_OUT', text=f'its data can not be unpacked: {str(error) or type(error).__name__}')
+
+
+def bounded(path: str, rows: Iterator[Row]) -> Iterator[Row]:
+    """Yields the rows of a file up to ROWS."""
+    left = ROWS
+    for row in rows:
+        left -= len(str(row))
+        if left < 0:
+            yield row_with(path, None, refused='LEFT_OUT', text='its rows have more than 64 MiB')
+            return
+        yield row
 
 
 def examine(paths: List[str], links: FrozenSet[str] = frozenset()) -> Result:
@@ -226,7 +252,7 @@ def examine(paths: List[str], links: FrozenSet[str] = frozenset()) -> Result:
     for path in paths:
         start = time.perf_counter()
         try:
-            rows = list(rows_of(path, path in links))
+            rows = list(bounded(path, rows_of(path, path in links)))
         except (OSError, ValueError) as error:  # (the latter at a file that was emptied meanwhile)
             rows = [row_with(path, None, refused='UNREADABLE', text=getattr(error, 'strerror', None) or 'it can not be read')]
         except MemoryError:
@@ -273,12 +299,19 @@ class Report:
         self.held: List[Row] = []  # those of the last file that was there, until it is examined again
         self.count = 0
         old = self.read() if resume and (os.path.exists(self.lines_path) or os.path.exists(path)) else iter(())
-        self.file: TextIO = open(self.lines_path + '.new', 'w', newline='', encoding='utf-8')
+        # (no other file has this name)
+        new = os.path.join(os.path.dirname(path), f'goblin-scan-{secrets.token_hex(8)}.new')
+        self.file: TextIO = open(new, 'x', newline='', encoding='utf-8')
         try:
+            # (only root may give it to another user)
+            with contextlib.suppress(OSError):
+                status = os.stat(self.lines_path)
+                os.fchmod(self.file.fileno(), stat.S_IMODE(status.st_mode))
+                os.fchown(self.file.fileno(), status.st_uid, status.st_gid)
             self.begin(old)
-            os.replace(self.lines_path + '.new', self.lines_path)
+            os.replace(new, self.lines_path)
         except BaseException:
-            os.remove(self.lines_path + '.new')
+            os.remove(new)
             raise
 
     def begin(self, old: Iterator[Row]) -> None:
@@ -441,7 +474,7 @@ def main(arguments: Optional[List[str]] = None) -> int:
         report = Report(options.output, options.resume)
         found = ([folder] if os.path.isfile(folder) else found_below(folder) for folder in options.folders)
         paths = (path for path in itertools.chain.from_iterable(found) if named(path) not in report.known)
-        with contextlib.closing(run(iter(lambda: list(itertools.islice(paths, options.batch)), []))) as results:
+        with report.file, contextlib.closing(run(iter(lambda: list(itertools.islice(paths, options.batch)), []))) as results:
             report_on(results, report)
     except KeyboardInterrupt:
         return stopped('interrupted', options.output, 130)

@@ -77,11 +77,11 @@ class Worker:
 
 
 def work(function: Function, connection: Any, memory: int, folder: str) -> None:
-    """Runs the function on each batch that comes, in a folder and in little memory, until the other side has ended."""
+    """Runs the function on each batch that comes, in a folder and in little memory, until the other side ends or memory runs out."""
     os.chdir(folder)
     _, hard = resource.getrlimit(resource.RLIMIT_DATA)
     resource.setrlimit(resource.RLIMIT_DATA, (memory if hard == resource.RLIM_INFINITY else min(memory, hard), hard))
-    with contextlib.suppress(EOFError, ConnectionError):
+    with contextlib.suppress(EOFError, ConnectionError, MemoryError):
         connection.send(None)
         while True:
             connection.send(function(connection.recv()))

@@ -8,11 +8,13 @@ import os
 import struct
 import tempfile
 import unittest
+import unittest.mock
 
 from goblin_elf import DT_NEEDED, DT_STRSZ, PT_DYNAMIC, PT_GNU_STACK, PT_INTERP, PT_NOTE, SHT_SYMTAB, Elf
 from goblin_elf import __main__ as program
-from goblin_elf import scan
-from goblin_elf.facts import FACTS, facts
+from goblin_elf import facts as facts_module
+from goblin_elf import marks, scan
+from goblin_elf.facts import FACTS, SEARCHED, facts
 
 import made
 from parts import FILES, changed, content_of, of_type, put_value, replace, stored
@@ -168,6 +170,26 @@ class Facts(unittest.TestCase):
         found = facts(Elf(head + struct.pack('<' + made.SHDR[64], 0, 0, 0, 0, 0, count, 0, 0, 0, 0) + bytes(64 * (count - 1))))
         self.assertEqual((found['sizes'], found['sections'], found['unknown'][-2:]), (None, count, ['cut', 'sizes']))
 
+    def test_tables_past_those_that_are_searched(self):
+        """A section, a segment or a symbol is looked for in at most 16,777,216, and a canary in 1 GiB of strings. (A sparse file may have more.)"""
+        elf = changed('facts/object')
+        table = elf.section_by_type(SHT_SYMTAB)
+        more = Elf(bytearray(elf.bytes) + bytes(table.bytes) + bytes(12 * 24))
+        more.sections[table.index] = table._replace(sh_offset=len(elf.bytes), sh_size=table.sh_size + 12 * 24)
+        self.assertEqual((len(more.sections), len(more.symbols), SEARCHED, marks.STRINGS), (13, 20, 1 << 24, 1 << 30))
+        by_section = ['build_id', 'soname', 'rpath', 'runpath', 'needed', 'canary', 'control_flow', 'compilers', 'stripped', 'symbols',
+                      'dynamic_symbols']
+        for module, name, most, unknown in ((facts_module, 'SEARCHED', 20, []), (facts_module, 'SEARCHED', 19, ['canary']),
+                                            (facts_module, 'SEARCHED', 12, by_section), (marks, 'STRINGS', table.linked.sh_size, []),
+                                            (marks, 'STRINGS', table.linked.sh_size - 1, ['canary'])):
+            with unittest.mock.patch.object(module, name, most):
+                self.assertEqual((facts(more)['canary'], facts(more)['unknown']), (None if unknown else True, unknown))
+        stripped = changed('made/x86_64_stripped')
+        linked = ['soname', 'rpath', 'runpath', 'needed', 'pie', 'relro', 'bind_now']
+        for most, unknown in ((8, ['canary']), (7, [*linked, 'canary'])):
+            with unittest.mock.patch.object(facts_module, 'SEARCHED', most):
+                self.assertEqual((len(stripped.segments), facts(stripped)['unknown']), (8, unknown))
+
     def test_more_sections_than_the_header_counts(self):
         count = 0xff10
         section = struct.pack('<' + made.SHDR[64], 0, 1, 0, 0, 0, 2, 0, 0, 1, 0)
@@ -254,8 +276,8 @@ class Facts(unittest.TestCase):
 
     def test_nothing_keeps_the_file(self):
         """Without a collection, also if facts are refused or unknown."""
-        for name in ('facts/full', 'facts/cut_dynamic', 'facts/no_strings', 'facts/long_dynamic', 'facts/core'):
-            content = bytearray(content_of(stored(name)))
+        for name in os.listdir(stored('facts')):
+            content = bytearray(content_of(stored(f'facts/{name}')))
             gc.collect()
             gc.disable()
             try:

@@ -16,6 +16,7 @@ import sys
 import tempfile
 import threading
 import tracemalloc
+import typing
 import unittest
 import unittest.mock
 import zipfile
@@ -164,6 +165,7 @@ class Sequences(unittest.TestCase):
             self.assertIn(items[0], table)
             self.assertEqual((table.index(items[-1]), table.count(items[0])), (count - 1, 1))
             self.assertRegex(repr(table), rf'{count} items')
+            self.assertIs(typing.get_type_hints(type(items[0])).get('table', Notes), type(table))
 
     def test_items(self):
         elf, again = Elf(MADE.bytes), Elf(bytearray(MADE.bytes))
@@ -624,6 +626,11 @@ class Library(unittest.TestCase):
                 status, said = self.load(path)
                 self.assertTrue(status == 1 and f'GOBLIN_ELF_LIBRARY is {path}, which {expected}' in said, said)
 
+    def test_a_folder_that_is_removed(self):
+        script = 'import os, sys; os.chdir(sys.argv[1]); os.rmdir(sys.argv[1]); import goblin_elf'
+        subprocess.run([sys.executable, '-c', script, tempfile.mkdtemp()], check=True,
+                       env={**os.environ, 'GOBLIN_ELF_LIBRARY': os.path.abspath(_library.LIBRARY._name)})
+
     def test_what_is_imported(self):
         names = {}
         exec('from goblin_elf import *', names)
@@ -720,6 +727,10 @@ class Program(unittest.TestCase):
                 found = subprocess.run([sys.executable, '-m', 'goblin_elf', *paths], stdout=full, stderr=subprocess.PIPE, universal_newlines=True)
             self.assertEqual((found.returncode, found.stderr),
                              (2, 'python -m goblin_elf: the output can not be written: No space left on device\n'))
+            # (as errors may be, and it may be closed)
+            for command in ('> /dev/full 2>&1', '>&-'):
+                found = subprocess.run(f'{sys.executable} -m goblin_elf made.o {command}', shell=True, cwd=folder, stderr=subprocess.DEVNULL)
+                self.assertEqual(found.returncode, 2)
             self.assertEqual(self.run_it(''), (1, '\n  error            No such file or directory\n'))
             status, said = self.run_it('--json', *paths[:1])
             found = json.loads(said)[0]

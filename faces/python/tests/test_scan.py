@@ -203,6 +203,16 @@ class Scan(Folder):
         scan(self.files, '-o', self.out('r.csv'), '--workers', '0')
         self.assertEqual([(row['member'], row['symbols']) for row in self.rows('r.csv')], [('x' * 4096, '7')] * 4)
 
+    def test_names_of_members_in_another_locale(self):
+        """They are in the report as in each other one."""
+        elf = made.ALL[3].bytes
+        self.put('a.a', archive([('..x.o', elf)]).replace(b'..x', 'éx'.encode()))
+        self.put('b.deb', package(elf, 'éx.o'))
+        subprocess.run([*SCAN, self.files, '-o', self.out('r.csv'), '--workers', '0'], check=True,
+                       stderr=subprocess.PIPE,
+                       env={**os.environ, 'LC_ALL': 'C', 'PYTHONUTF8': '0', 'PYTHONCOERCECLOCALE': '0'})
+        self.assertEqual([row['member'] for row in self.rows('r.csv')], ['éx.o'] * 2)
+
     def test_bounds_of_packages(self):
         """What is unpacked of a package is bounded, whatever its headers say, and only its first data is."""
         files = [(str(index), made.ALL[3].bytes) for index in range(8)]
@@ -218,6 +228,12 @@ class Scan(Folder):
         found = [(os.path.basename(row['file'])[:1], row['member'] or row['refused']) for row in self.rows('r.csv')]
         self.assertEqual(found, [*[('a', str(index)) for index in range(4)], ('a', 'LEFT_OUT'), ('b', 'LEFT_OUT'), ('c', 'LEFT_OUT'), ('d', '0'),
                                  ('e', 'LEFT_OUT'), ('f', '0')])
+        # (the rows of any file have few characters together)
+        self.put('a.a', archive(files))
+        for path in (os.path.join(self.files, 'a.deb'), os.path.join(self.files, 'a.a')):
+            with unittest.mock.patch.object(module, 'ROWS', 2 * len(str(next(module.rows_of(path))))):
+                (_, rows, _), = module.examine([path])
+            self.assertEqual([row['member'] or row['text'] for row in rows], ['0', '1', 'its rows have more than 64 MiB'])
 
     def test_headers_that_no_package_has(self):
         """Python may take hours or all memory for some that dpkg refuses, too. What comes before one is in the report."""
@@ -241,6 +257,10 @@ class Scan(Folder):
             tracemalloc.clear_traces()
             self.assertEqual(list(module.rows_of(os.path.join(self.files, 'x.deb'))), [])
             self.assertLess(tracemalloc.get_traced_memory()[1], 1 << 20)
+        with unittest.mock.patch.object(module, 'row_of', side_effect=MemoryError):
+            self.put('x.deb', package(made.ALL[0].bytes))
+            (_, (row,), _), = module.examine([os.path.join(self.files, 'x.deb')])
+        self.assertEqual((row['refused'], row['text']), ('LEFT_OUT', 'it takes more memory than a worker may take'))
 
     def test_damaged_archives(self):
         """What is not read of one is said."""
@@ -267,6 +287,16 @@ class Scan(Folder):
         for packed in (gzip.compress, bz2.compress, lzma.compress):
             self.put('x.deb', archive([('data.tar', packed(tar[:2048]) + packed(tar[2048:]))]))
             self.assertEqual([row['member'] for row in module.rows_of(os.path.join(self.files, 'x.deb'))], ['a', 'b'])
+
+    def test_packages_that_this_python_can_not_unpack(self):
+        """As one by zstd, whose first bytes are those of RFC 8878, before Python 3.14."""
+        for content, name, since in ((b'\x28\xb5\x2f\xfd', 'zstd', ' 3.14 or later'), (b'BZh', 'bz2', '')):
+            self.put('x.deb', archive([('data.tar', content)]))
+            path = name.replace('zstd', 'compression.zstd')
+            with unittest.mock.patch.dict(sys.modules, {path: None}):
+                row, = module.rows_of(os.path.join(self.files, 'x.deb'))
+            said = f'it is packed by {name}, which needs Python{since} with its module {path}'
+            self.assertEqual((row['refused'], row['text']), ('LEFT_OUT', f'its data can not be unpacked: {said}'))
 
     def test_folders_that_are_deep_or_can_not_be_read(self):
         self.put('a.o', made.ALL[0].bytes)
@@ -341,6 +371,21 @@ class Scan(Folder):
                 scan(folder, '-o', self.out(name), '--workers', '0', '--resume')
                 self.assertEqual(read(self.out(name)), whole)
         self.assertEqual([row['file'] for row in json.loads(whole)], [row['file'] for row in self.rows('r.csv')])
+
+    def test_a_report_that_is_replaced(self):
+        """Its mode and owner stay, and so does what is beside it."""
+        for name, mode in (('r.csv', 0o660), ('r.csv.new', 0o600)):
+            with open(self.out(name), 'w', encoding='utf-8') as file:
+                file.write(name)
+            os.chmod(self.out(name), mode)
+            with contextlib.suppress(PermissionError):
+                os.chown(self.out(name), 1, 1)
+        before = os.stat(self.out('r.csv'))
+        scan(self.files, '-o', self.out('r.csv'), '--workers', '0')
+        after = os.stat(self.out('r.csv'))
+        self.assertEqual((after.st_mode, after.st_uid, after.st_gid), (before.st_mode, before.st_uid, before.st_gid))
+        self.assertEqual((read(self.out('r.csv.new')), self.rows('r.csv')), (b'r.csv.new', []))
+        self.assertEqual(len(os.listdir(self.folder)), 3)
 
     def test_parquet(self):
         self.put_many(40)
@@ -419,11 +464,18 @@ class Scan(Folder):
         # (members whose names all begin in one table of 4 MiB)
         names = archive([('//', b'\n' * (1 << 22)), *[('/0', b'')] * 5000, ('x.o', file.bytes)])
         self.put('x.a', names.replace(b'/0/', b'/0 ').replace(b'///', b'// '))
+        # (and names as long as the sparse files: all of such a table, and one before a member)
+        for name, start in (('y.a', '//'), ('z.a', f'#1/{size}')):
+            with open(os.path.join(self.files, name), 'wb') as sparse:
+                sparse.write(b'!<arch>\n' + f'{start:48}{size:<10}`\n'.encode())
+                sparse.seek(size, os.SEEK_CUR)
+                sparse.write(archive([('x.o', file.bytes)])[8:])
         script = 'import resource, runpy, sys; resource.setrlimit(resource.RLIMIT_DATA, (120 << 20, 120 << 20)); ' \
                  'sys.argv = sys.argv[1:]; runpy.run_module("goblin_elf.scan", run_name="__main__")'
         subprocess.run([sys.executable, '-c', script, 'scan', self.files, '-o', self.out('r.csv'), '--workers', '0'], check=True,
                        stderr=subprocess.PIPE, timeout=120)
-        self.assertEqual([os.path.basename(row['file']) for row in self.rows('r.csv')], ['interpreter', 'notes', 'sections', 'x.a'])
+        self.assertEqual([os.path.basename(row['file']) + row['member'] for row in self.rows('r.csv')],
+                         ['interpreter', 'notes', 'sections', 'x.ax.o', 'y.ax.o', 'z.ax.o'])
         self.assertEqual(self.rows('r.csv')[2]['sections'], str((size - 4096) // 64))
 
     def test_names_of_any_bytes(self):
@@ -597,6 +649,13 @@ class Workers(Folder):
     def test_little_memory(self):
         (_, found), = workers.Workers(take_memory, 1, 256 << 20).results(iter([['128', '512']]))
         self.assertEqual(found, ['128', 'MemoryError'])
+        # (a batch whose results do not fit into a message is divided, and no worker prints anything)
+        script = 'import test_scan, sys; from goblin_elf import workers; ' \
+                 'print([len(*found) for _, found in workers.Workers(test_scan.zeros, 1, 256 << 20).results(iter([["60", "61"]]))])'
+        said = subprocess.run([sys.executable, '-c', script], stdout=subprocess.PIPE, stderr=subprocess.STDOUT, universal_newlines=True,
+                              env={**os.environ, 'PYTHONPATH': os.pathsep.join(filter(None, sys.path))}).stdout
+        self.assertEqual(said.splitlines()[-1], str([60 << 20, 61 << 20]))
+        self.assertNotIn('Traceback', said)
 
     def test_nothing_listens(self):
         self.put_many(1200)
@@ -614,7 +673,8 @@ class Workers(Folder):
         for begin in (lambda running: workers_of(running), lambda running: os.path.getsize(self.out('many.csv')) > 2000):
             with open(self.out('many.csv'), 'w'):
                 pass
-            running = self.start()
+            # (in this mode Python prints which files nobody closed)
+            running = self.start(env={**os.environ, 'PYTHONDEVMODE': '1'})
             while not begin(running):
                 self.assertIsNone(running.poll())
             processes = workers_of(running)
@@ -789,6 +849,11 @@ def take_memory(batch):
         except MemoryError:
             found.append('MemoryError')
     return found
+
+
+def zeros(batch):
+    """Returns as many MiB as each path says."""
+    return [bytes(int(path) << 20) for path in batch]
 
 
 class EndsWorkers:
