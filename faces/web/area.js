@@ -50,7 +50,7 @@ export async function area_panel() {
         tip.hidden = !link;
         if (!link) return;
         const { offsetLeft: left, offsetTop: top, offsetWidth, offsetHeight } = link;
-        tip.textContent = link.ariaLabel;
+        put_text(tip, link.ariaLabel);
         const is_right = left + offsetWidth / 2 > areas.clientWidth / 2, below = top + offsetHeight;
         style.left = is_right ? 'auto' : `${left}px`;
         style.right = is_right ? `${areas.clientWidth - left - offsetWidth}px` : 'auto';

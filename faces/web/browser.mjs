@@ -12,7 +12,7 @@ import { setTimeout } from 'node:timers/promises';
 import { pathToFileURL } from 'node:url';
 import { inflateSync } from 'node:zlib';
 import { Chromium, Firefox, PATIENCE, waited } from './browsers.mjs';
-import { code, dynamic_file, elf_file, longs, note, noted_file, packed, patched, relocations,
+import { code, dynamic_file, elf_file, longs, note, noted_file, packed, patched, relocations, symbol,
     symbols_file } from './elves.mjs';
 
 const [, , kind, program, page, dump, made_files, stored_folder] = process.argv, stored = resolve(stored_folder);
@@ -210,11 +210,20 @@ check('A file is refused in the words of C, and the page says what was read or w
         for (const word of words) assert.ok(said.includes(word), said);
         assert.deepEqual([said.includes('This is not an ELF file'), await is_hidden('shown')], [!is_elf, true]);
     }
+    const { memory } = browser.cost(), zeros = await pick_written('zeros', '');
+    truncateSync(zeros, 4e8);
+    await pick(zeros);
+    await waited('no file that is refused is kept', () => browser.cost().memory - memory < 2e8);
 });
 
 check('The page shows why a file is not read, instead of the previous file', async () => {
-    await pick(made);
+    await browser.resize(1600, 1600);
+    await pick(program_file);
+    await go(main_place, 'main');
     await pick_written('empty', '');
+    await browser.resize(1400, 1600);
+    await setTimeout(250);
+    assert.equal(await text_of('#said'), '');
     assert.equal(await text_of('#trouble:not([hidden])'), 'The file is empty: it has 0 bytes.');
     assert.deepEqual([await is_hidden('shown'), await is_hidden('refused')], [true, true]);
     const large = join(folder, 'large');
@@ -225,6 +234,13 @@ check('The page shows why a file is not read, instead of the previous file', asy
     const words = 'The file has 2,147,483,649 bytes. This page reads files of at most 2 GiB (2,147,483,648 bytes).';
     assert.deepEqual([await text_of('#trouble:not([hidden])'), await is_hidden('shown')], [words, true]);
     assert.match(await text_of('#start .drop'), /at most 2 GiB/);
+    // (one that is cut while it is read)
+    truncateSync(large, 4e8);
+    await browser.pick('#pick', large);
+    await until(is_busy);
+    truncateSync(large, content.length);
+    await until(`!(${is_busy})`);
+    assert.match(await text_of('#trouble:not([hidden])'), /was changed after it was chosen/);
 });
 
 check('If the section headers are refused, no list that is made from them is shown as empty', async () => {
@@ -242,7 +258,7 @@ check('If the section headers are refused, no list that is made from them is sho
     assert.deepEqual(new Set(words), new Set([words[0]]));
     const cut_note = note('GNU', 1, Buffer.alloc(16)).subarray(0, -4);
     const notes = [note('GNU', 3, Buffer.alloc(4)), note('GA\0\xff', 0x100, Buffer.alloc(4)), cut_note];
-    await pick_written('none', elf_file({ sections: [{ name: '.note', type: 7, bytes: Buffer.concat(notes) }] }));
+    await pick_written('none', elf_file({ sections: [{ name: '.note\u202e', type: 7, bytes: Buffer.concat(notes) }] }));
     await click('#tab-symbols');
     await until(`document.getElementById('panel').textContent.startsWith('The file has no symbols')`);
     // (a location may name a section that is not such a list; then nothing is found)
@@ -253,7 +269,7 @@ check('If the section headers are refused, no list that is made from them is sho
     await open_tab('notes');
     assert.deepEqual(await cells(2), ['GNU', 'GAU+0000\\xff']);
     await has_texts({ '#tab-notes span': '2+',
-        '#panel .refused': /^Refused: .* while reading the descriptor of the note at 0x[0-9a-f]+, of \.note/ });
+        '#panel .refused': /^Refused: .* the descriptor of the note at 0x[0-9a-f]+, of \.noteU\+202E\./ });
 });
 
 check('Packed relocations and what only the dynamic section leads to are listed, as not proved', async () => {
@@ -282,6 +298,12 @@ check('Packed relocations and what only the dynamic section leads to are listed,
     await is_listed(1, '.dynsym', /^ *\d+: .* (?:UND|ABS|\d+) ?([^@ \n]*)/gm);
     await open_list('relocations/DT_JMPREL', plt);
     await is_listed(3, '.rela.plt', /R_\w+ +[0-9a-f]+ ([^@ ]+)/g);
+    // (the hash tables of s390 and Alpha have wide numbers)
+    for (const machine of [22, 0x9026]) {
+        const content_of = dynamic_file(longs(1, 3, Array(9).fill(0)), [[4, 0x400000], [6, 0x400000]], { machine });
+        await pick_written('wide', content_of, 'symbols');
+        assert.equal(await text_of('#tab-symbols span'), '3');
+    }
     // (a hash table of s390 may say that symbols have more bytes than a number can)
     await pick_written('hash', dynamic_file(longs(1, 1n << 61n), [[4, 0x400000], [6, 0x400000]], { machine: 22 }));
     await open_list('symbols/DT_SYMTAB', 'refused');
@@ -290,12 +312,28 @@ check('Packed relocations and what only the dynamic section leads to are listed,
 });
 
 check('A damaged file takes no long time, whatever its numbers say', async () => {
-    const empty = { name: '', type: 2, bytes: Buffer.alloc(0) }, bytes = Buffer.alloc(24 * 20000),
-        tables = elf_file({ type: 3, sections: [{ ...empty, bytes }, ...Array(20000).fill(empty)] });
-    const [first, second, last] = [1, 2, 20000].map((index) => header_at(tables, index));
-    tables.fill(Buffer.from(tables.subarray(first, second)), second, last);
+    // (many sections over the same bytes)
+    const repeated = (type, bytes, count) => {
+        const empty = { name: '', type, bytes: Buffer.alloc(0) },
+            file = elf_file({ type: 3, sections: [{ ...empty, bytes }, ...Array(count).fill(empty)] });
+        const [first, second, last] = [1, 2, count].map((index) => header_at(file, index));
+        return file.fill(Buffer.from(file.subarray(first, second)), second, last);
+    };
+    const tables = repeated(2, Buffer.alloc(24 * 20000), 20000), places = repeated(19, Buffer.alloc(1 << 17, 255), 200);
     const buckets = dynamic_file(longs(0x1ffffffffn, 1), [[0x6ffffef5, 0x400000], [6, 0x400000], [0, 0]]);
-    for (const content of [tables, buckets]) await timed(() => pick_written('long', content).then(() => facts()));
+    // (and many symbols that are in none of many segments)
+    const strays = elf_file({ type: 3, segments: Array(30000).fill({ bytes: Buffer.alloc(0) }), sections: [{ name: '',
+        type: 2, bytes: Buffer.concat(Array(30000).fill(symbol({ info: 18, shndx: 999, size: 1 }))) }] });
+    for (const content of [tables, places, buckets, strays])
+        await timed(() => pick_written('long', content).then(() => facts()));
+    // (and names of C++ that each stand for 44,737 signs: those past a number of signs are left alone)
+    const name = `_Z1f200${'a'.repeat(200)}1AI${'S_'.repeat(10)}E1BI${'S1_'.repeat(3)}E${'S3_'.repeat(6)}`;
+    await pick_written('names', symbols_file(Array(7000).fill({ text: name })), 'symbols');
+    await press_button('Demangle');
+    await click('#panel [role=columnheader]:nth-child(2) button');
+    await until(`${one('#panel output')}.textContent === '7,001' && ${one('#panel .body .row')}.row`);
+    assert.deepEqual((await cells(1)).slice(0, 2), ['', name]);
+    await press_button('Demangle');
 });
 
 // Returns the rows of the summary, or of some of its blocks: the name and value of each, and the mark above them.
@@ -419,7 +457,7 @@ check('What is broken is in one row, with links to its places', async () => {
     assert.deepEqual([(await side()).includes('.comment'), await field_of('address')], [true, null]);
     const high = elf_file({ type: 2, segments: [{ vaddr: (1n << 64n) - 16n, bytes: Buffer.alloc(64, 1) }] });
     await pick_written('high', high);
-    await go('offset/0x98', 'offset 0x98', { address: '0x10, address' });
+    await go('offset/0x98', 'offset 0x98', { address: '0x10' });
     // (section 0 may have any type)
     const first = symbols_file([{ text: 'a' }]);
     await pick_written('first', patched(first, [header_at(first, 0) + 4, 2, 4]), 'symbols');
@@ -611,6 +649,11 @@ check('Names depend on the machine and the owner, and numbers without a name are
     assert.deepEqual(await cells(3), ['STAPSDT', 'GNU_BUILD_ID', '0x3']);
     await click('#tab-header');
     await until(`document.querySelector('[data-field=ei_osabi]')?.textContent.includes('ELFOSABI_GNU')`);
+    // (FreeBSD numbers the notes of its cores anew)
+    for (const [type, ...types] of [[2, 'FREEBSD_ABI_TAG', '0x7'], [4, 'PRSTATUS', 'THRMISC']]) {
+        await pick_written('freebsd', noted_file([1, 7].map((of) => note('FreeBSD', of, bytes)), { type }), 'notes');
+        assert.deepEqual(await cells(3), types);
+    }
     // (numbers that the page does not name are in its closing list)
     const register = symbols_file([{ text: '%g2', info: 13 }]);
     await pick_written('register', patched(register, [0x12, 43, 2]), 'symbols');
@@ -711,6 +754,9 @@ check_program('A symbol has its bytes, and links along which back and forward le
     const of_label = await go(`${symtab}/${label.index}`, label.name).then(bytes_shown);
     assert.ok(of_label
         && bytes_of(program_file, label.value - data.address + data.offset, 16).startsWith(of_label), label.name);
+    // (and one at whose address nothing is has no link to it)
+    const end = symbols.find(({ name }) => name === '_end');
+    await go(`${symtab}/${end.index}`, '_end', { st_value: hex(end.value) });
     await go(main_place, 'main');
     await follow('address', `address ${main_address}`);
     assert.match(await side(), /segment \d+, LOAD/);
@@ -825,6 +871,12 @@ check_program('The field goes to an offset, an address and a name, and says how 
     await go_by_field(main.value.toString(16).padStart(16, '0'));
     await until_place(main_address);
     await until(`/^\\w+ ${main_address}, read as hexadecimal/.test(document.getElementById('said').textContent)`);
+    // (the addresses of kernels have 20 decimal digits)
+    const kernel = 0xffffffff81000000n;
+    await pick_written('kernel', elf_file({ segments: [{ vaddr: kernel, bytes: Buffer.alloc(16) }], type: 2 }));
+    await go_by_field(`${1n << 64n}`);
+    await until_there('#none:not([hidden])');
+    await go_by_field(`${kernel}`, `address ${hex(kernel)}`);
     // (a name that could be a number is a name)
     await pick_written('named', elf_file({ sections: [{ name: 'a1', type: 1, bytes: Buffer.alloc(256) }] }));
     await go_by_field('a1', 'a1');
@@ -1111,7 +1163,7 @@ check('A sentence says that a folder is dropped, that of two files one is opened
     for (const [place, words] of [['symbol=nope', 'This file has no symbol with the name nope. This is its summary.'],
         ['section=.no', 'This file has no section with the name .no. This is its summary.'], nothing('sections/99999'),
         ...['header/e_no', 'address/0x', 'nowhere', `${symtab}/99999`, '%', 'sections/x', 'offset/0xffffffffffffffff',
-            'symbols/99999/1', '__proto__/1'].map(nothing)]) {
+            'symbols/99999/1', 'notes/x/0', '__proto__/1'].map(nothing)]) {
         await set_place(place);
         await until_text('#said', words);
         assert.equal((await each_of('[role=tab][aria-selected=true]', 'item.id')).length, 1, place);
@@ -1628,6 +1680,21 @@ check('No name is markup', async () => {
     await go_by_field('onerror', markup);
     await open_sizes('[aria-label^="<img"]');
     assert.equal(await text_of('img'), null);
+});
+
+check('A name from right to left turns no number around that stands after it', async () => {
+    const left_of = (sign) => evaluate(`(() => {
+        const texts = document.createTreeWalker(${one('#chosen td a')}, NodeFilter.SHOW_TEXT), range = new Range();
+        while (!texts.nextNode().data.includes(${quoted(sign)}));
+        range.selectNodeContents(texts.currentNode);
+        range.setStart(texts.currentNode, texts.currentNode.data.indexOf(${quoted(sign)}));
+        return range.getClientRects()[0].left;
+    })()`);
+    const file = elf_file({ sections: [code(Buffer.alloc(64), { name: '\u05d0\u05d1 \u05d2' })] }),
+        place = hex(Number(file.readBigUInt64LE(header_at(file, 1) + 0x18)) + 16);
+    await pick_written('leftward', file);
+    await go(`offset/${place}`, `offset ${place}`, { in: '\u05d0\u05d1 \u05d2 + 0x10' });
+    assert.ok(await left_of('0x10') > await left_of('\u05d0'));
 });
 
 check('The keyboard reaches the described parts of the map, a row of a list, and the next tab', async () => {

@@ -662,6 +662,7 @@ check('Strings are compared, closed by a zero byte, and found many at once', () 
         assert.equal(names.starts_with(offset, start), false);
     assert.deepEqual(names.get_start(1, Infinity), names.get_bytes(1));
     assert.deepEqual([names.get_start(1, 3), names.get_start(12, 3)], [new Uint8Array(Buffer.from('mai')), undefined]);
+    assert.deepEqual([names.get_start(1, 0), names.get_start(12, 0)], [new Uint8Array(), undefined]);
     // (a name may be bytes of the file, which a call may move: here the memory ends two bytes after the file)
     const whole = Elf.parse(own), { sh_name } = whole.section('.text'), at = whole.shdr_strtab().range.offset,
         more = Buffer.alloc(65534 - (whole.bytes.byteOffset + own.length) % 65536);
@@ -921,6 +922,9 @@ check('The package lists all of its files', () => {
         assert.ok(existsSync(join(web, name)), name);
     assert.deepEqual(readdirSync(web).filter((name) => !['LICENSE', 'package.json'].includes(name)).sort(),
         listed.sort());
+    // (a bundler takes an import of anything else for an error)
+    const imports = readFileSync(join(web, 'goblin.js'), 'utf8').matchAll(/\b(?:from |import\()'([^']*)'/g);
+    for (const [, name] of imports) assert.ok(listed.some((file) => name === `./${file}`), name);
     const [least] = /\d+/.exec(engines.node);
     // (an earlier node needs a flag)
     const has_flag = process.execArgv.includes('--experimental-wasm-memory64');

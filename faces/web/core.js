@@ -1,7 +1,7 @@
 // What the notes of a core of Linux hold, read by numbers. The library reads the notes; what they mean is not proved.
 import * as goblin from './goblin.js';
 import { number_at } from './dynamic.js';
-import { file, is_wide, name_at } from './file.js';
+import { ALPHA, file, is_wide, name_at } from './file.js';
 
 // The names of the registers of a PRSTATUS, by machine and class.
 const REGISTERS = {
@@ -15,7 +15,7 @@ const REGISTERS = {
 const SIGNALS = ' HUP INT QUIT ILL TRAP ABRT BUS FPE KILL USR1 SEGV USR2 PIPE ALRM TERM'.split(' ');
 // The machines whose signals 7, 10 and 12 are others: SPARC, MIPS, PA-RISC and Alpha.
 const OF_THEIR_OWN = [goblin.EM_SPARC, goblin.EM_MIPS, goblin.EM_SPARC32PLUS, goblin.EM_PARISC, goblin.EM_SPARCV9,
-    0x9026];
+    ALPHA];
 const MOST_FILES = 10000, MOST_NAME = 4096;
 
 /** Returns a signal's number with its name, if the note has it. (Some machines have other numbers for some.) */

@@ -10,7 +10,7 @@ import sys
 
 HERE = os.path.dirname(os.path.abspath(__file__))
 COMMENT = re.compile(r'^(?P<indent> *)/\*\*(?P<text>(?:(?!\*/).)*)\*/\n(?P<code>[^\n]*)', re.M | re.S)
-TAG = re.compile(r'(?:^|\s)@(typedef|property|param|returns|type|template|extends|index)\b')
+TAG = re.compile(r'(?:^|\s)@(typedef|property|param|returns|overload|type|template|extends|index)\b')
 CLASS = re.compile(r'export class (?P<name>\w+)(?: extends (?P<base>\w+))? {')
 FUNCTION = re.compile(r'export (?:default )?(?:async )?function (?P<name>\w+)\((?P<parameters>.*)\) {$')
 ARROW = re.compile(r'export const (?P<name>\w+) = \((?P<parameters>[^()]*)\) =>')
@@ -109,7 +109,8 @@ def member(comment, code):
     method = METHOD.match(code)
     if method['is_getter']:
         return f'{comment.printed("    ")}    readonly {method["name"]}: {comment.first("returns")[0]};\n'
-    return f'{comment.printed("    ")}    {method["is_static"] or ""}{comment.call(method["name"], method["parameters"])}'
+    others = ''.join(f'    {method["name"]}{kind};\n' for kind, _ in comment.tags.get('overload', []))
+    return f'{comment.printed("    ")}{others}    {method["is_static"] or ""}{comment.call(method["name"], method["parameters"])}'
 
 
 def declarations(name):

@@ -164,7 +164,10 @@ class Reader {
         if (form === 'function') return { left: `${left}(${mark}`, right: `)${right}`, form: mark };
         if (is_reference) return { left: left.slice(0, -form.length) + (form === '&' ? form : mark), right,
             form: form === '&' ? form : mark };
-        return { left: is_word && left.endsWith(mark) ? left : left + mark, right, form: is_word ? form : mark };
+        // (a word that is there already, by what a template's argument stands for, is written once)
+        const rest = !is_word ? left : left.replace(/(?: const| volatile)+$/, (all) =>
+            all.split(/(?= )/).filter((word) => !mark.includes(word)).join(''));
+        return { left: rest + mark, right, form: is_word ? form : mark };
     }
     function() {
         const { left, right } = this.type(), list = this.parameters(), on = words(this.need(this.match(/[RO]?(?=E)/y)));

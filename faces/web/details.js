@@ -24,7 +24,7 @@ const fields_of = (item, given) => Object.entries(given).map(([name, words]) =>
     field(name, DECIMAL.test(name) ? item[name] : hex(item[name]), ...[words].flat()));
 // Returns a field's link to an address, if the file has addresses and something is loaded there.
 const at_address = (address) =>
-    (has_addresses() && address > 0n ? { ...to_address(address), text: 'address' } : undefined);
+    (has_addresses() && address > 0n && is_address(address) ? { ...to_address(address), text: 'address' } : undefined);
 const at_offset = (offset) =>
     (Number(offset) < file.content.length ? { ...to_offset(offset), text: 'offset' } : undefined);
 // Returns a location by a name, if the name is whole and UTF-8, and leads to what has it.
@@ -176,8 +176,7 @@ function note_details(item, index, by) {
             field('n_descsz', note.desc_range.size, in_bytes(note.desc_range.size)), field('from', '', '', of),
             thread !== undefined && field('thread', thread),
             registers.length > 0 && field('registers', '', 'not proved: read by this page, by numbers'),
-            ...registers.map(([register, value]) =>
-                field(register, hex(value), '', is_address(value) ? at_address(value) : undefined))],
+            ...registers.map(([register, value]) => field(register, hex(value), '', at_address(value)))],
         blocks: [block('descriptor', () => note.desc_range),
             record('whole note', 'note', start, Math.min(end, file.content.length) - start)],
     };

@@ -34,9 +34,15 @@ export const joined = (...parts) => parts.filter(Boolean).flatMap((part, i, all)
 export const button = (text, onclick, given = {}, ...more) =>
     make('button', { type: 'button', onclick, ...given }, text, ...more);
 
+// Words of scripts from right to left, which turn around what stands between them and a number.
+const LEFTWARD = /((?! )[ \u0590-\u08ff\ufb1d-\ufdff\ufe70-\ufefe\u{10800}-\u{10fff}\u{1e800}-\u{1efff}]+(?<! ))/gu;
+/** Returns a text in which such words are apart from the rest, for use outside of elements. */
+export const apart = (text) => text.replace(LEFTWARD, '\u2068$1\u2069');
+
 /** Replaces the content of an element by a text of a file. (It may have more parts than a call has arguments.) */
 export const put_text = (element, text) => text.split(UNSEEN).reduce((box, part, i) => {
-    if (part) box.append(i % 2 ? make('span', { class: 'esc' }, shown(part)) : part);
+    if (i % 2) box.append(make('span', { class: 'esc' }, shown(part)));
+    else part.split(LEFTWARD).forEach((words, j) => { if (words) box.append(j % 2 ? make('bdi', {}, words) : words); });
     return box;
 }, fill(element));
 

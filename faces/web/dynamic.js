@@ -1,7 +1,8 @@
 // What the entries of the dynamic section lead to: versions, tables of symbols and relocations, and packed relocations.
 // The library reads the entries and their strings. The rest is read here by numbers, and what it means is not proved.
 import * as goblin from './goblin.js';
-import { file, is_wide, name_at, own_sections, read_or, RELR, sections, size_of, SYMBOL_TYPES } from './file.js';
+import { ALPHA, file, is_wide, name_at, own_sections, read_or, RELR, sections, size_of,
+    SYMBOL_TYPES } from './file.js';
 import { once } from './text.js';
 
 // How many versions, and how many symbols of a hash table, packed relocations or words of these are read at most.
@@ -36,7 +37,7 @@ export function versions() {
 // Returns the number of dynamic symbols: that of the hash table, or of the last chain of GNU's, which an odd one ends.
 function symbol_count() {
     const hash = offset_of(goblin.DT_HASH), gnu = offset_of(goblin.DT_GNU_HASH);
-    const wide = file.elf.header.e_machine === goblin.EM_S390 ? word() : 4n;
+    const wide = [goblin.EM_S390, ALPHA].includes(file.elf.header.e_machine) ? word() : 4n;
     if (hash !== undefined || !gnu) return hash === undefined ? 0n : number_at(hash + wide, wide);
     const [buckets, first, blooms] = [0n, 4n, 8n].map((at) => number_at(gnu + at, 4));
     const item = (index) => number_at(gnu + 16n + blooms * word() + 4n * index, 4);
@@ -64,13 +65,36 @@ export function find_own_sections() {
     add('DT_JMPREL', has_addends ? SHT_RELA : SHT_REL, value_of(goblin.DT_PLTRELSZ));
 }
 
+// Returns up to where packed relocations are read. Throws if they are not inside the file.
+function packed_end({ sh_offset, sh_size }) {
+    const width = word(), most = MOST_ITEMS * width, end = sh_size < most ? sh_size : most;
+    if (end >= width) file.elf.number_in({ sh_type: RELR, sh_offset, sh_size }, sh_size - width, Number(width));
+    return end;
+}
+
+// How many bits of a byte are set.
+const BITS = Uint8Array.from({ length: 256 }, (_, byte) => byte.toString(2).replaceAll('0', '').length);
+
+/** Returns the number of packed relocations, without their offsets. (A file may have many sections of the same.) */
+export function packed_length(section) {
+    const width = Number(word()), end = Number(packed_end(section)), lowest = file.elf.little_endian() ? 0 : width - 1;
+    const start = Number(section.sh_offset), bytes = file.content.subarray(start, start + end);
+    let length = 0;
+    for (let at = 0; at + width <= end && length < MOST_ITEMS; at += width) {
+        let bits = 0;
+        for (let i = at; i < at + width; i++) bits += BITS[bytes[i]];
+        length += bytes[at + lowest] & 1 ? bits - 1 : 1;
+    }
+    return length;
+}
+
 /** Returns the offsets of packed relocations: an even word is one, and a bit of an odd word stands for one of the words
  * that follow. Throws if they are not inside the file. */
-export function packed_offsets({ sh_offset, sh_size }) {
-    const width = word(), most = MOST_ITEMS * width, end = sh_size < most ? sh_size : most, found = [];
-    if (end >= width) file.elf.number_in({ sh_type: RELR, sh_offset, sh_size }, sh_size - width, Number(width));
+export function packed_offsets(section) {
+    const width = word(), end = packed_end(section), found = [];
     for (let at = 0n, next = 0n; at + width <= end && found.length < MOST_ITEMS; at += width) {
-        const entry = number_at(sh_offset + at, width), is_place = !(entry & 1n), bits = is_place ? 1n : entry >> 1n;
+        const entry = number_at(section.sh_offset + at, width), is_place = !(entry & 1n),
+            bits = is_place ? 1n : entry >> 1n;
         if (is_place) next = entry;
         for (let bit = 0n; bits >> bit; bit++)
             if (bits >> bit & 1n) found.push(BigInt.asUintN(Number(8n * width), next + bit * width));

@@ -35,6 +35,7 @@ export const size_of = (kind) => fields_at(kind, 0).reduce((sum, { size }) => su
 export const header_at = (kind, index) =>
     Number(file.elf.header[kind === 'section' ? 'e_shoff' : 'e_phoff']) + index * size_of(kind);
 export const RELR = 19;
+export const ALPHA = 0x9026;
 export const SYMBOL_TYPES = [goblin.SHT_SYMTAB, goblin.SHT_DYNSYM];
 export const RELOCATION_TYPES = [goblin.SHT_REL, goblin.SHT_RELA, RELR];
 

@@ -11,7 +11,8 @@ const MOST = 40;
 // Returns the numbers that a text may mean, and how it is read: first as decimal, unless it starts with 0x or a zero.
 function numbers_in(text) {
     if (/^(0x[0-9a-f]{1,16}|0*\d)$/i.test(text)) return [{ value: BigInt(text) }];
-    const decimal = /^\d{1,19}$/.test(text) ? [{ value: BigInt(text), read: 'read as decimal' }] : [];
+    const is_decimal = /^\d{1,20}$/.test(text) && BigInt(text) < 1n << 64n,
+        decimal = is_decimal ? [{ value: BigInt(text), read: 'read as decimal' }] : [];
     const is_hex = /^(?=.*\d)[0-9a-f]{1,16}$/i.test(text),
         hexadecimal = is_hex ? [{ value: BigInt(`0x${text}`), read: 'read as hexadecimal' }] : [];
     return text.startsWith('0') ? [...hexadecimal, ...decimal] : [...decimal, ...hexadecimal];

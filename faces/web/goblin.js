@@ -318,7 +318,7 @@ const FILE = BUFFER + BUFFER_SIZE;
 // A module with only a 64-bit memory, and the message if an engine can't compile it.
 const WITH_MEMORY = new Uint8Array([0, 0x61, 0x73, 0x6d, 1, 0, 0, 0, 5, 3, 1, 4, 0]);
 const WITHOUT_MEMORY = 'this engine has no 64-bit WebAssembly memories (memory64): use Chromium 133, Firefox 134,'
-    + ' Node.js 24 or later, or Node.js from 20 on with the flag --experimental-wasm-memory64';
+    + ' Node.js 24 or later, or Node.js from 20.16 or 22.3 on with the flag --experimental-wasm-memory64';
 
 const decoder = new TextDecoder('utf-8', { fatal: true, ignoreBOM: true });
 const encoder = new TextEncoder();
@@ -376,10 +376,9 @@ export default async function init(source = new URL('goblin_c.wasm', import.meta
 }
 
 async function load(url) {
-    if (url.protocol === 'file:' && globalThis.process?.versions?.node) {
-        const { readFile } = await import('node:fs/promises');
-        return readFile(url);
-    }
+    // (what an import names must be there for bundlers, also for those that bundle for browsers)
+    const files = url.protocol === 'file:' && globalThis.process?.getBuiltinModule?.('node:fs/promises');
+    if (files) return files.readFile(url);
     const response = await fetch(url);
     if (!response.ok) throw new Error(`the module can't be loaded from ${url}: status ${response.status}`);
     return response.arrayBuffer();
@@ -1442,9 +1441,10 @@ export class List {
      * Returns what a function makes of all items, like `reduce` of an array: it is called with what it made of the
      * items before, with an item and its index. Without an initial value it begins with the first item, and throws a
      * `TypeError` if there is none.
+     * @overload {(callback: (made: T, item: T, index: number) => T): T}
      * @template U
      * @param {(made: U, item: T, index: number) => U} callback
-     * @param {[U?]} ...initial
+     * @param {[U]} ...initial
      * @returns {U}
      */
     reduce(callback, ...initial) {
@@ -1795,7 +1795,7 @@ export class Strtab {
         if (skipped >= size) return undefined;
         const length = most < size - skipped ? BigInt(most) : size - skipped;
         const range = this.#read('goblin_string_bytes', { offset: start + skipped, size: length }, 0);
-        return range && this.#memory.bytes(range);
+        return range ? this.#memory.bytes(range) : new Uint8Array();
     }
 }
 

@@ -68,7 +68,7 @@ export async function refusal_of({ text, kind, what, marks, words }, each = byte
     const box = make('div', { class: 'refused', role: 'group', 'aria-label': 'Refusal' },
         words && put_text(make('p', { class: 'plainly' }), words),
         make('h3', {}, 'Refused: ', put_text(make('span'), text)),
-        make('p', { class: 'what' }, `Refusal ${kind}, while reading ${what}.`));
+        put_text(make('p', { class: 'what' }), `Refusal ${kind}, while reading ${what}.`));
     if (marks.length === 0) return box;
     const first = Math.floor(Math.min(...marks.map(({ at }) => at)) / each) * each;
     const most = Math.max(...marks.map(({ at, size }) => at + size));

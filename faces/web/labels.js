@@ -56,5 +56,6 @@ export const segment_flags = (flags) => {
 /** Returns the name of a note's type, which depends on its owner, or the number. */
 export function note_type(note) {
     const library = ['GNU', 'CORE'].includes(note.name) ? fitting(goblin.note_type_to_str(note)) : undefined;
-    return library ? without('NT_', library) : own.note_type(note.name, note.n_type) ?? hex(note.n_type);
+    return library ? without('NT_', library)
+        : own.note_type(note.name, note.n_type, file.elf.header.e_type === goblin.ET_CORE) ?? hex(note.n_type);
 }

@@ -11,6 +11,8 @@ import { has_mangled, name_of_symbol, named_symbols, section_of_symbol, symtab_a
 import { count, hex, once } from './text.js';
 
 const { st_bind, st_type, st_visibility } = goblin;
+// How many signs the names of a list have at most that are demangled. (In a damaged file each may stand for very many.)
+const MOST_DEMANGLED = 1 << 28;
 const SPECIAL = new Map([[0n, 'undefined'], [0xfff1n, 'absolute'], [0xfff2n, 'common'], [0xffffn, 'extended index']]);
 // A column has a title, a hint, such as the field's name, the least width, which of the columns gets more of it first,
 // a function that returns an item's text, and perhaps one for a saved list, a number to sort by, and a finder of texts.
@@ -88,7 +90,10 @@ const sources = {
         const name = (item, index) => name_of_symbol(table, index, item), symtab = symtab_at(table),
             list = { length: symtab.length, get: (index) => symtab.get(index), from: () => named_symbols(table) },
             known = new Array(list.length), has_demangled = has_mangled(table);
-        const in_source = (item, index) => (known[index] ??= demangled(name(item, index)) ?? '');
+        let left = MOST_DEMANGLED;
+        const counted = (text) => { left -= text.length; return text; };
+        const in_source = (item, index) =>
+            (known[index] ??= counted((left > 0 && demangled(name(item, index))) || ''));
         const finder = (wanted) => {
             const may = may_hold(wanted), has = (found) => found.toLowerCase().includes(wanted);
             return (item, index) => has(name(item, index))
@@ -167,7 +172,8 @@ const sources = {
 // Reports whether there is such a list. A list of symbols or relocations is a section of that type.
 function is_there(list, of) {
     const types = { symbols: SYMBOL_TYPES, relocations: RELOCATION_TYPES }[list];
-    return types ? types.includes(section_at(of)?.sh_type) : Object.hasOwn(sources, list);
+    return types ? types.includes(section_at(of)?.sh_type)
+        : list === 'notes' ? ['sections', 'segments'].includes(of) : Object.hasOwn(sources, list);
 }
 
 /** Returns the source of a list, or its refusal, or nothing if there is no such list. */

@@ -1,5 +1,6 @@
 // The map: the file's parts, to scale, with functions, what their bytes are like, what is loaded, and what is chosen.
-import { clamp, fill, get, hex, in_bytes, is_of_browser, make, plural, put_text, two_digits, visible } from './dom.js';
+import { apart, clamp, fill, get, hex, in_bytes, is_of_browser, make, plural, put_text, two_digits,
+    visible } from './dom.js';
 import { ask, shown_file } from './reader.js';
 import { go } from './route.js';
 import { first_after, visible_ranges } from './spans.js';
@@ -210,7 +211,7 @@ function draw_segments() {
 // Writes the names of functions and variables, and of parts where none of these is, once each, if they have room.
 function draw_names(symbols) {
     const drawn = new Set(), put = (item, { x, width, y }, shade) => {
-        const text = visible(item.title), wide = pen.measureText(text).width;
+        const text = apart(visible(item.title)), wide = pen.measureText(text).width;
         if (!text || item.kind === 'padding' || drawn.has(item) || wide > width - 10) return;
         drawn.add(item);
         if (item.is_cut) paint(colour(item.kind), x + 2, y + 1, wide + 6, BAND - 2); // (over the hatching)

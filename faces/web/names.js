@@ -73,8 +73,14 @@ const NOTES = {
     FDO: row('@0x407c0c0a FDO_DLOPEN_METADATA @0xcafe1a7e FDO_PACKAGING_METADATA'), NetBSD: row('@1 NETBSD_IDENT'),
     FreeBSD: row('@1 FREEBSD_{ABI_TAG,NOINIT_TAG,ARCH_TAG,FEATURE_CTL}'), OpenBSD: row('@1 OPENBSD_IDENT'),
 };
+const IN_CORE = { ...NOTES, FreeBSD: row(`@1 PRSTATUS FPREGSET PRPSINFO @7 THRMISC
+    PROCSTAT_{PROC,FILES,VMMAP,GROUPS,UMASK,RLIMIT,OSREL,PSSTRINGS,AUXV} PTLWPINFO @512 X86_SEGBASES @514 X86_XSTATE
+    @1024 ARM_{VFP,TLS}`) };
 
-export const note_type = (owner, type) => (Object.hasOwn(NOTES, owner) ? NOTES[owner].get(type) : undefined);
+export function note_type(owner, type, is_core) {
+    const names = is_core ? IN_CORE : NOTES;
+    return Object.hasOwn(names, owner) ? names[owner].get(type) : undefined;
+}
 
 const RELOCATIONS = {
     [EM.X86_64]: ['R_X86_64_', row(`NONE 64 PC32 GOT32 PLT32 COPY GLOB_DAT JUMP_SLOT RELATIVE GOTPCREL 32 32S 16 PC16 8

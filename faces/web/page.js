@@ -169,6 +169,7 @@ async function show_refusal(file, reader, { refused, start }) {
     const is_elf = MAGIC.slice(0, start.length).every((byte, i) => start[i] === byte);
     const box = await refusal_of(is_elf ? refused : { ...refused, marks: [] });
     if (shown_file.reader !== reader) return;
+    replace(undefined, file, undefined); // (its worker, which holds the whole file, is done)
     const other = OTHERS.find(([begin]) => String.fromCharCode(...start).startsWith(begin));
     const words = is_elf ? [] : [make('h2', {}, 'This is not an ELF file'),
         other && make('p', {}, `By its first bytes it is ${other[1]}.`),

@@ -1,6 +1,6 @@
 // What is printed: the summary, and all of the open tab, over as many sheets as it takes. A page can't wait for its
 // worker once it is printed, so what is printed of a list is requested as soon as the list is shown.
-import { count, get, make, visible } from './dom.js';
+import { count, get, make, put_text, visible } from './dom.js';
 import { ask, shown_file } from './reader.js';
 
 // How many rows of a list and about how many characters are printed at most, and the length of a text that may take
@@ -49,7 +49,7 @@ export function set_up_paper(opened, panel) {
         const mine = opened(), { summary } = shown_file;
         get('paper')?.remove(); // (a browser may print again before it says that it has printed)
         if (!summary || !mine.name) return;
-        const before = mine.name === 'summary' ? [] : [...summary.panel ?? [], make('h2', {}, title_of(mine))];
+        const before = mine.name === 'summary' ? [] : [...summary.panel ?? [], put_text(make('h2'), title_of(mine))];
         document.body.append(make('div', { id: 'paper', class: 'paper' }, ...get('file').cloneNode(true).children,
             ...before, ...content_of(mine)));
     });

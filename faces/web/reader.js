@@ -49,4 +49,5 @@ export class Reader {
 
 /** The file that is shown: its reader, its size, and the worker's first result. */
 export const shown_file = { reader: undefined, size: 0, summary: undefined };
-export const ask = (call, given) => shown_file.reader.ask(call, given);
+/** Asks its reader. (What is no longer shown may ask once more, as if the window gets another width, for nothing.) */
+export const ask = (call, given) => shown_file.reader?.ask(call, given) ?? new Promise(() => {});

@@ -4,6 +4,7 @@ import { demangled } from './demangle.js';
 import { number_at } from './dynamic.js';
 import { called, file, is_wide, name_at, own_segments, read_or, section_at, sections, segment_of, segments,
     SYMBOL_TYPES, symbol_tables } from './file.js';
+import { first_after } from './spans.js';
 import { hex, name_of, once } from './text.js';
 
 /** Reports whether the file has addresses. In an object file they are offsets in sections. */
@@ -128,15 +129,27 @@ const holds = (start, size, address) => start <= address && address < start + si
 export const segments_of_address = (address) => (has_addresses() ? segments().filter(({ p_type, p_vaddr, p_memsz }) =>
     p_type === goblin.PT_LOAD && holds(p_vaddr, p_memsz, address)) : []);
 
-export function section_of_address(address) {
-    const is_in = ({ sh_flags, sh_type, sh_addr, sh_size }) => sh_flags & goblin.SHF_ALLOC
-        && !(sh_type === goblin.SHT_NOBITS && sh_flags & goblin.SHF_TLS) && holds(sh_addr, sh_size, address);
-    return has_addresses() ? sections().find(is_in)?.index : undefined;
+// Returns a function of an address: the first of some items, each with a start and a size, that holds it. (Each of many
+// symbols may be in none of many sections and segments.)
+function finder_of(items) {
+    const ranges = items.map(([item, start, size]) => ({ item, start, end: start + size }));
+    const starts = [...new Set(ranges.flatMap(({ start, end }) => [start, end]))].sort((a, b) => (a < b ? -1 : 1));
+    const places = new Map(starts.map((start, i) => [start, i])), next = [...starts.keys()], holders = [];
+    const free = (i) => { while (next[i] !== i) i = next[i] = next[next[i]]; return i; };
+    for (const { item, start, end } of ranges)
+        for (let i = places.get(start); (i = free(i)) < places.get(end); next[i] = i + 1) holders[i] = item;
+    return (address) => holders[first_after(starts, address) - 1];
 }
+const sections_in_memory = once(() => finder_of(sections().filter(({ sh_flags, sh_type }) => sh_flags & goblin.SHF_ALLOC
+    && !(sh_type === goblin.SHT_NOBITS && sh_flags & goblin.SHF_TLS))
+    .map(({ index, sh_addr, sh_size }) => [index, sh_addr, sh_size])));
+const loaded_segments = once(() => finder_of(own_segments().filter(({ p_type }) => p_type === goblin.PT_LOAD)
+    .map((item) => [item, item.p_vaddr, item.p_filesz < item.p_memsz ? item.p_filesz : item.p_memsz])));
+
+export const section_of_address = (address) => (has_addresses() ? sections_in_memory()(address) : undefined);
 
 export function offset_of_address(address) {
-    const segment = file.has_segments ? segments_of_address(address)
-        .find(({ p_vaddr, p_filesz }) => holds(p_vaddr, p_filesz, address)) : undefined;
+    const segment = has_addresses() ? loaded_segments()(address) : undefined;
     const section = section_at(section_of_address(address));
     const at = segment ? segment.p_offset + address - segment.p_vaddr
         : section && section.sh_type !== goblin.SHT_NOBITS ? section.sh_offset + address - section.sh_addr : undefined;

@@ -1,6 +1,6 @@
 // The tabs: the header's fields, and the lists with their searches.
 import { area_panel } from './area.js';
-import { after_typing, button, copy, count, fill, focus_chosen, get, hex, in_bytes, is_of_browser, make, say,
+import { after_typing, apart, button, copy, count, fill, focus_chosen, get, hex, in_bytes, is_of_browser, make, say,
     visible } from './dom.js';
 import { Grid } from './grid.js';
 import { refusal_of } from './hex.js';
@@ -267,7 +267,7 @@ function tools(mine, switched) {
     mine.search = search_field(mine);
     return make('div', { class: 'tools' },
         list.length > 1 && make('select', { 'aria-label': `Which ${name}`, onchange },
-            ...list.map((item) => make('option', { selected: item.of === of }, visible(item.text)))),
+            ...list.map((item) => make('option', { selected: item.of === of }, apart(visible(item.text))))),
         hidden > 0 && make('span', {}, `and ${count(hidden)} more: choose them among the sections`),
         mine.search, switched && demangling(mine, switched), output, mine.saving);
 }

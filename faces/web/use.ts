@@ -11,8 +11,9 @@ export async function main(bytes: ArrayBuffer, view: Uint16Array): Promise<strin
     const names: (string | undefined)[] = sections.map((section) => elf.section_name(section));
     const loaded: SectionHeader[] = sections.filter(({ sh_flags }) => (sh_flags & SHF_ALLOC) !== 0n);
     const total: bigint = sections.reduce((sum: bigint, { sh_size }) => sum + sh_size, 0n),
-        second: SectionHeader | undefined = sections[1];
-    lines.push(
+        second: SectionHeader | undefined = sections[1],
+        largest = sections.reduce((most, item) => (item.sh_size > most.sh_size ? item : most));
+    lines.push(`${largest.sh_size}`,
         `${total} ${second?.sh_size} ${sections.slice(1).length} ${sections.some(({ sh_size }) => sh_size === 0n)}`);
     for (const [index, { sh_size }] of sections.entries()) lines.push(`${names[index]} ${sh_size + 1n}`);
     const found = elf.section_by_type(SHT_SYMTAB), index: number | undefined = found?.index,
@@ -45,6 +46,8 @@ export async function main(bytes: ArrayBuffer, view: Uint16Array): Promise<strin
     }
     // @ts-expect-error
     elf.number(0n, 3);
+    // @ts-expect-error
+    sections.reduce((sum: bigint, { sh_size }) => sum + sh_size);
     // @ts-expect-error
     Elf.parse('ELF');
     // @ts-expect-error

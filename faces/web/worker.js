@@ -5,7 +5,7 @@ import { csv_line } from './csv.js';
 import { address_details, header_fields, is_address, item_details, offset_details } from './details.js';
 import { all_sections, called, file, header_refusal, list_refusal, MOST_TABLES, own_segments, part, read_or,
     RELOCATION_TYPES, RELR, size_of, SYMBOL_TYPES } from './file.js';
-import { find_own_sections, packed_offsets } from './dynamic.js';
+import { find_own_sections, packed_length } from './dynamic.js';
 import { find } from './find.js';
 import * as labels from './labels.js';
 import { arranged, as_shown, cells_of, columns_of, go_over, open_source } from './lists.js';
@@ -23,7 +23,9 @@ const CHUNK = 1 << 24;
 async function bytes_of(given) {
     const bytes = goblin.array_for(given.size);
     for (let at = 0; at < given.size; at += CHUNK) {
-        const chunk = new Uint8Array(await given.slice(at, Math.min(at + CHUNK, given.size)).arrayBuffer());
+        const chunk = new Uint8Array(await given.slice(at, at + CHUNK).arrayBuffer());
+        // (Firefox reads less of a file that has been cut since it was chosen)
+        if (chunk.length < Math.min(CHUNK, given.size - at)) throw new DOMException('cut', 'NotReadableError');
         bytes.set(chunk, at);
         postMessage({ progress: 'open', done: (at + chunk.length) / given.size });
     }
@@ -42,7 +44,8 @@ function tables(types, list_of) {
     return { found, all: all.length };
 }
 
-const relocations_of = (section) => (section.sh_type === RELR ? packed_offsets(section) : file.elf.relocs(section));
+const relocations_of = (section) =>
+    (section.sh_type === RELR ? { length: packed_length(section) } : file.elf.relocs(section));
 
 function notes_summary(by, headers) {
     if (headers.refused) return { length: undefined, refusals: [headers.refused] };
