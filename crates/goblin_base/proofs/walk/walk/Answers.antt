@@ -110,6 +110,7 @@ loop-i-preserved c =
     let e = c.next_end-end.ensures in
     let walked : IsWalkedTo c.args.view.now.bytes c.args.delim c.walk_damaged.new.places.items c.in_ok-i.i =
     search rules in
+    let some = not_empty _ c.loop-i.i c.next_end-end.result.0 c.if-is_text.ensures.value.1 in
     record {
       same = search rules;
       within = search rules;
