@@ -32,6 +32,12 @@ if /usr/bin/rustc --version 2> "$folder/output" | grep -qF "rustc $oldest."; the
 else
     left_out "/usr/bin/rustc is another one than Rust $oldest or missing, so the Rust crate is not tested by it"
 fi
+# (it links no library for Linux on another system)
+quietly env CARGO_PKG_VERSION="$version" rustc --edition 2021 -o "$folder/script" faces/rust/build.rs
+ends_with 0 "*looked for in GOBLIN_C_LIB=$folder: it isn't made for this platform
+cargo:warning=it is made for Linux on x86_64 and on aarch64 alone
+*" env CARGO_CFG_TARGET_ARCH=x86_64 CARGO_CFG_TARGET_OS=windows "$folder/script"
+ends_with 0 "*link-search=native=$folder*" env CARGO_CFG_TARGET_ARCH=x86_64 CARGO_CFG_TARGET_OS=android "$folder/script"
 cp -R faces/rust "$folder/copied"
 quietly env -u GOBLIN_C_LIB PKG_CONFIG_LIBDIR="$folder" cargo check --offline --manifest-path "$folder/copied/Cargo.toml"
 awk '/looked for in/ { wrong++ } /no folder beside this crate was looked in: it is a copy/ { said++ } END { exit wrong || !said }' "$folder/output" \

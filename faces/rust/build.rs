@@ -1,7 +1,7 @@
 //! Links libgoblin_c.a. It looks in the folder that GOBLIN_C_LIB names; a relative name starts from the folder of this
 //! file. Without GOBLIN_C_LIB it looks where the library is installed with this crate, or where `rt lib` puts it in the
 //! repository, and where pkg-config finds it. Beside a copy of this crate elsewhere it doesn't look. It skips a library
-//! for another processor.
+//! for another platform.
 //!
 //! If it finds none, it warns, and says where it looked and how to get the library. Only linking needs the library:
 //! without it `cargo check`, `cargo clippy` and `cargo doc` succeed, and a build ends with rustc's error that the
@@ -13,17 +13,25 @@ use std::process::Command;
 
 const LIBRARY: &str = "libgoblin_c.a";
 
-/// Returns why the library in a folder can't be linked for a processor, if it can't. It reads `e_machine` of its first
-/// object file.
-fn fault(folder: &Path, processors: &str) -> Option<&'static str> {
+/// Returns `e_machine` of a platform that the library is made for. (Windows passes arguments in other registers, and
+/// macOS links no ELF file.)
+fn machine_of(platform: &str) -> Option<u16> {
+    match platform {
+        "x86_64-linux" => Some(62),
+        "aarch64-linux" => Some(183),
+        _ => None,
+    }
+}
+
+/// Returns why the library in a folder can't be linked for a platform, if it can't. It reads its first object file.
+fn fault(folder: &Path, platform: &str) -> Option<&'static str> {
     let bytes = match fs::read(folder.join(LIBRARY)) {
         Ok(bytes) => bytes,
         Err(_) => return Some("it isn't there"),
     };
-    let machine: u16 = match processors {
-        "x86_64" => 62,
-        "aarch64" => 183,
-        _ => return Some("it isn't made for this processor"),
+    let machine = match machine_of(platform) {
+        Some(machine) => machine,
+        None => return Some("it isn't made for this platform"),
     };
     let header = bytes.windows(4).position(|magic| magic == b"\x7fELF");
     let is_for_this = header.map_or(false, |start| bytes[start..].get(18..20) == Some(&machine.to_le_bytes()));
@@ -66,15 +74,15 @@ fn beside(here: &Path) -> Option<PathBuf> {
 }
 
 /// Warns that the library is missing, and says where it was looked for and how to get it.
-fn warn(folders: &[PathBuf], processors: &str) {
+fn warn(folders: &[PathBuf], platform: &str) {
     let by = match named() {
         Some(folder) if folder.is_relative() => format!("GOBLIN_C_LIB={}, which is ", folder.display()),
         Some(_) => "GOBLIN_C_LIB=".to_string(),
         None => String::new(),
     };
-    println!("cargo:warning={} is missing for {}: linking this crate will fail", LIBRARY, processors);
+    println!("cargo:warning={} is missing for {}: linking this crate will fail", LIBRARY, platform);
     for folder in folders {
-        let fault = fault(folder, processors).unwrap_or_default();
+        let fault = fault(folder, platform).unwrap_or_default();
         println!("cargo:warning=looked for in {}{}: {}", by, folder.display(), fault);
     }
     if named().is_none() && from_pkg_config().is_none() {
@@ -90,12 +98,11 @@ fn warn(folders: &[PathBuf], processors: &str) {
              its repository"
         );
     }
-    let is_linux = env::var("CARGO_CFG_TARGET_OS").map_or(false, |system| system == "linux");
-    if !is_linux || !["x86_64", "aarch64"].contains(&processors) {
+    if machine_of(platform).is_none() {
         println!("cargo:warning=it is made for Linux on x86_64 and on aarch64 alone");
         return;
     }
-    let target = format!("{}-unknown-linux-gnu", processors);
+    let target = platform.replace('-', "-unknown-") + "-gnu";
     let archive = format!("goblin_c-{}-{}.tar.gz", env!("CARGO_PKG_VERSION"), target);
     println!(
         "cargo:warning=to get it, unpack {}: use its share/goblin_c/rust, or set GOBLIN_C_LIB to its lib",
@@ -108,9 +115,11 @@ fn main() {
     println!("cargo:rerun-if-env-changed=GOBLIN_C_LIB");
     println!("cargo:rerun-if-env-changed=PKG_CONFIG_PATH");
     println!("cargo:rerun-if-env-changed=PKG_CONFIG_LIBDIR");
-    let processors = env::var("CARGO_CFG_TARGET_ARCH").unwrap_or_default();
+    let of_target = |part| env::var(format!("CARGO_CFG_TARGET_{}", part)).unwrap_or_default();
+    // (Android is Linux, too)
+    let platform = of_target("ARCH") + "-" + &of_target("OS").replace("android", "linux");
     let folders = folders();
-    let found = folders.iter().find(|folder| fault(folder, &processors).is_none());
+    let found = folders.iter().find(|folder| fault(folder, &platform).is_none());
     for library in folders.iter().map(|folder| folder.join(LIBRARY)) {
         // (cargo compiles all anew as long as one that is named isn't there)
         if found.is_none() || library.exists() {
@@ -122,7 +131,7 @@ fn main() {
         None => {
             // (beside this file it is never, so cargo looks again with each build)
             println!("cargo:rerun-if-changed={}", LIBRARY);
-            warn(&folders, &processors);
+            warn(&folders, &platform);
         }
     }
     println!("cargo:rustc-link-lib=static=goblin_c");
