@@ -42,6 +42,32 @@ cp -R faces/rust "$folder/copied"
 quietly env -u GOBLIN_C_LIB PKG_CONFIG_LIBDIR="$folder" cargo check --offline --manifest-path "$folder/copied/Cargo.toml"
 awk '/looked for in/ { wrong++ } /no folder beside this crate was looked in: it is a copy/ { said++ } END { exit wrong || !said }' "$folder/output" \
     || fail "a copied crate should say that it looks in no folder beside it, and prints: $(cat "$folder/output")"
+# It compares the interface of the library before each first call.
+if has objcopy 'no library of another interface is linked'; then
+    mkdir "$folder/other"
+    objcopy --redefine-sym goblin_version=own_version "$folder/libgoblin_c.a" "$folder/other/libgoblin_c.a"
+    echo 'unsigned goblin_version(void) { return 1; }' > "$folder/other/version.c"
+    quietly cc -c -o "$folder/other/version.o" "$folder/other/version.c"
+    quietly ar q "$folder/other/libgoblin_c.a" "$folder/other/version.o"
+    cat > "$folder/copied/examples/other.rs" << 'END'
+use goblin_rs::{header::Header, reloc::RelocSection, strtab::Strtab, sym, Elf};
+
+fn main() {
+    let calls: [fn(); 5] = [
+        || _ = Elf::parse(&[]),
+        || _ = Header::default().put(&mut []),
+        || _ = RelocSection::default().get(0),
+        || _ = Strtab::default().get(0),
+        || _ = sym::get_type(0),
+    ];
+    for (index, call) in calls.iter().enumerate() {
+        assert!(std::panic::catch_unwind(call).is_err(), "call {index} does not panic");
+    }
+}
+END
+    quietly env GOBLIN_C_LIB="$folder/other" cargo run --offline --example other --manifest-path "$folder/copied/Cargo.toml"
+    [ "$(grep -c 'has another interface' "$folder/output")" -eq 5 ] || fail "another interface is not reported: $(cat "$folder/output")"
+fi
 # It finds the library of its own version alone by pkg-config, in any folder, and is then compiled once.
 if has pkg-config 'no library is looked for by it'; then
     mkdir "$folder/a folder"

@@ -1,11 +1,20 @@
 //! The bytes of a file.
 use crate::raw::Range;
+use crate::sys;
 use std::ops::Deref;
 use std::{fmt, str};
 
 /// The bytes of a file. Its `Debug` prints only their number.
-#[derive(Clone, Copy, Default)]
+#[derive(Clone, Copy)]
 pub struct File<'a>(pub &'a [u8]);
+
+/// The empty file, of tables that a program makes without a file.
+impl Default for File<'_> {
+    fn default() -> Self {
+        sys::check_interface();
+        File(&[])
+    }
+}
 
 impl<'a> File<'a> {
     /// Returns the bytes of a range that the library returned.
