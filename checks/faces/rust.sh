@@ -25,6 +25,21 @@ for name in symbols relocations needed segments truncated flag; do
     # shellcheck disable=SC2016 # (they are of the shell that is run)
     ends_with 1 "$name: *: No space left on device *" sh -c '"$@" > /dev/full' sh "$examples/$name" $program_file ${section:+"$section"}
 done
+# needed reads no name up to the end of strings that no zero byte closes. (It has 100,000 of them, of 8 MB each.)
+python3 - "$folder/open" << 'END'
+import struct, sys
+names, size, start = 100000, 8000000, 64 + 2 * 56
+strings = start + 16 * (names + 2)
+header = struct.pack('<4s12B2HI3QI6H', b'\x7fELF', 2, 1, 1, *[0] * 9, 3, 62, 1, 0, 64, 0, 0, 64, 56, 2, 64, 0, 0)
+segments = struct.pack('<2I6Q2I6Q', 1, 4, 0, 0, 0, strings + size, 0, 1, 2, 4, start, start, 0, strings - start, 0, 8)
+entries = struct.pack(f'<{2 * names + 4}Q', *[word for name in range(names) for word in (1, name)], 5, strings, 10, size)
+with open(sys.argv[1], 'wb') as file:
+    file.write(header + segments + entries + b'a' * size)
+END
+for program in "$folder/needed" "$examples/needed"; do
+    quietly timeout 20 "$program" "$folder/open"
+    [ "$(grep -c '^needed: no zero byte' "$folder/output")" -eq 100000 ] || fail "needed lists other names: $(head -n 3 "$folder/output")"
+done
 oldest=$(awk -F '"' '/^rust-version = / { print $2 }' $crate)
 if /usr/bin/rustc --version 2> "$folder/output" | grep -qF "rustc $oldest."; then
     quietly env PATH=/usr/bin:/bin CARGO_TARGET_DIR="$folder/oldest" /usr/bin/cargo test --offline --manifest-path $crate

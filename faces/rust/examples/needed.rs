@@ -1,13 +1,27 @@
 //! Lists what an ELF file needs of the dynamic linker, its soname and its search paths: needed FILE
-use goblin_rs::dynamic::{DT_NEEDED, DT_RPATH, DT_RUNPATH, DT_SONAME};
+use goblin_rs::dynamic::{DT_NEEDED, DT_RPATH, DT_RUNPATH, DT_SONAME, DT_STRSZ};
 use goblin_rs::{program_header::PT_INTERP, strtab::Strtab};
+use std::ffi::CStr;
 use std::io::{self, Write};
 
 mod common;
 
+/// Finds the offset from which on no zero byte closes a string.
+fn end_of_closed(strings: &Strtab, size: u64) -> goblin_rs::Result<u64> {
+    let (mut start, mut end) = (0, size);
+    while start < end {
+        let middle = start + (end - start) / 2;
+        match strings.get_c_str(middle as usize)? {
+            Some(_) => start = middle + 1,
+            None => end = middle,
+        }
+    }
+    Ok(end)
+}
+
 /// Prints a string, which need not be UTF-8, after its name, or says that it has no end, which a loader needs.
-fn print(name: &str, strings: &Strtab, offset: u64) -> common::Result {
-    match strings.get_c_str(offset as usize)? {
+fn print(name: &str, string: Option<&CStr>, offset: u64) -> common::Result {
+    match string {
         Some(string) => io::stdout().write_all(&[name.as_bytes(), b" ", string.to_bytes(), b"\n"].concat())?,
         None => writeln!(io::stdout(), "{name}: no zero byte closes a string at offset {offset}")?,
     }
@@ -18,14 +32,17 @@ fn main() -> std::process::ExitCode {
     common::run("needed FILE", |elf, _| {
         let interpreter = elf.program_headers()?.iter().find(|segment| segment.p_type == PT_INTERP);
         if let Some(segment) = interpreter.filter(|segment| segment.p_filesz > 0) {
-            print("interpreter", &elf.strtab(&segment), 0)?;
+            print("interpreter", elf.strtab(&segment).get_c_str(0)?, 0)?;
         }
         if let Some(dynamic) = elf.dynamic()? {
             let names = [(DT_NEEDED, "needed"), (DT_SONAME, "soname"), (DT_RPATH, "rpath"), (DT_RUNPATH, "runpath")];
             let strings = dynamic.strings()?.unwrap_or_default();
+            // (each of the others would be read up to the end of the table)
+            let end = end_of_closed(&strings, dynamic.value(DT_STRSZ).unwrap_or(0))?;
             for entry in dynamic.entries() {
                 if let Some((_, name)) = names.iter().find(|(tag, _)| *tag == entry.d_tag) {
-                    print(name, &strings, entry.d_val)?;
+                    let string = if entry.d_val < end { strings.get_c_str(entry.d_val as usize)? } else { None };
+                    print(name, string, entry.d_val)?;
                 }
             }
         }
