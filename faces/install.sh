@@ -39,6 +39,10 @@ wasm64-unknown-unknown) every=lime1 ;;
     fail "there is no target $target: TARGET must be x86_64-unknown-linux-gnu, aarch64-unknown-linux-gnu or wasm64-unknown-unknown"
     ;;
 esac
+cpu=${CPU:-$every}
+# (what runs on some of the target's processors alone has their name)
+if [ "$cpu" = "$every" ]; then some=; else some=-$cpu; fi
+made_for=$target$some
 libdir=${LIBDIR:-lib} libdir=${libdir%/}
 case /$libdir/ in
 //* | */../* | */./* | *//*) fail "LIBDIR is $libdir: it must be a folder below PREFIX, such as lib/x86_64-linux-gnu" ;;
@@ -99,7 +103,7 @@ put() {
 }
 
 # What sed writes for names in the files.
-names="s|@VERSION@|$version|; s|@INTERFACE@|$interface|; s|@TARGET@|$target|; s|@LIBDIR@|$libdir|"
+names="s|@VERSION@|$version|; s|@INTERFACE@|$interface|; s|@TARGET@|$made_for|; s|@LIBDIR@|$libdir|"
 
 # Installs a file that sed edits by this and a script: put_edited SCRIPT FILE NAME
 put_edited() {
@@ -233,7 +237,7 @@ END
 
 # Prints the archive's first page: its files and folders, and their sizes.
 print_contents() {
-    printf '# goblin_c %s for %s\n\nA proved library that reads and writes the ELF records of a file in memory. ' "$version" "$target"
+    printf '# goblin_c %s for %s\n\nA proved library that reads and writes the ELF records of a file in memory. ' "$version" "$made_for"
     # shellcheck disable=SC2016 # (they are markdown's)
     case $target in
     wasm64-*) printf 'Install it by `npm install` and the folder `share/goblin_c/web`.\n' ;;
@@ -338,7 +342,6 @@ make_library() {
 library=${LIBRARY:-}
 if [ -z "$library" ]; then
     sh commands/has.sh 'making the library' rt
-    cpu=${CPU:-$every}
     cache=out/library/$target-$cpu
     library=$cache/library
     if [ -f "$cache/sums" ] && [ "$(sources && sha256sum < "$library")" = "$(cat "$cache/sums")" ]; then
@@ -356,21 +359,22 @@ if [ "$target" = x86_64-unknown-linux-gnu ]; then
 fi
 if [ "$option" != --archive ]; then
     install_below "$1"
-    printf 'goblin_c %s for %s is installed below %s\n' "$version" "$target" "$1"
+    printf 'goblin_c %s for %s is installed below %s\n' "$version" "$made_for" "$1"
     if [ "$shared" ] && [ -z "${ROOT:-}" ]; then
         echo "programs find ${shared##*/} after ldconfig, or if they are linked with -Wl,-rpath,$(realpath -s "$1")/$libdir"
     fi
     exit 0
 fi
-name=goblin_c-$version-$target
+name=goblin_c-$version-$made_for
 archive=${1:-out/$name.tar.gz}
 install_below "$folder/$name"
 print_contents > "$folder/$name/README.md"
 mkdir -p "$(dirname "$archive")"
 tar -C "$folder" --sort=name --owner=0 --group=0 --numeric-owner --mode=u=rwX,go=rX --mtime=@0 -cf "$folder/tar" "$name"
 gzip -9n < "$folder/tar" > "$archive"
-echo "wrote goblin_c $version for $target to $archive"
+echo "wrote goblin_c $version for $made_for to $archive"
 if [ "$target" != wasm64-unknown-unknown ]; then
-    wheel=$(python3 faces/python/wheel.py "$folder/shared" "${target%%-*}" "$(dirname "$archive")")
+    # (a wheel's name can't have them, so its folder has)
+    wheel=$(python3 faces/python/wheel.py "$folder/shared" "${target%%-*}" "$(dirname "$archive")${some:+/$cpu}")
     echo "wrote $wheel"
 fi

@@ -22,5 +22,5 @@ done
 cp "$folder/summed" "$folder/wanted"
 prints_wanted qemu-aarch64 "$other/damaged" 1000 "$files"/*
 echo "the library for aarch64, in an emulator, has the same results"
-quietly env TARGET=$target LIBRARY="$other/libgoblin_c.a" sh faces/install.sh --archive "$other/goblin_c.tar.gz"
+quietly env CPU= TARGET=$target LIBRARY="$other/libgoblin_c.a" sh faces/install.sh --archive "$other/goblin_c.tar.gz"
 python3 checks/installed.py "$other/goblin_c.tar.gz" 'aarch64-linux-gnu-gcc -static' qemu-aarch64
