@@ -38,6 +38,13 @@ cd "$folder/copy"
 refuses '*
 CPU is nope: the toolchain makes no library for it, for the reason above' env CPU=nope sh faces/install.sh "$folder/installed"
 
+for command in realpath tar; do
+    mkdir "$folder/$command"
+    printf '#!/bin/sh\nexit 1\n' > "$folder/$command/$command"
+    chmod +x "$folder/$command/$command"
+    refuses "goblin_c: the command $command takes no option *" env PATH="$folder/$command:$PATH" sh faces/install.sh --archive
+done
+
 # (openSUSE sets CPU to x86_64 for all users, which the toolchain doesn't know)
 # shellcheck disable=SC2016 # (it is make's)
 rule='cpu: ; @echo "CPU=$$CPU"'

@@ -28,6 +28,10 @@ case ${1-/} in -*) set -- "./$1" ;; '') set -- / ;; esac
 case ${1-} in *"
 "*) fail "PREFIX is $1: its name has a line break" ;; esac
 sh commands/has.sh goblin_c awk python3
+realpath -m / > /dev/null 2>&1 || fail 'goblin_c: the command realpath takes no option -m. Install GNU coreutils and findutils first'
+if [ "$option" = --archive ] && ! tar --sort=name -cf /dev/null -T /dev/null > /dev/null 2>&1; then
+    fail 'goblin_c: the command tar takes no option --sort. Install GNU tar first'
+fi
 version=$(awk -F '"' '/^version = / { print $2; exit }' faces/rust/Cargo.toml)
 target=${TARGET:-x86_64-unknown-linux-gnu}
 interface=$(awk '$2 == "GOBLIN_VERSION" { print $3 }' faces/c/goblin.h)
