@@ -364,6 +364,10 @@ fi
 if [ "$option" != --archive ]; then
     install_below "$1"
     printf 'goblin_c %s for %s is installed below %s\n' "$version" "$made_for" "$1"
+    case $target/$([ "${ROOT:-}" ] || realpath "$1") in
+    wasm64-*) ;;
+    *[\'\"\\\$\(\)\;:]*) printf '%s\n' "pkg-config and CMake may not find it there: they can't pass on a name that has one of ' \" \\ \$ ( ) ; :" ;;
+    esac
     if [ "$shared" ] && [ -z "${ROOT:-}" ]; then
         echo "programs find ${shared##*/} after ldconfig, or if they are linked with -Wl,-rpath,$(realpath -s "$1")/$libdir"
     fi

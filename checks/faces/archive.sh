@@ -93,6 +93,7 @@ b"
 # shellcheck disable=SC2016 # (it is the name)
 odd=$folder'/$(touch made)$b\n'
 quietly make install PREFIX="$odd/" LIBDIR="$odd/lib/"
+grep -q '^pkg-config and CMake may not find it there' "$folder/output" || fail 'an installation does not say that pkg-config can not name it'
 quietly make uninstall PREFIX="$odd"
 [ ! -e "$odd" ] || fail "the uninstallation of a folder whose name has a backslash leaves: $(find "$odd")"
 [ ! -e made ] || fail 'make runs what a name of a folder has'
