@@ -153,6 +153,8 @@ install_library() {
     if [ -z "${ROOT:-}" ] && [ "$(realpath "$to/$libdir/pkgconfig/$up")" != "$there" ]; then
         case $there in *[!A-Za-z0-9._+/-]*) ;; *) prefix=$there ;; esac
     fi
+    # (by this name pkg-config knows the folders that compilers search anyway; C++ fails if one of them is searched first)
+    case ${to#"${ROOT:-}"} in /usr | /usr/) prefix=/usr ;; esac
     put_flags goblin_c
     for file in config config-version; do
         put_edited "s|@UP@|$up/..|" "faces/goblin_c-$file.cmake.in" "$libdir/cmake/goblin_c/goblin_c-$file.cmake"
