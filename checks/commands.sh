@@ -35,6 +35,8 @@ cp -R --parents Makefile HANDLES crates.txt crates/*/src crates/*/specs crates/*
 cp checks/files/symbols "$folder/copy"
 python3 checks/program.py checks/files/symbols > "$folder/wanted"
 cd "$folder/copy"
+touch "$folder/file"
+refuses "PREFIX is $folder/file/below: $folder/file is no folder that can be written to" sh faces/install.sh "$folder/file/below"
 refuses '*
 CPU is nope: the toolchain makes no library for it, for the reason above' env CPU=nope sh faces/install.sh "$folder/installed"
 

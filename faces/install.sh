@@ -65,6 +65,15 @@ files=$folder/files
 trap 'rm -rf "$folder"' EXIT
 trap 'exit 1' HUP INT TERM
 
+# Fails if a folder can't be written to, or be made, that most files are installed in.
+check_writable() {
+    for below in share include "$libdir"; do
+        there=$1/$below
+        while [ ! -e "$there" ]; do there=$(dirname "$there"); done
+        if ! [ -d "$there" ] || ! [ -w "$there" ]; then fail "PREFIX is $1: $there is no folder that can be written to"; fi
+    done
+}
+
 # Fails if the toolchain doesn't compile for the processors CPU, which it says before it reads a crate: with status 2, and not 1 as for a
 # crate without a file.
 check_cpu() {
@@ -80,6 +89,7 @@ if [ "$option" != --uninstall ]; then
     for made in . crates faces/web faces/python/goblin_elf; do
         [ -w "$made" ] || fail "this folder is read-only, and what is installed is made in it. Use a copy"
     done
+    if [ -z "$option" ]; then check_writable "$1"; fi
     if [ -n "${CPU:-}" ] && [ -z "${LIBRARY:-}" ] && [ ! -e "out/library/$target-$CPU" ]; then check_cpu; fi
 fi
 
