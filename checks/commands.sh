@@ -32,13 +32,18 @@ chmod 755 "$folder"
 mkdir "$folder/copy" "$folder/modules"
 touch "$folder/modules/elftools.py" "$folder/modules/numpy.py"
 cp -R --parents Makefile HANDLES crates.txt crates/*/src crates/*/specs crates/*/proofs bench checks/*.* commands faces "$folder/copy"
-cp checks/files/symbols "$folder/copy"
+cp LICENSE CHANGELOG.md checks/files/symbols "$folder/copy"
 python3 checks/program.py checks/files/symbols > "$folder/wanted"
 cd "$folder/copy"
 touch "$folder/file"
 refuses "PREFIX is $folder/file/below: $folder/file is no folder that can be written to" sh faces/install.sh "$folder/file/below"
 refuses '*
 CPU is nope: the toolchain makes no library for it, for the reason above' env CPU=nope sh faces/install.sh "$folder/installed"
+
+# (what patch leaves beside the sources is not installed; here any file is the module)
+touch faces/web/examples/common.mjs.orig
+quietly env TARGET=wasm64-unknown-unknown LIBRARY=symbols sh faces/install.sh "$folder/installed"
+ends_with 0 '' find "$folder/installed" -name '*.orig'
 
 for command in realpath tar; do
     mkdir "$folder/$command"

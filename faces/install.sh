@@ -125,7 +125,7 @@ put_edited() {
     put "$folder/edited" "$3"
 }
 
-# Installs the files of a folder, or those that further arguments of find select: put_all FOLDER NAME [ARGUMENT ..]
+# Installs the files of a folder that arguments of find select, and not what an editor or patch leaves there: put_all FOLDER NAME ARGUMENT ..
 put_all() {
     from=$1 below=$2
     shift 2
@@ -177,10 +177,10 @@ install_library() {
     put faces/c/example.h share/goblin_c/examples/example.h
     put LICENSE share/goblin_c/rust/LICENSE
     put_edited "s|join(\"lib\")|join(\"$libdir\")|" faces/rust/build.rs share/goblin_c/rust/build.rs
-    put_all faces/rust/src share/goblin_c/rust/src
-    put_all faces/rust/examples share/goblin_c/rust/examples
+    put_all faces/rust/src share/goblin_c/rust/src -name '*.rs'
+    put_all faces/rust/examples share/goblin_c/rust/examples -name '*.rs'
     # (what compares the crate with its repository stays there)
-    put_all faces/rust/tests share/goblin_c/rust/tests ! -name repository.rs
+    put_all faces/rust/tests share/goblin_c/rust/tests -name '*.rs' ! -name repository.rs
     put faces/rust/Cargo.toml share/goblin_c/rust/Cargo.toml
     install_python
     if [ "$shared" ]; then
@@ -276,7 +276,7 @@ install_web() {
     put faces/web/constants.js share/goblin_c/web/constants.js
     python3 faces/web/declarations.py > "$folder/types"
     put "$folder/types" share/goblin_c/web/goblin.d.ts
-    put_all faces/web/examples share/goblin_c/web/examples
+    put_all faces/web/examples share/goblin_c/web/examples -name '*.mjs'
     put_edited '' faces/web/package.json.in share/goblin_c/web/package.json
     python3 faces/web/pack.py "$library" > "$folder/page"
     put "$folder/page" share/goblin_c/web/index.html
