@@ -101,6 +101,8 @@ check_cost() {
 # with its memcmp. Of the program's names most differ, so comparing them has a limit below that, too.
 check_instructions() {
     has valgrind 'the instructions of calls for one item are not counted' || return 0
+    # (the limits count what gcc makes of a client's own comparison, and clang makes fewer instructions)
+    case $(cc --version) in *clang*) left_out "cc is clang, so the instructions of calls for one item are not counted" && return 0 ;; esac
     build single -std=c99
     for file in $program_file ''; do
         # shellcheck disable=SC2086 # (no argument for the names that are made)
