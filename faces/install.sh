@@ -14,8 +14,8 @@
 #   PROGRAM  a goblin_show to install, for x86-64 alone; else the one in the repository, if it is proved and built of these sources
 # The version is that of faces/rust/Cargo.toml.
 set -eu
-# (the order of lists of files is the same in each locale, and the page is UTF-8, whatever Python prints elsewhere)
-export LC_ALL=C PYTHONIOENCODING=utf-8
+# (the order of lists of files is the same in each locale, and the page is UTF-8, whatever Python prints elsewhere; a folder's name need not be)
+export LC_ALL=C PYTHONIOENCODING=utf-8:surrogateescape
 umask 022
 fail() {
     printf '%s\n' "$1" >&2

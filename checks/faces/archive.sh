@@ -103,12 +103,13 @@ quietly make uninstall PREFIX=-x
 [ ! -e ./-x ] || fail "the uninstallation of a folder whose name begins with a hyphen leaves: $(find ./-x)"
 ends_with 2 '*goblin_c is not installed below /: nothing is removed*' make uninstall PREFIX=
 ends_with 2 "LIBDIR is lib&64: *" env LIBDIR='lib&64' sh faces/install.sh "$root"
-# What is for some processors alone takes no place of what is for all.
-quietly env CPU=x86-64-v3 sh faces/install.sh --archive "$folder/some/goblin_c.tar.gz"
+# What is for some processors alone takes no place of what is for all. (The name of their folder is not UTF-8.)
+some=$folder/$(printf 'some\351')
+quietly env CPU=x86-64-v3 sh faces/install.sh --archive "$some/goblin_c.tar.gz"
 made_for="$version-x86_64-unknown-linux-gnu-x86-64-v3"
-tar -tzf "$folder/some/goblin_c.tar.gz" > "$folder/output"
+tar -tzf "$some/goblin_c.tar.gz" > "$folder/output"
 grep -qx "goblin_c-$made_for/README.md" "$folder/output" || fail "the archive for some processors has no name of its own: $(cat "$folder/output")"
-[ -e "$folder/some/x86-64-v3/goblin_elf-$version-py3-none-linux_x86_64.whl" ] || fail "the wheel for some processors has no folder of its own"
+[ -e "$some/x86-64-v3/goblin_elf-$version-py3-none-linux_x86_64.whl" ] || fail "the wheel for some processors has no folder of its own"
 # A wheel that can't be written is no archive that is.
 mkdir -p "$folder/taken/goblin_elf-$version-py3-none-linux_x86_64.whl"
 ends_with 1 '*' sh faces/install.sh --archive "$folder/taken/goblin_c.tar.gz"
