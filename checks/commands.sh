@@ -35,6 +35,7 @@ cp -R --parents Makefile HANDLES crates.txt crates/*/src crates/*/specs crates/*
 cp LICENSE CHANGELOG.md checks/files/symbols "$folder/copy"
 python3 checks/program.py checks/files/symbols > "$folder/wanted"
 cd "$folder/copy"
+refuses 'there is no option --help: *' sh faces/install.sh --help
 touch "$folder/file"
 refuses "PREFIX is $folder/file/below: $folder/file is no folder that can be written to" sh faces/install.sh "$folder/file/below"
 refuses '*

@@ -23,7 +23,7 @@ fail() {
 }
 # (a folder's name may begin with a hyphen, and an empty one is the root)
 case $1 in --archive | --uninstall) option=$1 && shift ;; *) option= ;; esac
-case ${1-/} in -*) set -- "./$1" ;; '') set -- / ;; esac
+case ${1-/} in --*) fail "there is no option $1: the first lines of faces/install.sh list them" ;; -*) set -- "./$1" ;; '') set -- / ;; esac
 # (what is installed is listed by lines)
 case ${1-} in *"
 "*) fail "PREFIX is $1: its name has a line break" ;; esac
