@@ -47,15 +47,15 @@ def main(arguments: Optional[List[str]] = None) -> int:
     parser.add_argument('--json', action='store_true', help='print a list of objects, one for each file')
     parser.add_argument('files', nargs='+', metavar='FILE')
     options = parser.parse_args(arguments)
-    if sys.stdout is None:
-        parser.error('the output is closed')
     all_found = [described(path) for path in options.files]
     try:
+        if sys.stdout is None:
+            raise OSError(0, 'it is closed')
         print(json.dumps(all_found, indent=1) if options.json else '\n'.join(line for found in all_found for line in lines(found)), flush=True)
     except OSError as error:
         with contextlib.suppress(OSError):  # (they may be one file)
             print(f'{parser.prog}: the output can not be written: {error.strerror}', file=sys.stderr)
-        with contextlib.suppress(OSError):
+        with contextlib.suppress(AttributeError, OSError):
             sys.stdout.close()  # (Python would write it again at its end)
         return 2
     return int(any('refused' in found or 'error' in found for found in all_found))

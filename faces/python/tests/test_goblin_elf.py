@@ -727,8 +727,8 @@ class Program(unittest.TestCase):
                 found = subprocess.run([sys.executable, '-m', 'goblin_elf', *paths], stdout=full, stderr=subprocess.PIPE, universal_newlines=True)
             self.assertEqual((found.returncode, found.stderr),
                              (2, 'python -m goblin_elf: the output can not be written: No space left on device\n'))
-            # (as errors may be, and it may be closed)
-            for command in ('> /dev/full 2>&1', '>&-'):
+            # (as errors may be, and each may be closed)
+            for command in ('> /dev/full 2>&1', '>&-', '>&- 2>&-'):
                 found = subprocess.run(f'{sys.executable} -m goblin_elf made.o {command}', shell=True, cwd=folder, stderr=subprocess.DEVNULL)
                 self.assertEqual(found.returncode, 2)
             self.assertEqual(self.run_it(''), (1, '\n  error            No such file or directory\n'))
