@@ -31,8 +31,9 @@ class Entry:
 
     def __repr__(self: Any) -> str:
         fields = [(field, value) for field, value in zip(self._fields, self) if field != 'table']
-        parts = [f'{field}={value if value is None or value < 10 else hex(value)}' for field, value in fields]
-        with contextlib.suppress(AttributeError, Refused):
+        parts = [f'{field}={hex(value) if isinstance(value, int) and value > 9 else value}' for field, value in fields]
+        # (of numbers of the caller, a name may be none)
+        with contextlib.suppress(AttributeError, TypeError, ValueError):
             parts.insert(0, f'name={self.name!r}')
         return f'{type(self).__name__}({", ".join(parts)})'
 

@@ -192,6 +192,8 @@ class Sequences(unittest.TestCase):
         self.assertIn("name='main', st_name=1, st_value=0x1004, st_size=8, st_shndx=1, st_info=0x12", repr(elf.symbols[1]))
         self.assertIn("r_offset=0x10, r_sym=1, r_addend=-4, r_type=2, index=0", repr(elf.section('.rela.text').relocations[0]))
         self.assertIn('e_machine=0x3e', repr(elf.header))
+        for value in (-1, 'text', 1.5, [], None):
+            self.assertIn(f'Symbol(st_name={value}, st_value=0x1004, ', repr(elf.symbols[1]._replace(st_name=value)))
 
     def test_pickled_items(self):
         elf = Elf(MADE.bytes)
