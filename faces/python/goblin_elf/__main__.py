@@ -42,6 +42,12 @@ def lines(found: Dict[str, Any]) -> Iterator[str]:
             yield ''.join(sign if sign.isprintable() else '\N{REPLACEMENT CHARACTER}' for sign in line)
 
 
+def as_json(all_found: List[Dict[str, Any]]) -> str:
+    """Returns the facts of files as JSON. A byte that is not UTF-8 is U+FFFD: strict readers refuse the surrogate that it is decoded as."""
+    text = json.dumps(all_found, ensure_ascii=False).encode('utf-8', 'surrogateescape').decode('utf-8', 'replace')
+    return json.dumps(json.loads(text), indent=1)
+
+
 def main(arguments: Optional[List[str]] = None) -> int:
     parser = argparse.ArgumentParser(prog='python -m goblin_elf', description='Prints what a person wants to know first of ELF files.')
     parser.add_argument('--json', action='store_true', help='print a list of objects, one for each file')
@@ -51,7 +57,7 @@ def main(arguments: Optional[List[str]] = None) -> int:
     try:
         if sys.stdout is None:
             raise OSError(0, 'it is closed')
-        print(json.dumps(all_found, indent=1) if options.json else '\n'.join(line for found in all_found for line in lines(found)), flush=True)
+        print(as_json(all_found) if options.json else '\n'.join(line for found in all_found for line in lines(found)), flush=True)
     except OSError as error:
         with contextlib.suppress(OSError):  # (they may be one file)
             print(f'{parser.prog}: the output can not be written: {error.strerror}', file=sys.stderr)

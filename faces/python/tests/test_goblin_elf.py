@@ -737,6 +737,9 @@ class Program(unittest.TestCase):
             status, said = self.run_it('--json', *paths[:1])
             found = json.loads(said)[0]
             self.assertEqual((status, found['type'], found['entry'], found['needed'], found['sizes']['code']), (0, 'REL', 0x1004, [], 128))
+            # (strict readers refuse a surrogate without its pair, as that by which Python decodes a byte that is not UTF-8)
+            status, said = self.run_it('--json', 'caf\udce9 \U0001f480')
+            self.assertEqual((status, json.loads(said)[0]['file']), (1, 'caf\ufffd \U0001f480'))
 
     def test_the_page(self):
         """Our column of the lines of the page for those who come from pyelftools."""
