@@ -291,7 +291,7 @@ class Report:
     def __init__(self, path: str, resume: bool) -> None:
         self.is_csv, self.is_parquet = path.endswith('.csv'), path.endswith('.parquet')
         self.path = path = os.path.realpath(path)
-        self.lines_path = path + '.json' if self.is_parquet else path
+        self.lines_path = path + '.goblin-scan.json' if self.is_parquet else path
         # (a FIFO or a device would be replaced, also one that a link names)
         if any(os.path.exists(place) and not os.path.isfile(place) for place in (path, self.lines_path)):
             raise OSError('it is no regular file')

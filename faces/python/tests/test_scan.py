@@ -398,10 +398,13 @@ class Scan(Folder):
             huge[start + 32:start + 40] = b'\xff' * 8
         self.put('huge', huge)
         scan(self.files, '-o', self.out('r.json'), '--workers', '0')
+        # (which is another report, and stays)
+        scan(self.out('files/sub'), '-o', self.out('r.parquet.json'), '--workers', '0')
         with unittest.mock.patch.dict(sys.modules, StandInForPyarrow().modules()):
             for resume in ([], ['--resume']):
                 scan(self.files, '-o', self.out('r.parquet'), '--workers', '0', *resume)
-                self.assertEqual(sorted(name for name in os.listdir(self.folder) if name.startswith('r.')), ['r.json', 'r.parquet'])
+                self.assertEqual((sorted(os.listdir(self.folder)), read(self.out('r.parquet.json'))),
+                                 (['files', 'r.json', 'r.parquet', 'r.parquet.json'], b'[]\n'))
                 rows = json.loads(read(self.out('r.parquet')))
                 self.assertEqual((rows[-1]['file'], rows[-1]['zeros']), (os.path.join(self.files, 'huge'), (1 << 64) - 1))
                 expected = json.loads(read(self.out('r.json')))
