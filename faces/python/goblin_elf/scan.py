@@ -22,6 +22,7 @@ import itertools
 import json
 import mmap
 import os
+import pathlib
 import re
 import secrets
 import stat
@@ -261,8 +262,18 @@ def examine(paths: List[str], links: FrozenSet[str] = frozenset()) -> Result:
     return results
 
 
-def found_below(folder: str) -> Iterator[str]:
-    """Yields the regular files below a folder as they are found, those of each folder in order, and the folders that can not be read."""
+def apart(folders: List[str]) -> Tuple[List[str], Set[str]]:
+    """Returns each folder once, and the paths below them of those that lie below another one."""
+    places: Dict[str, str] = {}
+    for folder in folders:
+        places.setdefault(os.path.realpath(folder), folder)
+    return list(places.values()), {os.path.join(places[above], os.path.relpath(place, above)) for place in places
+                                   for above in map(str, pathlib.PurePath(place).parents) if above in places}
+
+
+def found_below(folder: str, others: Set[str]) -> Iterator[str]:
+    """Yields the regular files below a folder as they are found, those of each folder in order, and the folders that can not be read. It leaves
+    out others, which are given as paths."""
     left = [(folder, True)]
     while left:
         path, is_folder = left.pop()
@@ -273,7 +284,7 @@ def found_below(folder: str) -> Iterator[str]:
             with os.scandir(path) as scanned:
                 entries = sorted(scanned, key=lambda entry: entry.name, reverse=True)
                 kinds = [(entry.path, entry.is_dir(follow_symlinks=False), entry.is_file(follow_symlinks=False)) for entry in entries]
-            left += [(below, is_dir) for below, is_dir, is_file in kinds if is_dir or is_file]
+            left += [(below, is_dir) for below, is_dir, is_file in kinds if (is_dir or is_file) and below not in others]
         except NotADirectoryError:
             pass
         except OSError:
@@ -471,8 +482,9 @@ def main(arguments: Optional[List[str]] = None) -> int:
     options = options_of(arguments)
     try:
         run = runner_of(options)
+        folders, others = apart(options.folders)
         report = Report(options.output, options.resume)
-        found = ([folder] if os.path.isfile(folder) else found_below(folder) for folder in options.folders)
+        found = ([folder] if os.path.isfile(folder) else found_below(folder, others) for folder in folders)
         paths = (path for path in itertools.chain.from_iterable(found) if named(path) not in report.known)
         with report.file, contextlib.closing(run(iter(lambda: list(itertools.islice(paths, options.batch)), []))) as results:
             report_on(results, report)
