@@ -8,9 +8,10 @@ same command, but Python then takes modules of the current folder first.
 A cell is empty if such a file does not have the fact, or if it is unknown, and then the column `unknown` names it. If a part of a file is
 refused, `refused` and the columns after it say why.
 
-Files are mapped, and symbolic links below the folders are not followed. Members of `.a` and `.deb` archives are examined, too: those of a
-`.deb` if they have at most 64 MiB and Python can unpack its data. A batch whose worker ends is tried again by other ones; a file that ends
-one worker after another is a row with the refusal WORKER_LOST. With --resume, files of the report but the last one are left out.
+Files are mapped, and symbolic links below the folders are not followed. Members of `.a` and `.deb` archives, and of a `.a` in a
+`.deb`, are examined, too: those of a `.deb` if they have at most 64 MiB and Python can unpack its data. A batch whose worker ends is tried
+again by other ones; a file that ends one worker after another is a row with the refusal WORKER_LOST. With --resume, files of the report but
+the last one are left out.
 """
 import argparse
 import collections
@@ -47,6 +48,7 @@ TYPES = {**dict.fromkeys([*COUNTS, 'offset'], 'uint64'),
          **dict.fromkeys(['pie', 'nx', 'bind_now', 'writable_code', 'canary', 'stripped', 'cut'], 'bool_')}
 BETWEEN = {'compilers': '; '}
 MAGIC, AR, THIN = b'\x7fELF', b'!<arch>\n', b'!<thin>\n'
+DAMAGED = 'the archive is damaged or cut: it may have more members'
 # The most bytes of a member that is unpacked into memory, of the data of a package, of a member's name, and of one that is unpacked.
 MEMBER, PACKAGE, NAME, NAME_READ = 64 << 20, 4 << 30, 4096, 1 << 16
 # The most characters of a file's rows. (A package of a few kilobytes may have rows of hundreds of megabytes.)
@@ -120,7 +122,7 @@ def rows_of(path: str, follow: bool = False) -> Iterator[Row]:
             left = 'a package without data' if path.endswith('.deb') else ''
             for name, member in members(memoryview(mmap.mmap(file.fileno(), 0, access=mmap.ACCESS_READ))):
                 if member is None:
-                    left = 'the archive is damaged or cut: it may have more members'
+                    left = DAMAGED
                 elif member[:4] == MAGIC:
                     yield row_of(path, name, lambda: Elf(member))
                 elif path.endswith('.deb') and name.startswith('data.tar'):
@@ -157,6 +159,15 @@ def members(content: memoryview) -> Iterator[Tuple[str, Optional[memoryview]]]:
     # (a byte may fill up the last one)
     if end not in (len(content) - 1, len(content)):
         yield '', None
+
+
+def of_library(path: str, library: str, content: bytes) -> Iterator[Row]:
+    """Yields the rows of the members of a static library in a package."""
+    for name, member in members(memoryview(content)):
+        if member is None:
+            yield row_with(path, library, refused='LEFT_OUT', text=DAMAGED)
+        elif member[:4] == MAGIC:
+            yield row_of(path, f'{library}({name})', lambda: Elf(member))
 
 
 class Member(tarfile.TarInfo):
@@ -224,11 +235,15 @@ def unpacked(path: str, data: memoryview) -> Iterator[Row]:
         for member in archive:
             archive.members.clear()  # (which it would keep)
             file = archive.extractfile(member) if member.isreg() else None
-            if file and file.read(4) == MAGIC:
+            start = file.read(len(AR)) if file else b''
+            is_library = start == AR and member.name.endswith('.a')
+            if is_library or start[:4] == MAGIC:
                 if member.size > MEMBER:
                     yield row_with(path, member.name, refused='LEFT_OUT', text='a member of a package with more than 64 MiB')
+                elif is_library:
+                    yield from of_library(path, member.name, start + file.read())
                 else:
-                    content = MAGIC + file.read()
+                    content = start + file.read()
                     yield row_of(path, member.name, lambda: Elf(content))
     except MemoryError:  # (the rows before it may take most of the memory)
         raise

@@ -194,6 +194,18 @@ class Scan(Folder):
         for line in ('8 files, 3 refused', '  refused: 1 TOO_BIG', '  refused: 2 LEFT_OUT'):
             self.assertIn(line, said)
 
+    def test_static_libraries_of_packages(self):
+        elf = made.ALL[3].bytes
+        library = archive([('a.o', elf), ('text', b'odd'), ('b.o', elf)])
+        self.put('x.deb', archive([('data.tar', tarred(('./x.a', library), ('./cut.a', library[:1422]), ('./text', library), ('./c', elf)))]))
+        with unittest.mock.patch.object(module, 'MEMBER', len(library)):
+            scan(self.files, '-o', self.out('r.csv'), '--workers', '0')
+        damaged = 'the archive is damaged or cut: it may have more members'
+        self.assertEqual([(row['member'], row['text']) for row in self.rows('r.csv')],
+                         [('./x.a(a.o)', ''), ('./x.a(b.o)', ''), ('./cut.a(a.o)', ''), ('./cut.a', damaged), ('./c', '')])
+        with unittest.mock.patch.object(module, 'MEMBER', len(library) - 1):
+            self.assertEqual(next(module.rows_of(os.path.join(self.files, 'x.deb')))['text'], 'a member of a package with more than 64 MiB')
+
     def test_long_names_of_members(self):
         """Of a name at most as many bytes are in a row as a path has."""
         elf, name = made.ALL[3].bytes, 'x' * 5000
