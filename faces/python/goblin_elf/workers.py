@@ -3,6 +3,7 @@ whatever moment, changes no result: its batch is tried again. This process liste
 process of this machine."""
 import collections
 import contextlib
+import ctypes
 import itertools
 import logging
 import multiprocessing.connection
@@ -20,6 +21,7 @@ Results = Generator[Tuple[Batch, Optional[Any]], None, None]
 TRIES = 4
 # How many workers may end in a row before they are ready, and how many seconds to wait for a scheduler, and for the first of its workers.
 STARTS, PATIENCE = 16, 20
+PR_SET_PDEATHSIG = 1  # of Linux's prctl
 SPAWN = multiprocessing.get_context('spawn')
 
 
@@ -78,6 +80,8 @@ class Worker:
 
 def work(function: Function, connection: Any, memory: int, folder: str) -> None:
     """Runs the function on each batch that comes, in a folder and in little memory, until the other side ends or memory runs out."""
+    # (what ends the process that started it, such as SIGTERM, ends it, too, in the midst of a batch)
+    ctypes.CDLL(None).prctl(PR_SET_PDEATHSIG, signal.SIGKILL)
     os.chdir(folder)
     _, hard = resource.getrlimit(resource.RLIMIT_DATA)
     resource.setrlimit(resource.RLIMIT_DATA, (memory if hard == resource.RLIM_INFINITY else min(memory, hard), hard))

@@ -713,6 +713,24 @@ class Workers(Folder):
             scan(self.files, '-o', self.out('many.csv'), '--workers', '0', '--resume')
             self.assertEqual(read(self.out('many.csv')), read(self.out('one.csv')))
 
+    def test_workers_end_with_the_scan(self):
+        """Whatever ends it, and though they examine a file."""
+        for number in (signal.SIGTERM, signal.SIGKILL):
+            begun = self.out(f'begun by {number}')
+            script = 'import test_scan; from goblin_elf import workers; ' \
+                     f'list(workers.Workers(test_scan.wait, 1, 1 << 30).results(iter([[{begun!r}]])))'
+            running = subprocess.Popen([sys.executable, '-c', script], stderr=subprocess.PIPE,
+                                       env={**os.environ, 'PYTHONPATH': os.pathsep.join(filter(None, sys.path))})
+            self.addCleanup(running.stderr.close)
+            self.addCleanup(running.kill)
+            while not os.path.exists(begun):
+                self.assertIsNone(running.poll())
+                time.sleep(0.05)
+            running.send_signal(number)
+            # (the pipe is read to its end, and its workers have it, too)
+            running.communicate(timeout=60)
+            self.assertEqual(running.returncode, -number)
+
     def test_reports_that_can_not_be_written(self):
         self.put_many(100)
         for arguments in ([], ['--resume']):
@@ -878,6 +896,12 @@ def take_memory(batch):
         except MemoryError:
             found.append('MemoryError')
     return found
+
+
+def wait(batch):
+    """Makes a file of the path, and waits for two minutes."""
+    with open(*batch, 'x'):
+        time.sleep(120)
 
 
 def zeros(batch):
