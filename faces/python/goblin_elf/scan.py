@@ -444,7 +444,7 @@ def runner_of(options: argparse.Namespace) -> Callable[[Iterator[workers.Batch]]
         return workers.Scheduled(function, options.scheduler).results
     if options.workers:
         return workers.Workers(function, options.workers, options.memory).results
-    return lambda batches: ((batch, function(batch)) for batch in batches)
+    return functools.partial(workers.in_turn, function, options.memory)
 
 
 def natural(text: str, least: int = 0) -> int:

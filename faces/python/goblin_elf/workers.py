@@ -78,14 +78,31 @@ class Worker:
         self.connection.close()
 
 
+@contextlib.contextmanager
+def limited(memory: int) -> Iterator[None]:
+    """Lets this process take little memory meanwhile."""
+    soft, hard = resource.getrlimit(resource.RLIMIT_DATA)
+    resource.setrlimit(resource.RLIMIT_DATA, (memory if hard == resource.RLIM_INFINITY else min(memory, hard), hard))
+    try:
+        yield
+    finally:
+        resource.setrlimit(resource.RLIMIT_DATA, (soft, hard))
+
+
+def in_turn(function: Function, memory: int, batches: Iterator[Batch]) -> Results:
+    """Runs the function in this process and in little memory, on a path at a time, so that it holds the result of one."""
+    for path in itertools.chain.from_iterable(batches):
+        with limited(memory):
+            result = function([path])
+        yield [path], result
+
+
 def work(function: Function, connection: Any, memory: int, folder: str) -> None:
     """Runs the function on each batch that comes, in a folder and in little memory, until the other side ends or memory runs out."""
     # (what ends the process that started it, such as SIGTERM, ends it, too, in the midst of a batch)
     ctypes.CDLL(None).prctl(PR_SET_PDEATHSIG, signal.SIGKILL)
     os.chdir(folder)
-    _, hard = resource.getrlimit(resource.RLIMIT_DATA)
-    resource.setrlimit(resource.RLIMIT_DATA, (memory if hard == resource.RLIM_INFINITY else min(memory, hard), hard))
-    with contextlib.suppress(EOFError, ConnectionError, MemoryError):
+    with limited(memory), contextlib.suppress(EOFError, ConnectionError, MemoryError):
         connection.send(None)
         while True:
             connection.send(function(connection.recv()))

@@ -23,6 +23,7 @@ import tracemalloc
 import types
 import unittest
 import unittest.mock
+import zlib
 
 import made
 from goblin_elf import scan as module
@@ -273,6 +274,22 @@ class Scan(Folder):
             self.put('x.deb', package(made.ALL[0].bytes))
             (_, (row,), _), = module.examine([os.path.join(self.files, 'x.deb')])
         self.assertEqual((row['refused'], row['text']), ('LEFT_OUT', 'it takes more memory than a worker may take'))
+
+    def test_memory_without_workers(self):
+        """It is bounded as that of a worker, and is that of one file at a time."""
+        data = bytearray(lzma.compress(tarred(('a', made.ALL[3].bytes))))
+        # (in the header of its block: a dictionary of 256 MiB, which is taken before anything is unpacked)
+        data[16] = 32
+        data[20:24] = zlib.crc32(data[12:20]).to_bytes(4, 'little')
+        self.put('x.deb', archive([('data.tar', data)]))
+        for number in '01':
+            scan(self.files, '-o', self.out('r.csv'), '--workers', number, '--memory', '192MiB')
+            self.assertEqual([row['text'] for row in self.rows('r.csv')], ['it takes more memory than a worker may take'])
+        self.put_many(3)
+        with unittest.mock.patch.object(module, 'examine', side_effect=module.examine) as examine:
+            scan(self.files, '-o', self.out('r.csv'), '--workers', '0')
+        self.assertEqual([len(given.args[0]) for given in examine.call_args_list], [1] * 4)
+        self.assertEqual([row['member'] for row in self.rows('r.csv')], ['', '', '', 'a'])
 
     def test_damaged_archives(self):
         """What is not read of one is said."""
