@@ -23,8 +23,10 @@ SEGMENTS, NOTES = 1 << 17, 1 << 16
 def content_of(file: IO[bytes], copy: bool = False) -> Any:
     """Returns the bytes of an open file that is not read yet, mapped or read as `Elf.open` says."""
     status = os.fstat(file.fileno())
-    is_mapped = not copy and stat.S_ISREG(status.st_mode) and status.st_size >= 1 << 16
-    return mmap.mmap(file.fileno(), 0, access=mmap.ACCESS_READ) if is_mapped else file.read()
+    if not copy and stat.S_ISREG(status.st_mode) and status.st_size >= 1 << 16:
+        with contextlib.suppress(ValueError):  # (it may be emptied meanwhile)
+            return mmap.mmap(file.fileno(), 0, access=mmap.ACCESS_READ)
+    return file.read()
 
 
 class Elf:

@@ -544,6 +544,14 @@ class Memory(unittest.TestCase):
                     self.assertEqual(list(array['st_value']), [symbol[1] for symbol in made.SYMBOLS])
                 self.assertEqual(refusal(Elf.open, file.name).kind, Kind.TOO_SMALL)
 
+    def test_a_file_that_is_emptied_as_it_is_opened(self):
+        with tempfile.NamedTemporaryFile() as file:
+            file.truncate(1 << 16)
+            status = os.stat(file.name)
+            file.truncate(0)
+            with unittest.mock.patch.object(os, 'fstat', lambda descriptor: status):
+                self.assertEqual(refusal(Elf.open, file.name).kind, Kind.TOO_SMALL)
+
     def test_a_mapped_file_that_is_cut_ends_the_process(self):
         with tempfile.NamedTemporaryFile() as file:
             file.write(MADE.bytes.ljust(1 << 16, b'\0'))
