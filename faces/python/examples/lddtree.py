@@ -19,8 +19,9 @@ def folders(path, file=''):
 
 
 def fits(path, header):
+    # (a file may name one that has no end, or that waits for another program)
     try:
-        return ((own := Elf.open(path).header).e_machine, own.ei_class) == (header.e_machine, header.ei_class)
+        return os.path.isfile(path) and ((own := Elf.open(path).header).e_machine, own.ei_class) == (header.e_machine, header.ei_class)
     except (OSError, Refused):
         return False
 

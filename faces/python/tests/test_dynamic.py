@@ -154,8 +154,10 @@ class Example(unittest.TestCase):
             odd = os.path.join(root, 'odd')
             with open(odd, 'wb') as file:
                 file.write(content_of(stored('facts/full')).replace(b'libfirst', b'\x1bib\xffirst'))
+            # (and at what is no file it does not wait)
+            os.mkfifo(os.path.join(root, 'lib/\x1bib\udcffirst.so.1'))
             said = [subprocess.run([sys.executable, '-c', run, script, path, root], stdout=subprocess.PIPE, stderr=subprocess.PIPE,
-                                   encoding='utf-8') for path in (stored('facts/full'), stored('facts/cut_dynamic'), odd)]
+                                   encoding='utf-8', timeout=60) for path in (stored('facts/full'), stored('facts/cut_dynamic'), odd)]
         path = stored('facts/full')
         self.assertEqual(said[0].stdout, f'{path} (interpreter => /lib/ld-made.so.1)\n    libfirst.so.1 => {root}/lib/libfirst.so.1\n'
                                          f'    libsecond.so.1 => {root}/made/runpath/libsecond.so.1\n'
