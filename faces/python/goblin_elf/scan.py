@@ -53,6 +53,8 @@ DAMAGED = 'the archive is damaged or cut: it may have more members'
 MEMBER, PACKAGE, NAME, NAME_READ = 64 << 20, 4 << 30, 4096, 1 << 16
 # The most characters of a file's rows. (A package of a few kilobytes may have rows of hundreds of megabytes.)
 ROWS = 64 << 20
+# How many rows of a .parquet are in memory at a time.
+GROUP = 1 << 16
 # Of each form of packed data its first bytes, and Python's module for it, where there is one.
 PACKED = {b'\x1f\x8b\x08': 'gzip', b'BZh': 'bz2', b'\xfd7zXZ': 'lzma', b']\0\0\x80': 'lzma', b'(\xb5/\xfd': 'compression.zstd'}
 
@@ -357,7 +359,9 @@ class Report:
         if not os.path.exists(self.lines_path):
             import pyarrow.parquet
             with contextlib.suppress(ValueError):
-                yield from filter(is_row, pyarrow.parquet.read_table(self.path).to_pylist())
+                parts = pyarrow.parquet.ParquetFile(self.path)
+                for index in range(parts.num_row_groups):
+                    yield from filter(is_row, parts.read_row_group(index).to_pylist())
             return
         csv.field_size_limit(sys.maxsize)  # (a list of libraries may be long)
         with open(self.lines_path, newline='\n', encoding='utf-8-sig', errors='replace') as file:
@@ -393,8 +397,10 @@ class Report:
             import pyarrow.parquet
             schema = pyarrow.schema([(name, getattr(pyarrow, TYPES.get(name, 'string'))()) for name in COLUMNS])
             # (a sum of sizes may pass 64 bits, if a file is damaged)
-            rows = [{name: min(value, (1 << 64) - 1) if type(value) is int else value for name, value in row.items()} for row in self.read()]
-            pyarrow.parquet.write_table(pyarrow.Table.from_pylist(rows, schema=schema), self.path)
+            rows = ({name: min(value, (1 << 64) - 1) if type(value) is int else value for name, value in row.items()} for row in self.read())
+            with pyarrow.parquet.ParquetWriter(self.path, schema) as writer:
+                for some in iter(lambda: list(itertools.islice(rows, GROUP)), []):
+                    writer.write_table(pyarrow.Table.from_pylist(some, schema=schema))
             os.remove(self.lines_path)
 
 

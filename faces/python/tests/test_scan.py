@@ -114,6 +114,8 @@ class StandInForPyarrow(types.ModuleType):
         def from_pylist(cls, rows, schema):
             takes = {'string': lambda value: isinstance(value, str), 'bool': lambda value: isinstance(value, bool),
                      'uint64': lambda value: type(value) is int and 0 <= value < 1 << 64}
+            if len(rows) > module.GROUP:
+                raise MemoryError
             for row in rows:
                 for name, kind in schema:
                     if row[name] is not None and not takes[kind](row[name]):
@@ -128,18 +130,23 @@ class StandInForPyarrow(types.ModuleType):
         self.__spec__, self.schema = importlib.machinery.ModuleSpec('pyarrow', None), list
         self.string, self.bool_, self.uint64 = lambda: 'string', lambda: 'bool', lambda: 'uint64'
         self.parquet = types.ModuleType('pyarrow.parquet')
-        self.parquet.write_table, self.parquet.read_table = self.write_table, self.read_table
+        self.parquet.ParquetWriter, self.parquet.ParquetFile = self.writer, self.reader
 
     def modules(self):
         return {'pyarrow': self, 'pyarrow.parquet': self.parquet}
 
-    def write_table(self, table, path):
+    @contextlib.contextmanager
+    def writer(self, path, schema):
+        rows = []
+        yield types.SimpleNamespace(write_table=rows.extend)
         with open(path, 'w', encoding='utf-8') as file:
-            json.dump(table, file)
+            json.dump(rows, file)
 
-    def read_table(self, path):
+    def reader(self, path):
         with open(path, encoding='utf-8') as file:
-            return self.Table(json.load(file))
+            rows = json.load(file)
+        groups = [self.Table(rows[start:start + 7]) for start in range(0, len(rows), 7)]
+        return types.SimpleNamespace(num_row_groups=len(groups), read_row_group=groups.__getitem__)
 
 
 class Folder(unittest.TestCase):
@@ -429,7 +436,7 @@ class Scan(Folder):
         scan(self.files, '-o', self.out('r.json'), '--workers', '0')
         # (which is another report, and stays)
         scan(self.out('files/sub'), '-o', self.out('r.parquet.json'), '--workers', '0')
-        with unittest.mock.patch.dict(sys.modules, StandInForPyarrow().modules()):
+        with unittest.mock.patch.dict(sys.modules, StandInForPyarrow().modules()), unittest.mock.patch.object(module, 'GROUP', 7):
             for resume in ([], ['--resume']):
                 scan(self.files, '-o', self.out('r.parquet'), '--workers', '0', *resume)
                 self.assertEqual((sorted(os.listdir(self.folder)), read(self.out('r.parquet.json'))),
