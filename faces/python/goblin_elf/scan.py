@@ -274,6 +274,8 @@ def examine(paths: List[str], links: FrozenSet[str] = frozenset()) -> Result:
         except (OSError, ValueError) as error:  # (the latter at a file that was emptied meanwhile)
             rows = [row_with(path, None, refused='UNREADABLE', text=getattr(error, 'strerror', None) or 'it can not be read')]
         except MemoryError:
+            if len(paths) > 1:
+                raise  # (the others may have taken it: each is then a batch of its own)
             rows = [row_with(path, None, refused='LEFT_OUT', text='it takes more memory than a worker may take')]
         results.append((path, rows, time.perf_counter() - start))
     return results

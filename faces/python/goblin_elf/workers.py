@@ -212,10 +212,10 @@ class Scheduled:
         return batch, self.client.submit(self.function, batch, pure=False)
 
     def result(self, batch: Batch, future: Any) -> Results:
-        """Waits for a batch. If it ends its workers, each path is a batch of its own."""
+        """Waits for a batch. If it ends its workers, or takes their memory, each path is a batch of its own."""
         try:
             yield batch, self.waited(future)
-        except self.killed:
+        except (self.killed, MemoryError):
             if len(batch) == 1:
                 yield batch, None
             else:

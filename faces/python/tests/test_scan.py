@@ -280,6 +280,8 @@ class Scan(Folder):
         with unittest.mock.patch.object(module, 'row_of', side_effect=MemoryError):
             self.put('x.deb', package(made.ALL[0].bytes))
             (_, (row,), _), = module.examine([os.path.join(self.files, 'x.deb')])
+            # (of a batch the other files may have taken it)
+            self.assertRaises(MemoryError, module.examine, [os.path.join(self.files, 'x.deb')] * 2)
         self.assertEqual((row['refused'], row['text']), ('LEFT_OUT', 'it takes more memory than a worker may take'))
 
     def test_memory_without_workers(self):
@@ -836,6 +838,8 @@ class Scheduler(Folder):
                         raise late.pop()
                     if lost in batch:
                         raise distributed.KilledWorker('examine', None, 3)
+                    if len(batch) == 3:
+                        raise MemoryError
                     return function(batch)
                 return types.SimpleNamespace(result=result)
 
