@@ -8,6 +8,7 @@ import itertools
 import logging
 import multiprocessing.connection
 import os
+import pickle
 import resource
 import signal
 import sys
@@ -19,6 +20,8 @@ Function = Callable[[Batch], Any]
 # Each batch, in order, with what the function returns for it. Of a path over which TRIES workers ended it is `None`.
 Results = Generator[Tuple[Batch, Optional[Any]], None, None]
 TRIES = 4
+# The most bytes of a result of more than one path.
+MESSAGE = 64 << 20
 # How many workers may end in a row before they are ready, and how many seconds to wait for a scheduler, and for the first of its workers.
 STARTS, PATIENCE = 16, 20
 PR_SET_PDEATHSIG = 1  # of Linux's prctl
@@ -105,7 +108,11 @@ def work(function: Function, connection: Any, memory: int, folder: str) -> None:
     with limited(memory), contextlib.suppress(EOFError, ConnectionError, MemoryError):
         connection.send(None)
         while True:
-            connection.send(function(connection.recv()))
+            batch = connection.recv()
+            message = pickle.dumps(function(batch))
+            if len(batch) > 1 and len(message) > MESSAGE:
+                return  # (so that the batch is divided)
+            connection.send_bytes(message)
 
 
 class Workers:
@@ -136,7 +143,8 @@ class Workers:
         """Starts what workers are missing, and gives each one without a task the next."""
         while len(self.workers) < min(self.count, len(self.tasks)):
             self.workers.append(Worker(self.function, self.memory))
-        tasks = [task for task in self.tasks if not task.is_given]
+        # (no others, since the results of those after one that takes long are held until it is done)
+        tasks = [task for task in self.tasks[:4 * self.count] if not task.is_given]
         for worker, task in zip([worker for worker in self.workers if worker.is_ready and not worker.task], tasks):
             with contextlib.suppress(OSError):  # (it has ended, which `take` finds)
                 worker.give(task)

@@ -712,6 +712,17 @@ class Workers(Folder):
         self.assertEqual(said.splitlines()[-1], str([60 << 20, 61 << 20]))
         self.assertNotIn('Traceback', said)
 
+    def test_results_that_wait(self):
+        """Those that come before the one that is next are few and small, since they are held."""
+        divided = [batch for batch, _ in workers.Workers(zeros, 1, 256 << 20).results(iter([['40', '41'], ['20', '21']]))]
+        self.assertEqual(divided, [['40'], ['41'], ['20', '21']])
+        running = workers.Workers(zeros, 2, 1 << 30)
+        running.tasks = [workers.Task([str(index)]) for index in range(60)]
+        running.workers = [types.SimpleNamespace(is_ready=True, task=None, give=lambda task: setattr(task, 'is_given', True))] * 2
+        for _ in running.tasks:
+            running.give()
+        self.assertEqual([task.is_given for task in running.tasks], [True] * 8 + [False] * 52)
+
     def test_nothing_listens(self):
         self.put_many(1200)
         running, seen = self.start(), 0
