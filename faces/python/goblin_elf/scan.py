@@ -479,7 +479,7 @@ def options_of(arguments: Optional[List[str]]) -> argparse.Namespace:
     parser.add_argument('--workers', type=natural, metavar='N', default=len(os.sched_getaffinity(0)),
                         help='processes that examine files (default: one for each processor); 0: this process does')
     parser.add_argument('--memory', type=memory, default='1GiB', help='the memory that each of these processes may take (default: 1GiB)')
-    parser.add_argument('--batch', type=lambda text: natural(text, 1), default=256, metavar='N', help='files in a batch (default: 256)')
+    parser.add_argument('--batch', type=lambda text: natural(text, 1), default=256, metavar='N', help='the most files in a batch (default: 256)')
     parser.add_argument('--resume', action='store_true', help='leave out the files of the report')
     options = parser.parse_args(arguments)
     if not options.output.endswith(('.csv', '.json', '.parquet')):
@@ -509,7 +509,9 @@ def main(arguments: Optional[List[str]] = None) -> int:
         report = Report(options.output, options.resume)
         found = ([folder] if os.path.isfile(folder) else found_below(folder, others) for folder in folders)
         paths = (path for path in itertools.chain.from_iterable(found) if named(path) not in report.known)
-        with report.file, contextlib.closing(run(iter(lambda: list(itertools.islice(paths, options.batch)), []))) as results:
+        # (the first batches are small, so that a few files, such as large packages, are for all processors)
+        sizes = (min(options.batch, 1 + index // 16) for index in itertools.count())
+        with report.file, contextlib.closing(run(iter(lambda: list(itertools.islice(paths, next(sizes))), []))) as results:
             report_on(results, report)
     except KeyboardInterrupt:
         return stopped('interrupted', options.output, 130)

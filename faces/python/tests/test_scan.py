@@ -463,6 +463,21 @@ class Scan(Folder):
                 self.assertRaises(SystemExit, module.main, [self.files, '-o', self.out('s.parquet')])
             self.assertIn('pyarrow is not installed', said.getvalue())
 
+    def test_sizes_of_batches(self):
+        """The first ones are small, so that a few files are for all workers."""
+        self.put_many(60)
+        for most, expected in (('256', [1] * 16 + [2] * 16 + [3] * 4), ('2', [1] * 16 + [2] * 22)):
+            sizes = []
+
+            def run(batches):
+                for batch in batches:
+                    sizes.append(len(batch))
+                    yield batch, module.examine(batch)
+
+            with unittest.mock.patch.object(module, 'runner_of', return_value=run):
+                scan(self.files, '-o', self.out('r.csv'), '--batch', most)
+            self.assertEqual(sizes, expected)
+
     def test_folders_that_are_named_twice(self):
         """Each file has one row, also of folders and files that are below others, or that a link names."""
         for name in ('a.o', 'b.o', 'sub/c.o'):
