@@ -83,9 +83,9 @@ class Worker:
 
 @contextlib.contextmanager
 def limited(memory: int) -> Iterator[None]:
-    """Lets this process take little memory meanwhile."""
+    """Lets this process take little memory meanwhile, and not more than before."""
     soft, hard = resource.getrlimit(resource.RLIMIT_DATA)
-    resource.setrlimit(resource.RLIMIT_DATA, (memory if hard == resource.RLIM_INFINITY else min(memory, hard), hard))
+    resource.setrlimit(resource.RLIMIT_DATA, (memory if soft == resource.RLIM_INFINITY else min(memory, soft), hard))
     try:
         yield
     finally:

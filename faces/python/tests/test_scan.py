@@ -294,6 +294,10 @@ class Scan(Folder):
         for number in '01':
             scan(self.files, '-o', self.out('r.csv'), '--workers', number, '--memory', '192MiB')
             self.assertEqual([row['text'] for row in self.rows('r.csv')], ['it takes more memory than a worker may take'])
+        # (a limit of the shell, in KiB, that is less counts, too)
+        command = ['sh', '-c', 'ulimit -S -d 196608; exec "$@"', 'sh', *SCAN, self.files, '-o', self.out('r.csv'), '--workers', '1']
+        subprocess.run(command, check=True, stderr=subprocess.PIPE)
+        self.assertEqual([row['text'] for row in self.rows('r.csv')], ['it takes more memory than a worker may take'])
         self.put_many(3)
         with unittest.mock.patch.object(module, 'examine', side_effect=module.examine) as examine:
             scan(self.files, '-o', self.out('r.csv'), '--workers', '0')
