@@ -335,7 +335,7 @@ class Report:
         try:
             # (only root may give it to another user)
             with contextlib.suppress(OSError):
-                status = os.stat(self.lines_path)
+                status = os.stat(path if os.path.exists(path) else self.lines_path)
                 os.fchmod(self.file.fileno(), stat.S_IMODE(status.st_mode))
                 os.fchown(self.file.fileno(), status.st_uid, status.st_gid)
             self.begin(old)

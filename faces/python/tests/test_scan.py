@@ -428,6 +428,11 @@ class Scan(Folder):
         self.assertEqual((after.st_mode, after.st_uid, after.st_gid), (before.st_mode, before.st_uid, before.st_gid))
         self.assertEqual((read(self.out('r.csv.new')), self.rows('r.csv')), (b'r.csv.new', []))
         self.assertEqual(len(os.listdir(self.folder)), 3)
+        # (until a .parquet is made, its rows are in a file of the same mode and owner)
+        os.rename(self.out('r.csv'), self.out('r.parquet'))
+        report = module.Report(self.out('r.parquet'), False)
+        report.file.close()
+        self.assertEqual((os.stat(report.lines_path).st_mode, os.stat(report.lines_path).st_uid), (before.st_mode, before.st_uid))
 
     def test_parquet(self):
         self.put_many(40)
