@@ -231,6 +231,7 @@ class Unpacked:
 
 def unpacked(path: str, data: memoryview) -> Iterator[Row]:
     """Yields the rows of the files in a package's data."""
+    rows: Dict[str, Row] = {}  # (which hard links have, too)
     try:
         stream: Any = Unpacked(data)
         archive: Any = tarfile.open(fileobj=stream, mode='r|', tarinfo=Member)
@@ -246,7 +247,10 @@ def unpacked(path: str, data: memoryview) -> Iterator[Row]:
                     yield from of_library(path, member.name, start + file.read())
                 else:
                     content = start + file.read()
-                    yield row_of(path, member.name, lambda: Elf(content))
+                    rows[member.name] = row_of(path, member.name, lambda: Elf(content))
+                    yield rows[member.name]
+            elif member.islnk() and member.linkname in rows:
+                yield {**rows[member.linkname], 'member': named(member.name[:NAME])}
     except MemoryError:  # (the rows before it may take most of the memory)
         raise
     except Exception as error:  # (Python's modules for archives raise many types of exceptions at damaged data)

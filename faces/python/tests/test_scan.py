@@ -214,6 +214,14 @@ class Scan(Folder):
         with unittest.mock.patch.object(module, 'MEMBER', len(library) - 1):
             self.assertEqual(next(module.rows_of(os.path.join(self.files, 'x.deb')))['text'], 'a member of a package with more than 64 MiB')
 
+    def test_hard_links_of_packages(self):
+        """Each name of a file has a row, as it has in a folder."""
+        links = [(name, b'', ('type', tarfile.LNKTYPE), ('linkname', file)) for name, file in (('./b', './a'), ('./c', './b'), ('./d', './text'))]
+        self.put('x.deb', archive([('data.tar', tarred(('./a', made.ALL[3].bytes), ('./text', b'odd'), *links))]))
+        rows = list(module.rows_of(os.path.join(self.files, 'x.deb')))
+        self.assertEqual([{**row, 'member': None} for row in rows], [{**rows[0], 'member': None}] * 2)
+        self.assertEqual([row['member'] for row in rows], ['./a', './b'])
+
     def test_long_names_of_members(self):
         """Of a name at most as many bytes are in a row as a path has."""
         elf, name = made.ALL[3].bytes, 'x' * 5000
