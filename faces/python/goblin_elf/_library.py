@@ -116,6 +116,8 @@ class File:
         self.view = memoryview(buffer).cast('B')
         # (slices of these two are bytes, which are made faster than views)
         self.source: Any = buffer if type(buffer) in (bytes, mmap.mmap) else self.view
+        # (a view that can't be written may be of a bytearray, which can)
+        self.is_fixed = self.view.readonly and type(self.view.obj) in (bytes, mmap.mmap)
         words = (ctypes.c_ssize_t * 16)()  # a Py_buffer, which begins with the address; `view` goes on holding the memory
         GET_BUFFER(ctypes.py_object(self.view), words, 0)
         self.address, self.length = words[0], len(self.view)

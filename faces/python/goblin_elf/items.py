@@ -349,7 +349,7 @@ class NamedTable(Table[T]):
     def _learn(self: Any, index: int, offset: int) -> Optional[str]:
         """Returns a name that is not known. If names are asked for in order, of bytes that can't be written, it reads the next ones, too."""
         known: Dict[int, str] = {}
-        if 0 <= index - self._window.stop < NEAR and self.elf._file.view.readonly:
+        if 0 <= index - self._window.stop < NEAR and self.elf._file.is_fixed:
             self._window = range(index, index + min(max(AHEAD, 2 * len(self._window)), CHUNK))
             for _, chunk in self._chunks(index, min(self._window.stop, len(self))):
                 offsets = self._offsets(chunk)

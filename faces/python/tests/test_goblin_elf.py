@@ -395,10 +395,12 @@ class Names(unittest.TestCase):
             self.assertEqual(len(count), calls)
 
     def test_bytes_that_change(self):
-        table = self.table([1] * 100, buffer=bytearray)
-        for name in ('main', 'pain'):
-            table.elf.put_number(table.elf.bytes.obj.index(b'ain\0' + b'\xff') - 1, 1, ord(name[0]))
-            self.assertEqual([item.name for item in table], [name] * 100)
+        for buffer in (bytearray, lambda content: memoryview(bytearray(content)).toreadonly()):
+            table = self.table([1] * 100, buffer=buffer)
+            content = table.elf.bytes.obj
+            for name in ('main', 'pain'):
+                content[content.index(b'ain\0' + b'\xff') - 1] = ord(name[0])
+                self.assertEqual([item.name for item in table], [name] * 100)
 
     def test_long_names_take_no_more_memory_than_one(self):
         size = 1 << 20
