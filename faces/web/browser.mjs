@@ -458,6 +458,12 @@ check('What is broken is in one row, with links to its places', async () => {
     const high = elf_file({ type: 2, segments: [{ vaddr: (1n << 64n) - 16n, bytes: Buffer.alloc(64, 1) }] });
     await pick_written('high', high);
     await go('offset/0x98', 'offset 0x98', { address: '0x10' });
+    // (an entry where nothing is loaded, as of a kernel, is no link)
+    for (const [type, entry, links] of [[2, (1n << 64n) - 8n, 1], [2, 0x1000n, 0], [1, 8n, 0]]) {
+        await pick_written('entry', patched(high, [0x10, type, 2], [0x18, entry]));
+        assert.equal(value_in(await facts(), 'starts at'), hex(entry));
+        assert.equal((await each_of('#panel .summary [href^="#address"]', 'item.hash')).length, links);
+    }
     // (section 0 may have any type)
     const first = symbols_file([{ text: 'a' }]);
     await pick_written('first', patched(first, [header_at(first, 0) + 4, 2, 4]), 'symbols');

@@ -4,6 +4,7 @@
 // as versions and the contents of notes, and are not proved.
 import * as goblin from './goblin.js';
 import { mapped_files, process_of, registers_of, signal_of } from './core.js';
+import { is_address } from './details.js';
 import { value_of, versions } from './dynamic.js';
 import { facts } from './facts.js';
 import { file, is_debug, name_at, read_or, sections, segment_of, size_of } from './file.js';
@@ -11,7 +12,7 @@ import { code_without_symbol, largest } from './inside.js';
 import * as labels from './labels.js';
 import { notes_of } from './notes.js';
 import { is_compressed, parts, titled } from './pieces.js';
-import { has_addresses, section_called, symbols_called, to_address, to_section, to_symbol } from './resolve.js';
+import { section_called, symbols_called, to_address, to_section, to_symbol } from './resolve.js';
 import { count, hex, in_bytes, once, plural } from './text.js';
 
 const { ET_CORE, ET_REL, SHT_NOBITS, SHT_SYMTAB } = goblin;
@@ -102,7 +103,7 @@ function what_it_is() {
         { ...row('broken', also.length > 0 ? 'yes:'
             : `no: tables${file.has_segments ? ', sections and segments' : ' and sections'} lie in the file, and no`
                 + ' sections overlap'), also },
-        e_entry && row('starts at', '', has_addresses() ? to_address(e_entry) : undefined),
+        e_entry && row('starts at', ...(is_address(e_entry) ? ['', to_address(e_entry)] : [hex(e_entry)])),
         said('own name', 'soname')];
 }
 
