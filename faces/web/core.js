@@ -25,11 +25,12 @@ export function signal_of({ note: { desc_range: { offset, size } } }) {
     return size < 14n ? 'unknown' : SIGNALS[number] && !is_own ? `${number}, SIG${SIGNALS[number]}` : `${number}`;
 }
 
-/** Returns the registers of a note of type PRSTATUS, as pairs of a name and a number. */
-export function registers_of({ note: { desc_range: { offset, size } } }) {
+/** Returns the registers of a note of type PRSTATUS that are wanted, as pairs of a name and a number. */
+export function registers_of({ note: { desc_range: { offset, size } } }, is_wanted = () => true) {
     const { e_machine, ei_class } = file.elf.header, [width, start] = is_wide() ? [8n, 112n] : [4n, 72n];
     return (REGISTERS[`${e_machine},${ei_class}`]?.split(' ') ?? []).map((name, i) => [name, start + width * BigInt(i)])
-        .filter(([, at]) => at + width <= size).map(([name, at]) => [name, number_at(offset + at, width)]);
+        .filter(([name, at]) => is_wanted(name) && at + width <= size)
+        .map(([name, at]) => [name, number_at(offset + at, width)]);
 }
 
 const strtab = (at, size) => file.elf.strtab({ sh_type: goblin.SHT_STRTAB, sh_offset: at, sh_size: size });

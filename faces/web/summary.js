@@ -180,7 +180,7 @@ const first_rows = (rows, name, to) => shortened(rows, MOST_ROWS, (others) => ow
 const POINTERS = new Set(['rip', 'rsp', 'eip', 'esp', 'pc', 'sp']);
 function rows_of_threads(items) {
     const all = items.map((item) => {
-        const pointers = registers_of(item).filter(([name]) => POINTERS.has(name)).sort()
+        const pointers = registers_of(item, (name) => POINTERS.has(name)).sort()
             .map(([name, value]) => `${name} ${hex(value)}`);
         return { text: `${item.thread ?? 'unknown'}`, to: item.to, pointers, place: pointers[0] ?? '' };
     });
@@ -193,8 +193,8 @@ function rows_of_threads(items) {
 // Returns what the notes of a core say, by their types. (Of the threads' signals only the first one is shown.)
 function what_was_running() {
     if (file.elf.header.e_type !== ET_CORE) return [];
-    const of = (type) => notes_of('segments').items.map((item, index) => ({ ...item, to: `notes/segments/${index}` }))
-        .filter(({ note }) => note.name === 'CORE' && labels.note_type(note) === type);
+    const all = notes_of('segments').items.map((item, index) => ({ ...item, to: `notes/segments/${index}` })),
+        of = (type) => all.filter(({ note }) => note.name === 'CORE' && labels.note_type(note) === type);
     const threads = of('PRSTATUS'), in_words = ([name, { start, ranges }]) =>
         own('mapped file', `${name}, ${plural(ranges, 'range')} from ${hex(start)} on`);
     return [...threads.slice(0, 1).map((item) => own('signal', signal_of(item))),

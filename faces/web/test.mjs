@@ -68,6 +68,7 @@ async function check_facts() {
     check_made_facts(of);
     check_bounds(of);
     await check_versions(Elf);
+    await check_registers(Elf);
     console.log(`facts.js says of ${table.length} stored files what facts.json says`);
 }
 
@@ -110,6 +111,15 @@ async function check_versions(Elf) {
     const [[name, all], ...others] = versions();
     assert.deepEqual([name, others], ['a', []]);
     assert.ok(all.length > 4000 && all.length <= 4096, `${all.length} versions`);
+}
+
+// Of a thread only the registers that are wanted are read: a core may have very many threads.
+async function check_registers(Elf) {
+    const [{ file }, { registers_of }] = await Promise.all([import('./file.js'), import('./core.js')]), read = [];
+    file.elf = Elf.parse(noted_file([note('CORE', 1, Buffer.alloc(336))]));
+    file.elf.number = (at) => { read.push(at); return 7n; };
+    const found = registers_of({ note: { desc_range: { offset: 64n, size: 336n } } }, (name) => name === 'rip');
+    assert.deepEqual([found, read], [[['rip', 7n]], [64n + 112n + 8n * 16n]]);
 }
 
 // What each entry, flag, name and note says alone, by the numbers of the standard.
