@@ -549,6 +549,8 @@ check('Arguments of other types and ranges are refused', () => {
             assert.throws(call, RangeError);
     }
     assert.deepEqual(bytes, new Uint8Array(own));
+    for (const [width, word] of [[4n, 'bigint'], ['4', 'string'], [3, '3']])
+        assert.throws(() => elf.number(0, width), new RegExp(` the Number 1, 2, 4 or 8, not ${word}$`));
     assert.throws(() => elf.section_by_type(1n << 32n), RangeError);
     assert.throws(() => goblin.machine_to_str(0x10000), RangeError);
     assert.equal(elf.number(1, 1), 0x45n);

@@ -1086,8 +1086,8 @@ function attempt(read) {
 
 // Returns a number of bytes as the library takes it, if it reads numbers of that width.
 function as_width(width) {
-    if (![1, 2, 4, 8].includes(width))
-        throw new RangeError(`the width must be 1, 2, 4 or 8 bytes, not ${String(width)}`);
+    const given = typeof width === 'number' ? width : describe(width);
+    if (![1, 2, 4, 8].includes(width)) throw new RangeError(`the width must be the Number 1, 2, 4 or 8, not ${given}`);
     return BigInt(width);
 }
 
