@@ -551,6 +551,13 @@ check('Arguments of other types and ranges are refused', () => {
     assert.deepEqual(bytes, new Uint8Array(own));
     for (const [width, word] of [[4n, 'bigint'], ['4', 'string'], [3, '3']])
         assert.throws(() => elf.number(0, width), new RegExp(` the Number 1, 2, 4 or 8, not ${word}$`));
+    // (at most two and a half items are at most two)
+    const [of_notes] = Elf.parse(noted).program_headers();
+    for (const [most, count] of [[0.5, 0], [1.5, 1], [2.5, 2]]) {
+        const all = [elf.syms().from(1, most), elf.dynamic(most), elf.shdr_strtab().get_start(1, most),
+            Elf.parse(noted).readable_notes(of_notes, most).notes];
+        assert.deepEqual(all.map((found) => [...found].length), [count, count, count, count]);
+    }
     assert.throws(() => elf.section_by_type(1n << 32n), RangeError);
     assert.throws(() => goblin.machine_to_str(0x10000), RangeError);
     assert.equal(elf.number(1, 1), 0x45n);

@@ -494,7 +494,7 @@ class Memory {
 
     // Calls the library to fill an array with the items from an index on, at most `most`, and returns them.
     call_many(name, kind, most, first, ...args) {
-        const array = [this.address(BUFFER), BigInt(Math.min(most, BATCH))];
+        const array = [this.address(BUFFER), BigInt(Math.min(Math.trunc(most), BATCH))];
         const { value } = this.call(name, 'number', ...args, first, ...array) ?? { value: 0n };
         const { size } = records[kind];
         return Array.from({ length: Number(value) },
@@ -1043,7 +1043,7 @@ export class Elf {
     #read_notes(part, most, call, convert) {
         const notes = [], range = range_of(part), alignment = is_segment(part) ? part.p_align : part.sh_addralign;
         const { refusal } = attempt(() => {
-            for (let next = range.offset; notes.length < most; next = notes.at(-1).next) {
+            for (let next = range.offset; notes.length + 1 <= most; next = notes.at(-1).next) {
                 const argument = this.#memory.pass(ARGUMENT, 'range', range);
                 const fields = this.#call(call, 'note', argument, unsigned(alignment, 64), next);
                 if (!fields) break;
@@ -1793,7 +1793,7 @@ export class Strtab {
         this.#is_accepted = true;
         const skipped = unsigned(offset, 64);
         if (skipped >= size) return undefined;
-        const length = most < size - skipped ? BigInt(most) : size - skipped;
+        const length = most < size - skipped ? BigInt(Math.trunc(most)) : size - skipped;
         const range = this.#read('goblin_string_bytes', { offset: start + skipped, size: length }, 0);
         return range ? this.#memory.bytes(range) : new Uint8Array();
     }
