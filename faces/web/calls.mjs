@@ -2,7 +2,9 @@
 // The files are read whole, cut and damaged. The call that makes a list must throw, or each way to iterate over it
 // must have all items. The constants must be the library's, and the package and the declarations must be complete.
 import assert from 'node:assert/strict';
-import { existsSync, readdirSync, readFileSync } from 'node:fs';
+import { spawnSync } from 'node:child_process';
+import { existsSync, mkdtempSync, readdirSync, readFileSync, rmSync, writeFileSync } from 'node:fs';
+import { tmpdir } from 'node:os';
 import { join, resolve } from 'node:path';
 import { pathToFileURL } from 'node:url';
 import { runInNewContext } from 'node:vm';
@@ -760,6 +762,20 @@ check('Errors begin, and their numbers count from, where the comments of `offset
         assert.deepEqual(why(() => elf.notes({ ...section, sh_addralign: alignment })),
             [NOTE_ALIGN, alignment, 0n, first]);
     }
+});
+
+check('The example needed.mjs reads strings that no zero byte closes once, and not for each name', () => {
+    const folder = mkdtempSync(join(tmpdir(), 'goblin-')), path = join(folder, 'open'), count = 20000,
+        text = Buffer.alloc(1 << 24, 'x').fill('\0closed\0', 0, 8), end = [5, 0x400000, 10, text.length, 0, 0];
+    const names = [1, ...Array.from({ length: count }, (_, i) => 8 + i)];
+    writeFileSync(path, dynamic_file(text, [...names.map((name) => [1, name]), end]));
+    // (a gigabyte a second would take minutes)
+    const args = [...process.execArgv, join(web, 'examples/needed.mjs'), path],
+        { stdout, status } = spawnSync(process.execPath, args, { timeout: 90_000, maxBuffer: 1 << 24 }),
+        lines = `${stdout}`.split('\n');
+    rmSync(folder, { recursive: true });
+    assert.deepEqual([status, lines.length, ...lines.slice(0, 2)], [0, count + 2, 'needed closed',
+        'needed: no zero byte closes a string at offset 8']);
 });
 
 check('A map finds what `by_address` finds', () => {

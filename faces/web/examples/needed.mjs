@@ -1,5 +1,5 @@
 // Lists what ELF files need of the dynamic linker, their sonames and search paths: node needed.mjs FILE..
-import { DT_NEEDED, DT_RPATH, DT_RUNPATH, DT_SONAME, PT_INTERP } from '../goblin.js';
+import { DT_NEEDED, DT_RPATH, DT_RUNPATH, DT_SONAME, PT_INTERP, SHT_STRTAB } from '../goblin.js';
 import { run } from './common.mjs';
 
 const NAMES = new Map([[DT_NEEDED, 'needed'], [DT_SONAME, 'soname'], [DT_RPATH, 'rpath'], [DT_RUNPATH, 'runpath']]);
@@ -11,9 +11,17 @@ function print(name, strings, offset) {
         : `${name}: no zero byte closes a string at offset ${offset}\n`);
 }
 
+// Returns the part of strings up to the last zero byte. (Of the rest each string would be read up to the end.)
+function closed(elf, strings) {
+    const { offset, size } = strings.range;
+    strings.get_start(0, 0); // (throws if the strings are not inside the file)
+    const end = elf.bytes.subarray(Number(offset), Number(offset + size)).lastIndexOf(0) + 1;
+    return elf.strtab({ sh_type: SHT_STRTAB, sh_offset: offset, sh_size: BigInt(end) });
+}
+
 await run('needed.mjs FILE..', (elf) => {
     const interpreter = elf.program_headers().find(({ p_type }) => p_type === PT_INTERP);
     if (interpreter?.p_filesz) print('interpreter', elf.strtab(interpreter), 0);
-    const strings = elf.dynamic_strings();
+    const strings = closed(elf, elf.dynamic_strings());
     for (const { d_tag, d_val } of elf.dynamic()) if (NAMES.has(d_tag)) print(NAMES.get(d_tag), strings, d_val);
 });
