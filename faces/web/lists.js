@@ -7,12 +7,14 @@ import { packed_offsets } from './dynamic.js';
 import * as labels from './labels.js';
 import { notes_of } from './notes.js';
 import { parts, titled } from './pieces.js';
-import { has_mangled, name_of_symbol, named_symbols, section_of_symbol, symtab_at } from './resolve.js';
+import { has_mangled, most_signs, name_of_symbol, named_symbols, section_of_symbol, symtab_at } from './resolve.js';
 import { count, hex, once } from './text.js';
 
 const { st_bind, st_type, st_visibility } = goblin;
 // How many signs the names of a list have at most that are demangled. (In a damaged file each may stand for very many.)
 const MOST_DEMANGLED = 1 << 28;
+// How many signs of a text are compared if the texts have very many. (Engines copy so many, and keep no longer text.)
+const FIRST = 12;
 const SPECIAL = new Map([[0n, 'undefined'], [0xfff1n, 'absolute'], [0xfff2n, 'common'], [0xffffn, 'extended index']]);
 // A column has a title, a hint, such as the field's name, the least width, which of the columns gets more of it first,
 // a function that returns an item's text, and perhaps one for a saved list, a number to sort by, and a finder of texts.
@@ -250,8 +252,13 @@ function finder({ columns, holds }, wanted) {
 async function comparison(source, column, list, is_wanted) {
     const { length } = source.list;
     if (!column.number) {
+        // (past a number of signs only the first ones of each text, which is damaged, are compared)
         const texts = new Array(length);
-        await go_over(source, list, is_wanted, (item, index) => { texts[index] = column.text(item, index); });
+        let left = most_signs();
+        await go_over(source, list, is_wanted, (item, index) => {
+            const text = column.text(item, index);
+            texts[index] = (left -= text.length) > 0 ? text : text.slice(0, FIRST);
+        });
         return (a, b) => (texts[a] < texts[b] ? -1 : texts[a] > texts[b] ? 1 : 0);
     }
     // (as two halves, which are compared without making BigInts)

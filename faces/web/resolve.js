@@ -28,11 +28,20 @@ export function section_of_symbol(table, index, { st_shndx }) {
     return st_shndx === 0n || st_shndx >= goblin.SHN_LORESERVE ? undefined : Number(st_shndx);
 }
 
-// The names of each table's symbols that are read. (Searches and sorts need them again and again.)
-const names = once((table) => new Array(symtab_at(table).length));
+// The names of each table's symbols that are read, up to a number of signs. (Searches and sorts need them again and
+// again. In a damaged file each may stand for very many.)
+const names = once((table) => ({ known: new Array(symtab_at(table).length), left: most_signs() }));
+function noted(table, index, name) {
+    const own = names(table);
+    if ((own.left -= name.length) > 0) own.known[index] = name;
+    return name;
+}
 
+/** Returns how many signs all names of a table have at most in a file that is not damaged. */
+export const most_signs = () => 2 * file.content.length + (1 << 26);
 /** Returns a symbol's name. The symbol of a section has the section's name. */
-export const name_of_symbol = (table, index, symbol) => (names(table)[index] ??= read_name(table, index, symbol));
+export const name_of_symbol = (table, index, symbol) =>
+    names(table).known[index] ?? noted(table, index, read_name(table, index, symbol));
 export const title_of_symbol = (table, index, symbol) => name_of_symbol(table, index, symbol) || `symbol ${index}`;
 
 // How many names are read at once, and the longest string of their table then. (In a damaged one each may be all.)
@@ -49,14 +58,15 @@ const has_short_strings = once((table) => {
 
 /** Iterates over the symbols of a table, at most a number, and reads their names, many at once. */
 export function* named_symbols(table, most = Infinity) {
-    const symtab = symtab_at(table), known = names(table), end = Math.min(symtab.length, most);
+    const symtab = symtab_at(table), { known } = names(table), end = Math.min(symtab.length, most);
     for (let first = 0; first < end; first += AT_ONCE) {
         const symbols = [...symtab.from(first, Math.min(AT_ONCE, end - first))];
         const unread = [...symbols.keys()].filter((i) => known[first + i] === undefined && symbols[i].st_name);
-        const all = has_short_strings(table) ? unread.map((i) => symbols[i].st_name) : [];
+        const is_many = has_short_strings(table) && names(table).left > 0,
+            all = is_many ? unread.map((i) => symbols[i].st_name) : [];
         // (of a symbol without a name more is read, if its name is wanted)
         read_or([], () => symtab.strtab.get_all_bytes(all))
-            .forEach((bytes, i) => { known[first + unread[i]] = (bytes && name_of(bytes)) || undefined; });
+            .forEach((bytes, i) => { if (bytes?.length) noted(table, first + unread[i], name_of(bytes)); });
         yield* symbols;
     }
 }

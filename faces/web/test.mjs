@@ -5,9 +5,11 @@ import { spawnSync } from 'node:child_process';
 import { mkdtempSync, readFileSync, rmSync, writeFileSync } from 'node:fs';
 import { tmpdir } from 'node:os';
 import { join } from 'node:path';
+import { setFlagsFromString } from 'node:v8';
+import { runInNewContext } from 'node:vm';
 import { csv_line } from './csv.js';
 import { demangled, may_hold } from './demangle.js';
-import { dynamic_file, elf_file, longs, note, noted_file, packed, patched, symbols_file } from './elves.mjs';
+import { dynamic_file, elf_file, longs, note, noted_file, packed, patched, symbol, symbols_file } from './elves.mjs';
 import { import_goblin } from './tested.mjs';
 
 const COPIES = 150, FEW = 3, WHOLE = 20, FIRST = 16;
@@ -69,6 +71,7 @@ async function check_facts() {
     check_bounds(of);
     await check_versions(Elf);
     await check_registers(Elf);
+    await check_names(Elf);
     console.log(`facts.js says of ${table.length} stored files what facts.json says`);
 }
 
@@ -120,6 +123,25 @@ async function check_registers(Elf) {
     file.elf.number = (at) => { read.push(at); return 7n; };
     const found = registers_of({ note: { desc_range: { offset: 64n, size: 336n } } }, (name) => name === 'rip');
     assert.deepEqual([found, read], [[['rip', 7n]], [64n + 112n + 8n * 16n]]);
+}
+
+// Of names that overlap in a damaged file, here 200,000 of 1,000 signs, only some are kept.
+async function check_names(Elf) {
+    const [{ file }, resolve] = await Promise.all([import('./file.js'), import('./resolve.js')]), count = 200000;
+    setFlagsFromString('--expose-gc');
+    const collect = runInNewContext('gc'), used = () => { collect(); return process.memoryUsage().heapUsed; };
+    const named = symbol({ name: 1, info: 2, shndx: 1 });
+    file.elf = Elf.parse(elf_file({ sections: [
+        { name: '.symtab', type: 2, link: 2, entsize: 24, bytes: Buffer.alloc(count * named.length, named) },
+        { name: '.strtab', type: 3, bytes: Buffer.from(`\0${'n'.repeat(1000)}\0`) }] }));
+    const before = used();
+    for (let times = 0; times < 2; times++) {
+        let index = 0, signs = 0;
+        for (const item of resolve.named_symbols(1)) signs += resolve.name_of_symbol(1, index++, item).length;
+        assert.equal(signs, 1000 * count);
+    }
+    const kept = used() - before;
+    assert.ok(kept < 1.4e8, `${kept} bytes are kept`);
 }
 
 // What each entry, flag, name and note says alone, by the numbers of the standard.
