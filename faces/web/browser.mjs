@@ -810,6 +810,10 @@ check_program('Back goes from row to row, and the steps of the arrow keys count 
     await click('#tab-sections');
     await until_chosen('ELF header');
     assert.equal(await text_of(active_row), null);
+    // (a row is shown that is clicked before the list is sorted anew)
+    await evaluate(`void (${one('#panel [role=columnheader]:nth-child(2) button')}.click(),
+        document.querySelectorAll('#panel .body .row')[3].children[1].click())`);
+    await until_chosen(third);
 });
 
 check_program('A relocation leads to its symbol, and has the bytes that it changes', async () => {

@@ -225,7 +225,8 @@ async function note_refusals(by) {
 }
 
 async function go_to_row(mine, at, is_step) {
-    const index = await ask('index', { list: mine.name, at });
+    // (once the worker reads a message, the list may be sorted anew)
+    const index = Number(mine.grid.active_cells?.[0] ?? await ask('index', { list: mine.name, at }));
     if (open !== mine) return;
     mine.own = index; // (the list has already moved to that row, and perhaps on since)
     await go([mine.name, mine.of, index].filter((part) => part !== undefined).join('/'), is_step);
