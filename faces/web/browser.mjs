@@ -410,6 +410,13 @@ check('A function has one row, whatever its names, and what is in no symbol is s
     await pick_written('functions', symbols_file(given, text));
     assert.deepEqual(await lines_of('Largest functions'),
         ['in no symbol, 39 of 64 bytes of code', '16 bytes, b', '8 bytes, a', '1 byte, c']);
+    // (in the first ABI of 64-bit PowerPC symbols of functions are descriptors, with the sizes of the code)
+    const power = join(stored, 'made', 'powerpc64_library'), { '.symtab': { index } } = sections_of(power),
+        described = symbols_of(power).find(({ name }) => name === 'function');
+    assert.deepEqual((await facts(power, 'Largest functions')).slice(1).map(([, name]) => name.slice(0, 5)),
+        ['__plt', '__plt', '__plt']);
+    await go(`symbols/${index}/${described.index}`, 'function');
+    await has_texts({ '#chosen .lies': / 16 bytes$/, '#chosen .blocks button': 'descriptor in .opd' });
     // (what another section covers is not drawn as code)
     const data = code(Buffer.alloc(32, 1), { name: '.data', flags: 3 }),
         content = symbols_file([{ text: 'all', info: 2, shndx: 3, size: 64 }], text, data);

@@ -8,10 +8,10 @@ import * as labels from './labels.js';
 import { addend, section_word, symbol_of_relocation } from './lists.js';
 import { title_of } from './notes.js';
 import { kind_of, kind_of_segment, part_at, parts, pieces_at, title_of_segment } from './pieces.js';
-import { address_of_offset, address_of_symbol, with_offset, bytes_of_symbol, has_addresses, name_of_symbol,
-    offset_of_address, place_of_relocation, section_called, section_of_address, section_of_symbol, segments_of_address,
-    symbol_called, symbol_of_address, symtab_at, title_of_symbol, to_address, to_offset, to_section,
-    to_symbol } from './resolve.js';
+import { address_of_offset, address_of_symbol, with_offset, bytes_of_symbol, has_addresses, is_descriptor,
+    name_of_symbol, offset_of_address, place_of_relocation, section_called, section_of_address, section_of_symbol,
+    segments_of_address, symbol_called, symbol_of_address, symtab_at, title_of_symbol, to_address, to_offset,
+    to_section, to_symbol } from './resolve.js';
 import { count, hex, in_bytes } from './text.js';
 
 const { named, prefixed } = labels;
@@ -137,7 +137,8 @@ function symbol_details(item, index, table) {
             }),
         ],
         blocks: [...(place ? [{ ...place,
-                word: !place.section ? 'bytes' : st_size ? `bytes in ${called(of)}` : from_place(of) }] : []),
+                word: !place.section ? 'bytes' : is_descriptor(of, item) ? `descriptor in ${called(of)}`
+                    : st_size ? `bytes in ${called(of)}` : from_place(of) }] : []),
             entry(table, index, 'symbol')],
     };
 }

@@ -4,7 +4,7 @@ import { demangled } from './demangle.js';
 import { file, read_or, section_at, symbol_tables } from './file.js';
 import { go_over } from './lists.js';
 import { part_at, parts, titled } from './pieces.js';
-import { bytes_of_symbol, symtab_at, title_of_symbol } from './resolve.js';
+import { bytes_of_symbol, is_descriptor, symtab_at, title_of_symbol } from './resolve.js';
 import { first_after, visible_ranges } from './spans.js';
 import { count, once } from './text.js';
 
@@ -28,7 +28,8 @@ const find_symbols = once(async () => {
         const type = goblin.st_type(symbol.st_info),
             place = symbol.st_size && TYPES.has(type) && bytes_of_symbol(table, index, symbol);
         const { at: start, size: whole } = place || {}, size = Math.min(whole, file.content.length - start);
-        if (size > 0) all.push({ start, end: start + size, size, index, is_function: type === goblin.STT_FUNC });
+        const is_function = type === goblin.STT_FUNC && !is_descriptor(place?.section, symbol);
+        if (size > 0) all.push({ start, end: start + size, size, index, is_function });
     });
     all.sort((a, b) => a.start - b.start || b.end - a.end);
     let last = 0, covered = 0;

@@ -123,10 +123,18 @@ function bytes_at(of, address, size) {
     return here > 0 ? { section: of, from, at, size: Math.min(Number(size < left ? size : left), here) } : undefined;
 }
 
-/** Returns the bytes of a symbol in the file, or some if its size is unknown, or nothing if it has none there. */
+const descriptors = once(() =>
+    (file.elf.header.e_machine === goblin.EM_PPC64 ? section_called('.opd')?.index : undefined));
+/** Reports whether a symbol of a section is a function's descriptor, as in the first ABI of 64-bit PowerPC. Its size is
+ * that of the code, which is elsewhere. */
+export const is_descriptor = (of, { st_info }) =>
+    of !== undefined && of === descriptors() && goblin.st_type(st_info) === goblin.STT_FUNC;
+
+/** Returns the bytes of a symbol in the file, or some if their number is unknown, or nothing if it has none there. */
 export function bytes_of_symbol(table, index, symbol) {
-    const of = section_of_symbol(table, index, symbol);
-    return of === undefined ? undefined : bytes_at(of, address_of_symbol(symbol), symbol.st_size || UNSIZED);
+    const of = section_of_symbol(table, index, symbol),
+        size = is_descriptor(of, symbol) ? UNSIZED : symbol.st_size || UNSIZED;
+    return of === undefined ? undefined : bytes_at(of, address_of_symbol(symbol), size);
 }
 
 /** Returns the bytes that a relocation changes, or nothing if they are not in the file. */
