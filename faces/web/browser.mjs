@@ -1803,5 +1803,8 @@ try {
     throw error;
 } finally {
     await browser.end();
-    rmSync(folder, { recursive: true, force: true, maxRetries: 9 }); // (processes of the browser may still end)
+    // (processes of the browser may still end, and write before they do)
+    await waited('an empty folder', () => {
+        try { rmSync(folder, { recursive: true, force: true }); return true; } catch { return false; }
+    });
 }
