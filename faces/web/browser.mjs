@@ -1712,6 +1712,10 @@ check('A name from right to left turns no number around that stands after it', a
     await pick_written('leftward', file);
     await go(`offset/${place}`, `offset ${place}`, { in: '\u05d0\u05d1 \u05d2 + 0x10' });
     assert.ok(await left_of('0x10') > await left_of('\u05d0'));
+    // (nor in a tooltip)
+    await pick_written('cut', patched(file, [header_at(file, 1) + 0x20, 1n << 40n]), 'layout');
+    const titles = await each_of('#panel .body .cell', 'item.title');
+    assert.ok(titles.some((title) => title.startsWith('\u2068\u05d0\u05d1 \u05d2\u2069 (cut: ')), titles.join());
 });
 
 check('The keyboard reaches the described parts of the map, a row of a list, and the next tab', async () => {

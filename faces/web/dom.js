@@ -1,5 +1,5 @@
 // Elements of the page and their texts. A text of a file is inserted as text, with invisible characters made visible.
-import { shown, UNSEEN } from './text.js';
+import { shown, UNSEEN, visible } from './text.js';
 
 export * from './text.js';
 export const get = (id) => document.getElementById(id);
@@ -36,8 +36,8 @@ export const button = (text, onclick, given = {}, ...more) =>
 
 // Words of scripts from right to left, which turn around what stands between them and a number.
 const LEFTWARD = /((?! )[ \u0590-\u08ff\ufb1d-\ufdff\ufe70-\ufefe\u{10800}-\u{10fff}\u{1e800}-\u{1efff}]+(?<! ))/gu;
-/** Returns a text in which such words are apart from the rest, for use outside of elements. */
-export const apart = (text) => text.replace(LEFTWARD, '\u2068$1\u2069');
+/** Returns a visible text in which such words are apart from the rest, for use outside of elements. */
+export const apart = (text) => visible(text).replace(LEFTWARD, '\u2068$1\u2069');
 
 /** Replaces the content of an element by a text of a file. (It may have more parts than a call has arguments.) */
 export const put_text = (element, text) => text.split(UNSEEN).reduce((box, part, i) => {

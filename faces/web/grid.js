@@ -1,5 +1,5 @@
 // Lists of any length, of which only the visible rows are drawn.
-import { button, clamp, is_of_browser, make, put_text, visible } from './dom.js';
+import { apart, button, clamp, is_of_browser, make, put_text } from './dom.js';
 
 // The greatest height of an element in all engines (a longer list is scrolled in proportion), how many rows are
 // requested at once, how many such blocks are kept, and the space between columns, in pixels.
@@ -165,7 +165,7 @@ export class Grid {
             const text = row ? row[i] ?? '' : i === 0 ? '…' : '';
             put_text(cell, text);
             // (the whole text of a cell is its tooltip)
-            cell.title = mark ? `${visible(text)} (its bytes are ${mark})` : visible(text);
+            cell.title = mark ? `${apart(text)} (its bytes are ${mark})` : apart(text);
         });
     }
 

@@ -211,7 +211,7 @@ function draw_segments() {
 // Writes the names of functions and variables, and of parts where none of these is, once each, if they have room.
 function draw_names(symbols) {
     const drawn = new Set(), put = (item, { x, width, y }, shade) => {
-        const text = apart(visible(item.title)), wide = pen.measureText(text).width;
+        const text = apart(item.title), wide = pen.measureText(text).width;
         if (!text || item.kind === 'padding' || drawn.has(item) || wide > width - 10) return;
         drawn.add(item);
         if (item.is_cut) paint(colour(item.kind), x + 2, y + 1, wide + 6, BAND - 2); // (over the hatching)
@@ -252,7 +252,7 @@ async function describe(byte) {
         `${content} at ${hex(byte)}`].filter(Boolean).join(' · ')
         : `${plural(map.kinds.length, 'part')}, drawn to scale; each row has ${in_bytes(map.view.each)}; `
             + 'the wheel zooms, dragging moves';
-    readout.title = put_text(readout, words).textContent;
+    put_text(readout, words).title = apart(words);
     if (map.over?.start === start && map.over?.end === end) return;
     map.over = found && { start, end };
     draw_map();

@@ -1,5 +1,5 @@
 // The side: what is chosen, with its fields, links and bytes.
-import { button, copy, fill, focus_chosen, get, hex, in_bytes, joined, make, put_text, visible } from './dom.js';
+import { apart, button, copy, fill, focus_chosen, get, hex, in_bytes, joined, make, put_text } from './dom.js';
 import { bytes_in, copy_hex, hex_view, light, refusal_of } from './hex.js';
 import { dot } from './map.js';
 
@@ -33,7 +33,7 @@ async function bytes_box(blocks) {
     const content = make('div', { class: 'content' });
     const copying = button('Copy hex', () => copy_hex(current.at, current.size), { class: 'copy' });
     const choices =
-        blocks.map((block) => button(visible(block.word), () => show(block), { title: visible(block.word) }));
+        blocks.map((block) => button(apart(block.word), () => show(block), { title: apart(block.word) }));
     const show = async (block) => {
         current = block;
         choices.forEach((choice, i) => choice.setAttribute('aria-pressed', blocks[i] === block));

@@ -268,7 +268,7 @@ function tools(mine, switched) {
     mine.search = search_field(mine);
     return make('div', { class: 'tools' },
         list.length > 1 && make('select', { 'aria-label': `Which ${name}`, onchange },
-            ...list.map((item) => make('option', { selected: item.of === of }, apart(visible(item.text))))),
+            ...list.map((item) => make('option', { selected: item.of === of }, apart(item.text)))),
         hidden > 0 && make('span', {}, `and ${count(hidden)} more: choose them among the sections`),
         mine.search, switched && demangling(mine, switched), output, mine.saving);
 }
