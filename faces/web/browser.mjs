@@ -1362,7 +1362,7 @@ check_program('In low and narrow windows the first result and the first bytes ar
     const is_seen = (place) => `(({ top, bottom }) => top >= 0 && bottom <= innerHeight)(
         document.querySelector('${place}').getBoundingClientRect())`;
     const number = symbols.filter(({ name }) => name.includes('main')).length;
-    for (const [width, height] of [[800, 360], [640, 450], [400, 800]]) {
+    for (const [width, height] of [[1280, 560], [800, 360], [640, 450], [400, 800]]) {
         await browser.resize(width, height);
         await go(symtab, 'ELF header');
         await click('#back');
@@ -1371,6 +1371,7 @@ check_program('In low and narrow windows the first result and the first bytes ar
         await go('section=.text', '.text');
         await until(bytes_drawn);
         assert.ok(await evaluate(is_seen('#chosen .hex .row')), `${width} ${height}`);
+        assert.ok(await evaluate(`${one('#chosen .fields')}.clientWidth > 200`), `${width} ${height}`);
         // (a list that is opened anew begins with its first row)
         await open_tab('sections');
         await go('section=.text', '.text');
