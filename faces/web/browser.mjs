@@ -1380,6 +1380,20 @@ check_program('In low and narrow windows the first result and the first bytes ar
         await open_tab('sections');
         assert.equal((await cells(0))[0], '0', `${width} ${height}`);
     }
+    // (on a small phone, and where all is magnified four times, one can scroll to some of them)
+    for (const [width, height] of [[360, 640], [320, 256]]) {
+        await browser.resize(width, height);
+        for (const [place, title, list] of [[symtab, 'ELF header', '#panel .grid'],
+            ['section=.text', '.text', '#chosen .hex .grid']]) {
+            await go(place, title);
+            await until(`(() => {
+                let box = ${one(list)}, is_there = box?.clientHeight > 60;
+                while ((box = box?.parentElement)) is_there &&= getComputedStyle(box).overflowY !== 'hidden'
+                    || box.scrollHeight <= box.clientHeight + 1;
+                return is_there;
+            })()`);
+        }
+    }
 });
 
 // In windows of four widths.
