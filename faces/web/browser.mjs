@@ -234,6 +234,13 @@ check('The page shows why a file is not read, instead of the previous file', asy
     const words = 'The file has 2,147,483,649 bytes. This page reads files of at most 2 GiB (2,147,483,648 bytes).';
     assert.deepEqual([await text_of('#trouble:not([hidden])'), await is_hidden('shown')], [words, true]);
     assert.match(await text_of('#start .drop'), /at most 2 GiB/);
+    // (a text that is typed just before is searched no more)
+    await pick(program_file);
+    await open_tab('sections');
+    await pick(large);
+    await type('a');
+    await setTimeout(300);
+    assert.equal(await text_of('#said'), '');
     // (one that is cut while it is read)
     truncateSync(large, 4e8);
     await browser.pick('#pick', large);

@@ -186,7 +186,7 @@ async function list_panel(mine, wanted) {
 // Shows the list again, for its search and order, and promises whether it is shown: if it is still the open one.
 const refresh = (mine) => (mine.shown = show_list(mine));
 async function show_list(mine) {
-    if (open !== mine) return false;
+    if (open !== mine || !shown_file.reader) return false; // (or the file is replaced by one that is not shown)
     const { name, of, query, column, is_descending, output, below, grid } = mine;
     const word = query ? 'searching' : column || is_descending ? 'sorting' : 'reading';
     output.textContent = `${word} …`;
