@@ -560,6 +560,11 @@ check('Arguments of other types and ranges are refused', () => {
             Elf.parse(noted).readable_notes(of_notes, most).notes];
         assert.deepEqual(all.map((found) => [...found].length), [count, count, count, count]);
     }
+    for (const name of [undefined, null, 5, Buffer.from('.text'), ['.text']]) {
+        for (const call of [() => elf.section(name), () => elf.section_by_name(name), () => elf.syms().by_name(name),
+            () => elf.syms().symbol_by_name(name), () => goblin.note_type_to_str({ name, n_type: 3 })])
+            assert.throws(call, { name: 'TypeError', message: /^a text is expected, not / });
+    }
     assert.throws(() => elf.section_by_type(1n << 32n), RangeError);
     assert.throws(() => goblin.machine_to_str(0x10000), RangeError);
     assert.equal(elf.number(1, 1), 0x45n);

@@ -264,8 +264,7 @@ function write(view, start, { fields }, item) {
 
 // Returns an argument as the library takes it: an unsigned integer of a number of bits.
 function unsigned(number, bits) {
-    if (typeof number !== 'number' && typeof number !== 'bigint')
-        throw new TypeError(`a number is expected, not ${describe(number)}`);
+    if (typeof number !== 'number' && typeof number !== 'bigint') refuse('a number', number);
     const big = BigInt(number);
     if (big < 0n || big >> BigInt(bits) !== 0n)
         throw new RangeError(`${number} is not an unsigned number of ${bits} bits`);
@@ -275,6 +274,10 @@ function unsigned(number, bits) {
 // Returns what a value is, for a message.
 const describe = (value) =>
     (value === null || typeof value !== 'object' ? typeof value : value.constructor?.name ?? 'object');
+const refuse = (expected, value) => { throw new TypeError(`${expected} is expected, not ${describe(value)}`); };
+
+// Returns a name as UTF-8. (The encoder takes anything for a text, and nothing for an empty one.)
+const utf8 = (name) => encoder.encode(typeof name === 'string' ? name : refuse('a text', name));
 
 // ---- JSON ----
 
@@ -323,10 +326,8 @@ const WITHOUT_MEMORY = 'this engine has no 64-bit WebAssembly memories (memory64
 const decoder = new TextDecoder('utf-8', { fatal: true, ignoreBOM: true });
 const encoder = new TextEncoder();
 
-/** @type {WebAssembly.Module | undefined} */
-let compiled;
-/** @type {Memory | undefined} */
-let shared;
+// The module, and an instance of it for what is of no file.
+let compiled, shared;
 
 // Returns what `init` has made.
 function ready(made) {
@@ -733,7 +734,7 @@ export class Elf {
      * @returns {{ index: number, section: SectionHeader } | undefined}
      */
     section_by_name(name, first = 0) {
-        const bytes = this.#memory.pass_bytes(encoder.encode(name)),
+        const bytes = this.#memory.pass_bytes(utf8(name)),
             names = this.#memory.pass(NAMES, 'range', this.shdr_strtab().range);
         return this.#memory.find('goblin_section_by_name', 'section', names, ...bytes, unsigned(first, 64));
     }
@@ -1092,8 +1093,6 @@ function as_width(width) {
 }
 
 const holds_symbols = ({ sh_type }) => sh_type === SHT_SYMTAB || sh_type === SHT_DYNSYM;
-
-const as_index = (number) => (number ? Number(number.value) : undefined);
 
 const holds_relocs = ({ sh_type }) => sh_type === SHT_RELA || sh_type === SHT_REL;
 
@@ -1529,7 +1528,9 @@ export class Symtab extends List {
     by_address(address) {
         const memory = this.#memory;
         const table = memory.pass(ARGUMENT, 'range', this.#range);
-        return as_index(memory.call('goblin_symbol_by_address', 'number', memory.header, table, unsigned(address, 64)));
+        const found =
+            memory.call('goblin_symbol_by_address', 'number', memory.header, table, unsigned(address, 64));
+        return found && Number(found.value);
     }
 
     /**
@@ -1564,7 +1565,7 @@ export class Symtab extends List {
      */
     symbol_by_name(name, first = 0) {
         const memory = this.#memory;
-        const bytes = memory.pass_bytes(encoder.encode(name));
+        const bytes = memory.pass_bytes(utf8(name));
         const table = memory.pass(ARGUMENT, 'range', this.#range);
         const names = memory.pass(NAMES, 'range', this.strtab.range);
         return memory.find('goblin_symbol_by_name', 'symbol', table, names, ...bytes, unsigned(first, 64));
@@ -1842,7 +1843,7 @@ export const visibility_to_str = (visibility) => name_of('goblin_visibility_to_s
  */
 export function note_type_to_str({ name, n_type }) {
     const memory = ready(shared);
-    return memory.text('goblin_note_type_to_str', ...memory.pass_bytes(encoder.encode(name)), unsigned(n_type, 32));
+    return memory.text('goblin_note_type_to_str', ...memory.pass_bytes(utf8(name)), unsigned(n_type, 32));
 }
 
 /** Returns the binding in an `st_info`: its high four bits. @param {number} info @returns {number} */
