@@ -1118,6 +1118,11 @@ check_program('Cells, rows, bytes and whole lists are copied and saved', async (
     const cells_of_main = [main.index, 'main', main_address, main.size, 'FUNC', 'GLOBAL', 'DEFAULT', '.text'];
     assert.equal(await copied('Copy row'), cells_of_main.join('\t'));
     assert.equal((await copied('Copy hex')).replaceAll(' ', ''), bytes_of(program_file, main_at, main.size));
+    // (a page that is opened by http has no clipboard)
+    await evaluate(`void Object.defineProperty(navigator, 'clipboard', { value: undefined, configurable: true })`);
+    await press_button('Copy row');
+    await until(`/only from a page that is a file or is opened by https/.test(${one('#said')}.textContent)`);
+    await evaluate('delete navigator.clipboard');
     const list = await saved('symbols'), rows = rows_of(list);
     assert.equal(list.split('\r\n')[0], '#,Name,Value,Size,Type,Binding,Visibility,Section');
     assert.deepEqual(rows.map(([number, , value, size]) => [number, value, size].map(Number)),

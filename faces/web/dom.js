@@ -71,6 +71,7 @@ export async function copy(text, what) {
         await navigator.clipboard.writeText(text);
         say(`Copied: ${what}`);
     } catch (error) {
-        say(`The browser refuses to copy: ${error.message}`);
+        say(navigator.clipboard ? `The browser refuses to copy: ${error.message}`
+            : 'The browser copies only from a page that is a file or is opened by https.');
     }
 }
