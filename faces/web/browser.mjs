@@ -1197,7 +1197,9 @@ check('A sentence says that a folder is dropped, that of two files one is opened
         await until_text('#said', words);
         assert.equal((await each_of('[role=tab][aria-selected=true]', 'item.id')).length, 1, place);
     }
-    await evaluate(`void (${one('#said')}.textContent = '')`);
+    // (nor is it said of the next file)
+    await pick(program_file);
+    assert.equal(await text_of('#said'), '');
     for (const [place, title] of [['header/e_type', 'e_type'], ['sections', 'ELF header'], [main_place, 'main'],
         ['notes/segments', 'ELF header'], ['offset/0x1', 'offset 0x1'], ['summary', 'ELF header']])
         await go(place, title).then(text_of.bind(null, '#said')).then((said) => assert.equal(said, '', place));

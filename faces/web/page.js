@@ -91,6 +91,7 @@ const WHY_NOT = {
 };
 let loading;
 async function open(file) {
+    say(); // (what is said is of the previous file)
     if (loading !== shown_file.reader) loading?.end(); // (the file that it has read is shown until another one is)
     const wrong = why_unread(file);
     if (wrong) { trouble(file, wrong); return; }
