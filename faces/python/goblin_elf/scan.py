@@ -286,7 +286,7 @@ def examine(paths: List[str], links: FrozenSet[str] = frozenset()) -> Result:
 
 
 def apart(folders: List[str]) -> Tuple[List[str], Set[str]]:
-    """Returns each folder once, and the paths below them of those that lie below another one."""
+    """Returns each folder once, and which paths below them are others of them."""
     places: Dict[str, str] = {}
     for folder in folders:
         places.setdefault(os.path.realpath(folder), folder)
