@@ -62,7 +62,8 @@ folder=$(realpath "$(mktemp -d)")
 # What is installed is noted in this list before it is written, and from the first file on in the list that stays with the installation. So
 # it can be removed also if the installation fails or is interrupted, or the disk is full.
 files=$folder/files
-trap 'rm -rf "$folder"' EXIT
+part=
+trap 'rm -rf "$folder" ${part:+"$part"}' EXIT
 trap 'exit 1' HUP INT TERM
 
 # Fails if a folder can't be written to, or be made, that most files are installed in.
@@ -385,16 +386,25 @@ if [ "$option" != --archive ]; then
     fi
     exit 0
 fi
+# Puts a file into a place. An earlier one stays there until this one is whole: place FILE PLACE
+place() {
+    mkdir -p "$(dirname "$2")"
+    part=$2.part
+    cp "$1" "$part"
+    mv -fT "$part" "$2"
+}
 name=goblin_c-$version-$made_for
 archive=${1:-out/$name.tar.gz}
 install_below "$folder/$name"
 print_contents > "$folder/$name/README.md"
-mkdir -p "$(dirname "$archive")"
 tar -C "$folder" --sort=name --owner=0 --group=0 --numeric-owner --mode=u=rwX,go=rX --mtime=@0 -cf "$folder/tar" "$name"
-gzip -9n < "$folder/tar" > "$archive"
+gzip -9n < "$folder/tar" > "$folder/archive"
+[ "$kind" = web ] || wheel=$(python3 faces/python/wheel.py "$folder/shared" "${target%%-*}" "$folder")
+place "$folder/archive" "$archive"
 echo "wrote goblin_c $version for $made_for to $archive"
-if [ "$target" != wasm64-unknown-unknown ]; then
-    # (a wheel's name can't have them, so its folder has)
-    wheel=$(python3 faces/python/wheel.py "$folder/shared" "${target%%-*}" "$(dirname "$archive")${some:+/$cpu}")
-    echo "wrote $wheel"
+if [ "$kind" = library ]; then
+    # (a wheel's name can't have the processors, so its folder has)
+    into=$(dirname "$archive")${some:+/$cpu}/${wheel##*/}
+    place "$wheel" "$into"
+    echo "wrote $into"
 fi

@@ -110,6 +110,18 @@ made_for="$version-x86_64-unknown-linux-gnu-x86-64-v3"
 tar -tzf "$some/goblin_c.tar.gz" > "$folder/output"
 grep -qx "goblin_c-$made_for/README.md" "$folder/output" || fail "the archive for some processors has no name of its own: $(cat "$folder/output")"
 [ -e "$some/x86-64-v3/goblin_elf-$version-py3-none-linux_x86_64.whl" ] || fail "the wheel for some processors has no folder of its own"
+# What can't be written whole leaves the earlier archive and wheel. (Some files may have only 4 KiB, as on a disk that is full.)
+mkdir "$folder/limited"
+cp -R "$some" "$folder/before"
+for command in gzip python3 cp; do
+    # shellcheck disable=SC2016 # (they are of the script that is written)
+    printf '#!/bin/sh\ncase $1 in *constants.py) ;; *) trap "" XFSZ && ulimit -f 8 ;; esac\nexec "%s" "$@"\n' "$(command -v $command)" \
+        > "$folder/limited/$command"
+    chmod 755 "$folder/limited/$command"
+    ends_with 1 '*File too large*' env PATH="$folder/limited:$PATH" CPU=x86-64-v3 sh faces/install.sh --archive "$some/goblin_c.tar.gz"
+    quietly diff -r "$folder/before" "$some"
+    rm "$folder/limited/$command"
+done
 # A wheel that can't be written is no archive that is.
 mkdir -p "$folder/taken/goblin_elf-$version-py3-none-linux_x86_64.whl"
 ends_with 1 '*' sh faces/install.sh --archive "$folder/taken/goblin_c.tar.gz"
