@@ -116,7 +116,10 @@ class Unpacked:
     def by_cmake(self):
         """Builds nm.c by CMake with some lines that find and link the library, and runs it."""
         package, module = f'find_package(goblin_c {self.version.rpartition(".")[0]} REQUIRED)', 'find_package(PkgConfig REQUIRED)'
-        none = ('find_package(goblin_c 99 QUIET)\nif(goblin_c_FOUND)\nmessage(FATAL_ERROR "version 99 is found")\nendif()\n'
+        none = ('foreach(wrong 99 "COMPONENTS;nothing")\nfind_package(goblin_c ${wrong} QUIET)\n'
+                'if(goblin_c_FOUND)\nmessage(FATAL_ERROR "${wrong} is found")\nendif()\nendforeach()\n'
+                'find_package(goblin_c REQUIRED COMPONENTS goblin_c OPTIONAL_COMPONENTS nothing)\n'
+                'if(goblin_c_nothing_FOUND OR NOT goblin_c_goblin_c_FOUND)\nmessage(FATAL_ERROR "other components are found")\nendif()\n'
                 'if(NOT CMAKE_VERSION VERSION_LESS 3.19)\nfind_package(goblin_c 0.1...<99 REQUIRED)\n'
                 f'set(INCLUDE include)\nfind_package(goblin_c 0.1...{self.version} REQUIRED)\nendif()\n')
         ways = {'package': f'{none}{package}\ntarget_link_libraries(listing goblin_c::goblin_c)'}
@@ -124,7 +127,7 @@ class Unpacked:
             ways['module'] = (f'{module}\npkg_check_modules(GOBLIN REQUIRED IMPORTED_TARGET goblin_c={self.version})\n'
                               'target_link_libraries(listing PkgConfig::GOBLIN)')
         if not self.runner and os.path.exists(f'{self.libdir}/libgoblin_c-shared.so'):
-            ways['shared'] = f'{package}\ntarget_link_libraries(listing goblin_c::shared)'
+            ways['shared'] = f'{package[:-1]} COMPONENTS shared)\ntarget_link_libraries(listing goblin_c::shared)'
         project = 'cmake_minimum_required(VERSION 3.10)\nproject(listing C)\nadd_executable(listing "$ENV{THERE}/share/goblin_c/examples/nm.c")\n'
         for name, lines in ways.items():
             self.run(f'mkdir {name}', f'cd {name}', 'echo "$LISTS" > CMakeLists.txt', 'cmake -S . -B built', 'cmake --build built',
