@@ -53,6 +53,22 @@ ends_with 0 "*looked for in GOBLIN_C_LIB=$folder: it isn't made for this platfor
 cargo:warning=it is made for Linux on x86_64 and on aarch64 alone
 *" env CARGO_CFG_TARGET_ARCH=x86_64 CARGO_CFG_TARGET_OS=windows "$folder/script"
 ends_with 0 "*link-search=native=$folder*" env CARGO_CFG_TARGET_ARCH=x86_64 CARGO_CFG_TARGET_OS=android "$folder/script"
+# It says of a library that can't be linked why: of another processor, empty, cut within its list of names, and one that is no file.
+mkdir "$folder/faults"
+faulty() {
+    ends_with 0 "*looked for in GOBLIN_C_LIB=$folder/faults: $2
+*" env GOBLIN_C_LIB="$folder/faults" CARGO_CFG_TARGET_ARCH="$1" CARGO_CFG_TARGET_OS=linux "$folder/script"
+}
+cp "$folder/libgoblin_c.a" "$folder/faults/"
+faulty aarch64 'it is for another processor'
+for size in 0 100; do
+    head -c $size "$folder/libgoblin_c.a" > "$folder/faults/libgoblin_c.a"
+    faulty x86_64 'it has no object file'
+done
+rm "$folder/faults/libgoblin_c.a"
+faulty x86_64 "it isn't there"
+mkdir "$folder/faults/libgoblin_c.a"
+faulty x86_64 "it can't be read"
 cp -R faces/rust "$folder/copied"
 quietly env -u GOBLIN_C_LIB PKG_CONFIG_LIBDIR="$folder" cargo check --offline --manifest-path "$folder/copied/Cargo.toml"
 awk '/looked for in/ { wrong++ } /no folder beside this crate was looked in: it is a copy/ { said++ } END { exit wrong || !said }' "$folder/output" \

@@ -25,8 +25,10 @@ fn machine_of(platform: &str) -> Option<u16> {
 
 /// Returns why the library in a folder can't be linked for a platform, if it can't. It reads its first object file.
 fn fault(folder: &Path, platform: &str) -> Option<&'static str> {
-    let bytes = match fs::read(folder.join(LIBRARY)) {
+    let library = folder.join(LIBRARY);
+    let bytes = match fs::read(&library) {
         Ok(bytes) => bytes,
+        Err(_) if library.exists() => return Some("it can't be read"),
         Err(_) => return Some("it isn't there"),
     };
     let machine = match machine_of(platform) {
@@ -34,8 +36,11 @@ fn fault(folder: &Path, platform: &str) -> Option<&'static str> {
         None => return Some("it isn't made for this platform"),
     };
     let header = bytes.windows(4).position(|magic| magic == b"\x7fELF");
-    let is_for_this = header.map_or(false, |start| bytes[start..].get(18..20) == Some(&machine.to_le_bytes()));
-    if is_for_this { None } else { Some("it is for another processor") }
+    match header.and_then(|start| bytes[start..].get(18..20)) {
+        None => Some("it has no object file"),
+        Some(other) if other != machine.to_le_bytes() => Some("it is for another processor"),
+        Some(_) => None,
+    }
 }
 
 /// Returns the folder that pkg-config finds of the library of this version. (A space is printed after a backslash.)
