@@ -36,6 +36,10 @@ cp LICENSE CHANGELOG.md checks/files/symbols "$folder/copy"
 python3 checks/program.py checks/files/symbols > "$folder/wanted"
 cd "$folder/copy"
 refuses 'there is no option --help: *' sh faces/install.sh --help
+for words in '' --uninstall '--archive a b' 'a --archive'; do
+    # shellcheck disable=SC2086 # (they are words)
+    refuses 'name one folder or archive: *' sh faces/install.sh $words
+done
 touch "$folder/file"
 refuses "PREFIX is $folder/file/below: $folder/file is no folder that can be written to" sh faces/install.sh "$folder/file/below"
 refuses '*

@@ -22,8 +22,9 @@ fail() {
     exit 2
 }
 # (a folder's name may begin with a hyphen, and an empty one is the root)
-case $1 in --archive | --uninstall) option=$1 && shift ;; *) option= ;; esac
+case ${1-} in --archive | --uninstall) option=$1 && shift ;; *) option= ;; esac
 case ${1-/} in --*) fail "there is no option $1: the first lines of faces/install.sh list them" ;; -*) set -- "./$1" ;; '') set -- / ;; esac
+case $option$# in 1 | --archive[01] | --uninstall1) ;; *) fail 'name one folder or archive: the first lines of faces/install.sh say how' ;; esac
 # (what is installed is listed by lines)
 case ${1-} in *"
 "*) fail "PREFIX is $1: its name has a line break" ;; esac
