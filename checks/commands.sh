@@ -57,6 +57,17 @@ for command in realpath tar; do
     refuses "goblin_c: the command $command takes no option *" env PATH="$folder/$command:$PATH" sh faces/install.sh --archive
 done
 
+# (a python3 may be too old, or fail before it reads a line)
+mkdir "$folder/python"
+refuses_python() {
+    printf '#!/bin/sh\n%s\n' "$2" > "$folder/python/python3"
+    chmod +x "$folder/python/python3"
+    refuses "*make try: $1*" env PATH="$folder/python:$PATH" SHOWN=symbols sh commands/show.sh try
+}
+refuses_python 'the command python3 fails. ' 'exit 1'
+refuses_python 'the command python3 fails. ' 'exit 127'
+refuses_python 'python3 is older than 3.8' "exec $(command -v python3) -c 'import sys; sys.version_info = (3, 7); exec(sys.argv[1])' \"\$2\""
+
 # (openSUSE sets CPU to x86_64 for all users, which the toolchain doesn't know)
 # shellcheck disable=SC2016 # (it is make's)
 rule='cpu: ; @echo "CPU=$$CPU"'

@@ -12,8 +12,13 @@ for name; do
     rt-) fail "the command rt was not found. Add the Rattle toolchain to your PATH: export PATH=TOOLCHAIN/bin:\$PATH" ;;
     *-) fail "the command $name was not found. Install it first" ;;
     python3-*)
-        python3 -c 'import sys; sys.exit(sys.version_info < (3, 8))' \
-            || fail "python3 is older than 3.8, which rt needs, too. Install a later one, or put it first on your PATH"
+        status=0
+        python3 -c 'import sys; sys.exit(3 * (sys.version_info < (3, 8)))' || status=$?
+        case $status in
+        0) ;;
+        3) fail "python3 is older than 3.8, which rt needs, too. Install a later one, or put it first on your PATH" ;;
+        *) fail "the command python3 fails. Repair it, or put another one first on your PATH" ;;
+        esac
         ;;
     esac
 done
