@@ -104,6 +104,18 @@ fi
 chmod -R u+w .
 printf '#!/bin/sh\nexit 1\n' > rt
 chmod +x rt
+# (a CDPATH of the environment may name a folder with such crates)
+mkdir "$folder/other" "$folder/lists"
+touch crates/goblin_show/stdin
+cp -R crates "$folder/other/"
+printf '#!/bin/sh\npwd >> "%s"\n' "$folder/places" > "$folder/lists/rt"
+chmod +x "$folder/lists/rt"
+for command in 'commands/libraries.sh proof goblin_show' 'commands/show.sh show' 'faces/install.sh installed'; do
+    # shellcheck disable=SC2086 # (they are words)
+    env PATH="$folder/lists:$PATH" CDPATH="$folder/other" SHOWN=symbols sh $command > "$folder/output" 2>&1 || :
+done
+for crate in goblin goblin_c goblin_show; do quietly grep -xF "$PWD/crates/$crate" "$folder/places"; done
+ends_with 1 '' grep -F "$folder/other/" "$folder/places"
 echo '//' >> commands/try.main
 refuses "*make try: the program was not compiled; the toolchain's messages are above" env PATH="$PWD:$PATH" XDG_CACHE_HOME="$folder" SHOWN=symbols \
     sh commands/show.sh try

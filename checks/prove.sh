@@ -6,7 +6,7 @@
 # What the toolchain reports is left in the crate's out/said, and the program of the second compiler beside the first, as CRATE.by-rattle.
 # Run from the root of the repository, or of a copy.
 set -eu
-cd "crates/$1"
+cd "./crates/$1"
 mkdir -p out
 fail() {
     cat out/said

@@ -6,7 +6,7 @@ shift
 . checks/faces/shared.sh
 count=$(grep -rF '#[test]' "crates/$crate/src" | wc -l)
 passed="^test result: ok[.] $count passed; 0 failed; 0 ignored"
-if ! (cd "crates/$crate" && rt try --test --seconds 1200) > "$folder/output" 2>&1 || ! grep -q "$passed" "$folder/output"; then
+if ! (cd "./crates/$crate" && rt try --test --seconds 1200) > "$folder/output" 2>&1 || ! grep -q "$passed" "$folder/output"; then
     cat "$folder/output"
     fail "tests: not all $count tests of $crate passed"
 fi

@@ -8,7 +8,7 @@
 sh commands/has.sh 'compiling callers of views' rt
 views='entries::Looked entries::Entries entries::Probes counted_bytes::CountedBytes'
 public='Looked new len at marks text entries count Entries len is_empty text Probes of len at count CountedBytes new len at get bytes count '
-found=$(cd crates/goblin_base/src && sed -En 's/^ *pub(\(\w+\))? ((fn|struct) )?(\w+).*/\4/p; /^impl.* (Model|fmt::Debug) for /!s/^impl.* for /&/p
+found=$(cd ./crates/goblin_base/src && sed -En 's/^ *pub(\(\w+\))? ((fn|struct) )?(\w+).*/\4/p; /^impl.* (Model|fmt::Debug) for /!s/^impl.* for /&/p
     /\.field\(/{/&self\.(len|count)\(\)\)/!p}' \
     entries.rt counted_bytes.rt | tr '\n' ' ')
 [ "$found" = "$public" ] || wrong="; only what this script lists may be public, and this is: $found"

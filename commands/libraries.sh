@@ -26,7 +26,7 @@ for crate in $crates; do
     : > "$said"
     report_waiting "$doing" &
     follower=$!
-    if ! (cd "crates/$crate" && rt lib) > "$said" 2>&1; then
+    if ! (cd "./crates/$crate" && rt lib) > "$said" 2>&1; then
         echo >&2
         tail -n 40 "$said" >&2
         echo "$1: the proof of $crate failed; the toolchain's messages are above" >&2

@@ -88,7 +88,7 @@ prove_program() {
     sh commands/libraries.sh 'make show' goblin_show
     echo 'make show: proving goblin_show' >&2
     # (the program runs once over its stored input, which shows that it was built)
-    (cd crates/goblin_show && rt run < stdin) > "$said" 2>&1 || fail_as_said 'the proof of goblin_show failed'
+    (cd ./crates/goblin_show && rt run < stdin) > "$said" 2>&1 || fail_as_said 'the proof of goblin_show failed'
     sha256sum "$show" | cat "$folder/sources" - > "$note"
 }
 

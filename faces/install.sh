@@ -345,7 +345,7 @@ make_library() {
     sources > "$folder/sources"
     sh commands/libraries.sh goblin_c goblin_c
     echo "goblin_c: proving the calls for C, and compiling them for $target" >&2
-    (cd crates/goblin_c && rt lib --target "$target" --cpu "$cpu") > "$folder/said" 2>&1 || { cat "$folder/said"; exit 1; }
+    (cd ./crates/goblin_c && rt lib --target "$target" --cpu "$cpu") > "$folder/said" 2>&1 || { cat "$folder/said"; exit 1; }
     verdict "$folder/said"
     mv "$made" "$folder/made"
     # (the library that `rt lib` made there before is put back)
