@@ -53,13 +53,18 @@ ends_with 0 "*looked for in GOBLIN_C_LIB=$folder: it isn't made for this platfor
 cargo:warning=it is made for Linux on x86_64 and on aarch64 alone
 *" env CARGO_CFG_TARGET_ARCH=x86_64 CARGO_CFG_TARGET_OS=windows "$folder/script"
 ends_with 0 "*link-search=native=$folder*" env CARGO_CFG_TARGET_ARCH=x86_64 CARGO_CFG_TARGET_OS=android "$folder/script"
-# It says of a library that can't be linked why: of another processor, empty, cut within its list of names, and one that is no file.
-mkdir "$folder/faults"
+# It says of a library that can't be linked why: in a folder that cargo can't name, of another processor, empty, cut within its list of names,
+# and one that is no file.
 faulty() {
-    ends_with 0 "*looked for in GOBLIN_C_LIB=$folder/faults: $2
-*" env GOBLIN_C_LIB="$folder/faults" CARGO_CFG_TARGET_ARCH="$1" CARGO_CFG_TARGET_OS=linux "$folder/script"
+    ends_with 0 "*looked for in GOBLIN_C_LIB=$folder/*faults: $2
+*" env GOBLIN_C_LIB="$faults" CARGO_CFG_TARGET_ARCH="$1" CARGO_CFG_TARGET_OS=linux "$folder/script"
 }
-cp "$folder/libgoblin_c.a" "$folder/faults/"
+faults=$folder/$(printf '\351')faults
+mkdir "$faults"
+cp "$folder/libgoblin_c.a" "$faults/"
+faulty x86_64 "the folder's name isn't UTF-8, which cargo needs"
+mv "$faults" "$folder/faults"
+faults=$folder/faults
 faulty aarch64 'it is for another processor'
 for size in 0 100; do
     head -c $size "$folder/libgoblin_c.a" > "$folder/faults/libgoblin_c.a"

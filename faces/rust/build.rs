@@ -25,6 +25,9 @@ fn machine_of(platform: &str) -> Option<u16> {
 
 /// Returns why the library in a folder can't be linked for a platform, if it can't. It reads its first object file.
 fn fault(folder: &Path, platform: &str) -> Option<&'static str> {
+    if folder.to_str().is_none() {
+        return Some("the folder's name isn't UTF-8, which cargo needs");
+    }
     let library = folder.join(LIBRARY);
     let bytes = match fs::read(&library) {
         Ok(bytes) => bytes,
