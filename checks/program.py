@@ -95,9 +95,9 @@ def differing(status, wanted, input, arguments=(), programs=PROGRAMS, output=Non
     wrong = 0
     for program in programs:
         file = os.open(input, os.O_RDONLY)
-        ran = subprocess.run([program, *arguments], stdin=file, stdout=output or subprocess.PIPE)
+        ran = subprocess.run([program, *arguments], stdin=file, stdout=output or subprocess.PIPE, stderr=subprocess.PIPE)
         os.close(file)
-        to, written = f' > {output.name}' if output else '', ran.stdout or b''
+        to, written = f' > {output.name}' if output else '', (ran.stdout or b'') + ran.stderr
         if (ran.returncode, written) != (status, wanted):
             wrong += 1
             print(f'program: {program} {" ".join(arguments)} < {input}{to}: exit status {ran.returncode} (expected {status}). Its output:\n'
