@@ -358,6 +358,7 @@ make_library() {
 }
 
 library=${LIBRARY:-}
+[ -z "$library" ] || [ -r "$library" ] || fail "LIBRARY is $library: it can not be read"
 if [ -z "$library" ]; then
     sh commands/has.sh 'making the library' rt
     cache=out/library/$target-$cpu

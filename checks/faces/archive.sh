@@ -52,6 +52,11 @@ for path in "$PATH" "$folder/filling:$PATH" "$folder/stopping:$PATH"; do
     [ ! -e "$folder/above" ] || fail "the uninstallation of what was installed in part leaves: $(find "$folder/above")"
 done
 ends_with 2 'PROGRAM is *: it can not be read' env PROGRAM="$folder/none" sh faces/install.sh "$root"
+# (nor is an earlier module removed for a library that is missing)
+quietly env TARGET=wasm64-unknown-unknown sh faces/install.sh "$root"
+ends_with 2 'LIBRARY is *: it can not be read' env TARGET=wasm64-unknown-unknown LIBRARY="$folder/none" sh faces/install.sh "$root"
+[ -e "$root/share/goblin_c/web/goblin_c.wasm" ] || fail 'an installation of a library that is missing removes the earlier one'
+quietly sh faces/install.sh --uninstall "$root"
 mkdir -p "$root/share/man"
 (umask 022 && quietly env LIBDIR=lib sh faces/install.sh "$root")
 touch "$root/include/own.h"
