@@ -11,8 +11,8 @@ import os
 import pickle
 import resource
 import signal
+import subprocess
 import sys
-from multiprocessing import resource_tracker
 from typing import Any, Callable, Generator, Iterator, List, Optional, Tuple
 
 Batch = List[str]
@@ -25,7 +25,9 @@ MESSAGE = 64 << 20
 # How many workers may end in a row before they are ready, and how many seconds to wait for a scheduler, and for the first of its workers.
 STARTS, PATIENCE = 16, 20
 PR_SET_PDEATHSIG = 1  # of Linux's prctl
-SPAWN = multiprocessing.get_context('spawn')
+# What a worker runs: it receives where modules are, a function, and what that is called with.
+START = 'import sys; from multiprocessing.connection import Connection; connection = Connection(int(sys.argv[1])); ' \
+        'sys.path[:] = connection.recv(); function, *given = connection.recv(); function(connection, *given)'
 
 
 class Stopped(Exception):
@@ -45,24 +47,20 @@ class Worker:
     """A process of this machine that runs the function, and its task. It is ready once it has said so."""
 
     def __init__(self, function: Function, memory: int) -> None:
-        self.connection, theirs = SPAWN.Pipe()
-        folder = os.getcwd()
-        self.process = SPAWN.Process(target=work, args=(function, theirs, memory, folder), daemon=True)
+        self.connection, theirs = multiprocessing.Pipe()
         self.task: Optional[Task] = None
         self.is_ready = False
+        folder, flags = os.getcwd(), subprocess._args_from_interpreter_flags()  # type: ignore[attr-defined]
         try:
             # (as it starts, Python looks for modules in the current folder, which may be a stranger's)
-            os.chdir('/')
-            # (it inherits the mask, so that Ctrl-C ends this process alone; the tracker would change the mask when it starts)
-            resource_tracker.ensure_running()
-            signal.pthread_sigmask(signal.SIG_BLOCK, [signal.SIGINT])
-            self.process.start()
+            self.process = subprocess.Popen([sys.executable, *flags, '-c', START, str(theirs.fileno())], cwd='/', pass_fds=[theirs.fileno()])
         except OSError as error:
             raise Stopped(f'no worker can be started: {error.strerror}') from None
         finally:
-            os.chdir(folder)
-            signal.pthread_sigmask(signal.SIG_UNBLOCK, [signal.SIGINT])
             theirs.close()
+        with contextlib.suppress(OSError):  # (it has ended, which `take` of the workers finds)
+            self.connection.send([path or folder for path in sys.path])
+            self.connection.send((work, function, memory, folder))
 
     def give(self, task: Task) -> None:
         self.connection.send(task.batch)
@@ -77,7 +75,7 @@ class Worker:
 
     def end(self) -> None:
         self.process.kill()
-        self.process.join()
+        self.process.wait()
         self.connection.close()
 
 
@@ -100,7 +98,7 @@ def in_turn(function: Function, memory: int, batches: Iterator[Batch]) -> Result
         yield [path], result
 
 
-def work(function: Function, connection: Any, memory: int, folder: str) -> None:
+def work(connection: Any, function: Function, memory: int, folder: str) -> None:
     """Runs the function on each batch that comes, in a folder and in little memory, until the other side ends or memory runs out."""
     # (what ends the process that started it, such as SIGTERM, ends it, too, in the midst of a batch)
     ctypes.CDLL(None).prctl(PR_SET_PDEATHSIG, signal.SIGKILL)
@@ -142,7 +140,12 @@ class Workers:
     def give(self) -> None:
         """Starts what workers are missing, and gives each one without a task the next."""
         while len(self.workers) < min(self.count, len(self.tasks)):
-            self.workers.append(Worker(self.function, self.memory))
+            # (it inherits the mask, so that Ctrl-C ends this process alone, once the worker is one of those that it ends)
+            mask = signal.pthread_sigmask(signal.SIG_BLOCK, [signal.SIGINT])
+            try:
+                self.workers.append(Worker(self.function, self.memory))
+            finally:
+                signal.pthread_sigmask(signal.SIG_SETMASK, mask)
         # (no others, since the results of those after one that takes long are held until it is done)
         tasks = [task for task in self.tasks[:4 * self.count] if not task.is_given]
         for worker, task in zip([worker for worker in self.workers if worker.is_ready and not worker.task], tasks):
@@ -166,7 +169,7 @@ class Workers:
         self.workers.remove(worker)
         self.failed_starts += not worker.is_ready
         if self.failed_starts == STARTS:
-            raise Stopped(f'{STARTS} workers ended as they started, the last one with exit code {worker.process.exitcode}')
+            raise Stopped(f'{STARTS} workers ended as they started, the last one with exit code {worker.process.returncode}')
         task = worker.task
         if task and len(task.batch) > 1:
             place = self.tasks.index(task)

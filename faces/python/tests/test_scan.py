@@ -18,6 +18,7 @@ import subprocess
 import sys
 import tarfile
 import tempfile
+import threading
 import time
 import tracemalloc
 import types
@@ -715,6 +716,26 @@ class Workers(Folder):
         scan(self.files, '-o', self.out('r.csv'), '--workers', '1')
         self.assertEqual([row['file'] for row in self.rows('r.csv')], [self.out('files/a.o')])
 
+    def test_threads(self):
+        """The current folder, which is that of all threads, stays the same."""
+        self.put('a.o', made.ALL[0].bytes)
+        self.addCleanup(os.chdir, '/')
+        os.chdir(self.folder)
+        threads = [threading.Thread(target=module.main, args=(['files', '-o', self.out(f'{number}.csv'), '--workers', '2'],)) for number in '01']
+        with contextlib.redirect_stderr(io.StringIO()):
+            for thread in threads:
+                thread.start()
+            seen = {os.getcwd() for _ in iter(lambda: any(thread.is_alive() for thread in threads), False)}
+        self.assertEqual((seen, len(self.rows('0.csv'))), ({os.path.realpath(self.folder)}, 1))
+        self.assertEqual(self.rows('0.csv'), self.rows('1.csv'))
+
+    def test_flags_of_python(self):
+        """Workers have the same ones, and so take names for the same bytes."""
+        self.put('\u00e9', made.ALL[0].bytes)
+        subprocess.run([sys.executable, '-X', 'utf8', *SCAN[1:], 'files', '-o', 'r.csv', '--workers', '1'], check=True, cwd=self.folder,
+                       stderr=subprocess.PIPE, env={**os.environ, 'LC_ALL': 'C', 'PYTHONUTF8': '0', 'PYTHONCOERCECLOCALE': '0'})
+        self.assertEqual([(row['file'], row['class']) for row in self.rows('r.csv')], [('files/\u00e9', 'ELF32')])
+
     def test_a_library_of_the_current_folder(self):
         """Workers load the same one, though they start elsewhere."""
         self.put('a.o', made.ALL[0].bytes)
@@ -993,7 +1014,7 @@ def workers_of(running):
     for process in filter(str.isdecimal, os.listdir('/proc')):
         with contextlib.suppress(OSError):
             fields = read(f'/proc/{process}/stat').rsplit(b')', 1)[1].split()
-            if int(fields[1]) == running.pid and b'spawn_main' in read(f'/proc/{process}/cmdline'):
+            if int(fields[1]) == running.pid and workers.START.encode() in read(f'/proc/{process}/cmdline'):
                 found.append(int(process))
     return sorted(found)
 
