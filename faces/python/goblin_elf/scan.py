@@ -109,11 +109,32 @@ def unguarded(cell: str) -> str:
     return re.sub(f"(^|;)'{FORMULA}", r'\1', cell)
 
 
-def rows_of(path: str, follow: bool = False) -> Iterator[Row]:
+def opened(path: str, folders: FrozenSet[str], flags: int) -> int:
+    """Opens a path as `os.open` does, but follows no link below the last of some folders, given without a slash at their ends, that it is or is
+    below, or else below the one that it is in: since the path was found, a link may have come in the place of a part of it."""
+    os.lstat(path)  # (it may be too long)
+    folder = path
+    while folder and folder not in folders:
+        folder = folder.rpartition('/')[0]
+    if folder not in folders:
+        folder = os.path.dirname(path)
+    names = [name for name in path[len(folder):].split('/') if name]
+    if not names:
+        return os.open(path, flags)
+    at = os.open(folder or ('/' if path[:1] == '/' else '.'), os.O_PATH)
+    try:
+        for name in names[:-1]:
+            at, above = os.open(name, os.O_PATH | os.O_DIRECTORY | os.O_NOFOLLOW, dir_fd=at), at
+            os.close(above)
+        return os.open(names[-1], flags | os.O_NOFOLLOW, dir_fd=at)
+    finally:
+        os.close(at)
+
+
+def rows_of(path: str, folders: FrozenSet[str] = frozenset()) -> Iterator[Row]:
     """Yields the rows of a file: one if it is an ELF file, one for each such member if it is an archive, else none."""
-    # (since it was found, a FIFO, at which an open would wait, or a link may have come in its place)
-    more = os.O_NONBLOCK | (0 if follow else os.O_NOFOLLOW)
-    with open(path, 'rb', opener=lambda name, flags: os.open(name, flags | more)) as file:
+    # (a FIFO may have come in its place, at which an open would wait)
+    with open(path, 'rb', opener=lambda name, flags: opened(name, folders, flags | os.O_NONBLOCK)) as file:
         status = os.fstat(file.fileno())
         # (of the kernel's files, which have no size, some can't be read to an end)
         start = file.read(len(AR)) if stat.S_ISREG(status.st_mode) and status.st_size else b''
@@ -268,13 +289,13 @@ def bounded(path: str, rows: Iterator[Row]) -> Iterator[Row]:
         yield row
 
 
-def examine(paths: List[str], links: FrozenSet[str] = frozenset()) -> Result:
-    """Examines a batch of files, of which these may be links."""
+def examine(paths: List[str], folders: FrozenSet[str] = frozenset()) -> Result:
+    """Examines a batch of files, and follows no link below these folders."""
     results = []
     for path in paths:
         start = time.perf_counter()
         try:
-            rows = list(bounded(path, rows_of(path, path in links)))
+            rows = list(bounded(path, rows_of(path, folders)))
         except (OSError, ValueError) as error:  # (the latter at a file that was emptied meanwhile)
             rows = [row_with(path, None, refused='UNREADABLE', text=getattr(error, 'strerror', None) or 'it can not be read')]
         except MemoryError:
@@ -304,9 +325,14 @@ def found_below(folder: str, others: Set[str]) -> Iterator[str]:
             yield path
             continue
         try:
-            with os.scandir(path) as scanned:
-                entries = sorted(scanned, key=lambda entry: entry.name, reverse=True)
-                kinds = [(entry.path, entry.is_dir(follow_symlinks=False), entry.is_file(follow_symlinks=False)) for entry in entries]
+            at = opened(path, frozenset([folder.rstrip('/')]), os.O_DIRECTORY)
+            try:
+                with os.scandir(at) as scanned:
+                    entries = sorted(scanned, key=lambda entry: entry.name, reverse=True)
+                    kinds = [(os.path.join(path, entry.name), entry.is_dir(follow_symlinks=False), entry.is_file(follow_symlinks=False))
+                             for entry in entries]
+            finally:
+                os.close(at)
             left += [(below, is_dir) for below, is_dir, is_file in kinds if (is_dir or is_file) and below not in others]
         except NotADirectoryError:
             pass
@@ -451,7 +477,7 @@ def report_on(results: workers.Results, report: Report) -> None:
 
 def runner_of(options: argparse.Namespace) -> Callable[[Iterator[workers.Batch]], workers.Results]:
     """Returns what examines batches."""
-    function = functools.partial(examine, links=frozenset(options.folders))
+    function = functools.partial(examine, folders=frozenset(folder.rstrip('/') for folder in options.folders))
     if options.scheduler:
         return workers.Scheduled(function, options.scheduler).results
     if options.workers:

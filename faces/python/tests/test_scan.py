@@ -7,6 +7,7 @@ import errno
 import gzip
 import importlib.machinery
 import io
+import itertools
 import json
 import lzma
 import os
@@ -402,6 +403,27 @@ class Scan(Folder):
             found += module.examine([a])
         self.assertEqual([[(row['class'], row['text']) for row in rows] for _, rows, _ in found],
                          [[], [(None, os.strerror(errno.ELOOP))], [('ELF32', None)]])
+
+    def test_folders_that_are_replaced(self):
+        """No link is followed that comes in the place of a folder, before it is read or before its files are."""
+        os.makedirs(self.out('elsewhere/below'))
+        os.mkdir(os.path.join(self.files, 'sub/below'))
+        for name in ('files/a.o', 'files/sub/a.o', 'files/sub/below/b.o', 'elsewhere/below/b.o'):
+            self.put(self.out(name), made.ALL[0].bytes)
+        os.symlink('files', self.out('named'))
+        every = [self.out(f'named/{name}') for name in ('a.o', 'sub/a.o', 'sub/below/b.o')]
+        for count, replaced, by, left in ((1, 'sub', 'elsewhere', 0), (1, 'sub/below', 'elsewhere/below', 1), (2, 'sub', 'elsewhere', 0),
+                                          (3, 'sub', 'elsewhere', 0)):
+            paths = module.found_below(self.out('named'), set())
+            self.assertEqual(list(itertools.islice(paths, count)), every[:count])
+            os.rename(os.path.join(self.files, replaced), self.out('old'))
+            os.symlink(self.out(by), os.path.join(self.files, replaced))
+            self.assertEqual(list(paths), every[count:count + left])
+            found = module.examine([every[0], every[2]], frozenset([self.out('named')]))
+            self.assertEqual([(row['class'], row['text']) for _, rows, _ in found for row in rows],
+                             [('ELF32', None), (None, os.strerror(errno.ENOTDIR))])
+            os.remove(os.path.join(self.files, replaced))
+            os.rename(self.out('old'), os.path.join(self.files, replaced))
 
     def test_resumed(self):
         self.put_many(40)
