@@ -51,6 +51,8 @@ MAGIC, AR, THIN = b'\x7fELF', b'!<arch>\n', b'!<thin>\n'
 DAMAGED = 'the archive is damaged or cut: it may have more members'
 # The most bytes of a member that is unpacked into memory, of the data of a package, of a member's name, and of one that is unpacked.
 MEMBER, PACKAGE, NAME, NAME_READ = 64 << 20, 4 << 30, 4096, 1 << 16
+# The most headers of a package: of members, of long names of them, and of members of static libraries. (4 GiB of them would take minutes.)
+HEADERS = 1 << 19
 # The most characters of a file's rows. (A package of a few kilobytes may have rows of hundreds of megabytes.)
 ROWS = 64 << 20
 # How many rows of a .parquet are in memory at a time.
@@ -184,9 +186,10 @@ def members(content: memoryview) -> Iterator[Tuple[str, Optional[memoryview]]]:
         yield '', None
 
 
-def of_library(path: str, library: str, content: bytes) -> Iterator[Row]:
+def of_library(path: str, library: str, content: bytes, stream: 'Unpacked') -> Iterator[Row]:
     """Yields the rows of the members of a static library in a package."""
     for name, member in members(memoryview(content)):
+        stream.count_header()
         if member is None:
             yield row_with(path, library, refused='LEFT_OUT', text=DAMAGED)
         elif member[:4] == MAGIC:
@@ -203,7 +206,8 @@ class Member(tarfile.TarInfo):
         except tarfile.HeaderError as error:
             raise error if type(error).__name__ == 'EOFHeaderError' else tarfile.ReadError(str(error))
 
-    def _proc_member(self, archive: tarfile.TarFile) -> Any:
+    def _proc_member(self, archive: Any) -> Any:
+        archive.fileobj.fileobj.count_header()
         # (for headers of POSIX.1-2001, sparse files and names without a bound, which dpkg refuses, too, Python may take hours or all memory)
         most = NAME_READ if self.type in (tarfile.GNUTYPE_LONGNAME, tarfile.GNUTYPE_LONGLINK) else PACKAGE
         is_read = self.type in tarfile.SUPPORTED_TYPES and self.type != tarfile.GNUTYPE_SPARSE
@@ -240,7 +244,12 @@ class Unpacked:
         name = next((name for start, name in PACKED.items() if data[:len(start)] == start), None)
         # (`read` of these modules would lose what comes before damaged data)
         self.part = unpacker(name).open(content).read1 if name else content.read
-        self.left = PACKAGE
+        self.left, self.headers = PACKAGE, 0
+
+    def count_header(self) -> None:
+        self.headers += 1
+        if self.headers > HEADERS:
+            raise ValueError(f'it has more than {HEADERS} headers')
 
     def read(self, size: int) -> bytes:
         part: bytes = self.part(min(size, self.left or 1))
@@ -265,7 +274,7 @@ def unpacked(path: str, data: memoryview) -> Iterator[Row]:
                 if member.size > MEMBER:
                     yield row_with(path, member.name, refused='LEFT_OUT', text='a member of a package with more than 64 MiB')
                 elif is_library:
-                    yield from of_library(path, member.name, start + file.read())
+                    yield from of_library(path, member.name, start + file.read(), stream)
                 else:
                     content = start + file.read()
                     rows[member.name] = row_of(path, member.name, lambda: Elf(content))

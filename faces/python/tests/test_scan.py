@@ -276,6 +276,19 @@ class Scan(Folder):
             rows = list(module.rows_of(os.path.join(self.files, 'x.deb')))
             self.assertEqual([(row['member'], row['text']) for row in rows], [('a', None), refused])
 
+    def test_headers_without_a_bound(self):
+        """Millions of them would take minutes: those of the tar, also for long names, and those of static libraries in it count."""
+        elf, long = made.ALL[3].bytes, 'x' * 200
+        library = archive([('a', elf), ('b', b''), ('c', elf)])
+        refused = 'its data can not be unpacked: it has more than 3 headers'
+        for files, expected in (([('a', elf), ('b', b''), ('c', elf)], ['a', 'c']), ([('a', elf), *[('b', b'')] * 3], ['a', refused]),
+                                ([(long, elf), ('b', elf)], [long, 'b']), ([(long, elf), (long, elf)], [long, refused]),
+                                ([('x.a', library)], ['x.a(a)', refused])):
+            self.put('x.deb', archive([('data.tar', tarred(*files))]))
+            with unittest.mock.patch.object(module, 'HEADERS', 3):
+                rows = list(module.rows_of(os.path.join(self.files, 'x.deb')))
+            self.assertEqual([row['member'] or row['text'] for row in rows], expected)
+
     def test_memory_for_packages(self):
         """A package is unpacked in small parts, and none of them is kept."""
         zeros = tarred(('zeros', bytes(1 << 22)))
