@@ -30,7 +30,7 @@ import stat
 import sys
 import tarfile
 import time
-from typing import Any, Callable, Dict, FrozenSet, Iterator, List, Optional, Set, TextIO, Tuple
+from typing import IO, Any, Callable, Dict, FrozenSet, Iterator, List, Optional, Set, TextIO, Tuple
 
 from . import workers
 from .elf import Elf, content_of
@@ -38,6 +38,7 @@ from .facts import facts, refusal
 from .refused import Refused
 
 Row = Dict[str, Any]
+Part = Tuple[str, Row]  # of a file in a package: what comes after its name in the row, if it is a static library, and the row
 Result = List[Tuple[str, List[Row], float]]  # of each file of a batch its path, its rows, and the seconds that it took
 COUNTS = ['sections', 'segments', 'symbols', 'dynamic_symbols', 'code', 'data', 'read_only', 'zeros', 'not_loaded']
 COLUMNS = ['file', 'member', 'class', 'order', 'type', 'kind', 'machine', 'build_id', 'interpreter', 'soname', 'rpath', 'runpath', 'needed', 'pie',
@@ -186,14 +187,14 @@ def members(content: memoryview) -> Iterator[Tuple[str, Optional[memoryview]]]:
         yield '', None
 
 
-def of_library(path: str, library: str, content: bytes, stream: 'Unpacked') -> Iterator[Row]:
+def of_library(path: str, content: bytes, stream: 'Unpacked') -> Iterator[Part]:
     """Yields the rows of the members of a static library in a package."""
     for name, member in members(memoryview(content)):
         stream.count_header()
         if member is None:
-            yield row_with(path, library, refused='LEFT_OUT', text=DAMAGED)
+            yield '', row_with(path, None, refused='LEFT_OUT', text=DAMAGED)
         elif member[:4] == MAGIC:
-            yield row_of(path, f'{library}({name})', lambda: Elf(member))
+            yield f'({name})', row_of(path, None, lambda: Elf(member))
 
 
 class Member(tarfile.TarInfo):
@@ -259,28 +260,42 @@ class Unpacked:
         return part
 
 
+def of_member(path: str, member: tarfile.TarInfo, file: IO[bytes], stream: Unpacked) -> Iterator[Part]:
+    """Yields the rows of a file in a package."""
+    start = file.read(len(AR))
+    is_library = start == AR and member.name.endswith('.a')
+    if not is_library and start[:4] != MAGIC:
+        return
+    if member.size > MEMBER:
+        yield '', row_with(path, None, refused='LEFT_OUT', text='a member of a package with more than 64 MiB')
+    elif is_library:
+        yield from of_library(path, start + file.read(), stream)
+    else:
+        content = start + file.read()
+        yield '', row_of(path, None, lambda: Elf(content))
+
+
 def unpacked(path: str, data: memoryview) -> Iterator[Row]:
-    """Yields the rows of the files in a package's data."""
-    rows: Dict[str, Row] = {}  # (which hard links have, too)
+    """Yields the rows of the files in a package's data. A hard link has those of its file."""
+    parts: Dict[str, List[Part]] = {}
     try:
         stream: Any = Unpacked(data)
         archive: Any = tarfile.open(fileobj=stream, mode='r|', tarinfo=Member)
         for member in archive:
             archive.members.clear()  # (which it would keep)
-            file = archive.extractfile(member) if member.isreg() else None
-            start = file.read(len(AR)) if file else b''
-            is_library = start == AR and member.name.endswith('.a')
-            if is_library or start[:4] == MAGIC:
-                if member.size > MEMBER:
-                    yield row_with(path, member.name, refused='LEFT_OUT', text='a member of a package with more than 64 MiB')
-                elif is_library:
-                    yield from of_library(path, member.name, start + file.read(), stream)
-                else:
-                    content = start + file.read()
-                    rows[member.name] = row_of(path, member.name, lambda: Elf(content))
-                    yield rows[member.name]
-            elif member.islnk() and member.linkname in rows:
-                yield {**rows[member.linkname], 'member': named(member.name[:NAME])}
+            found: Iterator[Part] = iter(())
+            if member.isreg():
+                found = of_member(path, member, archive.extractfile(member), stream)
+            elif member.islnk():
+                is_library = member.name.endswith('.a')
+                found = ((part, row) for part, row in parts.get(member.linkname, []) if not part or is_library)
+            own: List[Part] = []
+            for part, row in found:
+                own.append((part, {**row, 'member': named((member.name + part)[:NAME])}))
+                yield own[-1][1]
+            parts.pop(member.name, None)
+            if own:
+                parts[member.name] = own
     except MemoryError:  # (the rows before it may take most of the memory)
         raise
     except Exception as error:  # (Python's modules for archives raise many types of exceptions at damaged data)

@@ -217,12 +217,22 @@ class Scan(Folder):
             self.assertEqual(next(module.rows_of(os.path.join(self.files, 'x.deb')))['text'], 'a member of a package with more than 64 MiB')
 
     def test_hard_links_of_packages(self):
-        """Each name of a file has a row, as it has in a folder."""
-        links = [(name, b'', ('type', tarfile.LNKTYPE), ('linkname', file)) for name, file in (('./b', './a'), ('./c', './b'), ('./d', './text'))]
-        self.put('x.deb', archive([('data.tar', tarred(('./a', made.ALL[3].bytes), ('./text', b'odd'), *links))]))
-        rows = list(module.rows_of(os.path.join(self.files, 'x.deb')))
-        self.assertEqual([{**row, 'member': None} for row in rows], [{**rows[0], 'member': None}] * 2)
-        self.assertEqual([row['member'] for row in rows], ['./a', './b'])
+        """Each name of a file has the rows that it has in a folder, also if it is a link to a link."""
+        elf = made.ALL[3].bytes
+        library = archive([('a.o', elf), ('b.o', elf)])
+        large, cut = elf.ljust(len(library) + 1), library[:-len(elf)]
+        files = [('./a', elf), ('./text', b'odd'), ('./x.a', library), ('./cut.a', cut), ('./large', large)]
+        links = [('./b', './a'), ('./c', './b'), ('./d', './text'), ('./y.a', './x.a'), ('./y', './x.a'), ('./z.a', './y.a'), ('./cut2.a', './cut.a'),
+                 ('./l', './large'), ('./c', './c'), ('./d', './absent')]
+        made_of = [(name, b'', ('type', tarfile.LNKTYPE), ('linkname', file)) for name, file in links]
+        self.put('x.deb', archive([('data.tar', tarred(*files, *made_of, ('./a', b'odd'), made_of[0]))]))
+        with unittest.mock.patch.object(module, 'MEMBER', len(library)):
+            rows = list(module.rows_of(os.path.join(self.files, 'x.deb')))
+        first = {row['member']: {**row, 'member': None} for row in rows[:6]}
+        self.assertEqual(list(first), ['./a', './x.a(a.o)', './x.a(b.o)', './cut.a(a.o)', './cut.a', './large'])
+        expected = [('./b', './a'), ('./c', './a'), ('./y.a(a.o)', './x.a(a.o)'), ('./y.a(b.o)', './x.a(b.o)'), ('./z.a(a.o)', './x.a(a.o)'),
+                    ('./z.a(b.o)', './x.a(b.o)'), ('./cut2.a(a.o)', './cut.a(a.o)'), ('./cut2.a', './cut.a'), ('./l', './large'), ('./c', './a')]
+        self.assertEqual(rows[6:], [{**first[file], 'member': name} for name, file in expected])
 
     def test_long_names_of_members(self):
         """Of a name at most as many bytes are in a row as a path has."""
