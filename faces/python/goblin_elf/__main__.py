@@ -3,7 +3,6 @@
 What a file does not hold is unknown. The exit status is 0, or 1 if a file can't be read, or it or a part of it is refused, or 2 if the output
 can't be written. What is printed is not proved, but tested.
 """
-import argparse
 import contextlib
 import io
 import json
@@ -11,6 +10,7 @@ import signal
 import sys
 from typing import Any, Dict, Iterator, List, Optional
 
+from .arguments import Parser
 from .elf import Elf
 from .facts import facts, refusal
 from .refused import Refused
@@ -49,7 +49,7 @@ def as_json(all_found: List[Dict[str, Any]]) -> str:
 
 
 def main(arguments: Optional[List[str]] = None) -> int:
-    parser = argparse.ArgumentParser(prog='python -m goblin_elf', description='Prints what a person wants to know first of ELF files.')
+    parser = Parser(prog='python -m goblin_elf', description='Prints what a person wants to know first of ELF files.')
     parser.add_argument('--json', action='store_true', help='print a list of objects, one for each file')
     parser.add_argument('files', nargs='+', metavar='FILE')
     options = parser.parse_args(arguments)

@@ -33,6 +33,7 @@ import time
 from typing import IO, Any, Callable, Dict, FrozenSet, Iterator, List, Optional, Set, TextIO, Tuple
 
 from . import workers
+from .arguments import Parser
 from .elf import Elf, content_of
 from .facts import facts, refusal
 from .refused import Refused
@@ -526,7 +527,7 @@ def memory(text: str) -> int:
 
 def options_of(arguments: Optional[List[str]]) -> argparse.Namespace:
     """Returns the options, or ends the program with a line that says what is wrong."""
-    parser = argparse.ArgumentParser(prog='goblin-scan', description=(__doc__ or '').split('\n')[0])
+    parser = Parser(prog='goblin-scan', description=(__doc__ or '').split('\n')[0])
     parser.add_argument('folders', nargs='+', metavar='DIR')
     parser.add_argument('-o', '--output', required=True, metavar='REPORT', help='a .csv, .json or .parquet')
     parser.add_argument('--scheduler', metavar='HOST:PORT', help='a scheduler of Dask that runs already')

@@ -751,6 +751,13 @@ class Program(unittest.TestCase):
             status, said = self.run_it('--json', 'caf\udce9 \U0001f480')
             self.assertEqual((status, json.loads(said)[0]['file']), (1, 'caf\ufffd \U0001f480'))
 
+    def test_arguments_that_are_wrong(self):
+        """The exit status is the same if nobody can read why."""
+        for module in ('goblin_elf', 'goblin_elf.scan'):
+            for arguments, status in (('2>/dev/full', 2), ('2>&-', 2), ('>&- 2>&-', 2), ('>/dev/full 2>&1', 2), ('--help >&- 2>&-', 0)):
+                found = subprocess.run(f'{sys.executable} -m {module} {arguments}', shell=True, stdout=subprocess.DEVNULL, stderr=subprocess.DEVNULL)
+                self.assertEqual(found.returncode, status, arguments)
+
     def test_the_page(self):
         """Our column of the lines of the page for those who come from pyelftools."""
         with open(os.path.join(FOLDER, '..', 'README.md'), encoding='utf-8') as file:
