@@ -5,6 +5,7 @@ import itertools
 import mmap
 import os
 import stat
+import sys
 from typing import IO, Any, Iterable, Iterator, List, Optional, Tuple, Union
 
 from . import interface, items
@@ -15,6 +16,12 @@ from .items import (Dynamic, Fields, Header, Name, Note, Relocations, Section, S
                     Symbols, T, Table, named, note_of, read_notes)
 from .names import class_to_str, et_to_str, machine_to_str
 from .refused import Unknown, within
+
+# (before Python 3.9 it takes no type)
+if sys.version_info >= (3, 9):
+    Path = Union[Name, os.PathLike[str]]
+else:
+    Path = Union[Name, os.PathLike]
 
 # The most segments, and notes, in which a note is looked for.
 SEGMENTS, NOTES = 1 << 17, 1 << 16
@@ -49,7 +56,7 @@ class Elf:
         self._image = HEADER.pack(self.header)
 
     @classmethod
-    def open(cls, path: 'Union[Name, os.PathLike[str]]', *, copy: bool = False) -> 'Elf':
+    def open(cls, path: Path, *, copy: bool = False) -> 'Elf':
         """Maps a file into memory, or reads it if it has less than 64 KiB, if `copy` is true, or if it is no regular file. Raises OSError.
 
         The mapping, and the file descriptor that it holds, live as long as what needs them, without a call to close them. If another program

@@ -660,6 +660,18 @@ class Library(unittest.TestCase):
         # (other bits than those of the constants stay, too)
         self.assertEqual(((1 << 40 | 7) & ~SHF_ALLOC, 0x80000007 & ~PF_X, ~(SHF_ALLOC | SHF_EXECINSTR)), (1 << 40 | 5, 0x80000006, -7))
 
+    def test_type_hints(self):
+        """Those of each class and method that is not private can be looked up."""
+        found = {}
+        for value in (getattr(goblin_elf, name) for name in goblin_elf.__all__):
+            if getattr(value, '__module__', '') in ('goblin_elf.elf', 'goblin_elf.items', 'goblin_elf.names', 'goblin_elf.refused'):
+                members = [getattr(value, name) for name in vars(value) if not name.startswith('_')]
+                members = [getattr(member, 'fget', getattr(member, 'func', member)) for member in members]
+                for function in [value, *filter(callable, members)]:
+                    found[function.__qualname__] = typing.get_type_hints(function)
+        self.assertGreater(len(found), 50)
+        self.assertEqual((found['Elf.whole'], str in found['Elf.open']['path'].__args__), ({'return': Elf}, True))
+
     def test_names_of_numbers(self):
         names = [goblin_elf.class_to_str(2), goblin_elf.et_to_str(3), goblin_elf.machine_to_str(62), goblin_elf.pt_to_str(1),
                  goblin_elf.sht_to_str(1), goblin_elf.shf_to_str(SHF_ALLOC), goblin_elf.bind_to_str(1), goblin_elf.type_to_str(2),
