@@ -52,7 +52,7 @@ quietly sh faces/install.sh "$folder/python"
 oldest=$(sed -n 's/.*CPython \(3\.[0-9]*\) or later.*/\1/p' faces/python/README.md)
 # (pyenv asks for the version that is meant)
 if python=$(PYENV_VERSION=$oldest "python$oldest" -c 'import sys; print(sys.executable)' 2> "$folder/output"); then
-    try_tests 'test_[dfg]*.py'
+    (export PYTHONUTF8=0 PYTHONCOERCECLOCALE=0; try_tests 'test_[dfg]*.py')
 else
     left_out "python$oldest is not installed, so the Python package is not tested by the oldest Python that it needs"
 fi

@@ -73,7 +73,7 @@ def archive(members):
 def tarred(*members, mode='w'):
     """Returns a tar of members, in the form that dpkg writes, each with its name, its content, and what else its header says."""
     data = io.BytesIO()
-    with tarfile.open(fileobj=data, mode=mode, format=tarfile.GNU_FORMAT) as tar:
+    with tarfile.open(fileobj=data, mode=mode, format=tarfile.GNU_FORMAT, encoding='utf-8') as tar:
         for name, content, *fields in members:
             member = tarfile.TarInfo(name)
             for field, value in [('size', len(content)), *fields]:
