@@ -41,9 +41,9 @@ SCAN = [sys.executable, '-m', 'goblin_elf.scan']
 
 
 def setUpModule():
-    # (workers import this module, too)
+    # (workers import this module, too; a line of its own is found by checks/faces/python.sh)
     if not distributed:
-        print('distributed is not installed, so Dask is not tested')
+        print('\ndistributed is not installed, so Dask is not tested')
 
 
 def scan(*arguments):
