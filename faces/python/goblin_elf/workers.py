@@ -13,6 +13,7 @@ import resource
 import signal
 import subprocess
 import sys
+import threading
 from typing import Any, Callable, Generator, Iterator, List, Optional, Tuple
 
 Batch = List[str]
@@ -25,6 +26,7 @@ MESSAGE = 64 << 20
 # How many workers may end in a row before they are ready, and how many seconds to wait for a scheduler, and for the first of its workers.
 STARTS, PATIENCE = 16, 20
 PR_SET_PDEATHSIG = 1  # of Linux's prctl
+LIMIT = threading.Lock()
 # What a worker runs: it receives where modules are, a function, and what that is called with.
 START = 'import sys; from multiprocessing.connection import Connection; connection = Connection(int(sys.argv[1])); ' \
         'sys.path[:] = connection.recv(); function, *given = connection.recv(); function(connection, *given)'
@@ -81,13 +83,14 @@ class Worker:
 
 @contextlib.contextmanager
 def limited(memory: int) -> Iterator[None]:
-    """Lets this process take little memory meanwhile, and not more than before."""
-    soft, hard = resource.getrlimit(resource.RLIMIT_DATA)
-    resource.setrlimit(resource.RLIMIT_DATA, (memory if soft == resource.RLIM_INFINITY else min(memory, soft), hard))
-    try:
-        yield
-    finally:
-        resource.setrlimit(resource.RLIMIT_DATA, (soft, hard))
+    """Lets this process take little memory meanwhile, and not more than before. Other threads that ask for this wait, since the limit is one."""
+    with LIMIT:
+        soft, hard = resource.getrlimit(resource.RLIMIT_DATA)
+        resource.setrlimit(resource.RLIMIT_DATA, (memory if soft == resource.RLIM_INFINITY else min(memory, soft), hard))
+        try:
+            yield
+        finally:
+            resource.setrlimit(resource.RLIMIT_DATA, (soft, hard))
 
 
 def in_turn(function: Function, memory: int, batches: Iterator[Batch]) -> Results:

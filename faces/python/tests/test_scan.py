@@ -12,6 +12,7 @@ import json
 import lzma
 import os
 import random
+import resource
 import shutil
 import signal
 import struct
@@ -773,6 +774,29 @@ class Workers(Folder):
             seen = {os.getcwd() for _ in iter(lambda: any(thread.is_alive() for thread in threads), False)}
         self.assertEqual((seen, len(self.rows('0.csv'))), ({os.path.realpath(self.folder)}, 1))
         self.assertEqual(self.rows('0.csv'), self.rows('1.csv'))
+
+    def test_limits_in_threads(self):
+        """Without workers the limit of this process is the same again once all threads are done, and each one's function has its own."""
+        before, seen = resource.getrlimit(resource.RLIMIT_DATA), []
+        self.addCleanup(resource.setrlimit, resource.RLIMIT_DATA, before)
+
+        def look(batch):
+            time.sleep(0.002)
+            seen.append((*batch, resource.getrlimit(resource.RLIMIT_DATA)[0]))
+
+        def examine(memory):
+            for _ in workers.in_turn(look, memory << 30, iter([[str(memory)]] * 20)):
+                pass
+
+        threads = [threading.Thread(target=examine, args=(memory,)) for memory in (1, 2)]
+        for thread in threads:
+            thread.start()
+        for thread in threads:
+            thread.join()
+        self.assertEqual(resource.getrlimit(resource.RLIMIT_DATA), before)
+        # (the shell may have a lower limit; that which is none is -1)
+        own = [(str(memory), min(memory << 30, before[0] % (1 << 64))) for memory in (1, 2)]
+        self.assertEqual(sorted(seen), [own[0]] * 20 + [own[1]] * 20)
 
     def test_flags_of_python(self):
         """Workers have the same ones, and so take names for the same bytes."""
