@@ -40,8 +40,12 @@ def show(file, margin='    ', above=(), seen=set()):
             show(path, margin + '    ', rpath)
 
 
+if not sys.argv[1:]:
+    sys.exit('usage: lddtree.py FILE [ROOT]')
 try:
     print(escaped(f'{sys.argv[1]} (interpreter => {Elf.open(sys.argv[1]).interpreter})'))
     show(sys.argv[1])
 except Refused as error:
     sys.exit(f'refused: {error}')
+except OSError as error:
+    sys.exit(escaped(f'{error.filename}: {error.strerror}'))

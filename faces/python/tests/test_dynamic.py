@@ -156,15 +156,19 @@ class Example(unittest.TestCase):
                 file.write(content_of(stored('facts/full')).replace(b'libfirst', b'\x1bib\xffirst'))
             # (and at what is no file it does not wait)
             os.mkfifo(os.path.join(root, 'lib/\x1bib\udcffirst.so.1'))
-            said = [subprocess.run([sys.executable, '-c', run, script, path, root], stdout=subprocess.PIPE, stderr=subprocess.PIPE,
-                                   encoding='utf-8', timeout=60) for path in (stored('facts/full'), stored('facts/cut_dynamic'), odd)]
+            said = [subprocess.run([sys.executable, '-c', run, script, *arguments], stdout=subprocess.PIPE, stderr=subprocess.PIPE,
+                                   encoding='utf-8', timeout=60) for arguments in ([stored('facts/full'), root],
+                                                                                   [stored('facts/cut_dynamic'), root], [odd, root],
+                                                                                   ['\x1babsent'], [])]
         path = stored('facts/full')
         self.assertEqual(said[0].stdout, f'{path} (interpreter => /lib/ld-made.so.1)\n    libfirst.so.1 => {root}/lib/libfirst.so.1\n'
                                          f'    libsecond.so.1 => {root}/made/runpath/libsecond.so.1\n'
                                          f'        libfirst.so.1 => {root}/lib/libfirst.so.1\n'
                                          f'        libsecond.so.1 => {root}/made/runpath/libsecond.so.1\n')
         self.assertEqual(said[2].stdout.split('\n')[1], '    \\x1bib\\xffirst.so.1 => not found')
-        self.assertEqual([(one.returncode, one.stderr) for one in said], [(0, ''), (1, 'refused: type is too big (384) for 40\n'), (0, '')])
+        self.assertEqual([(one.returncode, one.stderr) for one in said],
+                         [(0, ''), (1, 'refused: type is too big (384) for 40\n'), (0, ''), (1, '\\x1babsent: No such file or directory\n'),
+                          (1, 'usage: lddtree.py FILE [ROOT]\n')])
 
 
 if __name__ == '__main__':
