@@ -61,7 +61,7 @@ class Worker:
         finally:
             theirs.close()
         with contextlib.suppress(OSError):  # (it has ended, which `take` of the workers finds)
-            self.connection.send([path or folder for path in sys.path])
+            self.connection.send([os.path.join(folder, path) for path in sys.path])
             self.connection.send((work, function, memory, folder))
 
     def give(self, task: Task) -> None:

@@ -805,6 +805,16 @@ class Workers(Folder):
                        stderr=subprocess.PIPE, env={**os.environ, 'LC_ALL': 'C', 'PYTHONUTF8': '0', 'PYTHONCOERCECLOCALE': '0'})
         self.assertEqual([(row['file'], row['class']) for row in self.rows('r.csv')], [('files/\u00e9', 'ELF32')])
 
+    def test_a_package_of_the_current_folder(self):
+        """Workers import the one that a script finds by a path that does not start with /, though they start elsewhere."""
+        self.put('a.o', made.ALL[0].bytes)
+        os.symlink(os.path.dirname(os.path.dirname(module.__file__)), self.out('own'))
+        script = "import sys; sys.path.insert(0, 'own'); from goblin_elf import scan; " \
+                 "sys.exit(scan.main(['files', '-o', 'r.csv', '--workers', '1']))"
+        subprocess.run([sys.executable, '-c', script], check=True, cwd=self.folder, stderr=subprocess.PIPE,
+                       env={name: value for name, value in os.environ.items() if name != 'PYTHONPATH'})
+        self.assertEqual([row['file'] for row in self.rows('r.csv')], ['files/a.o'])
+
     def test_a_library_of_the_current_folder(self):
         """Workers load the same one, though they start elsewhere."""
         self.put('a.o', made.ALL[0].bytes)
