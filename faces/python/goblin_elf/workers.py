@@ -213,7 +213,7 @@ class Scheduled:
                 yield from self.found(batches)
             except self.gone:
                 raise Stopped(f'the scheduler {self.address} is gone') from None
-            except (AttributeError, ImportError) as error:
+            except (AttributeError, ImportError, TypeError) as error:
                 raise Stopped(f'a worker of the scheduler {self.address} can not run this: {error}') from None
 
     def found(self, batches: Iterator[Batch]) -> Results:

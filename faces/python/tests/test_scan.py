@@ -4,6 +4,7 @@ import bz2
 import contextlib
 import csv
 import errno
+import functools
 import gzip
 import importlib.machinery
 import io
@@ -993,6 +994,15 @@ class Scheduler(Folder):
         self.assertEqual(said.getvalue(), f'goblin-scan: the scheduler made has had no result for {workers.PATIENCE} seconds; waiting\n')
         found = [(path, rows[0]['refused']) for batch, result in results for path, rows, _ in result or module.lost(*batch)]
         self.assertEqual(found, [(path, 'WORKER_LOST' if path == lost else 'TOO_BIG' if path.endswith('6') else None) for path in paths])
+
+    def test_workers_with_another_version(self):
+        """They may not know an argument."""
+        client = unittest.mock.MagicMock()
+        client.ncores.return_value = {}
+        client.submit.side_effect = lambda function, batch, pure: types.SimpleNamespace(result=lambda timeout: function(batch))
+        with unittest.mock.patch.object(distributed, 'Client', return_value=client):
+            results = workers.Scheduled(functools.partial(zeros, later=1), 'made').results(iter([['1']]))
+            self.assertRaisesRegex(workers.Stopped, "^a worker of the scheduler made can not run this: zeros.* unexpected .*'later'$", list, results)
 
     def test_killed_workers(self):
         self.put_many(1200)
