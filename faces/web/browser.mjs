@@ -830,6 +830,30 @@ check_program('Back goes from row to row, and the steps of the arrow keys count 
     await until_chosen(third);
 });
 
+check_program('The chosen row stays marked once the list is sorted or searched', async () => {
+    const all = Object.keys(sections).length + 1, name_in_row = `${active_row} :nth-child(2)`;
+    await go(`sections/${text.index}`, '.text');
+    for (const order of ['ascending', 'descending']) {
+        await click('#panel [role=columnheader]:first-child button');
+        await until_there(`#panel [aria-sort=${order}]`);
+    }
+    await until_text('#panel .body .row :first-child', `${all - 1}`);
+    await until_text(name_in_row, '.text');
+    for (const [wanted, number, name] of [['.tex', `1 of ${all}`, '.text'], ['.dynst', `1 of ${all}`, null],
+        ['', all, '.text']]) {
+        await search(wanted, `${number}`);
+        assert.equal(await text_of(name_in_row), name, wanted);
+    }
+    // (a link to it scrolls to it)
+    const texts = Array.from({ length: 500 }, (_, i) => ({ text: `s${i + 1}` }));
+    await pick_written('scrolled', symbols_file(texts), 'symbols');
+    await go('symbols/1/400', 's400');
+    await search('s1', `111 of 501`);
+    await go('symbols/1/1', 's1');
+    await go('symbols/1/400', 's400');
+    await until_text(name_in_row, 's400');
+});
+
 check_program('A relocation leads to its symbol, and has the bytes that it changes', async () => {
     const [dynamic] = listed(program_file).split(" '.rela.plt' ");
     const all = [...dynamic.matchAll(

@@ -58,9 +58,10 @@ export class Grid {
         this.unmeasured.add(this.head);
     }
 
-    show(length) {
+    /** Shows a number of rows from the first one on, and marks one as the active row, unless it is -1. */
+    show(length, active = -1) {
         this.length = length;
-        this.active = -1;
+        this.active = active;
         this.version++;
         this.blocks.clear();
         this.scroller.setAttribute('aria-rowcount', length + 1);

@@ -195,14 +195,15 @@ async function show_list(mine) {
     };
     const { is_over, refused, is_none, length, all } =
         await ask('view', { list: name, of, is_demangled, query, column, is_descending });
+    const is_shown = !is_over && !refused && !is_none,
+        at = is_shown && mine.chosen !== undefined ? await ask('position', { list: name, index: mine.chosen }) : -1;
     if (is_over || open !== mine) return false;
     fill(below, ...await notices_of(mine, { refused, is_none }));
-    const is_shown = !refused && !is_none;
     grid.box.hidden = !is_shown;
     const number = is_shown && (query ? `${count(length)} of ${count(all)}` : count(all));
     output.textContent = refused ? 'refused' : is_none ? 'none' : number;
     mine.saving.hidden = !is_shown || length === 0;
-    grid.show(is_shown ? length : 0);
+    grid.show(is_shown ? length : 0, at);
     if (is_shown) prepare_paper(mine);
     return true;
 }
@@ -228,7 +229,7 @@ async function go_to_row(mine, at, is_step) {
     // (once the worker reads a message, the list may be sorted anew)
     const index = Number(mine.grid.active_cells?.[0] ?? await ask('index', { list: mine.name, at }));
     if (open !== mine) return;
-    mine.own = index; // (the list has already moved to that row, and perhaps on since)
+    mine.own = mine.chosen = index; // (the list has already moved to that row, and perhaps on since)
     await go([mine.name, mine.of, index].filter((part) => part !== undefined).join('/'), is_step);
 }
 
@@ -245,6 +246,7 @@ export async function activate(index) {
     if (!grid || grid.box.hidden) return;
     const is_own = mine.own === index;
     mine.own = undefined;
+    mine.chosen = index;
     if (index === undefined) grid.leave();
     if (index === undefined || is_own) return;
     let at = await ask('position', { list: name, index });
@@ -255,7 +257,7 @@ export async function activate(index) {
         await refresh(mine);
         at = await ask('position', { list: name, index });
     }
-    if (open === mine && at >= 0 && at !== grid.active) grid.activate(at);
+    if (open === mine && at >= 0 && (at !== grid.active || !grid.active_line)) grid.activate(at);
 }
 
 function tools(mine, switched) {
