@@ -1281,6 +1281,10 @@ check_program('A row has as many bytes as fit, a field shows its bytes, and a by
         await press_button('Wide');
         await until(`${length} === ${each}`);
         assert.equal(await is_visible('#panel'), each !== 32);
+        // (in a low window, which has no such button, the list is there, too)
+        await browser.resize(1280, 560);
+        await until(`${one('#panel')}.offsetParent !== null`);
+        await browser.resize(1280, 1000);
     }
     await browser.resize(1400, 1000);
     const lit = (place) => each_of(`#chosen ${place}`, 'item.textContent').then((texts) => texts.join(''));
@@ -1417,6 +1421,15 @@ check_program('In low and narrow windows the first result and the first bytes ar
         await until_there('#panel .summary');
         await open_tab('sections');
         assert.equal((await cells(0))[0], '0', `${width} ${height}`);
+    }
+    // (on a small laptop several lines of bytes are, beside the fields)
+    for (const [width, height] of [[1366, 640], [1024, 640], [1280, 720]]) {
+        await browser.resize(width, height);
+        await go('section=.text', '.text');
+        await until(bytes_drawn);
+        const seen = await each_of('#chosen .hex .row', `item.getBoundingClientRect().bottom
+            <= item.closest('.grid').getBoundingClientRect().bottom`);
+        assert.ok(seen.filter(Boolean).length >= 8, `${width} ${height}: ${seen}`);
     }
     // (on a small phone, and where all is magnified four times, one can scroll to some of them)
     for (const [width, height] of [[360, 640], [320, 256]]) {

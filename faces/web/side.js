@@ -18,8 +18,7 @@ export const row_of = (field, given = {}, head = field.name, ...cells) =>
 export const table_of = (rows, given) => make('table', { class: 'fields', ...given }, make('tbody', {}, ...rows));
 
 // Returns the width that bytes have. In a low window they are beside the fields.
-const room = () =>
-    (matchMedia('(max-height: 600px) and (min-width: 561px)').matches ? SIDE_WIDTH : get('chosen').clientWidth);
+const room = () => (getComputedStyle(get('chosen')).display === 'grid' ? SIDE_WIDTH : get('chosen').clientWidth);
 
 async function content_of({ at, size, refused, fields }) {
     if (refused) return [await refusal_of(refused, SIDE_BYTES)];
