@@ -22,6 +22,8 @@ if [ -e "$folder/node" ]; then
     for script in test calls; do ends_with 2 "$missing" call faces/web/$script.mjs "$folder"; done
     example() { (name=$1; shift; call "$web/examples/$name.mjs" "$@"); }
     try_examples needed segments truncated flag
+    # (a loader reads the program headers, and readelf finds no dynamic section without them)
+    ends_with 0 '' example needed checks/files/facts/no_segments
     if has tsc 'goblin.d.ts is not compiled: install TypeScript'; then
         mkdir -p "$folder/app/node_modules"
         ln -s "$web" "$folder/app/node_modules/goblin_c"

@@ -1,5 +1,5 @@
 // Lists what ELF files need of the dynamic linker, their sonames and search paths: node needed.mjs FILE..
-import { DT_NEEDED, DT_RPATH, DT_RUNPATH, DT_SONAME, PT_INTERP, SHT_STRTAB } from '../goblin.js';
+import { DT_NEEDED, DT_RPATH, DT_RUNPATH, DT_SONAME, PT_DYNAMIC, PT_INTERP, SHT_STRTAB } from '../goblin.js';
 import { run } from './common.mjs';
 
 const NAMES = new Map([[DT_NEEDED, 'needed'], [DT_SONAME, 'soname'], [DT_RPATH, 'rpath'], [DT_RUNPATH, 'runpath']]);
@@ -20,8 +20,10 @@ function closed(elf, strings) {
 }
 
 await run('needed.mjs FILE..', (elf) => {
-    const interpreter = elf.program_headers().find(({ p_type }) => p_type === PT_INTERP);
+    const segment_of = (type) => elf.program_headers().find(({ p_type }) => p_type === type),
+        interpreter = segment_of(PT_INTERP);
     if (interpreter?.p_filesz) print('interpreter', elf.strtab(interpreter), 0);
+    if (!segment_of(PT_DYNAMIC)) return; // (a loader doesn't read section headers, by which `dynamic` could find some)
     const strings = closed(elf, elf.dynamic_strings());
     for (const { d_tag, d_val } of elf.dynamic()) if (NAMES.has(d_tag)) print(NAMES.get(d_tag), strings, d_val);
 });
