@@ -1077,14 +1077,15 @@ const rows_of = (text) => text.trim().split('\r\n').slice(1)
 
 // Saves the open list, and returns the content of the file. (Until that is whole, it has another name, or there is one
 // with its part.) Chromium drops downloads beyond ten a second, so each waits for a tenth. If none is there after half
-// of the time that the test waits, the list is saved once more, and a line says so.
-async function saved(name) {
+// of the time that the test waits, the list is saved once more, and a line says so. Meanwhile a function is called.
+async function saved(name, look = () => {}) {
     const form = new RegExp(`\\.${name}(\\(\\d+\\))?( \\(\\d+\\))?\\.csv$`);
     const content_of = (file) => readFileSync(join(browser.downloads, file), 'utf8');
     const clear = () => readdirSync(browser.downloads)
         .forEach((file) => rmSync(join(browser.downloads, file), { force: true }));
     let pressed = 0;
     const content = await waited('a saved list', async () => {
+        look();
         if (Date.now() - pressed > PATIENCE / 2) {
             if (pressed > 0) console.log(`saved: ${name} once more, after ${readdirSync(browser.downloads)}`);
             clear();
@@ -1152,6 +1153,19 @@ check_program('Cells, rows, bytes and whole lists are copied and saved', async (
     assert.deepEqual(rows.map(([number, , value, size]) => [number, value, size].map(Number)),
         symbols.map((item) => [item.index, item.value, item.size]));
     assert.equal(rows[main.index][1], 'main');
+});
+
+check('A list of long names is saved piece by piece, and not twice in the memory', async () => {
+    const count = 60000, name = `${'a'.repeat(1024)}…`, text = Buffer.alloc(count + 1100, 'a').fill(0, 0, 1);
+    const items = Buffer.concat(Array.from({ length: count }, (_, i) => symbol({ name: 1 + i })));
+    await pick_written('overlapping', elf_file({ sections: [{ name: '.symtab', type: 2, link: 2, bytes: items },
+        { name: '.strtab', type: 3, bytes: Buffer.concat([text, Buffer.alloc(1)]) }] }), 'symbols');
+    const { memory } = browser.cost();
+    let most = 0;
+    const content = await saved('symbols', () => { most = Math.max(most, browser.cost().memory - memory); });
+    const lines = content.split('\r\n').slice(1, -1);
+    assert.ok(lines.length === count && lines.every((line, i) => line.startsWith(`${i},${name},0x0,`)));
+    assert.ok(most < 7 * content.length, `${most} bytes, to save ${content.length}`);
 });
 
 check('A saved list holds nothing that a spreadsheet would run or that ends a cell, and plain numbers', async () => {

@@ -18,6 +18,8 @@ import { hex, visible } from './text.js';
 
 // How many bytes are read before the progress is sent.
 const CHUNK = 1 << 24;
+// How many signs of a saved list are kept until they leave the worker's memory.
+const PIECE = 1 << 20;
 
 // Returns the bytes of a file, which are read in steps, into the library's memory.
 async function bytes_of(given) {
@@ -178,10 +180,15 @@ const calls = {
     index: ({ list, at }) => (views[list].order ? views[list].order[at] : at),
 
     async csv({ list }) {
-        const lines = [csv_line(columns_of(views[list].source).map(({ title }) => title))];
-        await over_view(list, 'csv', () => true, ({ source }, item, index) =>
-            lines.push(csv_line(cells_of(source, item, index, 'plain'))));
-        return new Blob(lines, { type: 'text/csv' });
+        const pieces = [];
+        let piece = csv_line(columns_of(views[list].source).map(({ title }) => title));
+        const put = () => { pieces.push(new Blob([piece])); piece = ''; };
+        await over_view(list, 'csv', () => true, ({ source }, item, index) => {
+            piece += csv_line(cells_of(source, item, index, 'plain'));
+            if (piece.length > PIECE) put();
+        });
+        put();
+        return new Blob(pieces, { type: 'text/csv' });
     },
 
     item({ list, index, of }) {
