@@ -1155,17 +1155,38 @@ check_program('Cells, rows, bytes and whole lists are copied and saved', async (
     assert.equal(rows[main.index][1], 'main');
 });
 
+// Picks a file with a number of symbols whose names overlap, each of more signs than are shown, and with others.
+function pick_overlapping(count, others = []) {
+    const text = Buffer.from(`\0${['a'.repeat(count + 1024), ...others].join('\0')}\0`);
+    const places = [...Array(count).keys(), ...others.map((name) => text.indexOf(`\0${name}\0`))],
+        bytes = Buffer.concat(places.map((at) => symbol({ name: at + 1 })));
+    return pick_written('overlapping', elf_file({ sections: [{ name: '.symtab', type: 2, link: 2, bytes },
+        { name: '.strtab', type: 3, bytes: text }] }), 'symbols');
+}
+
 check('A list of long names is saved piece by piece, and not twice in the memory', async () => {
-    const count = 60000, name = `${'a'.repeat(1024)}…`, text = Buffer.alloc(count + 1100, 'a').fill(0, 0, 1);
-    const items = Buffer.concat(Array.from({ length: count }, (_, i) => symbol({ name: 1 + i })));
-    await pick_written('overlapping', elf_file({ sections: [{ name: '.symtab', type: 2, link: 2, bytes: items },
-        { name: '.strtab', type: 3, bytes: Buffer.concat([text, Buffer.alloc(1)]) }] }), 'symbols');
+    const count = 60000, name = `${'a'.repeat(1024)}…`;
+    await pick_overlapping(count);
     const { memory } = browser.cost();
     let most = 0;
     const content = await saved('symbols', () => { most = Math.max(most, browser.cost().memory - memory); });
     const lines = content.split('\r\n').slice(1, -1);
     assert.ok(lines.length === count && lines.every((line, i) => line.startsWith(`${i},${name},0x0,`)));
     assert.ok(most < 7 * content.length, `${most} bytes, to save ${content.length}`);
+});
+
+check('Names are sorted, in a damaged file by their first twelve signs, once they have very many', async () => {
+    const [b, c] = ['b'.repeat(11), 'c'.repeat(12)];
+    for (const [count, ...wanted] of [[1, `${c}2`, `${c}1`, `${b}2`, `${b}1`],
+        [72000, `${c}1`, `${c}2`, `${b}2`, `${b}1`]]) {
+        await pick_overlapping(count, [`${c}1`, `${c}2`, `${b}1`, `${b}2`]);
+        for (const order of ['ascending', 'descending']) {
+            await click('#panel [role=columnheader]:nth-child(2) button');
+            await until_there(`#panel [aria-sort=${order}]`);
+        }
+        await until(`${one('#panel .body .row :nth-child(2)')}?.textContent.startsWith('c')`);
+        assert.deepEqual((await cells(1)).slice(0, 4), wanted);
+    }
 });
 
 check('A saved list holds nothing that a spreadsheet would run or that ends a cell, and plain numbers', async () => {
