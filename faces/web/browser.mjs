@@ -852,6 +852,15 @@ check_program('The chosen row stays marked once the list is sorted or searched',
     await go('symbols/1/1', 's1');
     await go('symbols/1/400', 's400');
     await until_text(name_in_row, 's400');
+    // (and out of view it can be copied)
+    await go('symbols/1/1', 's1');
+    for (const order of ['ascending', 'descending']) {
+        await click('#panel [role=columnheader]:first-child button');
+        await until_there(`#panel [aria-sort=${order}]`);
+    }
+    await until_text('#panel .body .row :first-child', '500');
+    assert.equal(await text_of(name_in_row), null);
+    assert.equal(await copied('Copy row'), '1\ts1\t0x0\t0\tNOTYPE\tLOCAL\tDEFAULT\tundefined');
 });
 
 check_program('A relocation leads to its symbol, and has the bytes that it changes', async () => {

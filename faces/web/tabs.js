@@ -303,9 +303,9 @@ function search_field(mine) {
 }
 
 // Copies the result of a function for the active row's cells, whose invisible characters are made visible.
-function copy_active(grid, of, what) {
-    const cells = grid.active_cells;
-    if (cells) copy(of(cells.map(visible)), what); else say('Choose a row first');
+async function copy_active(grid, of, what) {
+    const [row] = grid.active < 0 ? [] : await grid.rows(grid.active, 1);
+    if (row) copy(of(row.slice(0, grid.columns.length).map(visible)), what); else say('Choose a row first');
 }
 
 async function save({ name, output }) {
