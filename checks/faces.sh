@@ -6,16 +6,16 @@
 python3 faces/constants.py --check
 echo "the constants in C are the library's, and those in Rust, JavaScript and Python are made of it"
 
-# Runs the scripts of some subjects side by side, each in a folder of its own, which begins as a copy of another one: try FROM SUBJECT ..
+# Runs the scripts of some subjects side by side, each in a folder of its own, which begins as a copy of another one: try FROM/SUBJECT ..
 try() {
-    from=$folder/$1
-    shift
-    for subject; do
-        cp -R "$from" "$folder/$subject"
+    for each; do
+        subject=${each#*/}
+        cp -R "$folder/${each%/*}" "$folder/$subject"
         { sh "checks/faces/$subject.sh" "$folder/$subject" > "$folder/$subject.said" 2>&1 || touch "$folder/$subject.failed"; } &
     done
     wait
-    for subject; do
+    for each; do
+        subject=${each#*/}
         cat "$folder/$subject.said"
         [ ! -e "$folder/$subject.failed" ] || fail "faces: $subject FAILED"
     done
@@ -26,10 +26,10 @@ echo "faces: making the library, which takes some minutes if its calls are not p
 mkdir "$folder/library"
 sh checks/faces/library.sh "$folder/library"
 has cc 'the calls from C, Rust, JavaScript and Python are not tested: install a C compiler' || exit 0
-try library c python
-try c rust webassembly
+try library/c library/python
+try c/rust c/webassembly
 # (the toolchain makes one library at a time)
-try c aarch64 archive
+try c/aarch64 c/archive webassembly/page
 for made in rust/target webassembly/web webassembly/node; do if [ -e "$folder/$made" ]; then mv "$folder/$made" "$folder/c/"; fi; done
 python3 checks/faces/comparison.py "$folder/c"
 echo "faces: the calls from C, Rust, JavaScript and Python are as expected"

@@ -1,7 +1,7 @@
 #!/bin/sh
-# Tests the module for WebAssembly, called from JavaScript, and the page: sh checks/faces/webassembly.sh FOLDER, after c.sh
-# JavaScript reads from whole and damaged files what C reads, its calls do what their comments say, and the page shows files in browsers.
-# If the machine lacks node or a browser, a line says what is left out.
+# Tests the module for WebAssembly, called from JavaScript: sh checks/faces/webassembly.sh FOLDER, after c.sh
+# JavaScript reads from whole and damaged files what C reads, and its calls do what their comments say. If the machine lacks node, a line says
+# what is left out.
 . checks/faces/shared.sh
 web=$folder/web
 dump=$folder/dump
@@ -44,15 +44,3 @@ if [ -e "$folder/node" ]; then
 else
     left_out "node has no 64-bit memories, so the module for WebAssembly is not called: install Node.js 24"
 fi
-
-# The page, which headless browsers open as a file.
-size=$(wc -c < "$web/index.html")
-[ "$size" -le 400000 ] || fail "the page is too large: it has $size bytes, and may have at most 400,000"
-
-# Each browser opens it by the first of some commands that the machine has.
-for commands in 'chromium chromium-browser google-chrome' 'firefox firefox-esr'; do
-    name=${commands%% *} browser=
-    for command in $commands; do if [ -z "$browser" ] && has "$command"; then browser=$command; fi; done
-    if [ "$browser" ]; then node faces/web/browser.mjs "$name" "$browser" "$web/index.html" "$dump" "$files" checks/files
-    else left_out "$name is not installed, so the page is not opened in it"; fi
-done
