@@ -50,7 +50,10 @@ const bytes_drawn = `${one('#chosen .hex .row')}?.row`, is_busy = `document.body
 const active_row = '#panel .row[aria-selected=true]';
 const fragment = () => evaluate('location.hash.slice(1)');
 const side = () => text_of('#chosen');
-const cells = (column) => each_of('#panel .body .row', `item.children[${column}].textContent`);
+// (a row that is not read yet has a sign alone)
+const cells = (column) => until(`![...document.querySelectorAll('#panel .body .row')]
+    .some((row) => row.firstChild.textContent === '…')`)
+    .then(() => each_of('#panel .body .row', `item.children[${column}].textContent`));
 const press = (selector, ...keys) => focus(selector).then(() => browser.press(...keys));
 const click_row = (row) => evaluate(`document.querySelectorAll('#panel .body .row')[${row}].children[1].click()`);
 const field_of = (name) => evaluate(`[...document.querySelectorAll('#chosen tr')]
