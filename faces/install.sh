@@ -399,7 +399,12 @@ name=goblin_c-$version-$made_for
 archive=${1:-out/$name.tar.gz}
 install_below "$folder/$name"
 print_contents > "$folder/$name/README.md"
-tar -C "$folder" --sort=name --owner=0 --group=0 --numeric-owner --mode=u=rwX,go=rX --mtime=@0 -cf "$folder/tar" "$name"
+# Packs the folder, whose files all get a time: pack SECONDS
+pack() { tar -C "$folder" --sort=name --owner=0 --group=0 --numeric-owner --mode=u=rwX,go=rX --mtime="@$1" -cf "$folder/tar" "$name"; }
+pack 0
+sum=$(cksum < "$folder/tar")
+# (unpacked over those of another archive, they need a time of their own: Python runs what it compiled of a file of this time and size)
+pack $((${sum%% *} % 1000000000))
 gzip -9n < "$folder/tar" > "$folder/archive"
 [ "$kind" = web ] || wheel=$(python3 faces/python/wheel.py "$folder/shared" "${target%%-*}" "$folder")
 place "$folder/archive" "$archive"

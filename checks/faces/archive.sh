@@ -114,6 +114,9 @@ quietly env CPU=x86-64-v3 sh faces/install.sh --archive "$some/goblin_c.tar.gz"
 made_for="$version-x86_64-unknown-linux-gnu-x86-64-v3"
 tar -tzf "$some/goblin_c.tar.gz" > "$folder/output"
 grep -qx "goblin_c-$made_for/README.md" "$folder/output" || fail "the archive for some processors has no name of its own: $(cat "$folder/output")"
+# (if two of them had the same time and size, Python would run what it compiled of the earlier one)
+dates() { tar --full-time -tvzf "$1" | awk '{ print $4, $5 }' | sort -u; }
+if [ "$(dates "$some/goblin_c.tar.gz")" = "$(dates "$folder/goblin_c.022.tar.gz")" ]; then fail "the files of two archives have the same time"; fi
 [ -e "$some/x86-64-v3/goblin_elf-$version-py3-none-linux_x86_64.whl" ] || fail "the wheel for some processors has no folder of its own"
 # What can't be written whole leaves the earlier archive and wheel. (Some files may have only 4 KiB, as on a disk that is full.)
 mkdir "$folder/limited"
