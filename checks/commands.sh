@@ -68,6 +68,12 @@ refuses_python 'the command python3 fails. ' 'exit 1'
 refuses_python 'the command python3 fails. ' 'exit 127'
 refuses_python 'python3 is older than 3.8' "exec $(command -v python3) -c 'import sys; sys.version_info = (3, 7); exec(sys.argv[1])' \"\$2\""
 
+# (sudo takes away what its caller added to the PATH)
+# shellcheck disable=SC2016 # (it is of the message)
+path='make show: *: export PATH=TOOLCHAIN/bin:$PATH'
+refuses "$path" env -u SUDO_UID PATH="$folder/python" /bin/sh commands/has.sh 'make show' rt
+refuses "$path; then for sudo: sudo env PATH=*" env SUDO_UID=1000 PATH="$folder/python" /bin/sh commands/has.sh 'make show' rt
+
 # (openSUSE sets CPU to x86_64 for all users, which the toolchain doesn't know)
 # shellcheck disable=SC2016 # (it is make's)
 rule='cpu: ; @echo "CPU=$$CPU"'

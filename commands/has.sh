@@ -9,7 +9,11 @@ fail() {
 }
 for name; do
     case $name-$(command -v "$name") in
-    rt-) fail "the command rt was not found. Add the Rattle toolchain to your PATH: export PATH=TOOLCHAIN/bin:\$PATH" ;;
+    rt-)
+        # (sudo has a PATH of its own)
+        sudo=${SUDO_UID:+"; then for sudo: sudo env PATH=\"\$PATH\" make .."}
+        fail "the command rt was not found. Add the Rattle toolchain to your PATH: export PATH=TOOLCHAIN/bin:\$PATH$sudo"
+        ;;
     *-) fail "the command $name was not found. Install it first" ;;
     python3-*)
         status=0
