@@ -84,14 +84,19 @@ class Unpacked:
         need(sorted(exported(self.shared)) == sorted(f'{call}@@GOBLIN_{self.interface}' for call in calls), 'the shared library exports other names')
 
     def versions(self):
-        """Two interfaces in one process keep apart: a program calls the shared library, and a library of the program another one."""
+        """Two interfaces in one process keep apart: a program calls the shared library, or the static one with the option that goblin.h names,
+        and a library of the program another one."""
+        option = re.search('Inside a shared library or program of your own, `(.*?)` hides the calls', self.header)
+        need(option, 'goblin.h names no option that hides the calls inside a program')
         self.run("echo 'GOBLIN_1 { global: goblin_*; local: *; };' > exports", "echo 'unsigned goblin_version(void) { return 1; }' > older.c",
                  "echo 'unsigned goblin_version(void); unsigned older(void) { return goblin_version(); }' > caller.c",
                  "printf '#include <stdio.h>\nunsigned older(void), goblin_version(void);\n"
-                 "int main(void) { printf(\"%%u, %%u\", older(), goblin_version()); }' > both.c",
+                 "int main(void) { printf(\"%%u, %%u\\\\n\", older(), goblin_version()); }' > both.c",
                  '$CC -shared -fPIC -o libgoblin_c.so.1 older.c -Wl,-soname,libgoblin_c.so.1 -Wl,--version-script=exports',
                  '$CC -shared -fPIC -o libcaller.so caller.c libgoblin_c.so.1 -Wl,-rpath,"$PWD"',
-                 '$CC -o both both.c ./libcaller.so "$SHARED" -Wl,-rpath,"$PWD:${SHARED%/*}"', './both', wanted=f'(?m)^1, {self.interface}$')
+                 '$CC -o both both.c ./libcaller.so "$SHARED" -Wl,-rpath,"$PWD:${SHARED%/*}"', './both',
+                 f'$CC -o both both.c ./libcaller.so "$LIBDIR/libgoblin_c.a" -Wl,-rpath,"$PWD" {option[1]}', './both',
+                 wanted=f'(?ms)^1, {self.interface}$.*^1, {self.interface}$')
 
     def hidden(self):
         """A flag hides the names of the static library in a shared library that takes it in."""

@@ -7,7 +7,8 @@
      linker's option --gc-sections (`-Wl,--gc-sections`) leaves out the calls that a program does not use: of the
      examples, about three quarters of the library. It also leaves out sections of your own that nothing refers to.
      A backtrace ends at a call, because the library has no unwind tables.
-     Inside a shared library of your own, `-Wl,--exclude-libs,libgoblin_c.a` hides the calls.
+     Inside a shared library or program of your own, `-Wl,--exclude-libs,libgoblin_c.a` hides the calls. If a program
+     does not hide them, GNU ld lets other shared libraries call them, even those linked with another interface.
 
    Results
      Each call that can fail returns a uint32_t:
