@@ -180,6 +180,10 @@ check_indices() {
     put $((0xa00 + 4 * 16)) '\0001'
     "$folder/nm" "$folder/indices" > "$folder/listed"
     grep -qx '0*7654321 A 65535 absolute' "$folder/listed" || fail "nm.c reads past a table of section indices: $(cat "$folder/listed")"
+    # (the index of large common symbols of x86-64)
+    put $((0x700 + 24 * 17 + 6)) '\0002\0377'
+    "$folder/nm" "$folder/indices" > "$folder/listed"
+    grep -qx '0*20 C 65282 common' "$folder/listed" || fail "nm.c does not list a large common symbol: $(cat "$folder/listed")"
     # (a second table of symbols, a binding without a meaning, and a weak block)
     dd if="$1" of="$folder/indices" bs=1 skip=$((0x1800 + 64 * 7)) seek=$table count=64 conv=notrunc 2> "$folder/output"
     put $((0x700 + 24 * 16 + 4)) '\0120'

@@ -34,11 +34,17 @@ static int section_letter(const goblin_section_t *section) {
     return section->sh_flags & GOBLIN_SHF_WRITE ? '?' : 'n';
 }
 
+/* Returns whether a symbol is common. Large ones of x86-64 have an index of their own, SHN_X86_64_LCOMMON. */
+static bool is_common(const goblin_symbol_t *symbol) {
+    return symbol->st_shndx == GOBLIN_SHN_COMMON
+        || (symbol->st_shndx == GOBLIN_SHN_LOPROC + 2 && header.e_machine == GOBLIN_EM_X86_64);
+}
+
 /* Returns the letter of a symbol in a section, or in none if that is null. */
 static int letter(const goblin_symbol_t *symbol, const goblin_section_t *section) {
     unsigned bind = symbol->st_info >> 4, type = symbol->st_info & 15;
     bool is_object = type == GOBLIN_STT_OBJECT || type == GOBLIN_STT_COMMON;
-    if (symbol->st_shndx == GOBLIN_SHN_COMMON) return 'C';
+    if (is_common(symbol)) return 'C';
     if (symbol->st_shndx == GOBLIN_SHN_UNDEF && bind != GOBLIN_STB_WEAK) return 'U';
     if (symbol->st_shndx == GOBLIN_SHN_UNDEF) return is_object ? 'v' : 'w';
     if (type == GOBLIN_STT_GNU_IFUNC) return 'i';
@@ -75,7 +81,7 @@ static int list(uint64_t index_of_table, const goblin_section_t *table) {
         goblin_range_t name = string(&names, symbol.st_name);
         if (name.size == 0 && has_section && (symbol.st_info & 15) == GOBLIN_STT_SECTION)
             name = string(&names_of_sections, section.sh_name);
-        uint64_t value = symbol.st_shndx == GOBLIN_SHN_COMMON ? symbol.st_size : symbol.st_value;
+        uint64_t value = is_common(&symbol) ? symbol.st_size : symbol.st_value;
         printf("%0*" PRIx64 " %c %" PRIu64 " ", header.ei_class == GOBLIN_ELFCLASS64 ? 16 : 8, value,
                letter(&symbol, has_section ? &section : NULL), index);
         fwrite(bytes + name.offset, 1, (size_t)name.size, stdout);
