@@ -132,7 +132,12 @@ class Unpacked:
             ways['module'] = (f'{module}\npkg_check_modules(GOBLIN REQUIRED IMPORTED_TARGET goblin_c={self.version})\n'
                               'target_link_libraries(listing PkgConfig::GOBLIN)')
         if not self.runner and os.path.exists(f'{self.libdir}/libgoblin_c-shared.so'):
-            ways['shared'] = f'{package[:-1]} COMPONENTS shared)\ntarget_link_libraries(listing goblin_c::shared)'
+            # (another folder of the project finds the package before, and makes one of its targets global)
+            before = ('if(NOT CMAKE_VERSION VERSION_LESS 3.11)\nfile(WRITE before/CMakeLists.txt "find_package(goblin_c REQUIRED)\n'
+                      'set_target_properties(goblin_c::{} PROPERTIES IMPORTED_GLOBAL TRUE)")\nadd_subdirectory(before)\nendif()\n')
+            for target in ('goblin_c', 'shared'):
+                ways[f'shared_after_{target}'] = (f'{before.format(target)}{package[:-1]} COMPONENTS shared)\n'
+                                                  'target_link_libraries(listing goblin_c::shared)')
         project = 'cmake_minimum_required(VERSION 3.10)\nproject(listing C)\nadd_executable(listing "$ENV{THERE}/share/goblin_c/examples/nm.c")\n'
         for name, lines in ways.items():
             self.run(f'mkdir {name}', f'cd {name}', 'echo "$LISTS" > CMakeLists.txt', 'cmake -S . -B built', 'cmake --build built',
