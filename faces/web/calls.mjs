@@ -114,6 +114,9 @@ check('A file may be in bytes of each kind, and nothing else', () => {
     assert.equal(elf.section_by_name('x'.repeat(1 << 20)), undefined);
     assert.deepEqual([parts.length, own.equals(elf.bytes), own.equals(wanted.bytes), names(Elf.parse(parts))],
         [0, true, true, names(wanted)]);
+    // (a header of HTTP has a size as a text)
+    for (const size of ['5', null, [5], true])
+        assert.throws(() => goblin.array_for(size), { name: 'TypeError', message: /^a number is expected, not / });
     return `${Object.keys(given).length} kinds of bytes`;
 });
 

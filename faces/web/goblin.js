@@ -595,7 +595,7 @@ const made = new WeakMap();
  * @returns {Uint8Array}
  */
 export function array_for(size) {
-    const memory = new Memory(size), bytes = memory.whole;
+    const memory = new Memory(unsigned(size, 53)), bytes = memory.whole;
     made.set(bytes, memory);
     return bytes;
 }
