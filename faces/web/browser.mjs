@@ -864,6 +864,10 @@ check_program('The chosen row stays marked once the list is sorted or searched',
     await until_text('#panel .body .row :first-child', '500');
     assert.equal(await text_of(name_in_row), null);
     assert.equal(await copied('Copy row'), '1\ts1\t0x0\t0\tNOTYPE\tLOCAL\tDEFAULT\tundefined');
+    await evaluate('void (globalThis.copied = undefined)');
+    await focus('#panel .grid');
+    assert.equal(await copied_by_key(), '');
+    await until(`globalThis.copied === '1'`);
 });
 
 check_program('A relocation leads to its symbol, and has the bytes that it changes', async () => {
@@ -1143,15 +1147,18 @@ async function copied(button) {
     return evaluate('globalThis.copied');
 }
 
+// Returns what a copy by the browser's own key takes, or true if the page leaves that to the browser.
+const copied_by_key = () => evaluate(`((event) => ${one('#panel .grid')}.dispatchEvent(event)
+    || event.clipboardData.getData('text/plain'))(new ClipboardEvent('copy',
+    { clipboardData: new DataTransfer(), bubbles: true, cancelable: true }))`);
+
 check_program('Cells, rows, bytes and whole lists are copied and saved', async () => {
     await go(main_place, 'main');
     await click(`${active_row} :nth-child(2)`);
     await until_chosen('main');
     assert.equal(await copied('Copy cell'), 'main');
     await focus('#panel .grid');
-    assert.equal(await evaluate(`((event) => ${one('#panel .grid')}.dispatchEvent(event)
-        || event.clipboardData.getData('text/plain'))(new ClipboardEvent('copy',
-        { clipboardData: new DataTransfer(), bubbles: true, cancelable: true }))`), 'main');
+    assert.equal(await copied_by_key(), 'main');
     const cells_of_main = [main.index, 'main', main_address, main.size, 'FUNC', 'GLOBAL', 'DEFAULT', '.text'];
     assert.equal(await copied('Copy row'), cells_of_main.join('\t'));
     assert.equal((await copied('Copy hex')).replaceAll(' ', ''), bytes_of(program_file, main_at, main.size));

@@ -55,8 +55,9 @@ export function set_up_tabs() {
     });
     addEventListener('copy', (event) => {
         const { grid } = open, cells = grid?.active_cells;
-        if (document.activeElement !== grid?.scroller || !cells || !getSelection().isCollapsed) return;
+        if (document.activeElement !== grid?.scroller || grid.active < 0 || !getSelection().isCollapsed) return;
         event.preventDefault();
+        if (!cells) { copy_cell(grid); return; } // (it is out of view, and read first)
         event.clipboardData.setData('text/plain', visible(cells[grid.column]));
         say('Copied: the cell');
     });
@@ -264,7 +265,7 @@ function tools(mine, switched) {
     const { name, list, of, output, grid } = mine, { all = 0, found = [] } = shown_file.summary[name] ?? {};
     const onchange = ({ target }) => go(`${name}/${list[target.selectedIndex].of}`), hidden = all - found.length;
     mine.saving = make('span', { class: 'saving' },
-        button('Copy cell', () => copy_active(grid, ({ [grid.column]: cell }) => cell, 'the cell')),
+        button('Copy cell', () => copy_cell(grid)),
         button('Copy row', () => copy_active(grid, (cells) => cells.join('\t'), 'the row')),
         button('Save CSV', () => save(mine)));
     mine.search = search_field(mine);
@@ -307,6 +308,7 @@ async function copy_active(grid, of, what) {
     const [row] = grid.active < 0 ? [] : await grid.rows(grid.active, 1);
     if (row) copy(of(row.slice(0, grid.columns.length).map(visible)), what); else say('Choose a row first');
 }
+const copy_cell = (grid) => copy_active(grid, ({ [grid.column]: cell }) => cell, 'the cell');
 
 async function save({ name, output }) {
     const { reader, title } = shown_file, before = output.textContent;
