@@ -827,6 +827,16 @@ check_program('Back goes from row to row, and the steps of the arrow keys count 
     await click('#tab-sections');
     await until_chosen('ELF header');
     assert.equal(await text_of(active_row), null);
+    // (an arrow key moves the mark on, also while the worker is asked where the row of a location is)
+    await go('sections/1', first);
+    await evaluate(`(async () => {
+        history.pushState({}, '', '#sections/5');
+        dispatchEvent(new PopStateEvent('popstate'));
+        for (let i = 0; i < 50; i++) await undefined;
+        ${one('#panel .grid')}.dispatchEvent(new KeyboardEvent('keydown', { key: 'ArrowDown' }));
+    })()`);
+    await until_chosen(second);
+    assert.equal(await text_of(`${active_row} :nth-child(2)`), second);
     // (a row is shown that is clicked before the list is sorted anew)
     await evaluate(`void (${one('#panel [role=columnheader]:nth-child(2) button')}.click(),
         document.querySelectorAll('#panel .body .row')[3].children[1].click())`);

@@ -250,15 +250,17 @@ export async function activate(index) {
     mine.chosen = index;
     if (index === undefined) grid.leave();
     if (index === undefined || is_own) return;
+    // (meanwhile another row may be chosen)
     let at = await ask('position', { list: name, index });
-    if (at < 0) {
+    if (at < 0 && mine.chosen === index) {
         Object.assign(mine, UNSORTED);
         mine.search.value = '';
         grid.show_order(0, 'none');
         await refresh(mine);
         at = await ask('position', { list: name, index });
     }
-    if (open === mine && at >= 0 && (at !== grid.active || !grid.active_line)) grid.activate(at);
+    if (open !== mine || mine.chosen !== index || at < 0) return;
+    if (at !== grid.active || !grid.active_line) grid.activate(at);
 }
 
 function tools(mine, switched) {
