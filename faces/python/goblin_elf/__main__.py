@@ -69,6 +69,8 @@ def main(arguments: Optional[List[str]] = None) -> int:
 
 if __name__ == '__main__':
     signal.signal(signal.SIGPIPE, signal.SIG_DFL)  # (a reader such as head may leave)
+    if signal.getsignal(signal.SIGINT) is signal.default_int_handler:  # (else it is ignored, as in the background)
+        signal.signal(signal.SIGINT, signal.SIG_DFL)
     if isinstance(sys.stdout, io.TextIOWrapper):
         sys.stdout.reconfigure(errors='replace')  # (it need not take each sign)
     sys.exit(main())

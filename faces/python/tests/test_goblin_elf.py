@@ -742,6 +742,13 @@ class Program(unittest.TestCase):
             leaves = f'{sys.executable} -m goblin_elf {" ".join(["made.o"] * 2000)} | head -n 1'
             found = subprocess.run(leaves, shell=True, cwd=folder, stdout=subprocess.PIPE, stderr=subprocess.PIPE, universal_newlines=True)
             self.assertEqual((found.stdout, found.stderr), ('made.o\n', ''))
+            # (whoever waits for a file may end it by Ctrl-C, which a test in the background ignores)
+            os.mkfifo(os.path.join(folder, 'fifo'))
+            running = subprocess.Popen([sys.executable, '-m', 'goblin_elf', 'fifo'], cwd=folder, stderr=subprocess.PIPE,
+                                       preexec_fn=lambda: signal.signal(signal.SIGINT, signal.SIG_DFL))
+            with open(os.path.join(folder, 'fifo'), 'wb'):
+                running.send_signal(signal.SIGINT)
+                self.assertEqual((running.communicate(timeout=60)[1], running.returncode), (b'', -signal.SIGINT))
             # (a stream that does not take each sign gets others)
             found = subprocess.run([sys.executable, '-m', 'goblin_elf', 'made.o', 'odd\n', b'\xc3\xa9'], cwd=folder, stdout=subprocess.PIPE,
                                    stderr=subprocess.PIPE, env={**os.environ, 'PYTHONIOENCODING': 'ascii'})
