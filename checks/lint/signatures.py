@@ -1,9 +1,10 @@
-"""Whether goblin.h declares the calls of goblin_c with the types that they are defined with.
+"""Whether goblin.h declares the calls of goblin_c with the types that they are defined with, and arguments of one type in their order.
 
-Contracts hold for each value of an argument's type, so they let a call take 16 bits where C passes 32, and the linker knows no types.
-In C a slice is a pointer and a length, and bytes may be void.
+Contracts hold for each value of an argument's type, so they let a call take 16 bits where C passes 32, or the width of a number where C
+passes its offset, and the linker knows no types. In C a slice is a pointer and a length, and bytes may be void.
 """
 import re
+from collections import Counter
 
 from crates import text_of, tracked
 from rattle import code_of
@@ -12,7 +13,8 @@ HEADER = 'faces/c/goblin.h'
 # (strings are blank in what is read of Rattle's code)
 DEFINED = re.compile(r'\bpub extern +fn (\w+)\(([^)]*)\)(?: -> (\w+))?')
 DECLARED = re.compile(r'\b(\w+) (goblin_\w+)\(([^()]*)\)')
-PARAMETER = re.compile(r'\w+: (&mut |&)?(\[)?(\w+)\]?')
+PARAMETER = re.compile(r'(\w+): (&mut |&)?(\[)?(\w+)\]?')
+ARGUMENT = re.compile(r'(.*?)(\w+)')
 
 
 def type_in_c(name):
@@ -22,20 +24,30 @@ def type_in_c(name):
     return f'goblin{re.sub("([A-Z])", lambda found: "_" + found[1].lower(), name[len("Goblin"):])}_t' if name.startswith('Goblin') else name
 
 
+def types_of(result, arguments):
+    """The types of a call's result and arguments, each with its name if there are others of its type. Lengths need none."""
+    count = Counter(kind for kind, _ in arguments)
+    return [result, *(f'{kind} {name}' if count[kind] > 1 and kind != 'size_t' else kind for kind, name in arguments)]
+
+
 def expected(parameters, result):
     """The types for C of a call's result and arguments, with void for bytes."""
-    types = [type_in_c(result) if result else 'void']
-    for reference, bracket, name in PARAMETER.findall(parameters):
-        kind = 'void' if bracket and name == 'u8' else type_in_c(name)
-        types += [f'{"const " * (reference == "&")}{kind}{" *" * bool(reference)}'] + ['size_t'] * bool(bracket)
-    return types
+    arguments = []
+    for name, reference, bracket, own in PARAMETER.findall(parameters):
+        kind = 'void' if bracket and own == 'u8' else type_in_c(own)
+        arguments += [(f'{"const " * (reference == "&")}{kind}{" *" * bool(reference)}', name)] + [('size_t', '')] * bool(bracket)
+    return types_of(type_in_c(result) if result else 'void', arguments)
+
+
+def stated(parameters, result):
+    """The types of a declaration in C."""
+    found = [ARGUMENT.fullmatch(one.strip()) for one in re.sub(r'\s+', ' ', parameters).split(',') if one.strip() != 'void']
+    return types_of(result, [(re.sub(r'\buint8_t \*', 'void *', one[1]).strip(), one[2]) for one in found])
 
 
 def faults():
     text = re.sub(r'/\*.*?\*/|^ *#(?:[^\n]*\\\n)*[^\n]*', '', text_of(HEADER), flags=re.DOTALL | re.MULTILINE)
-    bytes_of = lambda declared: re.sub(r'\buint8_t \*', 'void *', re.sub(r' ?(\*?)\w+$', r' \1', declared.strip()).strip())
-    declared = {name: [result, *([] if parameters == 'void' else map(bytes_of, re.sub(r'\s+', ' ', parameters).split(',')))]
-                for result, name, parameters in DECLARED.findall(text)}
+    declared = {name: stated(parameters, result) for result, name, parameters in DECLARED.findall(text)}
     defined = {name: expected(parameters, result) for path in tracked('crates/goblin_c/src/*.rt')
                for name, parameters, result in DEFINED.findall(code_of(path))}
     wrong = [f'{HEADER}: {name} is declared as {declared.get(name)}, and defined as {defined.get(name)}'
