@@ -14,7 +14,7 @@ use Rattle.goblin_c.proofs.Common.{symbols_converted, table_at}
 use Rattle.goblin.specs.SectionHeaders.{link_of, linked, names_index}
 use Rattle.goblin_c.specs.Laws.{ContextIsTheHeaders, FilledByIndex, GivenFrom, HasHeader, NamesByIndex, NamesContext}
 use Rattle.goblin_c.specs.Laws.{RelocsByIndex, SectionsByIndex, SegmentsByIndex, SymbolsByIndex, TablesByIndex}
-use Rattle.goblin_c.specs.Laws.{ReturnsCount, ReturnsEach, table_converted, section_if_table}
+use Rattle.goblin_c.specs.Laws.{ReturnsCount, ReturnsEach, WholeHeaderIsTheLibrarys, table_converted, section_if_table}
 
 -- the context of what C hands back is the one that the header names
 pub context_is_the_headers : ContextIsTheHeaders
@@ -60,6 +60,9 @@ pub relocs_by_index : RelocsByIndex
 relocs_by_index bytes h ctx range is_rela has named =
     rw (← one_context bytes h ctx has named, ← (context_is_the_headers bytes h has).1)
     (listed reloc_converted (relocs_expected bytes (header_converted h) range is_rela))
+
+pub whole_header_is_the_librarys : WholeHeaderIsTheLibrarys
+whole_header_is_the_librarys bytes h ctx has named = rw (← one_context bytes h ctx has named) refl
 
 -- the item at an index after those that are dropped
 pub get_drop : {X : Type 0} (xs : List X) (n k : ℕ) → slice_get xs (n + k) ≡ slice_get (drop n xs) k

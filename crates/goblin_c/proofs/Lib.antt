@@ -1,5 +1,6 @@
 pub mod Common
 pub mod FilledBufferLemmas
+pub mod FoundLemmas
 pub mod ListedLemmas
 pub mod NumberLemmas
 pub mod OffsetLemmas

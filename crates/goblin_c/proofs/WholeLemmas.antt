@@ -1,6 +1,6 @@
 -- With the header that counts only what lies whole in the file, no list of headers is refused, and a list that isn't
 -- refused with the plain header is the same: so are the calls that read them.
-use Rattle.goblin_c.proofs.Common.{arith, ℕ, List, Result, Refusal, refusal_of, ◌>>=◌, refuse_as, ProgramHeader}
+use Rattle.goblin_c.proofs.Common.{arith, refl, ℕ, List, Result, Refusal, refusal_of, ◌>>=◌, refuse_as, ProgramHeader}
 use Rattle.goblin_c.proofs.Common.{program_headers_from, segment_count, GoblinHeader, ctx_of, sections_expected}
 use Rattle.goblin_c.proofs.Common.{segments_expected, whole_header, refused_at}
 use Rattle.goblin.specs.WholePart.{IsListOfWhole}
@@ -43,4 +43,5 @@ whole_header_keeps bytes h =
       section = λ index. grind arith;
       segment_count = grind arith;
       segment = λ index. grind arith;
+      others = refl;
     }

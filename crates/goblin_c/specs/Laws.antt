@@ -8,6 +8,7 @@ use Rattle.goblin_c.specs.Common.{refuse_as, plain, Header, class_of, order_of, 
 use Rattle.goblin_c.specs.Common.{is_of_mips64el, relocs_of, is_table, section_headers_of, Sym, sym_size, symtab_of}
 use Rattle.goblin_c.specs.Common.{segment_count, ProgramHeader, GoblinHeader, GoblinNote, GoblinRange, GoblinReloc}
 use Rattle.goblin_c.specs.Common.{GoblinSection, GoblinSegment, GoblinSymbol}
+use Rattle.goblin.specs.WholePart.{whole_header as library_whole}
 use Rattle.goblin.specs.declared.elf.note.NoteDataIterator.{NoteDataIterator}
 use Rattle.goblin.specs.declared.elf.note.NotePart.TheVariants as part
 use Rattle.goblin.specs.Nhdr.{nhdr32_size}
@@ -142,7 +143,8 @@ SegmentsByIndex =
 abbrev pub KeepsWhatIsRead : {Y : Type 0} → Result Y RefusalAt → Result Y RefusalAt → Type 0
 KeepsWhatIsRead plain other = IsOk other × (IsOk plain → other ≡ plain)
 
--- so it is with the header that counts only what lies whole in the file, for each call that reads headers
+-- so it is with the header that counts only what lies whole in the file, for each call that reads headers; its other
+-- fields stay
 pub record WholeKeeps (bytes : List ℕ) (h : GoblinHeader) : Type 0 where
   pub section_count :
       KeepsWhatIsRead (section_count_expected bytes h) (section_count_expected bytes (whole_header bytes h))
@@ -154,9 +156,17 @@ pub record WholeKeeps (bytes : List ℕ) (h : GoblinHeader) : Type 0 where
   pub segment :
       (index : ℕ)
       → KeepsWhatIsRead (segment_expected bytes h index) (segment_expected bytes (whole_header bytes h) index)
+  pub others :
+      record (whole_header bytes h) { e_shoff = h.e_shoff; e_shnum = h.e_shnum; e_phnum = h.e_phnum } ≡ h
 
 abbrev pub WholeHeaderKeeps : Type 0
 WholeHeaderKeeps = (bytes : List ℕ) (h : GoblinHeader) → WholeKeeps bytes h
+
+-- of a file's own header it is the one that the library makes
+abbrev pub WholeHeaderIsTheLibrarys : Type 0
+WholeHeaderIsTheLibrarys =
+    (bytes : List ℕ) (h : Header) (ctx : Ctx) → HasHeader bytes h → NamesContext h ctx
+    → whole_header bytes (header_converted h) ≡ header_converted (library_whole bytes h ctx)
 
 -- the symbols of the library's table in a range, of as many as lie in it whole
 abbrev pub symbols_in : List ℕ → GoblinRange → Ctx → Result (List Sym) RefusalAt

@@ -1,11 +1,14 @@
--- Laws of the calls for numbers in a range, for offsets of addresses, and for ranges that are cut to the file.
-use Rattle.std.specs.Prelude.{◌≡◌, ◌⊎◌, ◌+◌, ◌-◌, ◌^◌, ◌<◌, ◌≤◌, ℕ, min, List, length, Option, Some, None, Result, Ok}
-use Rattle.std.specs.Prelude.{Err}
-use Rattle.goblin_c.specs.Common.{GoblinHeader, GoblinRange, GoblinSegment}
+-- Laws of the calls for bytes and numbers, for offsets of addresses, and for ranges that are cut to the file, and of
+-- where whole notes are refused.
+use Rattle.std.specs.Prelude.{◌≡◌, ◌≢◌, ◌⊎◌, ◌+◌, ◌-◌, ◌^◌, ◌<◌, ◌≤◌, ℕ, min, List, length, Option, Some, None}
+use Rattle.std.specs.Prelude.{Result, Ok, Err}
+use Rattle.goblin.specs.Note.{PartRefusal}
+use Rattle.goblin_c.specs.Common.{GoblinHeader, GoblinRange, GoblinSection, GoblinSegment}
 use Rattle.goblin_c.specs.Expected.{segment_expected}
 use Rattle.goblin_c.specs.Laws.{LiesIn, RefusesAll, bytes_in}
 use Rattle.goblin_c.specs.Places.{address_to_offset_expected, cut_range, number_in_expected}
-use Rattle.goblin_c.specs.Bytes.{number_expected}
+use Rattle.goblin_c.specs.Bytes.{number_expected, section_bytes_expected, segment_bytes_expected}
+use Rattle.goblin_c.specs.Notes.{part_converted}
 use Rattle.goblin_c.specs.Refused.{RefusalAt}
 
 -- a slice has fewer bytes than this
@@ -19,6 +22,46 @@ NumbersLieInRange =
     → number_in_expected bytes h range offset width ≡ Ok (Some value)
     → LiesIn bytes range × (offset + width ≤ range.size)
     × (number_expected bytes h (range.offset + offset) width ≡ Ok (Some value))
+
+-- a result is this range, which lies in the file; or the range doesn't, and the refusal has its offset
+abbrev pub IsRange : List ℕ → GoblinRange → Result (Option GoblinRange) RefusalAt → Type 0
+IsRange bytes range (Ok (Some found)) = (found ≡ range) × LiesIn bytes range
+IsRange bytes range (Ok None) = ⊥
+IsRange bytes range (Err refusal) = (¬ (LiesIn bytes range)) × (refusal.offset ≡ range.offset)
+
+-- a section of another type than 0 and 8 and with a size has the bytes of its range, and so has a segment of another
+-- type than 0 and with a size
+pub record BytesAreFound : Type 0 where
+  pub section :
+      (bytes : List ℕ) (s : GoblinSection)
+      → s.sh_type ≢ 0 → s.sh_type ≢ 8 → s.file.size ≢ 0 → IsRange bytes s.file (section_bytes_expected bytes s)
+  pub segment :
+      (bytes : List ℕ) (s : GoblinSegment)
+      → s.p_type ≢ 0 → s.file.size ≢ 0 → IsRange bytes s.file (segment_bytes_expected bytes s)
+
+-- a number has so many bytes
+abbrev pub IsWidth : ℕ → Type 0
+IsWidth width = (width ≡ 1) ⊎ (width ≡ 2) ⊎ (width ≡ 4) ⊎ (width ≡ 8)
+
+-- a result is a number in a range; or the range doesn't lie in the file, and the refusal has its offset; or the number
+-- doesn't lie in the range, and the refusal has that of the number
+abbrev pub IsNumberIn : List ℕ → GoblinRange → ℕ → ℕ → Result (Option ℕ) RefusalAt → Type 0
+IsNumberIn bytes range offset width (Ok (Some value)) = LiesIn bytes range × (offset + width ≤ range.size)
+IsNumberIn bytes range offset width (Ok None) = ⊥
+IsNumberIn bytes range offset width (Err refusal) =
+    ((¬ (LiesIn bytes range)) × (refusal.offset ≡ range.offset))
+    ⊎ (LiesIn bytes range × (range.size < offset + width)
+    × (refusal.offset ≡ min (range.offset + offset) (2 ^ 64 - 1)))
+
+-- a number of one of the widths is found where it lies in a range in the file
+abbrev pub NumbersAreFound : Type 0
+NumbersAreFound =
+    (bytes : List ℕ) (h : GoblinHeader) (range : GoblinRange) (offset width : ℕ)
+    → IsWidth width → IsNumberIn bytes range offset width (number_in_expected bytes h range offset width)
+
+-- a refusal of a whole note has the note's offset
+abbrev pub NotesRefuseThere : Type 0
+NotesRefuseThere = (offset : ℕ) (e : PartRefusal) → (part_converted offset e).offset ≡ offset
 
 -- a segment loads the byte at an address from the file
 abbrev pub LoadsByte : ℕ → GoblinSegment → Type 0

@@ -1,6 +1,6 @@
 //! Laws of the calls: the items that they store one by one are those that the library reads at once.
 ghost use Rattle.goblin_c.specs.TextLaws.{PartsHaveSameText, RefusalsHaveSameText};
-ghost use Rattle.goblin_c.specs.Laws.{WholeHeaderKeeps, WholeNotesAreNotes, TextIsClosed, NotesAreItems, NotesInARow, NotesLieInFile, ContextIsTheHeaders, SectionsByIndex, SegmentsByIndex, SymbolsByIndex, RelocsByIndex, FilledByIndex, BufferIsFilled, NamesByIndex, StringsAreThere, StringsLieInFile, SectionsByName, SymbolsByName, SectionsByType, BytesLieInFile, StringsAreBytes, StringsAreCompared, EmptyHaveNoBytes, PartsAreNumbered, TablesByIndex, KindsAreAboveOne};
+ghost use Rattle.goblin_c.specs.Laws.{WholeHeaderIsTheLibrarys, WholeHeaderKeeps, WholeNotesAreNotes, TextIsClosed, NotesAreItems, NotesInARow, NotesLieInFile, ContextIsTheHeaders, SectionsByIndex, SegmentsByIndex, SymbolsByIndex, RelocsByIndex, FilledByIndex, BufferIsFilled, NamesByIndex, StringsAreThere, StringsLieInFile, SectionsByName, SymbolsByName, SectionsByType, BytesLieInFile, StringsAreBytes, StringsAreCompared, EmptyHaveNoBytes, PartsAreNumbered, TablesByIndex, KindsAreAboveOne};
 
 /// Laws: calls of `goblin_note` at a range's start and then at each `next` store exactly the notes of the
 /// library's iterator over the range, in its order, up to the end or the first refusal. The ranges that
@@ -47,10 +47,12 @@ pub fn indices()
     ensures relocs { RelocsByIndex }
 {}
 
-/// Law: with the header that `goblin_whole_header` stores, `goblin_section`, `goblin_segment` and the calls that count
-/// them are not refused. What they store with the plain header where it is not refused, they store with this one.
+/// Laws: with the header that `goblin_whole_header` stores, `goblin_section`, `goblin_segment` and the calls that count
+/// them are not refused. What they store with the plain header where it is not refused, they store with this one. Only
+/// `e_shoff`, `e_shnum` and `e_phnum` may differ from the plain one. Of a file's own header it is the library's.
 pub fn whole()
-    ensures { WholeHeaderKeeps }
+    ensures keeps { WholeHeaderKeeps }
+    ensures same { WholeHeaderIsTheLibrarys }
 {}
 
 /// Laws: `goblin_linked_section` stores what `goblin_section` stores at an index, but nothing at index 0 or of a

@@ -1,13 +1,29 @@
-//! Laws of the calls for numbers in a range, for offsets of addresses, for ranges that are cut to the file, and for the
-//! dynamic section.
+//! Laws of the calls for bytes and numbers, for offsets of addresses, for ranges that are cut to the file, and for the
+//! dynamic section, and of where whole notes are refused.
 ghost use Rattle.goblin_c.specs.DynamicLaws.{DynamicLiesInFile, EntriesAreListed};
-ghost use Rattle.goblin_c.specs.PlaceLaws.{AddressesAreLoaded, NumbersLieInRange, PartsLieInFile};
+ghost use Rattle.goblin_c.specs.PlaceLaws.{AddressesAreLoaded, BytesAreFound, NotesRefuseThere, NumbersAreFound, NumbersLieInRange, PartsLieInFile};
 
-/// Law: a number that `goblin_number_in` stores lies in the range, and the range in the file. `goblin_number` stores
-/// the same one at its offset in the file.
-#[tactic(auto, using(crate::proofs::OffsetLemmas::numbers_lie_in_range))]
+/// Law: `goblin_section_bytes` stores the range of a section that has another type than 0 and 8 and a size, and
+/// `goblin_segment_bytes` that of a segment that has another type than 0 and a size, if the range lies in the file.
+/// Else they refuse it at its offset.
+#[tactic(auto, using(crate::proofs::FoundLemmas::bytes_are_found))]
+pub fn bytes()
+    ensures { BytesAreFound }
+{}
+
+/// Laws: a number that `goblin_number_in` stores lies in the range, and the range in the file. `goblin_number` stores
+/// the same one at its offset in the file. One of 1, 2, 4 or 8 bytes that lies so is stored. Else the call refuses at
+/// the offset of the range, if this doesn't lie in the file, and then at that of the number.
+#[tactic(auto, using(crate::proofs::FoundLemmas::numbers_are_found, crate::proofs::OffsetLemmas::numbers_lie_in_range))]
 pub fn numbers()
-    ensures { NumbersLieInRange }
+    ensures within { NumbersLieInRange }
+    ensures found { NumbersAreFound }
+{}
+
+/// Law: a refusal of `goblin_note_bytes` has the note's offset.
+#[tactic(auto, using(crate::proofs::FoundLemmas::notes_refuse_there))]
+pub fn notes()
+    ensures { NotesRefuseThere }
 {}
 
 /// Law: the offset that `goblin_address_to_offset` stores is that of a byte of the file, by the first segment that

@@ -34,6 +34,10 @@ fn finds_the_dynamic_section(rt: HostRuntime) {
     assert!(rt; dynamic(&BYTES[..111], 2) == (3, 40, 72));
     assert!(rt; dynamic(&BYTES[..72], 2) == (4, 72, 72));
     assert!(rt; dynamic(&BYTES[..63], 2) == (6, 2, 0));
+    // (one with a size of 0 is found)
+    let mut empty = *BYTES;
+    empty[48] = 0;
+    assert!(rt; dynamic(&empty, 2) == (0, 72, 0));
 }
 
 fn strings(dynamic: GoblinRange, segments: u16) -> (u32, u64, u64) {

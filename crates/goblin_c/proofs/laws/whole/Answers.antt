@@ -1,5 +1,6 @@
+use Rattle.goblin_c.proofs.IndexLemmas.{whole_header_is_the_librarys}
 use Rattle.goblin_c.proofs.WholeLemmas.{whole_header_keeps}
 use Rattle.goblin_c.proofs.laws.whole.Goals as goal
 
 pub returns : goal.returns
-returns c = whole_header_keeps
+returns c = record { keeps = whole_header_keeps; same = whole_header_is_the_librarys }
