@@ -307,7 +307,8 @@ fn reads_what_was_written(rt: HostRuntime) {
 
 // The index in a header, the `sh_link` of the first section if there is one, and the index of the section that holds
 // the names.
-static NAMES_AT: [(u16, Option<u32>, usize); 4] = [
+static NAMES_AT: [(u16, Option<u32>, usize); 5] = [
+    (0, Some(7), 0),
     (1, Some(7), 1),
     (0xfffe, Some(7), 0xfffe),
     (0xffff, Some(0x10000), 0x10000),

@@ -127,6 +127,11 @@ fn sets_and_asks_flags(rt: HostRuntime) {
         ..segment()
     };
     assert!(rt; is(rt, allows(&header), [true, false, true]));
+    let header = ProgramHeader {
+        p_flags: PF_X,
+        ..segment()
+    };
+    assert!(rt; is(rt, allows(&header), [false, false, true]));
 }
 
 fn has_ranges(
@@ -247,11 +252,12 @@ fn passes_on_the_names(rt: HostRuntime) {
 }
 
 // Segments by type, address, offset and file size: one that isn't loaded, two that overlap, and one past all offsets.
-static SEGMENTS: [(u32, u64, u64, u64); 4] = [
+static SEGMENTS: [(u32, u64, u64, u64); 5] = [
     (2, 0x1000, 0x700, 0x100),
     (PT_LOAD, 0x1000, 0x40, 0x10),
     (PT_LOAD, 0x1008, 0x80, 0x20),
     (PT_LOAD, 0x9000, u64::MAX - 1, 9),
+    (PT_LOAD, u64::MAX - 1, 0x200, 4),
 ];
 
 // The bytes of these segments.
@@ -276,12 +282,12 @@ fn segments(alloc: Global) -> Answer<Vec<u8>> {
 // The offset of the byte at an address by these segments.
 fn loaded_from(rt: HostRuntime, address: u64) -> Answer<Option<usize>> {
     let bytes = segments(rt.alloc())?;
-    let table = ProgramHeader::table(bytes.as_slice(), 0, 4, BIG64)?;
+    let table = ProgramHeader::table(bytes.as_slice(), 0, 5, BIG64)?;
     Ok(ProgramHeader::loaded_from(&table, address))
 }
 
 // Addresses, and the offset of the byte at each.
-static OFFSETS: [(u64, Option<usize>); 8] = [
+static OFFSETS: [(u64, Option<usize>); 9] = [
     (0xfff, None),
     (0x1000, Some(0x40)),
     (0x100f, Some(0x4f)),
@@ -290,6 +296,7 @@ static OFFSETS: [(u64, Option<usize>); 8] = [
     (0x1028, None),
     (0x9001, Some(usize::MAX)),
     (0x9008, Some(usize::MAX)),
+    (u64::MAX, Some(0x201)),
 ];
 
 #[test]

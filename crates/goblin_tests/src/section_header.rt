@@ -183,6 +183,13 @@ fn returns_ranges(rt: HostRuntime) {
     };
     let file = Some(usize::MAX..usize::MAX);
     assert!(rt; has_ranges(rt, &far, file, usize::MAX - 1..usize::MAX));
+    let empty = SectionHeader {
+        sh_size: 0,
+        ..section()
+    };
+    assert!(rt; has_ranges(rt, &empty, Some(0x1000..0x1000), 0x401000..0x401000));
+    let memory = 0x401000..0x401020;
+    assert!(rt; has_ranges(rt, &of_type(0), Some(0x1000..0x1020), memory));
 }
 
 // The greatest number of which 50 more is none.
@@ -439,8 +446,16 @@ fn linked(index: usize) -> [Option<usize>; 2] {
     ]
 }
 
+// Whether section 0xff00 of empty ones is found, whose index is reserved for symbols alone.
+fn links_far(rt: HostRuntime) -> Option<bool> {
+    let bytes = vec![in rt.alloc(); 0u8; 0xff01 * 40].ok()?;
+    let table = Table::<SectionHeader, Ctx>::of(bytes.as_slice(), 0xff01, LITTLE32);
+    Some(SectionHeader::linked_in(&table, 0xff00).is_some())
+}
+
 #[test]
 fn links_to_sections_with_bytes(rt: HostRuntime) {
+    assert!(rt; is(rt, links_far(rt), Some(true)));
     assert!(rt; is(rt, linked(0), [None; 2]));
     assert!(rt; is(rt, linked(1), [Some(2); 2]));
     assert!(rt; is(rt, linked(2), [None; 2]));
@@ -450,9 +465,10 @@ fn links_to_sections_with_bytes(rt: HostRuntime) {
 
 // The index in a header, the `sh_link` of the first section if there is one, and the index of the section
 // that holds the names.
-static NAMES_AT: [(u16, Option<u32>, usize); 5] = [
+static NAMES_AT: [(u16, Option<u32>, usize); 6] = [
     (2, Some(7), 2),
     (0, None, 0),
+    (0, Some(7), 0),
     (0xfffe, Some(7), 0xfffe),
     (0xffff, Some(0x10000), 0x10000),
     (0xffff, None, 0),

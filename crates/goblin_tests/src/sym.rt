@@ -255,6 +255,7 @@ fn reads_the_parts_of_symbols(rt: HostRuntime) {
     assert!(rt; has_parts(rt, 0x12, 1, 2));
     assert!(rt; has_parts(rt, 0x30, 3, 0));
     assert!(rt; has_parts(rt, 0xfe, 15, 14));
+    assert!(rt; has_parts(rt, 0x1a, 1, 10));
     let free = (st_visibility(0x0b), sym32::st_visibility(0xf8));
     assert!(rt; is(rt, free, (3, 0)) && is(rt, sym64::st_visibility(0xfe), 6));
     assert!(rt; is(rt, (FUNCTION.st_visibility(), WIDE.st_visibility()), (0, 3)));
@@ -552,9 +553,9 @@ fn sections_of(bytes: &[u8]) -> Table<'_, SectionHeader, Ctx> {
 
 // A symbol of nothing; two functions at 0x10, of 4 bytes and of 8; at 0x20 an absolute symbol and a section's; one of
 // no type and no size at 0x30, whose section index stands elsewhere; a thread's at 0x40; a function at 0x50 that is not
-// defined; an indirect function of 4 bytes at 8; a label at 0x2c; and a function of 4 bytes at 0x38 whose section index
-// stands elsewhere.
-const ADDRESSED: &[u8; 176] = b"\0\0\0\0\0\0\0\0\0\0\0\0\0\0\0\0\
+// defined; an indirect function of 4 bytes at 8; a label at 0x2c; a function of 4 bytes at 0x38 whose section index
+// stands elsewhere; and at 0x54 a common block, a file and one of a processor's type, of 4 bytes each.
+const ADDRESSED: &[u8; 224] = b"\0\0\0\0\0\0\0\0\0\0\0\0\0\0\0\0\
     \x01\0\0\0\x10\0\0\0\x04\0\0\0\x12\0\x01\0\
     \x01\0\0\0\x10\0\0\0\x08\0\0\0\x12\0\x01\0\
     \x01\0\0\0\x20\0\0\0\0\0\0\0\x10\0\xf1\xff\
@@ -564,7 +565,10 @@ const ADDRESSED: &[u8; 176] = b"\0\0\0\0\0\0\0\0\0\0\0\0\0\0\0\0\
     \x01\0\0\0\x50\0\0\0\x04\0\0\0\x12\0\0\0\
     \x01\0\0\0\x08\0\0\0\x04\0\0\0\x1a\0\x01\0\
     \x01\0\0\0\x2c\0\0\0\0\0\0\0\0\0\x01\0\
-    \x01\0\0\0\x38\0\0\0\x04\0\0\0\x12\0\xff\xff";
+    \x01\0\0\0\x38\0\0\0\x04\0\0\0\x12\0\xff\xff\
+    \x01\0\0\0\x54\0\0\0\x04\0\0\0\x15\0\x01\0\
+    \x01\0\0\0\x54\0\0\0\x04\0\0\0\x14\0\x01\0\
+    \x01\0\0\0\x54\0\0\0\x04\0\0\0\x1d\0\x01\0";
 
 // The first and the last of some addresses, and the index of the symbol of all of them.
 type Of = (u64, u64, Option<usize>);
@@ -597,13 +601,28 @@ static ADDRESSES: [Of; 11] = [
 
 #[test]
 fn finds_the_symbol_at_an_address(rt: HostRuntime) {
-    let table = table_of(ADDRESSED, 0, 11, LITTLE32);
+    let table = table_of(ADDRESSED, 0, 14, LITTLE32);
     let sections = sections_of(ONE_SECTION);
     assert!(rt; each_row!(rt; row in ADDRESSES => finds(rt, &table, &sections, ET_EXEC, row)));
     // Without sections only the bytes of symbols count.
     let none = sections_of(&[]);
     assert!(rt; is(rt, table.at(0x14, &none, ET_EXEC), Some(2)));
     assert!(rt; is(rt, table.at(0x30, &none, ET_EXEC), None));
+}
+
+#[test]
+fn finds_the_symbol_at_the_greatest_address(rt: HostRuntime) {
+    let last = Sym {
+        st_info: 0x12,
+        st_shndx: 1,
+        st_value: u64::MAX - 3,
+        st_size: 4,
+        ..ZERO
+    };
+    let mut bytes = [0; 24];
+    assert!(rt; last.try_into_ctx(&mut bytes, LITTLE64).is_ok());
+    let table = table_of(&bytes, 0, 1, LITTLE64);
+    assert!(rt; is(rt, table.at(u64::MAX, &sections_of(&[]), ET_EXEC), Some(0)));
 }
 
 // A symbol of nothing; a function of 0x30 bytes at 0x10; in it one of 4 bytes at 0x20, and two labels at 0x28; a label

@@ -74,8 +74,8 @@ fn cuts_segments_to_those_in_the_file(rt: HostRuntime) {
 }
 
 // The parts of a file of 70,000 whole section headers, which states 80,000 of them and as many segments: `e_shnum`, and
-// `e_phnum` by section 0, without sections, and with section 0 past the file's end.
-fn large(rt: HostRuntime) -> Option<[u16; 4]> {
+// `e_phnum` by section 0, without sections, with section 0 past the file's end, and with 70,000 whole program headers.
+fn large(rt: HostRuntime) -> Option<[u16; 5]> {
     let mut bytes = vec![in rt.alloc(); 0u8; 40 + 70_000 * 40].ok()?;
     bytes[60..63].copy_from_slice(b"\x80\x38\x01");
     bytes[68..71].copy_from_slice(b"\x80\x38\x01");
@@ -86,12 +86,14 @@ fn large(rt: HostRuntime) -> Option<[u16; 4]> {
         ProgramHeader::whole_part(bytes, 0xffff, 2_000_000, 40, LITTLE32),
         ProgramHeader::whole_part(bytes, 0xffff, 40, 0, LITTLE32),
         ProgramHeader::whole_part(bytes, 0xffff, 40, bytes.len(), LITTLE32),
+        ProgramHeader::whole_part(bytes, 0xffff, 560_040, 40, LITTLE32),
     ])
 }
 
 #[test]
 fn cuts_to_what_the_fields_hold(rt: HostRuntime) {
-    assert!(rt; is(rt, large(rt), Some([0xffff, 25_001, 0xffff, 0xfffe])));
+    let counts = [0xffff, 25_001, 0xffff, 0xfffe, 0xfffe];
+    assert!(rt; is(rt, large(rt), Some(counts)));
 }
 
 // A header of a file with three section headers at offset 8 and three program headers at offset 60.
