@@ -48,7 +48,7 @@ impl Turning {
         self.calls = self.calls.saturating_add(1);
         match turn {
             0 => Err(io::Error::from(ErrorKind::Interrupted)),
-            1 => Err(io::Error::from(ErrorKind::Other)),
+            1 => Err(io::Error::from(ErrorKind::BrokenPipe)),
             _ => Ok(()),
         }
     }
@@ -79,7 +79,11 @@ fn passes_reads_on(buffer: &mut [u8]) -> bool {
     for call in 0..9_u64 {
         let is_passed_on = match Source::read(&mut counted, buffer) {
             Ok(count) => call % 3 == 2 && count == given,
-            Err(e) => call % 3 < 2 && (e.kind() == ErrorKind::Interrupted) == (call % 3 == 0),
+            Err(e) => match call % 3 {
+                0 => e.kind() == ErrorKind::Interrupted,
+                1 => e.kind() == ErrorKind::BrokenPipe,
+                _ => false,
+            },
         };
         let is_counted = counted.read_calls() == call.saturating_add(1)
             && counted.inner().calls == counted.read_calls();
@@ -93,13 +97,23 @@ fn passes_reads_on(buffer: &mut [u8]) -> bool {
     true
 }
 
+// Whether an answer is an error of a kind.
+fn is_of_kind(answer: io::Result<()>, kind: ErrorKind) -> bool {
+    match answer {
+        Ok(()) => false,
+        Err(e) => e.kind() == kind,
+    }
+}
+
 // Whether a write goes on after an interruption and ends at a failure, and a flush is one call.
 fn passes_writes_on(bytes: &[u8]) -> bool {
     let mut counted = Counted::new(Turning { calls: 0 });
-    let is_ended = Sink::write_all(&mut counted, bytes).is_err() && counted.reported_error();
+    let written = Sink::write_all(&mut counted, bytes);
+    let is_ended = is_of_kind(written, ErrorKind::BrokenPipe) && counted.reported_error();
     let at_failure = counted.inner().calls;
     let is_flushed = Sink::flush(&mut counted).is_ok();
-    is_ended && at_failure == 2 && is_flushed && counted.into_inner().calls == 3
+    let is_interrupted = is_of_kind(Sink::flush(&mut counted), ErrorKind::Interrupted);
+    is_ended && at_failure == 2 && is_flushed && is_interrupted && counted.into_inner().calls == 4
 }
 
 #[test]
