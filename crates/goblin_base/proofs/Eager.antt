@@ -102,10 +102,6 @@ module _ {R : Type 0} {size : ℕ} {read : List ℕ → R} {bytes : List ℕ} {o
       let fault = unless_fault-err (room_of (length bytes) place size) e (read (take size (drop place bytes))) is in
       refused items before same h enough fault.1 ∙ ap (λ f. Err (refusal_of f)) (sym fault.2)
 
--- one record more takes one size more
-size_more : (k size : ℕ) → suc k * size ≡ size + k * size
-size_more k size = omega arith
-
 -- after k records that lie in the bytes the others are tested from there on
 fitting : (len offset size count k : ℕ)
     → k ≤ count → offset + k * size ≤ len
