@@ -252,6 +252,15 @@ check_programs() {
     # (a folder is opened, and can't be read)
     # shellcheck disable=SC2016
     ends_with 1 "*	$program_file" sh -c 'ulimit -n 16 && exec "$@"' sh "$folder/size" . . . . . . . . . . . . . . . . . . . . $program_file
+    # (values.c shares no code with the others; its main is called many times)
+    {
+        cat faces/c/values.c
+        echo '#undef main'
+        echo 'int main(int argc, char **argv) { for (int i = 0; i < 20; i++) values(argc, argv); return values(argc, argv); }'
+    } > "$folder/often.c"
+    strictly cc -std=c99 -Dmain=values -Ifaces/c -o "$folder/often" "$folder/often.c" -L"$folder" -lgoblin_c
+    # shellcheck disable=SC2016
+    ends_with 2 '*: Is a directory' sh -c 'ulimit -n 16 && exec "$@"' sh "$folder/often" .
     echo "nm.c lists $(echo "$symbols_made" | wc -l) symbols in each class and byte order"
 }
 

@@ -1,5 +1,6 @@
 /* Lists the value and the name of each symbol of an ELF file: values FILE */
 #include "goblin.h"
+#include <errno.h>
 #include <inttypes.h>
 #include <stdio.h>
 #include <stdlib.h>
@@ -43,7 +44,11 @@ static bool load(const char *path) {
     FILE *file = fopen(path, "rb");
     bool is_read = file && (getc(file) != EOF || feof(file)); /* (no byte of a folder can be read) */
     long size = is_read && fseek(file, 0, SEEK_END) == 0 ? ftell(file) : -1;
-    if (size < 0 || !(bytes = (uint8_t *)malloc((size_t)size + 1))) return false;
+    if (size < 0 || !(bytes = (uint8_t *)malloc((size_t)size + 1))) {
+        int reason = errno;
+        if (file) fclose(file);
+        return errno = reason, false;
+    }
     rewind(file);
     len = fread(bytes, 1, (size_t)size, file);
     is_read = !ferror(file);
