@@ -142,6 +142,9 @@ class Unpacked:
         for name, lines in ways.items():
             self.run(f'mkdir {name}', f'cd {name}', 'echo "$LISTS" > CMakeLists.txt', 'cmake -S . -B built', 'cmake --build built',
                      '$RUNNER built/listing built/listing', wanted=OF_C, LISTS=project + lines)
+        # (what is refused to a 32-bit project is not its version)
+        self.run('mkdir narrow', 'cd narrow', 'echo "$LISTS" > CMakeLists.txt', '! cmake -S . -B built', wanted=rf'version: {self.version} \(64bit\)',
+                 LISTS='cmake_minimum_required(VERSION 3.10)\nproject(narrow C)\nset(CMAKE_SIZEOF_VOID_P 4)\nfind_package(goblin_c REQUIRED)')
         # (the folder of the libraries may be a link)
         self.run('mv "$LIBDIR" linked', 'ln -s "$PWD/linked" "$LIBDIR"', 'cmake -S package -B package/linked', 'rm "$LIBDIR"',
                  'mv linked "$LIBDIR"')
