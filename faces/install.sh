@@ -357,8 +357,17 @@ make_library() {
     sha256sum < "$cache/library" | cat "$folder/sources" - > "$cache/sums"
 }
 
+# Whether a file is a static library for the target, by e_machine of its first object. A module is not looked at.
+is_for_target() {
+    case $target in x86_64-*) machine=62 ;; aarch64-*) machine=183 ;; *) return 0 ;; esac
+    python3 -c 'import sys
+start, magic, rest = open(sys.argv[1], "rb").read().partition(b"\x7fELF")
+sys.exit(not (start.startswith(b"!<arch>\n") and magic and rest[14:16] == bytes([int(sys.argv[2]), 0])))' "$1" $machine
+}
+
 library=${LIBRARY:-}
-[ -z "$library" ] || [ -r "$library" ] || fail "LIBRARY is $library: it can not be read"
+[ -z "$library" ] || { [ -f "$library" ] && [ -r "$library" ]; } || fail "LIBRARY is $library: it can not be read"
+[ -z "$library" ] || is_for_target "$library" || fail "LIBRARY is $library: it is no library for $target"
 if [ -z "$library" ]; then
     sh commands/has.sh 'making the library' rt
     cache=out/library/$target-$cpu

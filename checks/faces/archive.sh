@@ -55,6 +55,9 @@ ends_with 2 'PROGRAM is *: it can not be read' env PROGRAM="$folder/none" sh fac
 # (nor is an earlier module removed for a library that is missing)
 quietly env TARGET=wasm64-unknown-unknown sh faces/install.sh "$root"
 ends_with 2 'LIBRARY is *: it can not be read' env TARGET=wasm64-unknown-unknown LIBRARY="$folder/none" sh faces/install.sh "$root"
+# (nor one that is a folder, no library, or for another target)
+for wrong in "$folder" faces/c/goblin.h; do ends_with 2 'LIBRARY is *: it *' env LIBRARY="$wrong" sh faces/install.sh "$root"; done
+ends_with 2 'LIBRARY is *: it is no library for aarch64-*' env TARGET=aarch64-unknown-linux-gnu sh faces/install.sh "$root"
 [ -e "$root/share/goblin_c/web/goblin_c.wasm" ] || fail 'an installation of a library that is missing removes the earlier one'
 quietly sh faces/install.sh --uninstall "$root"
 mkdir -p "$root/share/man"
