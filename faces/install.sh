@@ -168,6 +168,9 @@ install_library() {
     # (by this name pkg-config knows the folders that compilers search anyway; C++ fails if one of them is searched first)
     case ${to#"${ROOT:-}"} in /usr | /usr/) prefix=/usr ;; esac
     put_flags goblin_c
+    # (the pages name the folder, if its name needs no quotes and they are not of an archive)
+    at=${to#"${ROOT:-}"} at=${at%/}
+    case $option$at in /*[!A-Za-z0-9._+/-]* | [!/]*) at=/usr/local ;; esac
     for file in config config-version; do
         put_edited "s|@UP@|$up/..|" "faces/goblin_c-$file.cmake.in" "$libdir/cmake/goblin_c/goblin_c-$file.cmake"
     done
@@ -197,7 +200,7 @@ install_library() {
         put faces/goblin_show.1 share/man/man1/goblin_show.1
     fi
     {
-        sed "$names" faces/installed.md
+        sed "$names; s|/usr/local|$at|" faces/installed.md
         printf '\n## Installed files\n\nBelow the folder of the installation:\n\n'
         # shellcheck disable=SC2016 # (they are markdown's)
         each_installed | while read -r start content; do printf -- '- `%s`: %s\n' "$start" "$content"; done
@@ -212,7 +215,7 @@ put_flags() { put_edited "s|@NAME@|$1|; s|@PREFIX@|$prefix|" faces/goblin_c.pc.i
 install_python() {
     put_all faces/python/goblin_elf share/goblin_c/python/goblin_elf '(' -name '*.py' -o -name py.typed ')'
     put "$folder/shared" "share/goblin_c/python/goblin_elf/libgoblin_c.so.$interface"
-    put faces/python/README.md share/goblin_c/python/README.md
+    put_edited "s|/usr/local|$at|" faces/python/README.md share/goblin_c/python/README.md
 }
 
 # Links the shared library by the toolchain's linker. It exports the calls alone, with a version of their own, so that two interfaces in one

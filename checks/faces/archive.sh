@@ -83,6 +83,7 @@ ends_with 0 '' find "$folder/rooted" -type f
 quietly make install PREFIX=/usr DESTDIR="$folder/package" SHARED=1
 ends_with 1 '' grep -rF "$folder" "$folder/package"
 quietly grep -x prefix=/usr "$folder/package/usr/lib/pkgconfig/goblin_c.pc"
+quietly grep -F '"/usr/share/goblin_c/rust"' "$folder/package/usr/share/goblin_c/README.md"
 quietly make uninstall PREFIX=/usr DESTDIR="$folder/package"
 [ ! -e "$folder/package" ] || fail "the uninstallation of a package leaves: $(find "$folder/package")"
 # The folder of the libraries may be a link, from where no relative name leads back. (One with a space is not written.)
