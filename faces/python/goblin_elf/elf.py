@@ -52,8 +52,8 @@ class Elf:
         self._use(header)
 
     def _use(self, header: Optional[Header]) -> None:
-        self.header: Header = header or Header(*found('header', HEADER, self._file) or ())
-        self._image = HEADER.pack(self.header)
+        self._header = header or Header(*found('header', HEADER, self._file) or ())
+        self._image = HEADER.pack(self._header)
 
     @classmethod
     def open(cls, path: Path, *, copy: bool = False) -> 'Elf':
@@ -70,6 +70,11 @@ class Elf:
         header = HEADER.buffer()
         FUNCTIONS['whole_header'](self._file.address, self._file.length, self._image, header)
         return Elf(self._file.view, Header(*HEADER.struct.unpack(header)))
+
+    @property
+    def header(self) -> Header:
+        """The header that all is read by. `put_header` writes another one, and `Elf(elf.bytes, header)` reads by another one."""
+        return self._header
 
     @property
     def bytes(self) -> memoryview:

@@ -62,6 +62,10 @@ class Read(unittest.TestCase):
             self.assertEqual((elf.is_64, elf.little_endian), (file.bits == 64, file.order == '<'))
             self.assertEqual(repr(elf), f'<Elf: ELF{file.bits} REL X86_64, {len(file.bytes)} bytes>')
             self.assertEqual(bytes(elf.bytes), file.bytes)
+            # (what is read would still be that of the file)
+            with self.assertRaises(AttributeError):
+                elf.header = header._replace(e_shnum=0)
+            self.assertEqual((elf.header, len(elf.sections)), (header, 9))
 
     def test_sections(self):
         for file, elf in self.each():
