@@ -563,6 +563,27 @@ check('Arguments of other types and ranges are refused', () => {
             Elf.parse(noted).readable_notes(of_notes, most).notes];
         assert.deepEqual(all.map((found) => [...found].length), [count, count, count, count]);
     }
+    // (as of a section that is not there, or of its index)
+    const part = 'a section header or a program header';
+    for (const [wrong, word] of [[undefined, 'undefined'], [null, 'null'], [5, 'number'], [5n, 'bigint'],
+        ['.text', 'string'], [NaN, 'number'], [{}, 'Object'], [elf.section_headers(), 'List']]) {
+        for (const [what, ...calls] of [
+            ['a section header', () => elf.symtab(wrong), () => elf.relocs(wrong), () => elf.section_name(wrong),
+                () => elf.linked_section(wrong), () => writer.put_symbol(wrong, 0, {}),
+                () => writer.put_reloc(wrong, 0, {}), () => goblin.segment_holds(segment, wrong)],
+            [part, () => elf.range(wrong), () => elf.section_data(wrong), () => elf.segment_data(wrong),
+                () => elf.readable_data(wrong), () => elf.notes(wrong), () => elf.notes_bytes(wrong),
+                () => elf.number_in(wrong, 0, 1), () => writer.put_number_in(wrong, 0, 1, 0)],
+            ['a program header', () => elf.segment_sections(wrong)],
+            ['a symbol', () => elf.syms().name(wrong), () => elf.syms().name_bytes(wrong)]])
+            for (const call of calls) assert.throws(call, new TypeError(`${what} is expected, not ${word}`));
+    }
+    for (const none of [undefined, null]) assert.equal(elf.strtab(none).get(0), undefined);
+    for (const [put, what] of [[() => writer.put_section_header(1, { ...text, sh_size: 5 }), 'a bigint as sh_size'],
+        [() => writer.put_section_header(1, { ...text, sh_link: 5n }), 'a number as sh_link'],
+        [() => elf.range({ ...text, sh_addr: undefined }), 'a bigint as sh_addr'],
+        [() => elf.number_in({ ...text, sh_size: '5' }, 0, 1), 'a bigint as size']])
+        assert.throws(put, { name: 'TypeError', message: new RegExp(`^${what} is expected, not `) });
     for (const name of [undefined, null, 5, Buffer.from('.text'), ['.text']]) {
         for (const call of [() => elf.section(name), () => elf.section_by_name(name), () => elf.syms().by_name(name),
             () => elf.syms().symbol_by_name(name), () => goblin.note_type_to_str({ name, n_type: 3 })])

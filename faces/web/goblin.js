@@ -239,7 +239,7 @@ function record(text) {
     for (const [, name, width] of text.matchAll(/(\w+) (\w)/g)) {
         const bytes = width === 's' ? 8 : Number(width);
         const offset = Math.ceil(end / bytes) * bytes;
-        fields.push({ name, offset, ...WIDTHS[width] });
+        fields.push({ name, offset, type: bytes === 8 ? 'bigint' : 'number', ...WIDTHS[width] });
         end = offset + bytes;
         widest = Math.max(widest, bytes);
     }
@@ -255,10 +255,11 @@ function read(view, start, { fields }, item = plain({})) {
 
 // Writes an object into a struct. Each number must fit its field: else other bits would be written.
 function write(view, start, { fields }, item) {
-    for (const { name, offset, get, set } of fields) {
-        view[set](start + offset, item[name], true);
-        if (get(view, start + offset) !== item[name])
-            throw new RangeError(`${item[name]} is no number for the field ${name}`);
+    for (const { name, offset, type, get, set } of fields) {
+        const value = item[name];
+        if (typeof value !== type) refuse(`a ${type} as ${name}`, value);
+        view[set](start + offset, value, true);
+        if (get(view, start + offset) !== value) throw new RangeError(`${value} is no number for the field ${name}`);
     }
 }
 
@@ -272,9 +273,12 @@ function unsigned(number, bits) {
 }
 
 // Returns what a value is, for a message.
-const describe = (value) =>
-    (value === null || typeof value !== 'object' ? typeof value : value.constructor?.name ?? 'object');
+const describe = (value) => (value === null ? 'null'
+    : typeof value !== 'object' ? typeof value : value.constructor?.name ?? 'object');
 const refuse = (expected, value) => { throw new TypeError(`${expected} is expected, not ${describe(value)}`); };
+
+// Returns a field of an argument, or throws if the argument is no item that has it.
+const field_of = (item, field, expected) => item?.[field] ?? refuse(expected, item);
 
 // Returns a name as UTF-8. (The encoder takes anything for a text, and nothing for an empty one.)
 const utf8 = (name) => encoder.encode(typeof name === 'string' ? name : refuse('a text', name));
@@ -756,7 +760,7 @@ export class Elf {
      * @param {SectionHeader} section
      * @returns {string | undefined}
      */
-    section_name(section) { return this.shdr_strtab().get(section.sh_name); }
+    section_name(section) { return this.shdr_strtab().get(field_of(section, 'sh_name', 'a section header')); }
 
     /**
      * Returns the range of the bytes of a section or a segment, or `undefined` if it has none in the file: its type is
@@ -867,7 +871,7 @@ export class Elf {
      * past the end, or that section has no bytes in the file. Throws if the section headers are not inside the file.
      * @returns {Strtab}
      */
-    shdr_strtab() { return new Strtab(this.#memory, range_of(this.#call('goblin_section_names', 'section'))); }
+    shdr_strtab() { return new Strtab(this.#memory, range_of(this.#call('goblin_section_names', 'section') ?? NONE)); }
 
     /**
      * Returns a section, or a segment's bytes in the file, as a string table. It is empty if there is none, if the
@@ -876,7 +880,7 @@ export class Elf {
      * @param {SectionHeader | ProgramHeader | undefined} part
      * @returns {Strtab}
      */
-    strtab(part) { return new Strtab(this.#memory, range_of(part)); }
+    strtab(part) { return new Strtab(this.#memory, range_of(part ?? NONE)); }
 
     /**
      * Returns the section that a section links to by its `sh_link`, such as the string table of a symbol table. Returns
@@ -885,7 +889,10 @@ export class Elf {
      * @param {SectionHeader} section
      * @returns {SectionHeader | undefined}
      */
-    linked_section(section) { return this.#call('goblin_linked_section', 'section', unsigned(section.sh_link, 64)); }
+    linked_section(section) {
+        const index = unsigned(field_of(section, 'sh_link', 'a section header'), 64);
+        return this.#call('goblin_linked_section', 'section', index);
+    }
 
     /**
      * Returns the symbols of a section of type SHT_SYMTAB or SHT_DYNSYM. Their names are in the linked section
@@ -986,7 +993,7 @@ export class Elf {
         if (section) return this.strtab(this.linked_section(section));
         const strings = range
             && this.#call('goblin_dynamic_strings', 'range', this.#memory.pass(ARGUMENT, 'range', range));
-        return new Strtab(this.#memory, strings ?? range_of(undefined));
+        return new Strtab(this.#memory, strings ?? range_of(NONE));
     }
 
     // Returns the range of the dynamic section, if it has bytes, and its section header if that is how it is found.
@@ -1092,18 +1099,27 @@ function as_width(width) {
     return BigInt(width);
 }
 
-const holds_symbols = ({ sh_type }) => sh_type === SHT_SYMTAB || sh_type === SHT_DYNSYM;
+const type_of = (section) => field_of(section, 'sh_type', 'a section header');
 
-const holds_relocs = ({ sh_type }) => sh_type === SHT_RELA || sh_type === SHT_REL;
+const holds_symbols = (section) => [SHT_SYMTAB, SHT_DYNSYM].includes(type_of(section));
+
+const holds_relocs = (section) => [SHT_RELA, SHT_REL].includes(type_of(section));
 
 // Reports whether a header is a program header, and not a section header.
-const is_segment = (part) => part.p_offset !== undefined;
+function is_segment(part) {
+    const is_one = part?.p_offset !== undefined;
+    field_of(part, is_one ? 'p_offset' : 'sh_offset', 'a section header or a program header');
+    return is_one;
+}
 
-// Returns the range of a section or a segment in the file, which is empty for no section and for SHT_NOBITS,
-// whatever its size.
+// What has no bytes, in place of a section.
+const NONE = { sh_offset: 0n, sh_size: 0n };
+
+// Returns the range of a section or a segment in the file, which is empty for SHT_NOBITS, whatever its size.
 function range_of(part) {
-    if (!part || part.sh_type === SHT_NOBITS) return plain({ offset: 0n, size: 0n });
-    return plain(is_segment(part) ? { offset: part.p_offset, size: part.p_filesz }
+    const segment = is_segment(part);
+    if (part.sh_type === SHT_NOBITS) return plain({ offset: 0n, size: 0n });
+    return plain(segment ? { offset: part.p_offset, size: part.p_filesz }
         : { offset: part.sh_offset, size: part.sh_size });
 }
 
@@ -1288,6 +1304,8 @@ export class Writer {
  * @returns {boolean}
  */
 export function segment_holds(segment, section) {
+    field_of(segment, 'p_type', 'a program header');
+    type_of(section);
     const { p_type, p_offset, p_filesz, p_vaddr, p_memsz } = segment,
         { sh_type, sh_offset, sh_addr, sh_size } = section;
     const first = sh_size === 0n && p_memsz !== 0n && [PT_DYNAMIC, PT_NOTE].includes(p_type) ? 1n : 0n;
@@ -1498,7 +1516,7 @@ export class Symtab extends List {
      * @param {Sym} symbol
      * @returns {string | undefined}
      */
-    name(symbol) { return this.strtab.get(symbol.st_name); }
+    name(symbol) { return this.strtab.get(field_of(symbol, 'st_name', 'a symbol')); }
 
     /**
      * Returns the bytes of a symbol's name, which need not be UTF-8, or `undefined` if its offset is past the end of
@@ -1506,7 +1524,7 @@ export class Symtab extends List {
      * @param {Sym} symbol
      * @returns {Uint8Array | undefined}
      */
-    name_bytes(symbol) { return this.strtab.get_bytes(symbol.st_name); }
+    name_bytes(symbol) { return this.strtab.get_bytes(field_of(symbol, 'st_name', 'a symbol')); }
 
     /**
      * Returns the index of the symbol of an address, if there is one. It contains the address: of those with
