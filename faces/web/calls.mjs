@@ -7,6 +7,7 @@ import { existsSync, mkdtempSync, readdirSync, readFileSync, rmSync, writeFileSy
 import { tmpdir } from 'node:os';
 import { join, resolve } from 'node:path';
 import { pathToFileURL } from 'node:url';
+import { inspect } from 'node:util';
 import { runInNewContext } from 'node:vm';
 import { dynamic_file, elf_file, longs, note, symbol } from './elves.mjs';
 import { import_goblin } from './tested.mjs';
@@ -500,6 +501,20 @@ check('Notes as bytes have whole names, need not be UTF-8, and must be inside th
         ({ kind, item }) => kind === Kind.NOTE_ALIGN && item === 0);
 });
 
+check('Node.js prints the items of a list, as those of an array', () => {
+    for (const [name, list] of [['List', Elf.parse(own).section_headers()], ['Symtab', Elf.parse(own).syms()]]) {
+        const of_array = inspect([...list]);
+        assert.ok(list.length > 10 && of_array.includes(' more items') === list.length > 100);
+        assert.equal(inspect(list), `${name}(${list.length}) ${of_array}`);
+        for (const most of [0, 3, null]) {
+            assert.equal(inspect(list, { maxArrayLength: most }),
+                `${name}(${list.length}) ${inspect([...list], { maxArrayLength: most })}`);
+        }
+        assert.equal(inspect({ of: [[list]] }), `{ of: [ [ [${name}] ] ] }`);
+    }
+    assert.equal(inspect(Elf.parse(elf_file({})).program_headers()), 'List(0) []');
+});
+
 // Returns an item as JSON has it, by the type of each of its fields.
 const as_json = (item) =>
     Object.fromEntries(Object.entries(item).filter(([, value]) => value !== undefined).map(([name, value]) => {
@@ -960,7 +975,8 @@ check('The declarations have all that goblin.js exports', () => {
             symbols = Object.getOwnPropertySymbols(prototype).map((symbol) => `[${symbol.description}]`);
         const there = [...Object.getOwnPropertyNames(prototype), ...symbols, ...Object.keys(made[name]),
             ...(name === 'Elf' ? ['parse'] : [])];
-        const wanted = there.filter((member) => !['constructor', 'name'].includes(member)
+        const undeclared = ['constructor', 'name', '[nodejs.util.inspect.custom]'];
+        const wanted = there.filter((member) => !undeclared.includes(member)
             || (member === 'name' && name === 'Symtab'));
         assert.deepEqual(Object.keys(members).filter((member) => member !== 'constructor').sort(), wanted.sort(), name);
     }

@@ -1486,6 +1486,14 @@ export class List {
      * @returns {T[]}
      */
     toJSON() { return Array.from(this); }
+
+    // Returns what Node.js prints: an array with this name, whose first items are there.
+    [Symbol.for('nodejs.util.inspect.custom')](_, { maxArrayLength }) {
+        const { name } = this.constructor, { [name]: Shown } = { [name]: class extends Array {} };
+        const shown = Shown.from(this.from(0, maxArrayLength ?? Infinity));
+        shown.length = this.length;
+        return shown;
+    }
 }
 
 // An index in brackets works as that of an array: `list[0]`. Nothing can be assigned to it, which throws a TypeError.
