@@ -674,8 +674,12 @@ check('The entry and whether a file is a library are those of its header', () =>
         const copy = Buffer.from(own);
         copy.writeUInt16LE(type, 16);
         copy.writeBigUInt64LE(END, 24);
-        const elf = Elf.parse(copy);
+        const elf = Elf.parse(copy), { header } = elf;
         assert.deepEqual([elf.is_lib(), elf.entry()], [is_lib, END]);
+        // (the lists would still be those of the file's header)
+        for (const change of [() => { elf.header = { ...header, e_type: 0 }; }, () => { header.e_type = 0; }])
+            assert.throws(change, TypeError);
+        assert.deepEqual([elf.header, elf.is_lib()], [header, is_lib]);
     }
 });
 

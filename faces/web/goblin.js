@@ -634,6 +634,7 @@ export class Elf {
         this.#memory = memory;
         /** @type {Readonly<Header>} the header */
         this.header = Object.freeze(header);
+        Object.defineProperty(this, 'header', { writable: false });
     }
 
     /**
