@@ -105,6 +105,7 @@ check('A file may be in bytes of each kind, and nothing else', () => {
         buffer, given.Uint8Array];
     for (const bytes of wrong) assert.throws(() => Elf.parse(bytes), TypeError);
     assert.throws(() => Elf.parse('ELF'), /ArrayBuffer.* string/);
+    assert.throws(() => new Elf(own), { name: 'TypeError', message: /by Elf\.parse/ });
     assert.throws(() => Elf.parse(new ArrayBuffer(0)), is_refusal(Kind.TOO_SMALL));
     // A file that is read part by part is not copied. If the memory grows, its bytes are in another array.
     const parts = goblin.array_for(own.length);

@@ -631,6 +631,7 @@ export class Elf {
     get bytes() { return this.#memory.whole; }
 
     constructor(memory, header) {
+        if (!(memory instanceof Memory)) throw new TypeError('a file is read by Elf.parse, not by new Elf');
         this.#memory = memory;
         /** @type {Readonly<Header>} the header */
         this.header = Object.freeze(header);
