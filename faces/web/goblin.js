@@ -1333,8 +1333,8 @@ function may_hold({ p_type }, section) {
 
 /**
  * A list in a file. The call that makes it reads the number of items, and throws if the list can't be read. An
- * iteration reads several items at a time. An item is read by `list[index]`, as from an array. For other methods of
- * arrays use `[...list]`.
+ * iteration reads several items at a time. An item is read by `list[index]`, as from an array. Other methods of arrays,
+ * `structuredClone`, `postMessage` and `deepEqual` of Node.js find no items in it: give them `[...list]`.
  * @template T
  * @index {T | undefined}
  */
