@@ -113,7 +113,10 @@ class File:
     """The bytes of a file: any object with a buffer, which is kept and whose memory can't move while this or a part of it lives."""
 
     def __init__(self, buffer: Any) -> None:
-        self.view = memoryview(buffer).cast('B')
+        try:
+            self.view = memoryview(buffer).cast('B')
+        except TypeError as error:
+            raise TypeError(f'{error}: Elf takes the bytes of a file, and Elf.open its path') from None
         # (slices of these two are bytes, which are made faster than views)
         self.source: Any = buffer if type(buffer) in (bytes, mmap.mmap) else self.view
         # (a view that can't be written may be of a bytearray, which can)

@@ -572,7 +572,10 @@ class Memory(unittest.TestCase):
         self.assertEqual(Elf.open(f'/dev/fd/{ends[0]}').symbols[1].name, 'main')
         os.close(ends[0])
         self.assertRaises(OSError, Elf.open, FOLDER)
-        self.assertRaises(TypeError, Elf, 'text')
+        # (as with lief and pyelftools)
+        with open(os.devnull, 'rb') as file:
+            for wrong in ('text', file):
+                self.assertRaisesRegex(TypeError, 'Elf.open its path', Elf, wrong)
 
     def test_threads(self):
         elf = Elf(MADE.bytes)
