@@ -70,6 +70,11 @@ check('A module of another interface or without an export is refused, and replac
     await refused(WITHOUT_EXPORTS, 'none');
     await goblin.default(new WebAssembly.Module(module));
     await assert.rejects(goblin.default(WITHOUT_EXPORTS));
+    // (as of a bundler that gives the address as a text)
+    for (const source of ['/goblin_c.wasm', null, 5]) {
+        await assert.rejects(goblin.default(source),
+            { name: 'TypeError', message: /^a module, its bytes or its URL is expected, not / });
+    }
     assert.equal(Elf.parse(own).section_headers().length, own.readUInt16LE(60));
     await goblin.default();
     return `${exported.length} exports`;
