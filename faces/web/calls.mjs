@@ -517,6 +517,7 @@ check('Node.js prints the items of a list, as those of an array', () => {
                 `${name}(${list.length}) ${inspect([...list], { maxArrayLength: most })}`);
         }
         assert.equal(inspect({ of: [[list]] }), `{ of: [ [ [${name}] ] ] }`);
+        assert.match(inspect(Object.create(list)), new RegExp(`^${name} {}`));
     }
     assert.equal(inspect(Elf.parse(elf_file({})).program_headers()), 'List(0) []');
 });

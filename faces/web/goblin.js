@@ -1490,8 +1490,10 @@ export class List {
      */
     toJSON() { return Array.from(this); }
 
-    // Returns what Node.js prints: an array with this name, whose first items are there.
+    // Returns what Node.js prints: an array with this name, whose first items are there. (An object with a list as its
+    // prototype is no list.)
     [Symbol.for('nodejs.util.inspect.custom')](_, { maxArrayLength }) {
+        if (!(#memory in this)) return this;
         const { name } = this.constructor, { [name]: Shown } = { [name]: class extends Array {} };
         const shown = Shown.from(this.from(0, maxArrayLength ?? Infinity));
         shown.length = this.length;
