@@ -37,11 +37,14 @@ const is_refusal = (kind, offset) => (error) => error instanceof GoblinError
 check('Without 64-bit memories an error says which engines have them', async () => {
     assert.throws(() => Elf.parse(own), /not ready/);
     assert.throws(() => goblin.et_to_str(1), /not ready/);
-    const { validate } = WebAssembly;
-    WebAssembly.validate = () => false;
-    const words = ['memory64', '--experimental-wasm-memory64', 'Chromium 133', 'Firefox 134', 'Node.js 24'];
-    await assert.rejects(goblin.default(), ({ message }) => words.every((word) => message.includes(word)));
-    WebAssembly.validate = validate;
+    // (in some browsers a person can turn WebAssembly off)
+    const { WebAssembly } = globalThis, words =
+        ['memory64', '--experimental-wasm-memory64', 'Chromium 133', 'Firefox 134', 'Node.js 24'];
+    for (const without of [{ validate: () => false }, undefined]) {
+        globalThis.WebAssembly = without;
+        await assert.rejects(goblin.default(), ({ message }) => words.every((word) => message.includes(word)));
+    }
+    globalThis.WebAssembly = WebAssembly;
 });
 
 // Returns a module in which an export has another name. (Such names, after their lengths, come before all others.)

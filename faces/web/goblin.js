@@ -372,7 +372,7 @@ function check(module) {
  * @returns {Promise<void>}
  */
 export default async function init(source = new URL('goblin_c.wasm', import.meta.url)) {
-    if (!WebAssembly.validate(WITH_MEMORY)) throw new Error(WITHOUT_MEMORY);
+    if (!globalThis.WebAssembly?.validate(WITH_MEMORY)) throw new Error(WITHOUT_MEMORY);
     if (source === null || typeof source !== 'object') refuse('a module, its bytes or its URL', source);
     const content = source instanceof URL ? await load(source) : source;
     const module = content instanceof WebAssembly.Module ? content : await WebAssembly.compile(content);
