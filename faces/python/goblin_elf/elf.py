@@ -59,8 +59,9 @@ class Elf:
     def open(cls, path: Path, *, copy: bool = False) -> 'Elf':
         """Maps a file into memory, or reads it if it has less than 64 KiB, if `copy` is true, or if it is no regular file. Raises OSError.
 
-        The mapping, and the file descriptor that it holds, live as long as what needs them, without a call to close them. If another program
-        makes a mapped file shorter, the operating system ends this one when it reads past the new end (SIGBUS). Use `copy` if that may be.
+        The mapping, and the file descriptor that it holds, live as long as what needs them: a table, an item, or a memoryview such as
+        `build_id`, of which `bytes` is a copy that needs neither. There is no call to close them. If another program makes a mapped file
+        shorter, the operating system ends this one when it reads past the new end (SIGBUS). Use `copy` if that may be.
         """
         with open(path, 'rb', buffering=0) as file:
             return cls(content_of(file, copy))
