@@ -12,47 +12,49 @@ const MALFORMED: &str = "Malformed entity: ";
 // The greatest number of which 50 more is none.
 const NEAR: u64 = 18446744073709551566;
 
-// Errors and their texts. Each text that has a number has one of 10 or more, so that it differs in decimal and
-// hexadecimal digits.
-static ERRORS: [(Error, &str); 25] = rows![
-    Error::Malformed(Fault::InvalidClass(200)), "Malformed entity: Invalid class in Header: 200";
-    Error::Malformed(Fault::InvalidEndianness(200)),
+// Errors, their kinds, their numbers in the order of their fields, and their texts. Each text that has a number has one
+// of 10 or more, so that it differs in decimal and hexadecimal digits.
+static ERRORS: [(Error, u32, [u64; 3], &str); 25] = rows![
+    Error::Malformed(Fault::InvalidClass(200)), 10, [200, 0, 0],
+        "Malformed entity: Invalid class in Header: 200";
+    Error::Malformed(Fault::InvalidEndianness(200)), 11, [200, 0, 0],
         "Malformed entity: Invalid endianness in Header: 200";
-    Error::Malformed(Fault::TooSmall), "Malformed entity: Too small";
-    Error::Malformed(Fault::ElfClass(200)), "Malformed entity: invalid ELF class c8";
-    Error::Malformed(Fault::ElfClass(9)), "Malformed entity: invalid ELF class 9";
-    Error::Malformed(Fault::DataType(200)), "Malformed entity: invalid ELF endianness DATA type c8";
-    Error::Malformed(Fault::Data(200)), "Malformed entity: invalid ELF DATA type c8";
-    Error::Malformed(Fault::NoteAlign(16)),
+    Error::Malformed(Fault::TooSmall), 12, [0; 3], "Malformed entity: Too small";
+    Error::Malformed(Fault::ElfClass(200)), 13, [200, 0, 0], "Malformed entity: invalid ELF class c8";
+    Error::Malformed(Fault::ElfClass(9)), 13, [9, 0, 0], "Malformed entity: invalid ELF class 9";
+    Error::Malformed(Fault::DataType(200)), 14, [200, 0, 0],
+        "Malformed entity: invalid ELF endianness DATA type c8";
+    Error::Malformed(Fault::Data(200)), 15, [200, 0, 0], "Malformed entity: invalid ELF DATA type c8";
+    Error::Malformed(Fault::NoteAlign(16)), 16, [16, 0, 0],
         "Malformed entity: Notes has unimplemented alignment requirement: 0x10";
-    Error::Malformed(Fault::NoteAlign(0xab)),
+    Error::Malformed(Fault::NoteAlign(0xab)), 16, [0xab, 0, 0],
         "Malformed entity: Notes has unimplemented alignment requirement: 0xab";
-    Error::Malformed(Fault::SymtabOffset { offset: 48, len: 47 }),
+    Error::Malformed(Fault::SymtabOffset { offset: 48, len: 47 }), 17, [48, 47, 0],
         "Malformed entity: Symbol table offset (48) is beyond file boundary (47)";
-    Error::Malformed(Fault::TooManySymbols { offset: 47, count: 18446744073709551615 }),
+    Error::Malformed(Fault::TooManySymbols { offset: 47, count: usize::MAX }), 18, [47, u64::MAX, 0],
         "Malformed entity: Too many ELF symbols (offset 0x2f, count 18446744073709551615)";
-    Error::Malformed(Fault::SymtabPast { requested: 72, available: 48 }),
+    Error::Malformed(Fault::SymtabPast { requested: 72, available: 48 }), 19, [72, 48, 0],
         "Malformed entity: Symbol table extends beyond file boundary (requested: 72, available: 48)";
-    Error::Malformed(Fault::StrtabOffset { offset: 45, len: 34 }),
+    Error::Malformed(Fault::StrtabOffset { offset: 45, len: 34 }), 20, [45, 34, 0],
         "Malformed entity: String table offset (45) is beyond file boundary (34)";
-    Error::Malformed(Fault::StrtabRange { size: 33, offset: 12, len: 44, overflow: false }),
+    Error::Malformed(Fault::StrtabRange { size: 33, offset: 12, len: 44, overflow: false }), 21, [33, 12, 44],
         "Malformed entity: Strtable size (33) + offset (12) is out of bounds for 44 #bytes. Overflowed: false";
-    Error::Malformed(Fault::SectionOffset { name: 7, size: 50, offset: 100, overflow: false }),
+    Error::Malformed(Fault::SectionOffset { name: 7, size: 50, offset: 100, overflow: false }), 22, [7, 50, 100],
         "Malformed entity: Section 7 size (50) + offset (100) is out of bounds. Overflowed: false";
-    Error::Malformed(Fault::SectionOffset { name: 12, size: 50, offset: 100, overflow: false }),
+    Error::Malformed(Fault::SectionOffset { name: 12, size: 50, offset: 100, overflow: false }), 22, [12, 50, 100],
         "Malformed entity: Section 12 size (50) + offset (100) is out of bounds. Overflowed: false";
-    Error::Malformed(Fault::SectionAddr { name: 7, size: 50, addr: NEAR, overflow: true }),
+    Error::Malformed(Fault::SectionAddr { name: 7, size: 50, addr: NEAR, overflow: true }), 23, [7, 50, NEAR],
         "Malformed entity: Section 7 size (50) + addr (18446744073709551566) is out of bounds. Overflowed: true";
-    Error::Malformed(Fault::SectionAddr { name: 10, size: 50, addr: NEAR, overflow: true }),
+    Error::Malformed(Fault::SectionAddr { name: 10, size: 50, addr: NEAR, overflow: true }), 23, [10, 50, NEAR],
         "Malformed entity: Section 10 size (50) + addr (18446744073709551566) is out of bounds. Overflowed: true";
-    Error::BadMagic(0xabc), "Invalid magic number: 0xabc";
-    Error::BufferTooShort(17, "symbols"), "Buffer is too short for 17 symbols";
-    Error::Scroll(scroll::Error::TooBig { size: 64, len: 52 }), "type is too big (64) for 52";
-    Error::Scroll(scroll::Error::BadOffset(20)), "bad offset 20";
-    Error::Scroll(scroll::Error::BadInput { size: 30, msg: "invalid utf8" }),
+    Error::BadMagic(0xabc), 2, [0xabc, 0, 0], "Invalid magic number: 0xabc";
+    Error::BufferTooShort(17, "symbols"), 6, [17, 0, 0], "Buffer is too short for 17 symbols";
+    Error::Scroll(scroll::Error::TooBig { size: 64, len: 52 }), 3, [64, 52, 0], "type is too big (64) for 52";
+    Error::Scroll(scroll::Error::BadOffset(20)), 4, [20, 0, 0], "bad offset 20";
+    Error::Scroll(scroll::Error::BadInput { size: 30, msg: "invalid utf8" }), 5, [30, 0, 0],
         "bad input invalid utf8 (30)";
-    Error::Scroll(scroll::Error::BadInput { size: 80, msg: "too long" }), "bad input too long (80)";
-    Error::Memory(AllocError), "Out of memory";
+    Error::Scroll(scroll::Error::BadInput { size: 80, msg: "too long" }), 5, [80, 0, 0], "bad input too long (80)";
+    Error::Memory(AllocError), 7, [0; 3], "Out of memory";
 ];
 
 // A text, as std formats it.
@@ -97,7 +99,20 @@ fn has_messages(rt: HostRuntime, error: &Error, text: &str) -> bool {
 
 #[test]
 fn returns_the_messages_of_errors(rt: HostRuntime) {
-    assert!(rt; each_row!(rt; row in ERRORS => has_messages(rt, &row.0, row.1)));
+    assert!(rt; each_row!(rt; row in ERRORS => has_messages(rt, &row.0, row.3)));
+}
+
+// Whether the report of an error has this kind and these numbers, and an overflow if the text says so.
+fn reports_numbers(rt: HostRuntime, row: &(Error, u32, [u64; 3], &str)) -> bool {
+    let report = row.0.report();
+    let found = [report.first, report.second, report.third];
+    is(rt, (report.kind as u32, found), (row.1, row.2))
+        && is(rt, report.overflow, row.3.ends_with("true"))
+}
+
+#[test]
+fn reports_the_numbers_of_errors(rt: HostRuntime) {
+    assert!(rt; each_row!(rt; row in ERRORS => reports_numbers(rt, row)));
 }
 
 // A writer that takes some texts and refuses all after them.
@@ -143,7 +158,7 @@ fn ends_where_refused(rt: HostRuntime, error: &Error, takes: usize) -> bool {
 
 #[test]
 fn writes_nothing_after_a_refusal(rt: HostRuntime) {
-    for (error, text) in &ERRORS {
+    for (error, _, _, text) in &ERRORS {
         assert!(rt; (0..12).all(|takes| holds(rt, text, ends_where_refused(rt, error, takes))));
     }
 }
