@@ -64,3 +64,11 @@ fn views_show_no_bytes(rt: HostRuntime) {
     assert!(rt; shows_view(rt, bytes, VIEW));
     assert!(rt; shows_walked(rt, bytes, ENTRIES, PROBES));
 }
+
+// A text, or what isn't one, is a look at each of its bytes.
+#[test]
+fn counts_the_looks_at_texts(rt: HostRuntime) {
+    let mut view = Looked::new(b"a\xc3\xa9\xff");
+    assert!(rt; view.text(1, 3) && is(rt, view.count(), 2));
+    assert!(rt; !view.text(0, 4) && is(rt, view.count(), 6));
+}
