@@ -192,6 +192,11 @@ fn shows_names_of_sections(rt: HostRuntime) {
     // A table without bytes in the file.
     let text = sections!("2", "section 1 SHT_NOBITS offset 0x34 size 4 name=\n");
     assert!(rt; strict(rt.alloc(), NAMES, &[(100, 8)], text));
+    // A table that begins with a name, which stands at offset 0.
+    let text = "header ELF32 little DYN EM_UNKNOWN entry 0x0 phnum 0 shnum 2\n\
+        section 0 SHT_NULL offset 0x0 size 0 name=x.s\n\
+        section 1 SHT_STRTAB offset 0x34 size 4 name=.s\n";
+    assert!(rt; strict(rt.alloc(), NAMES, &[(52, b'x')], text));
 }
 
 #[test]
@@ -223,6 +228,15 @@ fn shows_symbols(rt: HostRuntime) {
     );
     let changes = [(192, 0xff), (193, 0xff), (112, 1)];
     assert!(rt; strict(rt.alloc(), SYMBOLS, &changes, text));
+    // Section 0 has the symbols, a part of a third one, and a name that is a control character.
+    let text = "header ELF32 little DYN EM_UNKNOWN entry 0x0 phnum 0 shnum 3\n\
+        section 0 SHT_SYMTAB offset 0x38 size 47 name=\n\
+        section 1 SHT_STRTAB offset 0x34 size 4 name=\n\
+        section 2 SHT_NULL offset 0x38 size 32 name=\n\
+        symbol 0 0 NOTYPE LOCAL DEFAULT value 0x0 size 0 name=\n\
+        symbol 0 1 FUNC GLOBAL DEFAULT value 0x1000 size 5 name=?\n";
+    let changes = [(92, 2), (104, 0x38), (108, 47), (112, 1), (172, 0), (53, 7)];
+    assert!(rt; strict(rt.alloc(), SYMBOLS, &changes, text));
 }
 
 #[test]
@@ -249,6 +263,13 @@ fn shows_relocations(rt: HostRuntime) {
         section 1 SHT_REL offset 0x40 size 16 name=\n\
         reloc 1 0 offset 0x150f0 sym 51511296 type 0 addend -\n";
     assert!(rt; strict(rt.alloc(), PAIR, &[(18, 0)], text));
+    // Section 0 has relocations too.
+    let text = "header ELF32 little DYN EM_UNKNOWN entry 0x0 phnum 0 shnum 2\n\
+        section 0 SHT_RELA offset 0x34 size 12 name=\n\
+        section 1 SHT_RELA offset 0x34 size 0 name=\n\
+        reloc 0 0 offset 0x10 sym 2 type 1 addend -4\n";
+    let changes = [(68, 4), (80, 0x34), (84, 12), (124, 0)];
+    assert!(rt; strict(rt.alloc(), ADDEND, &changes, text));
 }
 
 #[test]
