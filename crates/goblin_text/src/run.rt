@@ -7,7 +7,7 @@ ghost use Rattle.goblin_text.specs.Looks.{IsShort, IsUnread, LooksAtMost, ReadsN
 ghost use Rattle.goblin_text.specs.RunOutcome.{HasRun, ReadsAtMostOneMore, IsReasonOf, WritesRefusal, input_limit, read_limit, status_of};
 ghost use Rattle.goblin_text.specs.Shown.{shown};
 ghost use Rattle.goblin_text.specs.ShownLines.{printable};
-ghost use Rattle.goblin_text.specs.StreamMarks.{StopsAtError, StreamMarks, after_read};
+ghost use Rattle.goblin_text.specs.StreamMarks.{StopsAtError, StreamMarks, after_read, after_write};
 
 use crate::accept::accept;
 use crate::block_runs::{BLOCK, BLOCKS};
@@ -178,7 +178,7 @@ pub fn run<R: Source, W: Sink>(
 
 /// The limits of a run, and of the looks for names, in numbers, and the line for an input that is too long. A text has
 /// as many lines as newlines. Of names the bytes below 32 and 127 are printed as `?`, and all others as they are. A
-/// read after a failure or the end counts as reading on.
+/// read after a failure or the end counts as reading on, and a write or a flush after an error as going on.
 #[tactic(auto, using(crate::proofs::LineLooks::lines_filtered))]
 pub fn constants()
     ensures input { INPUT_LIMIT ≡ 16777216 }
@@ -186,10 +186,8 @@ pub fn constants()
     ensures too_long { TOO_LONG.now ≡ codes "input is longer than 16777216 bytes" }
     ensures block { BLOCK ≡ 512 }
     ensures blocks { BLOCKS ≡ 32768 }
-    ensures input_limit { input_limit ≡ 16777216 }
-    ensures read_limit { read_limit ≡ 33554432 }
-    ensures line_looks { line_looks ≡ 4096 }
-    ensures table_looks { table_looks ≡ 1040 }
+    ensures limits { (input_limit ≡ 16777216) × (read_limit ≡ 33554432) }
+    ensures looks { (line_looks ≡ 4096) × (table_looks ≡ 1040) }
     ensures lines { (text : List ℕ) → lines_in text ≡ length (filter (λ b. b == 10) text) }
     ensures printable { (byte : ℕ) → (byte < 32 → printable byte ≡ 63) × (printable 127 ≡ 63)
         × (32 ≤ byte → byte ≢ 127 → printable byte ≡ byte) }
@@ -197,6 +195,8 @@ pub fn constants()
         → (bytes : List ℕ) × Consumes old new bytes × (length bytes ≤ 16777217) }
     ensures read_on { (m : StreamMarks) (answer : Result ℕ ReadError) (buf : List ℕ)
         → (IsTrue m.reported_failure ⊎ IsTrue m.reported_end) → IsTrue (after_read m answer buf).read_on }
+    ensures went_on { (m : StreamMarks) (answer : Result ℕ ReadError)
+        → IsTrue m.reported_error → IsTrue (after_write m answer).went_on }
 {}
 
 /// A law: `==` is true exactly if two outcomes are the same. `clone` returns the outcome, and never fails.
