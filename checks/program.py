@@ -154,9 +154,9 @@ def others(names, symbols):
         (strict, changed(symbols, (50, b'\2'), (53, bad), (76, bad)), 'refused: bad input invalid utf8 (12)\n'),
         (strict, changed(symbols, (132, b'\2'), (152, b'\2'), (53, bad), (76, bad)), 'refused: bad input invalid utf8 (12)\n'),
         (permissive, changed(symbols, (132, b'\x09'), (149, b'\1'), (172, b'\x09'), (189, b'\1')), 'refused: type is too big (260) for 156\n'),
-        # the field e_shnum is printed, though section 0 has the number
-        (strict, changed(names, (48, b'\0'), (76, b'\2')),
-         text.replace('shnum 2', 'shnum 0').replace('SHT_NULL offset 0x0 size 0', 'SHT_NULL offset 0x0 size 2')),
+        # the fields e_phnum and e_shnum are printed, though section 0 has the numbers
+        (strict, changed(names, (44, b'\xff\xff'), (48, b'\0'), (76, b'\2'), (84, b'\3')),
+         text.replace('phnum 0 shnum 2', 'phnum 65535 shnum 0').replace('SHT_NULL offset 0x0 size 0', 'SHT_NULL offset 0x0 size 2')),
         # a string table that is cut, and a size of symbols that is not theirs
         (permissive, changed(names, (116, b'\xc8')), text.replace('size 4', 'size 200')),
         (strict, changed(symbols, (204, b'\x20')), wanted_of(symbols))]
