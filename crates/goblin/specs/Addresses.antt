@@ -2,11 +2,9 @@
 use Rattle.std.specs.Prelude.{◌≡◌, ◌≢◌, ◌↔◌, ◌⊎◌, ◌+◌, ◌<◌, ◌≤◌, ◌==◌, ◌&&◌, ◌||◌, not, ℕ, Bool, true, false, nat_lt}
 use Rattle.std.specs.Prelude.{nat_le, if◌then◌else◌, List, position, slice_get, Option, Some, None, unwrap_or, bit_and}
 use Rattle.std.specs.Prelude.{IsBitSet}
-use Rattle.std.specs.List.{list_any}
+use Rattle.goblin.specs.Common.{list_any, Sym, is_in_section}
 use Rattle.std.specs.Option.{option_map, option_or}
 use Rattle.goblin_headers.specs.declared.section_header.SectionHeader.{SectionHeader}
-use Rattle.goblin_records.specs.declared.sym.Sym.{Sym}
-use Rattle.goblin_records.specs.Sym.{is_in_section}
 use Rattle.goblin_records.specs.SymParts.{type_of}
 
 -- a symbol has an address in a section: its section index is one of the file's, and its type is none (0), an object

@@ -35,6 +35,7 @@ pub use Rattle.goblin_records.specs.Sym
 pub use Rattle.goblin_records.specs.SymLaws
 pub use Rattle.goblin_records.specs.SymParts
 pub mod Addresses
+pub mod Common
 pub mod Note
 pub mod NoteLaws
 pub mod NoteRuns

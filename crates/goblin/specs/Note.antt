@@ -1,22 +1,13 @@
 -- Notes: the note that bytes are read as, and the notes of a range (System V gABI, "Note Section").
 use Rattle.std.specs.Prelude.{◌+◌, ◌-◌, ◌==◌, ◌||◌, max, ℕ, zero, suc, nat_le, if◌then◌else◌, List, [], ◌∷◌, length}
 use Rattle.std.specs.Prelude.{◌≡◌, take, drop, Option, Some, None, Result, Ok, Err}
-use Rattle.std.specs.Int.{next_multiple_of}
-use Rattle.goblin_base.specs.declared.container.Ctx.{Ctx}
-use Rattle.goblin_base.specs.declared.container.Endian.{Endian}
-use Rattle.goblin_base.specs.declared.error.Error.{Error}
+use Rattle.goblin.specs.Common.{next_multiple_of, Ctx, Endian, Error, read_within, Refusal, bad_offset, malformed}
+use Rattle.goblin.specs.Common.{misplaced, refusal_of, room_of, ◌>>=◌, refuse_if, refuse_as, nhdr32_of, nhdr32_size}
+use Rattle.goblin.specs.Common.{Nhdr32, Note, NotePlaces}
 use Rattle.goblin_base.specs.declared.error.Fault.TheVariants.{NoteAlign}
-use Rattle.goblin_base.specs.Record.{read_within}
-use Rattle.goblin_base.specs.Refusal.{Refusal, bad_offset, malformed, misplaced, refusal_of}
-use Rattle.goblin_base.specs.Room.{room_of}
-use Rattle.goblin_base.specs.Steps.{◌>>=◌, refuse_if, refuse_as}
 use Rattle.goblin_base.specs.Utf8.{text_or_fault}
-use Rattle.goblin_records.specs.Nhdr.{nhdr32_of, nhdr32_size}
-use Rattle.goblin_records.specs.declared.note.Nhdr32.{Nhdr32}
-use Rattle.goblin.specs.declared.elf.note.Note.{Note}
 use Rattle.goblin.specs.declared.elf.note.NotePart.{NotePart}
 use Rattle.goblin.specs.declared.elf.note.NotePart.TheVariants.{Header, Name, Desc}
-use Rattle.goblin.specs.declared.elf.note.NotePlaces.{NotePlaces}
 use Rattle.goblin.specs.declared.elf.note.NoteRefusal.{NoteRefusal}
 
 -- the parts of a note: its type, its name without the last byte, and its descriptor

@@ -1,22 +1,12 @@
 -- Laws of notes and of the notes of a range.
 use Rattle.std.proofs.Common.{◌≡◌, ◌+◌, ◌-◌, ◌<◌, ◌≤◌, ℕ, zero, suc, Bool, false, nat_le, List, [], length}
 use Rattle.std.proofs.Common.{take, drop, Result, Ok, Err, IfOk, inl, inr, refl, sym, ap, subst, ◌∙◌, arith}
-use Rattle.std.proofs.lemmas.Bool.{cases_lt, le-leb, lt-leb}
-use Rattle.std.proofs.lemmas.Bool.Decides.{nat_tests}
+use Rattle.goblin.specs.Common.{cases_lt, le-leb, lt-leb, nat_tests, div_ceil, next_multiple_of, Ctx, Endian}
+use Rattle.goblin.specs.Common.{read_within, unless_fault, fits-room_of, room_of_fits, Refusal, refusal_of, bad_offset}
+use Rattle.goblin.specs.Common.{room_of, ◌>>=◌, refuse_as, refuse_if, Nhdr32, nhdr32_of, nhdr32_size, NotePlaces}
 use Rattle.std.proofs.lemmas.List.{length-drop, length-take, take-append-drop}
-use Rattle.std.specs.Int.{div_ceil, next_multiple_of}
-use Rattle.goblin_base.specs.declared.container.Ctx.{Ctx}
-use Rattle.goblin_base.specs.declared.container.Endian.{Endian}
 use Rattle.goblin_base.specs.declared.scroll.Error.{Error as Misplaced}
-use Rattle.goblin_base.specs.Record.{read_within, unless_fault}
-use Rattle.goblin_base.specs.RecordLaws.{fits-room_of, room_of_fits}
-use Rattle.goblin_base.specs.Refusal.{Refusal, refusal_of, bad_offset}
-use Rattle.goblin_base.specs.Room.{room_of}
-use Rattle.goblin_base.specs.Steps.{◌>>=◌, refuse_as, refuse_if}
-use Rattle.goblin_records.specs.declared.note.Nhdr32.{Nhdr32}
-use Rattle.goblin_records.specs.Nhdr.{nhdr32_of, nhdr32_size}
 use Rattle.goblin_records.specs.NhdrLaws.{nhdr32_laws}
-use Rattle.goblin.specs.declared.elf.note.NotePlaces.{NotePlaces}
 use Rattle.goblin.specs.Note.{NoteParts, note_align, bytes_at, utf8_at, note_places, read_places, places_at, note_at}
 use Rattle.goblin.specs.Note.{item_and_rest, items_within, note_items, whole_places, whole_note_places}
 use Rattle.goblin.specs.Notes.{LieWithin, PlacesLieWithin, WholeIsNote, NoteByNote, NotesAdvance, FewNotes}

@@ -2,17 +2,10 @@
 use Rattle.std.specs.Prelude.{◌≡◌, ◌+◌, ◌-◌, ◌≤◌, ℕ, nat_le, nat_lt, sum_by, if◌then◌else◌, List, [], ◌∷◌, ◌++◌, length}
 use Rattle.std.specs.Prelude.{take, drop, flat_map, Option, Result, Ok, Err, IfOk, vec_capacity}
 use Rattle.std.specs.Iterator.{YieldsFirstBy}
-use Rattle.std.specs.Int.{div_ceil}
-use Rattle.std.specs.List.{position_or_len}
-use Rattle.goblin_base.specs.declared.container.Ctx.{Ctx}
-use Rattle.goblin_base.specs.declared.container.Endian.{Endian}
-use Rattle.goblin_base.specs.declared.error.Error.{Error}
-use Rattle.goblin_base.specs.Refusal.{Refusal, refusal_of}
-use Rattle.goblin_records.specs.Nhdr.{nhdr32_of, nhdr32_size}
-use Rattle.goblin.specs.declared.elf.note.Note.{Note}
+use Rattle.goblin.specs.Common.{div_ceil, position_or_len, Ctx, Endian, Error, Refusal, refusal_of, nhdr32_of}
+use Rattle.goblin.specs.Common.{nhdr32_size, Note, NotePlaces}
 use Rattle.goblin.specs.declared.elf.note.NoteDataIterator.{NoteDataIterator}
 use Rattle.goblin.specs.declared.elf.note.NoteIterator.{NoteIterator}
-use Rattle.goblin.specs.declared.elf.note.NotePlaces.{NotePlaces}
 use Rattle.goblin.specs.Note.{NoteParts, parts_of, places_at, note_at, note_items, item_and_rest, read_places}
 use Rattle.goblin.specs.Note.{whole_places}
 

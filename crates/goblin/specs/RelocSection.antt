@@ -1,15 +1,10 @@
 -- Relocation sections: which are accepted, and which relocations they hold (System V gABI, "Relocation").
 use Rattle.std.specs.Prelude.{◌≡◌, ◌*◌, ◌/◌, ◌==◌, ◌&&◌, if◌then◌else◌, ℕ, Bool, List, [], length, take, drop}
 use Rattle.std.specs.Prelude.{slice_index, flat_map, Result, Ok}
-use Rattle.goblin_base.specs.declared.container.Ctx.{Ctx}
-use Rattle.goblin_base.specs.declared.error.Error.{Error}
+use Rattle.goblin.specs.Common.{Ctx, Error, unless_fault, records, room_of, Reloc, reloc_size, reloc_in, reloc_image_in}
 use Rattle.goblin_base.specs.Number.{IsBytes}
-use Rattle.goblin_base.specs.Record.{unless_fault, records}
-use Rattle.goblin_base.specs.Room.{room_of}
 use Rattle.goblin_headers.specs.declared.header.Header.{Header}
 use Rattle.goblin_headers.specs.Header.{class_byte, data_byte}
-use Rattle.goblin_records.specs.declared.reloc.Reloc.{Reloc}
-use Rattle.goblin_records.specs.Reloc.{reloc_size, reloc_in, reloc_image_in}
 
 -- the relocations in `filesz` bytes from an offset on, which the file must hold unless `filesz` is 0; there are as many
 -- as those bytes hold whole, and a remainder is not read

@@ -4,18 +4,12 @@ use Rattle.std.proofs.Common.{inl, inr, refl, sym, ap, ◌∙◌, arith}
 use Rattle.std.specs.List.{flat_map}
 use Rattle.std.proofs.Math.Nat.{div-mul-le_self}
 use Rattle.std.proofs.Math.Seq.{take-add}
-use Rattle.std.proofs.lemmas.Bool.{cases_lt}
-use Rattle.std.proofs.lemmas.Bool.Decides.{nat_tests}
+use Rattle.goblin.specs.Common.{cases_lt, nat_tests, unless_fault, records, unless_fault-is, fits-room_of, room_of}
+use Rattle.goblin.specs.Common.{no_records, first_record, records-agree, Reloc, reloc_size, reloc_in, reloc_image_in}
 use Rattle.std.proofs.lemmas.List.{get_or-drop, length-drop, length-take-le, take-append-drop, take-take}
 use Rattle.goblin_base.specs.Layout.{IsRecord, Layout}
 use Rattle.goblin_base.specs.Number.{IsBytes}
-use Rattle.goblin_base.specs.Record.{unless_fault, records}
-use Rattle.goblin_base.specs.RecordLaws.{unless_fault-is, fits-room_of}
-use Rattle.goblin_base.specs.Room.{room_of}
-use Rattle.goblin_base.specs.TableLaws.{no_records, first_record, records-agree}
-use Rattle.goblin_records.specs.declared.reloc.Reloc.{Reloc}
 use Rattle.goblin_records.specs.declared.reloc.RelocCtx.{RelocCtx}
-use Rattle.goblin_records.specs.Reloc.{reloc_size, reloc_in, reloc_image_in}
 use Rattle.goblin_records.specs.RelocLaws.{reloc_laws_in}
 use Rattle.goblin.specs.RelocSection.{DependsOnItsRange, WritesItsBytes}
 

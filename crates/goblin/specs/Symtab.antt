@@ -1,15 +1,10 @@
 -- Symbol tables: which are accepted, and which symbols they hold (System V gABI, "Symbol Table").
 use Rattle.std.specs.Prelude.{◌≡◌, ◌*◌, ◌-◌, ◌/◌, ◌^◌, min, ℕ, List, [], length, drop, take, nat_le, nat_lt}
 use Rattle.std.specs.Prelude.{if◌then◌else◌, Result, Ok, Err}
-use Rattle.goblin_base.specs.declared.container.Ctx.{Ctx}
-use Rattle.goblin_base.specs.declared.error.Error.{Error}
+use Rattle.goblin.specs.Common.{Ctx, Error, Strict, Permissive, records, Sym, sym_size, sym_of}
 use Rattle.goblin_base.specs.declared.error.Error.TheVariants.{Malformed}
 use Rattle.goblin_base.specs.declared.error.Fault.TheVariants.{SymtabOffset, TooManySymbols, SymtabPast}
 use Rattle.goblin_base.specs.declared.options.ParseMode.{ParseMode}
-use Rattle.goblin_base.specs.declared.options.ParseMode.TheVariants.{Strict, Permissive}
-use Rattle.goblin_base.specs.Record.{records}
-use Rattle.goblin_records.specs.declared.sym.Sym.{Sym}
-use Rattle.goblin_records.specs.Sym.{sym_size, sym_of}
 
 -- a symbol table: its symbols, and the offset and the context that it was parsed with
 pub record Symbols : Type 0 where

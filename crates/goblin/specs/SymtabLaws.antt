@@ -2,12 +2,7 @@
 use Rattle.std.proofs.Common.{◌≡◌, ◌<◌, ◌≤◌, ◌*◌, ◌-◌, ◌/◌, ◌^◌, min, ℕ, Bool, false, nat_le, nat_lt}
 use Rattle.std.proofs.Common.{if◌then◌else◌, List, length, take, drop, Result, Ok, Err, refl, ap, arith}
 use Rattle.std.proofs.Math.Nat.{le-div_iff_mul-le, min-eq_left}
-use Rattle.std.proofs.lemmas.Bool.Decides.{nat_tests}
-use Rattle.goblin_base.specs.declared.container.Ctx.{Ctx}
-use Rattle.goblin_base.specs.declared.error.Error.{Error}
-use Rattle.goblin_base.specs.declared.options.ParseMode.TheVariants.{Strict, Permissive}
-use Rattle.goblin_base.specs.TableLaws.{records-agree}
-use Rattle.goblin_records.specs.Sym.{sym_size, sym_of}
+use Rattle.goblin.specs.Common.{nat_tests, Ctx, Error, Strict, Permissive, records-agree, sym_size, sym_of}
 use Rattle.goblin_records.specs.SymLaws.{sym_laws}
 use Rattle.goblin.specs.Symtab.{Symbols, symbols_at, PermissiveKeepsStrict, DependsOnItsRange}
 

@@ -8,14 +8,10 @@ use Rattle.goblin_base.proofs.Common.{arith, suc, ⊎_elim, cases_lt, eq-eqb, eq
 use Rattle.goblin_base.proofs.Common.{bit_mask_l, get_or-chunk, length-chunk, list_any_at, list_any_none, get_or-take}
 use Rattle.goblin_base.proofs.Common.{length-take-le, bytes_eq, and_parts, and_from, same_from_decides, not-true}
 use Rattle.goblin_base.proofs.Common.{not_from_false, false_from_ne_true, both_ways, length-take, tops_compared, w8}
-use Rattle.goblin_base.proofs.Common.{drop, get_or-drop, bit_or, ◌||◌, or_parts, zero}
+use Rattle.goblin_base.proofs.Common.{drop, get_or-drop, bit_or, ◌||◌, or_parts, zero, get_or-zip2, length-zip2}
+use Rattle.goblin_base.proofs.Common.{not-false, bytes_eq-Decides, Decides, chunk, top, IsAlike, is_apart}
 use Rattle.std.proofs.lemmas.Grind.{get_or_default_zero, same_number_lists}
-use Rattle.std.proofs.lemmas.Simd.{get_or-zip2, length-zip2}
-use Rattle.std.proofs.lemmas.Bool.{not-false}
-use Rattle.std.proofs.lemmas.Slice.Eq.{bytes_eq-Decides}
-use Rattle.std.specs.Bool.{Decides}
-use lib.Lanes.{chunk, mask_l, top, zip2}
-use Rattle.goblin_base.specs.Wanted.{IsAlike, is_apart}
+use lib.Lanes.{mask_l, zip2}
 
 -- the mask of places none of which is set
 empty_mask : (bs : List Bool) → ((k : ℕ) → k < length bs → get_or bs k false ≡ false) → mask_l bs ≡ 0

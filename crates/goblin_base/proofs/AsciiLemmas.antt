@@ -9,9 +9,9 @@ use Rattle.goblin_base.proofs.Common.{arith, Ok, cond-true, cond-false, eq-eqb, 
 use Rattle.goblin_base.proofs.Common.{take_rest, prefix_len-append, prefix_len-le-length, fails_before_first}
 use Rattle.goblin_base.proofs.Common.{position_or_len_is, map-map, mask_l-mod, first_set_mask_l, chunk-drop}
 use Rattle.goblin_base.proofs.Common.{length-chunk, is_utf8-from_IsUtf8, position_or_len, prefix_len, IsUtf8, is_utf8}
-use Rattle.goblin_base.proofs.Common.{ends_run, lowest_set, piece, plain, text_or_fault, ◌-◌, subst}
+use Rattle.goblin_base.proofs.Common.{ends_run, lowest_set, piece, plain, text_or_fault, ◌-◌, subst, chunk, top}
 use Rattle.std.proofs.lemmas.Bool.{ne_eqb}
-use lib.Lanes.{chunk, mask_l, top}
+use lib.Lanes.{mask_l}
 use Rattle.goblin_base.proofs.StrtabLemmas.{first_or_length}
 use Rattle.goblin_base.proofs.MarksLemmas.{low_is_text}
 

@@ -1,25 +1,26 @@
 -- What the proofs of this crate cite most, passed on from one place. Declares nothing.
 pub use Rattle.goblin_base.specs.Ascii.{ends_run, lowest_set}
-pub use Rattle.goblin_base.specs.Entries.{CountsAtLeast, place_of, places_of, text_of}
+pub use Rattle.goblin_base.specs.Entries.{CountsAtLeast, entries_between, place_of, places_of, text_of}
 pub use Rattle.goblin_base.specs.Marks.{AreAscii, AreMarks, HaveMarks, marks_before}
 pub use Rattle.goblin_base.specs.Pieces.{entries}
 unfoldable pub use Rattle.goblin_base.specs.Pieces.{entries_from, entry_text, first_bad, is_bad_start, is_entry_place}
 unfoldable pub use Rattle.goblin_base.specs.Pieces.{is_readable, piece, piece_end, piece_start, text_at}
 pub use Rattle.goblin_base.specs.Record.{unless_fault}
-unfoldable pub use Rattle.goblin_base.specs.Record.{read_within}
+unfoldable pub use Rattle.goblin_base.specs.Record.{read_within, records}
 pub use Rattle.goblin_base.specs.Refusal.{Refusal, malformed}
-pub use Rattle.goblin_base.specs.Scan.{IsDamaged, IsScan, scan_end}
+pub use Rattle.goblin_base.specs.Scan.{IsDamaged, IsScan, IsWalkedTo, scan_end}
 pub use Rattle.goblin_base.specs.Search.{IsLastUpTo, IsRising, digits_within}
-pub use Rattle.goblin_base.specs.Steps.{refuse_as, ◌>>=◌}
-pub use Rattle.goblin_base.specs.Strtab.{StringTable, look_up, plain, table_of}
-unfoldable pub use Rattle.goblin_base.specs.Strtab.{range_in, strtab_of, walked}
-unfoldable pub use Rattle.goblin_base.specs.Record.{records}
-pub use Rattle.goblin_base.specs.Texts.{Facts, facts_of, is_kind, parts_text, part_text}
+pub use Rattle.goblin_base.specs.Steps.{or_refuse, refuse_as, refuse_if, ◌>>=◌}
+pub use Rattle.goblin_base.specs.Strtab.{StringTable, is_text_of, look_up, or_cut, plain, table_of, texts_of}
+unfoldable pub use Rattle.goblin_base.specs.Strtab.{has_name, range_in, strtab_of, walked}
+pub use Rattle.goblin_base.specs.Texts.{Facts, facts_of, is_kind, part_text, parts_text}
 pub use Rattle.goblin_base.specs.Utf8.{after_byte, awaits_first, invalid_utf8, text_or_fault}
+unfoldable pub use Rattle.goblin_base.specs.Wanted.{IsAlike, can_be_string, is_apart, is_piece, stands_at, starts_piece}
 pub use Rattle.goblin_base.specs.declared.error.Error.{Error}
 pub use Rattle.goblin_base.specs.declared.options.ParseMode.{ParseMode}
 pub use Rattle.goblin_base.specs.declared.options.ParseMode.TheVariants.{Permissive, Strict}
 pub use Rattle.goblin_base.specs.declared.utf8.Awaited.{Awaited}
+pub use Rattle.goblin_base.specs.declared.walk.Found.TheVariants.{Fault, Whole}
 pub use Rattle.std.proofs.Common.{Bool, Err, IfSome, List, None, Ok, Option, Result, Some, [], ap, append-nil}
 pub use Rattle.std.proofs.Common.{append_assoc, arith, bit_and, bit_or, cond, drop, eqb, false, get_or, if◌then◌else◌}
 pub use Rattle.std.proofs.Common.{inl, inr, leb, length, length-set, lit<, ltb, map, max, min, nat_lt, ne_eqb, not}
@@ -32,9 +33,10 @@ pub use Rattle.std.proofs.Math.Nat.{pow-suc, pow-zero}
 pub use Rattle.std.proofs.lemmas.Bool.{and_from, and_left, and_parts, and_right, both_ways, cases_Bool, cases_eq}
 pub use Rattle.std.proofs.lemmas.Bool.{cases_lt, cond-false, cond-true, eq-eqb, eqb-true, false_from_ne_true}
 pub use Rattle.std.proofs.lemmas.Bool.{false≢true, le-leb, le-ltb, leb-false, leb-true, lt-leb, lt-ltb, ltb-false}
-pub use Rattle.std.proofs.lemmas.Bool.{ltb-true, not-true, not_from_false, not_from_true, or_cases, or_left, or_parts}
-pub use Rattle.std.proofs.lemmas.Bool.{or_right}
+pub use Rattle.std.proofs.lemmas.Bool.{ltb-true, not-false, not-true, not_from_false, not_from_true, or_cases, or_left}
+pub use Rattle.std.proofs.lemmas.Bool.{or_parts, or_right}
 pub use Rattle.std.proofs.lemmas.Bool.Decides.{nat_tests, same_from_decides}
+pub use Rattle.std.proofs.lemmas.Grind.{common_steps}
 pub use Rattle.std.proofs.lemmas.List.{drop-drop, drop-map, drop-set, drop-take, drop_all, drop_more, get_or-drop}
 pub use Rattle.std.proofs.lemmas.List.{get_or-map, get_or-take, get_or_past, length-drop, length-map, length-reverse}
 pub use Rattle.std.proofs.lemmas.List.{length-take, length-take-le, reverse-append, set_split, take-append-drop}
@@ -45,10 +47,12 @@ pub use Rattle.std.proofs.lemmas.List.Sums.{fails_before_first, passes_at_first,
 pub use Rattle.std.proofs.lemmas.List.Sums.{prefix_len-le-length}
 pub use Rattle.std.proofs.lemmas.Nat.{and_mask, div_below, le-div, leading_length, rows}
 pub use Rattle.std.proofs.lemmas.Simd.{bit_mask_l, bitmask_splat, chunk-drop, first_set_mask_l, get_or-chunk}
-pub use Rattle.std.proofs.lemmas.Simd.{length-chunk, map-map, mask_l-lt, mask_l-mod, run_in_chunk_fails}
-pub use Rattle.std.proofs.lemmas.Simd.{run_in_chunk_le, run_in_chunk_stops, tops_compared, zip2_of_maps, zip2_splat}
-pub use Rattle.std.proofs.lemmas.Simd.{zip2_splat_left}
+pub use Rattle.std.proofs.lemmas.Simd.{get_or-zip2, length-chunk, length-zip2, map-map, mask_l-lt, mask_l-mod}
+pub use Rattle.std.proofs.lemmas.Simd.{run_in_chunk_fails, run_in_chunk_le, run_in_chunk_stops, tops_compared}
+pub use Rattle.std.proofs.lemmas.Simd.{zip2_of_maps, zip2_splat, zip2_splat_left}
+pub use Rattle.std.proofs.lemmas.Slice.Eq.{bytes_eq-Decides}
 pub use Rattle.std.proofs.lemmas.Str.{IsUtf8-from_ascii, IsUtf8-from_is_utf8, IsUtf8-nil, is_utf8-from_IsUtf8}
+pub use Rattle.std.specs.Bool.{Decides, IsTrue}
 pub use Rattle.std.specs.Borrow.{Bor}
 pub use Rattle.std.specs.Fmt.{HasWritten, IsPlainFormatter, digit_glyph, digits_onto}
 unfoldable pub use Rattle.std.specs.Fmt.{digits}
@@ -59,3 +63,4 @@ pub use Rattle.std.specs.Result.{IsOk, is_ok, result_ok}
 pub use Rattle.std.specs.Simd.Lanes.{mask_l}
 pub use Rattle.std.specs.Str.{IsAscii, IsCharBoundary, IsUtf8, bytes_eq, continuation_len, is_utf8}
 pub use Rattle.std.specs.Str.Lossy.{second_byte_max, second_byte_min}
+pub use lib.Lanes.{chunk, top}

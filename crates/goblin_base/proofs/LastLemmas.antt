@@ -7,10 +7,9 @@ use Rattle.goblin_base.proofs.Common.{◌≡◌, ◌≢◌, ℕ, zero, suc, ◌+
 use Rattle.goblin_base.proofs.Common.{false, cond, List, map, length, get_or, refl, sym, ap, subst, ◌∙◌, ⊎_elim, arith}
 use Rattle.goblin_base.proofs.Common.{div-eq_of_lt, div-eq_of_lt-le, pow-le-pow_right, pow-suc, cases_Bool, cases_lt}
 use Rattle.goblin_base.proofs.Common.{eq-eqb, get_or-map, length-map, leading_length, bit_mask_l, get_or-chunk}
-use Rattle.goblin_base.proofs.Common.{length-chunk, mask_l-lt, slice_range, mask_l, piece_start}
+use Rattle.goblin_base.proofs.Common.{length-chunk, mask_l-lt, slice_range, mask_l, piece_start, chunk}
 use Rattle.std.proofs.lemmas.Bool.{ne_eqb}
 use Rattle.std.specs.Int.Count.{count_leading_zeros}
-use lib.Lanes.{chunk}
 use Rattle.goblin_base.proofs.FirstLemmas.{get_in_range}
 use Rattle.goblin_base.proofs.PiecesLemmas.{start_after_delim, start_more}
 

@@ -11,10 +11,9 @@ use Rattle.goblin_base.proofs.Common.{IsUtf8-from_is_utf8, is_utf8-from_IsUtf8, 
 use Rattle.goblin_base.proofs.Common.{is_utf8, ParseMode, Strict, Permissive, text_of, entries, piece, piece_start}
 use Rattle.goblin_base.proofs.Common.{is_readable, is_bad_start, first_bad, text_at, Refusal, malformed, ◌>>=◌}
 use Rattle.goblin_base.proofs.Common.{refuse_as, StringTable, range_in, strtab_of, table_of, walked, plain, look_up}
-use Rattle.goblin_base.proofs.Common.{invalid_utf8}
+use Rattle.goblin_base.proofs.Common.{invalid_utf8, or_cut, texts_of}
 use Rattle.goblin_base.specs.declared.error.Fault.{Fault}
 use Rattle.goblin_base.specs.declared.error.Fault.TheVariants.{StrtabOffset, StrtabRange}
-use Rattle.goblin_base.specs.Strtab.{or_cut, texts_of}
 use Rattle.goblin_base.specs.StrtabLaws.{TextIsUtf8, ClosedForm, JoinsAgain, PermissiveAccepts, StrictIsPermissive}
 use Rattle.goblin_base.specs.StrtabLaws.{LookUpHasPlain, StrictLookUpIsPlain, DependsOnRange, StringsJoin, joined}
 use Rattle.goblin_base.proofs.PiecesLemmas.{start_to, start_of_start}

@@ -9,8 +9,7 @@ use Rattle.goblin_base.proofs.Common.{◌∙◌, ⊎_elim, arith, cases_lt, both
 use Rattle.goblin_base.proofs.Common.{leb-false, drop-drop, drop-map, drop-take, get_or-take, get_or-drop, get_or_past}
 use Rattle.goblin_base.proofs.Common.{length-take, first_set_mask_l, length-chunk, run_in_chunk_le, run_in_chunk_fails}
 use Rattle.goblin_base.proofs.Common.{run_in_chunk_stops, IsUtf8-from_ascii, slice_range, prefix_len, IsUtf8, mask_l}
-use Rattle.goblin_base.proofs.Common.{lowest_set, AreAscii, AreMarks, marks_before, piece_end}
-use lib.Lanes.{chunk}
+use Rattle.goblin_base.proofs.Common.{lowest_set, AreAscii, AreMarks, marks_before, piece_end, chunk}
 use Rattle.goblin_base.specs.declared.marks.Marks.{Marks}
 use Rattle.goblin_base.proofs.PiecesLemmas.{at_end, end_from, end_same}
 

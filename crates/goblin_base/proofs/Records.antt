@@ -6,9 +6,8 @@
 use Rattle.goblin_base.proofs.Common.{◌≡◌, ◌<◌, ◌≤◌, ◌+◌, ◌*◌, ◌-◌, ℕ, zero, suc, List, [], ◌∷◌, ◌++◌, map, length}
 use Rattle.goblin_base.proofs.Common.{take, drop, Option, Some, None, Result, Ok, refl, sym, ap, ◌∙◌, arith, slice_get}
 use Rattle.goblin_base.proofs.Common.{slice_range, range_with_len, result_ok, rows, take_rest, length-take-le}
-use Rattle.goblin_base.proofs.Common.{length-drop, Error, read_within, records}
+use Rattle.goblin_base.proofs.Common.{length-drop, Error, read_within, records, common_steps}
 use Rattle.std.proofs.lemmas.List.FromFn.{length-map-range_with_len, map-range_with_len_more}
-use Rattle.std.proofs.lemmas.Grind.{common_steps}
 use Rattle.std.proofs.lemmas.Option.{slice_get_past}
 use Rattle.goblin_base.specs.RecordLaws.{room_of_fits, read_within-ok}
 use Rattle.goblin_base.specs.TableLaws.{slice, slice-is, no_records, first_record}

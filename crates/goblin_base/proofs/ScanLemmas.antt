@@ -1,11 +1,10 @@
 -- An attempt to read a piece as UTF-8: what is known at each byte.
-use Rattle.goblin_base.proofs.Common.{◌≡◌, ℕ, ◌+◌, ◌<◌, ◌≤◌, true, false, eqb, List, [], ◌∷◌, length, get_or}
-use Rattle.goblin_base.proofs.Common.{max, refl, sym, ap, ◌∙◌, subst, ⊎_elim, arith, Some, None, ne_eqb, cases_lt}
-use Rattle.goblin_base.proofs.Common.{cases_eq, both_ways, false_from_ne_true, cond-true, cond-false}
-use Rattle.goblin_base.proofs.Common.{IsUtf8-from_is_utf8, is_utf8-from_IsUtf8, Awaited, awaits_first, after_byte}
-use Rattle.goblin_base.proofs.Common.{piece_end, piece, is_readable, IsDamaged, IsScan, scan_end}
+use Rattle.goblin_base.proofs.Common.{◌≡◌, ℕ, ◌+◌, ◌<◌, ◌≤◌, true, false, eqb, List, [], ◌∷◌, length, get_or, max, refl}
+use Rattle.goblin_base.proofs.Common.{sym, ap, ◌∙◌, subst, ⊎_elim, arith, Some, None, ne_eqb, cases_lt, cases_eq}
+use Rattle.goblin_base.proofs.Common.{both_ways, false_from_ne_true, cond-true, cond-false, IsUtf8-from_is_utf8}
+use Rattle.goblin_base.proofs.Common.{is_utf8-from_IsUtf8, Awaited, awaits_first, after_byte, piece_end, piece}
+use Rattle.goblin_base.proofs.Common.{is_readable, IsDamaged, IsScan, scan_end, Whole, Fault}
 use Rattle.std.proofs.Common.{eq-eqb}
-use Rattle.goblin_base.specs.declared.walk.Found.TheVariants.{Whole, Fault}
 use Rattle.goblin_base.proofs.Utf8Lemmas.{Completes, any_bounds, IsUtf8-from_Completes, Completes-from_IsUtf8}
 use Rattle.goblin_base.proofs.Utf8ByteLemmas.{CompletesFrom, IsInner, Steps, StepsTo, steps}
 use Rattle.goblin_base.proofs.WalkLemmas.{bad_within}

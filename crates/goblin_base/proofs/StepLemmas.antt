@@ -1,7 +1,6 @@
 -- What each of several steps returned, if all of them succeeded.
-use Rattle.goblin_base.proofs.Common.{◌≡◌, Bool, true, not, Option, Some, Result, Ok, Err, refl, ◌>>=◌}
-use Rattle.goblin_base.proofs.Common.{arith, refuse_as}
-use Rattle.goblin_base.specs.Steps.{or_refuse, refuse_if}
+use Rattle.goblin_base.proofs.Common.{◌≡◌, Bool, true, not, Option, Some, Result, Ok, Err, refl, ◌>>=◌, arith}
+use Rattle.goblin_base.proofs.Common.{refuse_as, or_refuse, refuse_if}
 
 -- the value of the first step, and the success of the steps after it
 pub record Step {X Y E : Type 0} (first : Result X E) (next : X → Result Y E) (y : Y) : Type 0 where

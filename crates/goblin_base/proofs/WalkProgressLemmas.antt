@@ -8,8 +8,7 @@ use Rattle.goblin_base.proofs.Common.{length, refl, sym, ap, ◌∙◌, arith, O
 use Rattle.goblin_base.proofs.Common.{both_ways, cond-true, cond-false, lt-ltb, le-ltb, is_utf8-from_IsUtf8}
 use Rattle.goblin_base.proofs.Common.{slice_range, IsUtf8, is_utf8, piece_end, piece_start, is_readable, entries_from}
 use Rattle.goblin_base.proofs.Common.{entries, is_bad_start, first_bad, walked, invalid_utf8, ParseMode, Strict}
-use Rattle.goblin_base.proofs.Common.{Permissive}
-use Rattle.std.specs.Bool.{IsTrue}
+use Rattle.goblin_base.proofs.Common.{Permissive, IsTrue}
 use Rattle.goblin_base.proofs.TextTests.{not_utf8}
 use Rattle.goblin_base.proofs.PiecesLemmas.{end_within, piece_is_range, start_next}
 use Rattle.goblin_base.proofs.WalkLemmas.{readable_at_end, entries_past, entries_more_readable, bad_start_from}

@@ -10,13 +10,10 @@ use Rattle.goblin_base.proofs.Common.{and_from, or_cases, or_left, or_right, not
 use Rattle.goblin_base.proofs.Common.{false_from_ne_true, both_ways, false≢true, same_from_decides, get_or-take}
 use Rattle.goblin_base.proofs.Common.{length-take-le, length-take, list_any_at, list_any_none, prefix_len-le-length}
 use Rattle.goblin_base.proofs.Common.{fails_before_first, passes_at_first, position_or_len_is, position_or_len}
-use Rattle.goblin_base.proofs.Common.{list_any, bytes_eq, is_utf8, piece, Refusal}
-use Rattle.std.proofs.lemmas.Slice.Eq.{bytes_eq-Decides}
+use Rattle.goblin_base.proofs.Common.{list_any, bytes_eq, is_utf8, piece, Refusal, bytes_eq-Decides, Decides, has_name}
+use Rattle.goblin_base.proofs.Common.{is_text_of, plain, can_be_string, is_apart, is_piece, stands_at, starts_piece}
 use Rattle.std.proofs.Math.Seq.{take-take}
-use Rattle.std.specs.Bool.{Decides}
-use Rattle.goblin_base.specs.Strtab.{has_name, is_text_of, plain}
 use Rattle.goblin_base.specs.StrtabLaws.{NamesAreRead, PiecesAreCompared, PiecesBegin}
-use Rattle.goblin_base.specs.Wanted.{can_be_string, is_apart, is_piece, stands_at, starts_piece}
 
 module _ (bytes : List ℕ) (d o : ℕ) where
   abbrev ends : ℕ → Bool

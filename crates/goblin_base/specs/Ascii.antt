@@ -1,6 +1,6 @@
 -- The ASCII bytes at the start of a string.
 use Rattle.std.specs.Prelude.{ℕ, Bool, ◌==◌, ◌||◌, nat_le, if◌then◌else◌}
-use Rattle.std.specs.Int.{w64, trailing_zeros}
+use Rattle.goblin_base.specs.Common.{w64, trailing_zeros}
 
 -- whether a byte ends the run: it is the delimiter, or not ASCII
 abbrev pub ends_run : ℕ → ℕ → Bool

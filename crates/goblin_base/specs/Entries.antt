@@ -1,7 +1,7 @@
 -- The entries of a string table, stored as places in its bytes and one closing place; bytes and places read under a
 -- count.
 use Rattle.std.specs.Prelude.{◌≡◌, ℕ, ◌+◌, ◌-◌, ◌^◌, ◌<◌, ◌≤◌, true, List, [], ◌∷◌, length, map, min, slice_range}
-use Rattle.std.specs.Str.{is_utf8}
+use Rattle.goblin_base.specs.Common.{is_utf8}
 
 -- bytes, and how many looks were taken at them
 pub record Seen : Type 0 where

@@ -1,13 +1,10 @@
 -- Laws of fields that lie one after another.
-use Rattle.std.proofs.Common.{◌≡◌, ◌<◌, ◌≤◌, ◌+◌, ◌%◌, ◌^◌, ℕ, List, [], ◌∷◌, ◌++◌, length, take, drop, inl, inr, refl}
-use Rattle.std.proofs.Common.{sym, ap, ◌∙◌, arith}
-use Rattle.std.proofs.lemmas.Bool.{cases_lt}
-use Rattle.std.proofs.Math.Nat.{mod-eq_of_lt}
-use Rattle.std.proofs.Math.Seq.{take-add}
-use Rattle.std.proofs.lemmas.List.{get_or_past, length-take, append_assoc, append-nil, drop-drop, drop_at, take_at}
-use Rattle.std.proofs.lemmas.List.{take-append-le, drop-append-le, length-append, length-take-le, length-drop}
-use Rattle.std.proofs.lemmas.List.{get_or-take, get_or-drop, take-append-drop}
-use Rattle.goblin_base.specs.declared.container.Endian.{Endian}
+use Rattle.std.proofs.Common.{inl, inr, refl, sym, ap, ◌∙◌, arith, ◌%◌, ◌≡◌, ◌<◌, ◌≤◌, ◌+◌, ◌^◌, ℕ, List, [], ◌∷◌, ◌++◌}
+use Rattle.std.proofs.Common.{length, take, drop}
+use Rattle.goblin_base.specs.Common.{cases_lt, mod-eq_of_lt, take-add, Endian, get_or_past, length-take, append_assoc}
+use Rattle.goblin_base.specs.Common.{append-nil, drop-drop, drop_at, take_at, take-append-le, drop-append-le}
+use Rattle.goblin_base.specs.Common.{length-append, length-take-le, length-drop, get_or-take, get_or-drop}
+use Rattle.goblin_base.specs.Common.{take-append-drop}
 use Rattle.goblin_base.specs.Number.{IsBytes, number, number_at, spelled}
 use Rattle.goblin_base.specs.NumberLaws.{IsBytes-append, IsBytes-spelled, spelled-mod, number-spelled_low, number-lt}
 use Rattle.goblin_base.specs.NumberLaws.{length-spelled, spelled-number}

@@ -1,10 +1,8 @@
 -- The laws of records, from their layout; and of records that are read and written as other ones.
-use Rattle.std.proofs.Common.{◌≡◌, ◌≤◌, ◌<◌, ◌+◌, ℕ, List, [], ◌∷◌, ◌++◌, length, take, refl, sym, ap, ◌∙◌, arith}
-use Rattle.std.proofs.Common.{subst}
-use Rattle.std.proofs.lemmas.List.{take_all}
+use Rattle.goblin_base.specs.Common.{refl, sym, ap, ◌∙◌, arith, subst, Endian, take_all}
+use Rattle.std.proofs.Common.{◌≡◌, ◌≤◌, ◌<◌, ◌+◌, ℕ, List, [], ◌∷◌, ◌++◌, length, take}
 use Rattle.goblin_base.specs.declared.container.Container.{Container}
 use Rattle.goblin_base.specs.declared.container.Container.TheVariants.{Little, Big}
-use Rattle.goblin_base.specs.declared.container.Endian.{Endian}
 use Rattle.goblin_base.specs.Fields.{Field, values_at, fields_at, total, widths_of, values_of, size_of_fields}
 use Rattle.goblin_base.specs.Fields.{image_of_fields, FieldsFit}
 use Rattle.goblin_base.specs.FieldLaws.{values_at-append, values_at-image_low, lows_of-fits, image-fields_at}

@@ -1,6 +1,6 @@
 -- Lines that are added to a text.
 use Rattle.std.specs.Prelude.{◌≡◌, ◌≢◌, ◌++◌, ℕ, List, [], ◌∷◌, Result, Ok, Err}
-use Rattle.goblin_base.specs.declared.error.Error.{Error}
+use Rattle.goblin_base.specs.Common.{Error}
 use Rattle.goblin_base.specs.Refusal.{Refusal, out_of_memory, refusal_of}
 
 -- the end of a line

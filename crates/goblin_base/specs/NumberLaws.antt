@@ -1,11 +1,9 @@
 -- Laws of numbers in bytes: each number of one width is written as one list of bytes.
-use Rattle.std.proofs.Common.{◌≡◌, ◌<◌, ◌≤◌, ◌+◌, ◌-◌, ◌*◌, ◌/◌, ◌%◌, ◌^◌, ℕ, zero, suc, List, [], ◌∷◌, ◌++◌, length}
-use Rattle.std.proofs.Common.{reverse, inl, inr, refl, sym, ap, ◌∙◌, add-one, arith}
-use Rattle.std.proofs.Math.Nat.{mod-lt, pow-suc, one-le-pow}
-use Rattle.std.proofs.lemmas.Bool.{cases_lt}
-use Rattle.std.proofs.lemmas.List.{length-reverse, reverse-reverse, get_or-reverse, get_or_past}
+use Rattle.std.proofs.Common.{inl, inr, refl, sym, ap, ◌∙◌, arith, ◌%◌, suc, ◌≡◌, ◌<◌, ◌≤◌, ◌+◌, ◌-◌, ◌*◌, ◌/◌, ◌^◌, ℕ}
+use Rattle.std.proofs.Common.{zero, List, [], ◌∷◌, ◌++◌, length, reverse, add-one}
+use Rattle.goblin_base.specs.Common.{mod-lt, pow-suc, one-le-pow, cases_lt, Endian, length-reverse, reverse-reverse}
+use Rattle.goblin_base.specs.Common.{get_or-reverse, get_or_past}
 use lib.Arith.{mod-mul}
-use Rattle.goblin_base.specs.declared.container.Endian.{Endian}
 use Rattle.goblin_base.specs.declared.container.Endian.TheVariants.{Little, Big}
 use Rattle.goblin_base.specs.Number.{IsBytes, weighted_sum, number, low_bytes, spelled}
 

@@ -1,6 +1,6 @@
 -- Writing a number into a slice.
 use Rattle.std.specs.Prelude.{◌≡◌, ◌≤◌, ◌+◌, ◌%◌, ◌^◌, ℕ, List, ◌++◌, length, take, drop}
-use Rattle.goblin_base.specs.declared.container.Endian.{Endian}
+use Rattle.goblin_base.specs.Common.{Endian}
 use Rattle.goblin_base.specs.Number.{number_at, spelled}
 
 -- the bytes after a number was written to `width` bytes at an offset

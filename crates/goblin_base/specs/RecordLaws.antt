@@ -1,8 +1,6 @@
 -- Laws of reading and writing a record at the start of a byte slice.
-use Rattle.std.proofs.Common.{◌≡◌, ◌≤◌, ◌+◌, ℕ, List, ◌++◌, length, drop, Result, Ok, Err, refl, ap, arith}
-use Rattle.std.proofs.lemmas.Bool.Decides.{nat_tests}
-use Rattle.std.proofs.lemmas.List.{set-get_or, reverse-reverse}
-use Rattle.goblin_base.specs.declared.error.Error.{Error}
+use Rattle.goblin_base.specs.Common.{refl, ap, arith, nat_tests, Error, set-get_or, reverse-reverse}
+use Rattle.std.proofs.Common.{◌≡◌, ◌≤◌, ◌+◌, ℕ, List, ◌++◌, length, drop, Result, Ok, Err}
 use Rattle.goblin_base.specs.declared.error.Error.TheVariants.{Scroll}
 use Rattle.goblin_base.specs.declared.scroll.Error.{Error as Misplaced}
 use Rattle.goblin_base.specs.Room.{room_of}

@@ -1,6 +1,6 @@
 -- What the walk over a string table's bytes finds.
 use Rattle.std.specs.Prelude.{◌≡◌, ℕ, ◌+◌, ◌-◌, ◌*◌, ◌<◌, ◌≤◌, ◌==◌, false, true, List, ◌++◌, length, if◌then◌else◌}
-use Rattle.goblin_base.specs.declared.utf8.Awaited.{Awaited}
+use Rattle.goblin_base.specs.Common.{Awaited}
 use Rattle.goblin_base.specs.declared.walk.Found.{Found}
 use Rattle.goblin_base.specs.declared.walk.Found.TheVariants.{Whole, Fault}
 use Rattle.goblin_base.specs.Entries.{AreTexts, entries_between}

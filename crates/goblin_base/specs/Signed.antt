@@ -1,7 +1,7 @@
 -- Signed numbers in bytes: two's complement (System V gABI, "Data Representation": Elf32_Sword and Elf64_Sxword).
 use Rattle.std.specs.Prelude.{◌≡◌, ◌<◌, ◌≤◌, ◌+◌, ◌*◌, ◌-◌, ◌%◌, ◌^◌, ◌-ℤ◌, ℕ, ℤ, pos, negsuc, nat_lt, if◌then◌else◌}
 use Rattle.std.specs.Prelude.{List, length, take, drop}
-use Rattle.goblin_base.specs.declared.container.Endian.{Endian}
+use Rattle.goblin_base.specs.Common.{Endian}
 use Rattle.goblin_base.specs.Number.{IsBytes, number, number_at, spelled}
 use Rattle.goblin_base.specs.Place.{with_number}
 

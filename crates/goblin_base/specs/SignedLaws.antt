@@ -1,13 +1,10 @@
 -- Laws of signed numbers: each that fits a width is written as one list of bytes, in two's complement.
-use Rattle.std.proofs.Common.{◌≡◌, ◌<◌, ◌≤◌, ◌+◌, ◌*◌, ◌-◌, ◌%◌, ◌^◌, ℕ, List, length, take, drop, inl, inr, sym, ap}
-use Rattle.std.proofs.Common.{◌∙◌, arith}
+use Rattle.std.proofs.Common.{inl, inr, sym, ap, ◌∙◌, arith, ◌%◌, ◌≡◌, ◌<◌, ◌≤◌, ◌+◌, ◌*◌, ◌-◌, ◌^◌, ℕ, List, length}
+use Rattle.std.proofs.Common.{take, drop}
+use Rattle.goblin_base.specs.Common.{one-le-pow, mod-lt, mod-eq_of_lt, cases_lt, nat_tests, Endian, length-take-le}
+use Rattle.goblin_base.specs.Common.{length-drop}
 use Rattle.std.specs.Prelude.{ℤ, pos, negsuc}
-use Rattle.std.proofs.Math.Nat.{one-le-pow, mod-lt, mod-eq_of_lt}
-use Rattle.std.proofs.lemmas.Bool.{cases_lt}
-use Rattle.std.proofs.lemmas.Bool.Decides.{nat_tests}
 use Rattle.std.proofs.lemmas.Int.{ints}
-use Rattle.std.proofs.lemmas.List.{length-take-le, length-drop}
-use Rattle.goblin_base.specs.declared.container.Endian.{Endian}
 use Rattle.goblin_base.specs.Number.{IsBytes, number, number_at, spelled}
 use Rattle.goblin_base.specs.FieldLaws.{number_at-with_number, number_at-lt}
 use Rattle.goblin_base.specs.NumberLaws.{length-spelled, number-spelled, spelled-number, number-lt}

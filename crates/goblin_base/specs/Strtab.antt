@@ -1,12 +1,9 @@
 -- A string table, and what its calls return (System V gABI, "String Table").
 use Rattle.std.specs.Prelude.{◌≡◌, ℕ, ◌+◌, ◌-◌, ◌^◌, ◌≤◌, ◌&&◌, Bool, true, false, List, [], map, length, slice_range}
 use Rattle.std.specs.Prelude.{take, drop, min, nat_lt, nat_le, if◌then◌else◌, Option, None, Result, Ok, Err}
-use Rattle.std.specs.Str.{bytes_eq}
-use Rattle.goblin_base.specs.declared.error.Error.{Error}
+use Rattle.goblin_base.specs.Common.{bytes_eq, Error, ParseMode, Strict, Permissive}
 use Rattle.goblin_base.specs.declared.error.Fault.{Fault}
 use Rattle.goblin_base.specs.declared.error.Fault.TheVariants.{StrtabOffset, StrtabRange}
-use Rattle.goblin_base.specs.declared.options.ParseMode.{ParseMode}
-use Rattle.goblin_base.specs.declared.options.ParseMode.TheVariants.{Strict, Permissive}
 use Rattle.goblin_base.specs.Entries.{text_of}
 use Rattle.goblin_base.specs.Pieces.{piece, entries, first_bad, is_readable, text_at}
 use Rattle.goblin_base.specs.Refusal.{Refusal, Refuses, malformed}

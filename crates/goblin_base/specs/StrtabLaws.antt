@@ -3,11 +3,7 @@ use Rattle.std.specs.Prelude.{◌≡◌, ◌↔◌, ℕ, ◌-◌, ◌^◌, ◌<�
 use Rattle.std.specs.Prelude.{map, length, take, drop, nat_lt, slice_index, if◌then◌else◌, IsTrue, IsOk, Some, Ok}
 use Rattle.std.specs.Prelude.{unwrap_or}
 use Rattle.std.specs.Bool.{Decides}
-use Rattle.std.specs.List.{join_with_byte}
-use Rattle.std.specs.Result.{result_ok}
-use Rattle.std.specs.Str.{IsUtf8, is_utf8}
-use Rattle.goblin_base.specs.declared.options.ParseMode.{ParseMode}
-use Rattle.goblin_base.specs.declared.options.ParseMode.TheVariants.{Strict, Permissive}
+use Rattle.goblin_base.specs.Common.{join_with_byte, result_ok, IsUtf8, is_utf8, ParseMode, Strict, Permissive}
 use Rattle.goblin_base.specs.Entries.{text_of}
 use Rattle.goblin_base.specs.Pieces.{piece, entries, entries_by_place}
 use Rattle.goblin_base.specs.Search.{digits}

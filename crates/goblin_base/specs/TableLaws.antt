@@ -1,8 +1,8 @@
 -- Laws of the records of a table.
-use Rattle.std.proofs.Common.{◌≡◌, ◌<◌, ◌+◌, ◌*◌, ◌-◌, ℕ, zero, suc, List, [], ◌∷◌, ◌++◌, map, length, take, drop, refl}
-use Rattle.std.proofs.Common.{sym, ap, ◌∙◌, arith}
-use Rattle.std.specs.List.{All, slice_range, range_with_len, flat_map}
-use Rattle.std.proofs.lemmas.List.{take_at, drop_at, drop-drop, drop-take, take-take}
+use Rattle.goblin_base.specs.Common.{refl, sym, ap, ◌∙◌, arith, All, range_with_len, flat_map, suc, take_at, drop_at}
+use Rattle.goblin_base.specs.Common.{drop-drop, drop-take, take-take}
+use Rattle.std.proofs.Common.{◌≡◌, ◌<◌, ◌+◌, ◌*◌, ◌-◌, ℕ, zero, List, [], ◌∷◌, ◌++◌, map, length, take, drop}
+use Rattle.std.specs.List.{slice_range}
 use Rattle.goblin_base.specs.Record.{records}
 
 -- the slice of the record with an index

@@ -1,22 +1,16 @@
 -- Laws of bytes that are UTF-8, and of string tables of such bytes.
-use Rattle.std.proofs.Common.{◌≡◌, ℕ, zero, suc, ◌+◌, ◌-◌, ◌<◌, ◌≤◌, ◌==◌, if◌then◌else◌, Bool, true, false, cond, not}
-use Rattle.std.proofs.Common.{eqb, List, [], ◌++◌, length, get_or, take, drop, refl, sym, ap, subst, ◌∙◌, ⊎_elim, arith}
-use Rattle.std.proofs.Common.{Some, None, Ok, Err, slice_range}
-use Rattle.std.proofs.Math.Seq.{take-add}
-use Rattle.std.proofs.lemmas.Bool.{cases_lt, cases_Bool, cases_eq, cond-false, lt-ltb, le-ltb, eq-eqb}
-use Rattle.std.proofs.lemmas.Bool.{false_from_ne_true}
-use Rattle.std.proofs.lemmas.List.{drop-drop, get_or-drop, get_or-take, length-drop, length-take-le}
+use Rattle.goblin_base.specs.Common.{refl, sym, ap, subst, ◌∙◌, arith, take-add, cases_lt, range_with_len}
+use Rattle.goblin_base.specs.Common.{position_or_len, result_ok, IsUtf8, is_utf8, IsCharBoundary, ParseMode, Strict}
+use Rattle.goblin_base.specs.Common.{Permissive, suc, drop-drop, get_or-drop, get_or-take, length-drop, length-take-le}
+use Rattle.std.proofs.Common.{◌≡◌, ℕ, zero, ◌+◌, ◌-◌, ◌<◌, ◌≤◌, ◌==◌, if◌then◌else◌, Bool, true, false, cond, not, eqb}
+use Rattle.std.proofs.Common.{List, [], ◌++◌, length, get_or, take, drop, ⊎_elim, Some, None, Ok, Err, slice_range}
+use Rattle.std.proofs.lemmas.Bool.{cases_Bool, cases_eq, cond-false, lt-ltb, le-ltb, eq-eqb, false_from_ne_true}
 use Rattle.std.proofs.lemmas.List.FromFn.{length-range_with_len, get_or-range_with_len}
 use Rattle.std.proofs.lemmas.List.Sums.{position_or_len_is, passes_at_first, prefix_len-le-length}
 use Rattle.std.proofs.lemmas.Str.{IsUtf8-append, IsUtf8-drop, IsUtf8-take, IsUtf8-from_is_utf8, is_utf8-from_IsUtf8}
 use Rattle.std.proofs.lemmas.Str.{IsCharBoundary-start, IsCharBoundary-end, IsCharBoundary-after_ascii}
 use Rattle.std.proofs.lemmas.Str.{IsCharBoundary-before_ascii}
-use Rattle.std.specs.List.{range_with_len, position_or_len}
 use Rattle.std.specs.Option.{unwrap_or}
-use Rattle.std.specs.Result.{result_ok}
-use Rattle.std.specs.Str.{IsUtf8, is_utf8, IsCharBoundary}
-use Rattle.goblin_base.specs.declared.options.ParseMode.{ParseMode}
-use Rattle.goblin_base.specs.declared.options.ParseMode.TheVariants.{Strict, Permissive}
 use Rattle.goblin_base.specs.Pieces.{piece, piece_start, is_readable, is_bad_start, is_entry_place, first_bad, text_at}
 use Rattle.goblin_base.specs.Refusal.{Refusal, malformed}
 use Rattle.goblin_base.specs.Steps.{◌>>=◌, refuse_as}

@@ -1,10 +1,7 @@
 -- Well-formed UTF-8 (the Unicode Standard, D92 and table 3-7). `IsUtf8` says that bytes are the joined shortest
 -- spellings of scalar values; `is_utf8` is that as a test.
 use Rattle.std.specs.Prelude.{ℕ, ◌-◌, ◌==◌, nat_lt, if◌then◌else◌, List, Option, Some, None, Result, Ok, Err, codes}
-use Rattle.std.specs.Int.{is_in_range}
-use Rattle.std.specs.Str.{is_utf8, continuation_len}
-use Rattle.std.specs.Str.Lossy.{second_byte_min, second_byte_max}
-use Rattle.goblin_base.specs.declared.utf8.Awaited.{Awaited}
+use Rattle.goblin_base.specs.Common.{is_in_range, is_utf8, continuation_len, Awaited, second_byte_min, second_byte_max}
 use Rattle.goblin_base.specs.Refusal.{Refusal, bad_input}
 
 -- the error of bytes that aren't UTF-8; the size is the number of bytes from their start on

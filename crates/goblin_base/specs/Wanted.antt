@@ -1,8 +1,7 @@
 -- A name that is searched for among the strings of a table.
 use Rattle.std.specs.Prelude.{ℕ, Bool, false, ◌≡◌, ◌≤◌, ◌<◌, not, ◌&&◌, ◌||◌, ◌==◌, List, length, take, drop}
 use Rattle.std.specs.Prelude.{slice_index, nat_le, nat_lt}
-use Rattle.std.specs.List.{list_any}
-use Rattle.std.specs.Str.{bytes_eq, is_utf8}
+use Rattle.goblin_base.specs.Common.{list_any, bytes_eq, is_utf8}
 use Rattle.goblin_base.specs.Pieces.{piece}
 use Rattle.goblin_base.specs.Strtab.{StringTable}
 

@@ -1,7 +1,7 @@
 //! Bytes that are compared with a text, many at a time, and the text with a delimiter in the same pass.
 ghost use Rattle.std.specs.Prelude.{◌≡◌, ◌≤◌, ◌+◌, ◌*◌, ◌&&◌, length, take};
+ghost use Rattle.goblin_base.specs.Common.{bytes_eq};
 ghost use Rattle.std.specs.Bool.{Decides};
-ghost use Rattle.std.specs.Str.{bytes_eq};
 ghost use Rattle.goblin_base.specs.Wanted.{IsAlike, is_apart};
 
 use std::simd::prelude::*;

@@ -1,8 +1,7 @@
 //! The class and the byte order of a file: System V gABI, "ELF Identification" (`EI_CLASS` and
 //! `EI_DATA`).
 ghost use Rattle.std.specs.Prelude.{◌≡◌, ◌↔◌, IsTrue};
-ghost use Rattle.goblin_base.specs.Layout.{word_size};
-ghost use Rattle.goblin_base.specs.Derives.{ComparesAndClones};
+ghost use Rattle.goblin_base.specs.Common.{word_size, ComparesAndClones};
 
 /// The byte order of numbers.
 #[derive(Clone, Copy, Debug, Default, PartialEq)]

@@ -4,7 +4,7 @@
 //! code that reads through them can't read uncounted. ([`CountedBytes`](crate::counted_bytes::CountedBytes) also
 //! returns texts, which can.)
 ghost use Rattle.std.specs.Prelude.{◌≡◌, ◌↔◌, ◌+◌, ◌-◌, ◌<◌, ◌≤◌, [], min, length, IsTrue, slice_index, slice_index_or, slice_range};
-ghost use Rattle.std.specs.Str.{IsUtf8};
+ghost use Rattle.goblin_base.specs.Common.{IsUtf8};
 ghost use Rattle.goblin_base.specs.Entries.{AreTexts, IsText, entries_between, places_of, text_of};
 ghost use Rattle.goblin_base.specs.Marks.{AreMarks};
 ghost use Rattle.goblin_base.specs.Search.{IsRising};

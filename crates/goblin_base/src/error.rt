@@ -1,7 +1,6 @@
 //! The errors of reading and writing.
 ghost use Rattle.std.specs.Prelude.{◌≡◌, IfOk, Some, false, string_bytes};
-ghost use Rattle.goblin_base.specs.Refusal.{misplaced, refusal_of};
-ghost use Rattle.goblin_base.specs.Texts.{facts_of, fault_facts, fault_text, numbers, refusal_facts, refusal_text, with_item};
+ghost use Rattle.goblin_base.specs.Common.{misplaced, refusal_of, facts_of, fault_facts, fault_text, numbers, refusal_facts, refusal_text, with_item};
 
 use crate::scroll;
 use crate::texts::{Kind, Report};

@@ -1,9 +1,7 @@
 //! What each type of records states of its layout. All else that is said of records follows from it, in this file.
 ghost use Rattle.std.specs.Prelude.{◌≡◌, ◌≤◌, ◌++◌, length, drop};
-ghost use Rattle.goblin_base.specs.Layout.{EachReadFits, FitsExactly, IsOneImage, IsRecord, Layout};
+ghost use Rattle.goblin_base.specs.Common.{EachReadFits, FitsExactly, IsOneImage, IsRecord, Layout, read_within, Writes, with_size};
 ghost use Rattle.goblin_base.specs.LayoutLaws.{obeys};
-ghost use Rattle.goblin_base.specs.Record.{read_within, Writes};
-ghost use Rattle.goblin_base.specs.Steps.{with_size};
 
 use crate::error::Result;
 use crate::record::Record;

@@ -1,6 +1,6 @@
 //! Finds the ends of pieces by marks of sixteen bytes that are read at once.
 ghost use Rattle.std.specs.Prelude.{◌≡◌, ◌+◌, ◌-◌, ◌/◌, ◌^◌, ◌<◌, ◌≤◌, ◌↔◌, ◌==◌, max, min, length, nat_le, IsTrue, slice_range};
-ghost use Rattle.std.specs.Str.{IsUtf8};
+ghost use Rattle.goblin_base.specs.Common.{IsUtf8};
 ghost use Rattle.goblin_base.specs.Ascii.{lowest_set};
 ghost use Rattle.goblin_base.specs.Entries.{CountsAtLeast};
 ghost use Rattle.goblin_base.specs.Marks.{AreAscii, HaveMarks, mask_of};

@@ -2,8 +2,7 @@
 #![tactic(auto, using(crate::proofs::ByteorderLemmas::numbers))]
 
 ghost use Rattle.std.specs.Prelude.{◌≡◌, ◌≤◌, ◌+◌, ◌↔◌, ◌<◌, ◌^◌, IsTrue, length};
-ghost use Rattle.goblin_base.specs.declared.container.Endian.{Endian};
-ghost use Rattle.goblin_base.specs.Number.{number_at, ReadsSpelling, SpellsBack, SpellsWidth};
+ghost use Rattle.goblin_base.specs.Common.{Endian, number_at, ReadsSpelling, SpellsBack, SpellsWidth};
 ghost use Rattle.goblin_base.specs.Place.{with_number, ReadsWhatWasPut};
 ghost use Rattle.goblin_base.specs.Signed.{signed_number_at, complement, ReadsSigned, SpellsSigned, IsSignedSlice};
 ghost use Rattle.goblin_base.specs.Signed.{ReadsSignedThere};

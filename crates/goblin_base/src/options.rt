@@ -1,6 +1,6 @@
 //! Options of reading a file: whether damaged parts of it are refused or tolerated.
 ghost use Rattle.std.specs.Prelude.{◌≡◌, ◌↔◌, IsTrue};
-ghost use Rattle.goblin_base.specs.Derives.{ComparesAndClones};
+ghost use Rattle.goblin_base.specs.Common.{ComparesAndClones};
 
 /// What reading does with damaged parts of a file.
 #[derive(Clone, Copy, Debug, Default, PartialEq, Eq)]

@@ -1,7 +1,6 @@
 //! The range of a file that a string table takes, or the refusal of one that the file doesn't hold.
 ghost use Rattle.std.specs.Prelude.{◌≡◌, List, ℕ, length, Ok, Err, IfErr, IfOk, slice_range};
-ghost use Rattle.goblin_base.specs.Refusal.{Returns, malformed};
-ghost use Rattle.goblin_base.specs.Steps.{refuse_as};
+ghost use Rattle.goblin_base.specs.Common.{Returns, malformed, refuse_as};
 ghost use Rattle.goblin_base.specs.Strtab.{IsRange, range_in};
 
 use crate::error::{Error, Fault, Result};

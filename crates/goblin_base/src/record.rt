@@ -1,7 +1,6 @@
 //! Records: values of a fixed size that are read from bytes and written to them.
 ghost use Rattle.std.specs.Prelude.{◌≡◌, List, ℕ};
-ghost use Rattle.goblin_base.specs.Layout.{Obeys};
-ghost use Rattle.goblin_base.specs.Record.{read_within};
+ghost use Rattle.goblin_base.specs.Common.{Obeys, read_within};
 
 use crate::error::Result;
 use crate::scroll::{SizeWith, TryIntoCtx};

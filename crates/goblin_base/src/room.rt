@@ -1,6 +1,6 @@
 //! The test whether some bytes lie in a slice.
 ghost use Rattle.std.specs.Prelude.{◌≡◌, ◌≤◌, ◌+◌, ◌↔◌, IsOk};
-ghost use Rattle.goblin_base.specs.Room.{room_of};
+ghost use Rattle.goblin_base.specs.Common.{room_of};
 
 use crate::scroll;
 

@@ -1,9 +1,6 @@
 //! Searches in counted bytes. Each reads only the bytes that it is charged for.
 ghost use Rattle.std.specs.Prelude.{◌≡◌, ◌+◌, ◌-◌, ◌*◌, ◌/◌, ◌<◌, ◌≤◌, ◌==◌, IfErr, drop, length, min, MatchResult, slice_range};
-ghost use Rattle.std.specs.Int.{leading_zeros, w64};
-ghost use Rattle.std.specs.List.{position_or_len};
-ghost use Rattle.std.specs.Str.{IsUtf8, IsValidUpTo, error_len, valid_up_to};
-ghost use Rattle.std.specs.Str.Lossy.{utf8_error_len};
+ghost use Rattle.goblin_base.specs.Common.{leading_zeros, w64, position_or_len, IsUtf8, IsValidUpTo, error_len, valid_up_to, utf8_error_len};
 ghost use Rattle.goblin_base.specs.Pieces.{piece_start};
 
 use crate::counted_bytes::CountedBytes;

@@ -3,10 +3,9 @@ ghost use Rattle.std.specs.Prelude.{◌≡◌, ◌+◌, ◌<◌, ◌≤◌, ◌�
 ghost use Rattle.std.specs.Prelude.{◌==◌, if◌then◌else◌, Some, None, Ok, IfErr, IfOk, IfSome, IsNone, IsOk};
 ghost use Rattle.std.specs.Prelude.{MatchOption, EachIndex, alloc_error, min, slice_index, slice_range};
 ghost use Rattle.std.specs.Option.{option_map};
-ghost use Rattle.std.specs.Str.{IsCharBoundary};
+ghost use Rattle.goblin_base.specs.Common.{IsCharBoundary, Returns, Gives};
 ghost use Rattle.goblin_base.specs.Entries.{text_of};
 ghost use Rattle.goblin_base.specs.Pieces.{piece};
-ghost use Rattle.goblin_base.specs.Refusal.{Returns, Gives};
 ghost use Rattle.goblin_base.specs.Search.{IsLastUpTo, digits};
 ghost use Rattle.goblin_base.specs.Strtab.{RefusesFirst, has_name, look_up, plain, range_in, strings_of, strtab_of};
 ghost use Rattle.goblin_base.specs.Strtab.{table_of};

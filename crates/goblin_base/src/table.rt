@@ -3,11 +3,7 @@ ghost use Rattle.std.specs.Prelude.{◌≡◌, ◌≤◌, ◌*◌, ◌↔◌, Is
 ghost use Rattle.std.specs.Prelude.{take, drop, [], List, length, slice_get, ◌^◌, ℕ, All, flat_map, IsOk};
 ghost use Rattle.std.specs.Iterator.{UpTo, YieldsFirst, item_count};
 ghost use Rattle.std.specs.Iterator.SizeHint.{IsWithinCount};
-ghost use Rattle.goblin_base.specs.Eager.{records_from, records_in, room_of_each, whole_of};
-ghost use Rattle.goblin_base.specs.Record.{unless_fault};
-ghost use Rattle.goblin_base.specs.Refusal.{buffer_too_short, Returns, Gives, Refuses};
-ghost use Rattle.goblin_base.specs.Room.{room_of};
-ghost use Rattle.goblin_base.specs.Record.{records};
+ghost use Rattle.goblin_base.specs.Common.{records_from, records_in, room_of_each, whole_of, unless_fault, records, buffer_too_short, Returns, Gives, Refuses, room_of};
 
 use crate::error::{Error, Result};
 use crate::record::Record;

@@ -1,9 +1,7 @@
 //! An error as its kind, its numbers and its item, and the text of each kind, in parts.
-ghost use Rattle.std.specs.Prelude.{◌≡◌, [], ◌∷◌, IsTrue, Some, map};
 ghost use Rattle.std.specs.Fmt.{WritesOnOk};
-ghost use Rattle.std.specs.List.{find};
-ghost use Rattle.goblin_base.specs.Derives.{ComparesAndClones};
-ghost use Rattle.goblin_base.specs.Texts.{Facts, KindsAreFound, are_short, facts_of, facts_text, is_kind, parts_text, kind_number, kind_text, kind_with, part_text, prefix};
+ghost use Rattle.std.specs.Prelude.{◌≡◌, [], ◌∷◌, IsTrue, Some, map};
+ghost use Rattle.goblin_base.specs.Common.{find, ComparesAndClones, Facts, KindsAreFound, are_short, facts_of, facts_text, is_kind, parts_text, kind_number, kind_text, kind_with, part_text, prefix};
 
 use Part::{First, Hexadecimal, Item, Overflow, Second, Text, Third};
 use std::fmt;

@@ -1,8 +1,7 @@
 //! Well-formed UTF-8: the Unicode Standard, definition D92 and table 3-7.
-ghost use Rattle.std.specs.Prelude.{◌≡◌, ◌↔◌, IsTrue};
 ghost use Rattle.std.specs.Str.{IsAscii, continuation_len};
-ghost use Rattle.std.specs.Str.Lossy.{second_byte_min, second_byte_max};
-ghost use Rattle.goblin_base.specs.Refusal.{Returns, refusal_of};
+ghost use Rattle.std.specs.Prelude.{◌≡◌, ◌↔◌, IsTrue};
+ghost use Rattle.goblin_base.specs.Common.{second_byte_min, second_byte_max, Returns, refusal_of};
 ghost use Rattle.goblin_base.specs.Utf8.{after_byte, after_first_byte, awaits_first, invalid_utf8, text_or_fault};
 
 use crate::error::{Error, Result};

@@ -1,9 +1,9 @@
 //! The walk that makes the entries of a string table. It looks at most five times at each byte, on average.
 ghost use Rattle.std.specs.Prelude.{◌≡◌, ◌+◌, ◌-◌, ◌*◌, ◌<◌, ◌≤◌, ◌≢◌, [], length, IfErr, IfOk, IsOk};
+ghost use Rattle.goblin_base.specs.Common.{Gives, out_of_memory, refusal_of};
 ghost use Rattle.std.specs.Str.{IsAscii};
 ghost use Rattle.goblin_base.specs.Entries.{CountsAtLeast};
 ghost use Rattle.goblin_base.specs.Pieces.{first_bad, piece_end};
-ghost use Rattle.goblin_base.specs.Refusal.{Gives, out_of_memory, refusal_of};
 ghost use Rattle.goblin_base.specs.Scan.{IsScan, IsWalkedTo, found_end, looks_of, scan_end};
 ghost use Rattle.goblin_base.specs.Strtab.{RefusesFirst, walked};
 ghost use Rattle.goblin_base.specs.Utf8.{invalid_utf8};

@@ -6,10 +6,9 @@ use Rattle.goblin_c.proofs.Common.{◌≡◌, ◌+◌, ◌-◌, ◌<◌, ◌==�
 use Rattle.goblin_c.proofs.Common.{Option, Some, Result, Ok, Err, refl, sym, ap, subst, ◌∙◌, arith, nat_tests}
 use Rattle.goblin_c.proofs.Common.{get_or-drop, get_or-take, length-drop, length-take, length-take-le, slice_get-get_or}
 use Rattle.goblin_c.proofs.Common.{position_or_len, piece, Refused, RefusalAt, Returns, GoblinRange, GoblinRefusal}
-use Rattle.goblin_c.proofs.Common.{Stores, refusal_at, refuse_as, strings_expected}
-use Rattle.std.proofs.lemmas.List.Sums.{fails_before_first, passes_at_first, prefix_len-le-length}
+use Rattle.goblin_c.proofs.Common.{Stores, refusal_at, refuse_as, strings_expected, fails_before_first, passes_at_first}
+use Rattle.goblin_c.proofs.Common.{prefix_len-le-length, IsCString, string_closed_expected}
 use Rattle.std.specs.Prelude.{All, not, ◌≢◌}
-use Rattle.goblin_c.specs.Bytes.{IsCString, string_closed_expected}
 use Rattle.goblin_c.proofs.EachLemmas.{stored_item}
 use Rattle.goblin_c.proofs.PlaceLemmas.{piece_short}
 use Rattle.goblin_c.proofs.ReadLemmas.{expected_is}

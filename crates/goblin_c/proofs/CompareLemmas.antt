@@ -2,17 +2,14 @@
 --
 -- The bytes at the range of a string are the piece at its offset (`piece_is_there`). So comparing the piece is
 -- comparing these bytes (`strings_are_compared`).
-use Rattle.goblin_c.proofs.Common.{◌≡◌, ◌+◌, ◌<◌, ◌≤◌, ◌>>=◌, ℕ, true, if◌then◌else◌, nat_le}
-use Rattle.goblin_c.proofs.Common.{List, length, Option, Some, None, Result, Ok, refl, subst, arith}
-use Rattle.goblin_c.proofs.Common.{nat_tests, piece, RefusalAt, GoblinRange, strings_expected}
-use Rattle.std.proofs.lemmas.Slice.Eq.{bytes_eq-Decides}
+use Rattle.goblin_c.proofs.Common.{◌≡◌, ◌+◌, ◌<◌, ◌≤◌, ◌>>=◌, ℕ, true, if◌then◌else◌, nat_le, List, length, Option}
+use Rattle.goblin_c.proofs.Common.{Some, None, Result, Ok, refl, subst, arith, nat_tests, piece, RefusalAt, GoblinRange}
+use Rattle.goblin_c.proofs.Common.{strings_expected, bytes_eq-Decides, drop-take, is_named, bytes_in}
 use Rattle.std.specs.Prelude.{IsErr, drop, take}
-use Rattle.std.proofs.lemmas.List.{drop-take}
 use Rattle.std.specs.Str.{is_utf8}
 use Rattle.goblin_base.specs.Strtab.{has_name, range_in}
 use Rattle.goblin_base.specs.Wanted.{is_piece, starts_piece}
-use Rattle.goblin_c.specs.Expected.{is_named}
-use Rattle.goblin_c.specs.Laws.{StringsAreCompared, bytes_in, range_is, range_starts}
+use Rattle.goblin_c.specs.Laws.{StringsAreCompared, range_is, range_starts}
 use Rattle.goblin_c.proofs.StringLemmas.{in_range, piece_there, place_of}
 
 -- the bytes at the range of a string are the piece at its offset

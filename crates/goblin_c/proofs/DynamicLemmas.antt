@@ -7,19 +7,16 @@
 use Rattle.goblin_c.proofs.Common.{◌≡◌, ◌≤◌, ◌+◌, ◌-◌, ◌==◌, ℕ, zero, suc, List, [], ◌∷◌, length, drop, slice_get, refl}
 use Rattle.goblin_c.proofs.Common.{arith, nat_tests, drop-drop, length-drop, length-map, if◌then◌else◌, map, Option}
 use Rattle.goblin_c.proofs.Common.{Some, None, Result, Ok, Error, refusal_of, refused_at, refuse_as, ◌>>=◌, GoblinRange}
-use Rattle.goblin_c.proofs.Common.{slice_get-map}
+use Rattle.goblin_c.proofs.Common.{slice_get-map, prefix_len-le-length, entries_from, ctx_of, LiesIn, dyn_converted}
 use Rattle.std.proofs.Common.{not}
 use Rattle.std.proofs.lemmas.List.Folds.{length-prefix_len}
-use Rattle.std.proofs.lemmas.List.Sums.{prefix_len-le-length, take_while-cons}
+use Rattle.std.proofs.lemmas.List.Sums.{take_while-cons}
 use Rattle.std.specs.Option.{option_and_then}
 use Rattle.goblin_dynamic.specs.Dynamic.{entries_up_to_null, whole_entries_in}
 use Rattle.goblin_dynamic.specs.declared.dynamic.FileRange.{FileRange}
 use Rattle.goblin_dynamic.specs.declared.entry.Dyn.{Dyn}
-use Rattle.goblin_c.specs.Dynamic.{entries_from, file_range_of, range_in_file, unless_empty}
+use Rattle.goblin_c.specs.Dynamic.{file_range_of, range_in_file, unless_empty}
 use Rattle.goblin_c.specs.DynamicLaws.{DynamicLiesInFile, EntriesAreListed}
-use Rattle.goblin_c.specs.Expected.{ctx_of}
-use Rattle.goblin_c.specs.Laws.{LiesIn}
-use Rattle.goblin_c.specs.Types.{dyn_converted}
 use Rattle.goblin_c.specs.declared.types.GoblinDyn.{GoblinDyn}
 use Rattle.goblin_c.proofs.IndexLemmas.{get_drop}
 use Rattle.goblin_c.proofs.PlaceLemmas.{range_lies}

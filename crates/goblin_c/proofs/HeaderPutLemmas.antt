@@ -2,10 +2,9 @@
 use Rattle.goblin_c.proofs.Common.{◌≡◌, ◌≤◌, ℕ, List, ◌++◌, length, take, drop, Some, None, Result, Ok, refl, arith}
 use Rattle.goblin_c.proofs.Common.{nat_tests, length-drop, length-take-le, Container, Ctx, Endian, Error, fits-room_of}
 use Rattle.goblin_c.proofs.Common.{refusal_of, ◌>>=◌, refuse_as, Header, reads_back, ctx_of, header_expected}
-use Rattle.goblin_c.proofs.Common.{refused_at, GoblinHeader}
+use Rattle.goblin_c.proofs.Common.{refused_at, GoblinHeader, put_unless, refusal_converted}
 use Rattle.goblin.specs.Header.{HeaderFits, class_named, header_layout, header_size, order_named, Identifies}
-use Rattle.goblin_c.specs.Write.{FitsClass, header_of, ident_of, named_ctx, put_unless}
-use Rattle.goblin_c.specs.Types.{refusal_converted}
+use Rattle.goblin_c.specs.Write.{FitsClass, header_of, ident_of, named_ctx}
 use Rattle.goblin_c.specs.WriteLaws.{HeadersAreRead}
 
 -- a header that names a class and a byte order, and whose bytes there are

@@ -4,15 +4,9 @@
 -- read from its own bytes (`listed_item`).
 use Rattle.std.proofs.Math.Nat.{le-div_iff_mul-le, mul-div_left}
 use Rattle.std.proofs.lemmas.List.{take-take}
-use Rattle.goblin_base.specs.Eager.{records_from, records_in}
 use Rattle.goblin_base.proofs.Eager.{all_fit}
-use Rattle.goblin_headers.specs.ProgramHeaderLaws.{program_header_laws}
-use Rattle.goblin_headers.specs.SectionHeaderLaws.{section_header_laws}
 use Rattle.goblin_records.specs.RelocLaws.{reloc_laws}
-use Rattle.goblin_records.specs.SymLaws.{sym_laws}
 use Rattle.goblin.specs.SectionHeaders.{count_asked, section_headers_from, section_headers_from_tested}
-use Rattle.goblin_c.specs.Expected.{section_expected}
-use Rattle.goblin_c.specs.Write.{reloc_ctx}
 use Rattle.goblin_c.proofs.Common.{◌≡◌, ◌≤◌, ◌<◌, ◌+◌, ◌-◌, ◌*◌, ◌/◌, ◌^◌, ◌==◌, ℕ, Bool, false, nat_lt, List, length}
 use Rattle.goblin_c.proofs.Common.{take, drop, max, Some, Result, Ok, refl, arith, div-mul-le_self, nat_tests}
 use Rattle.goblin_c.proofs.Common.{drop-drop, slice_get-map, room_of_fits, records, records-agree, get_records}
@@ -21,7 +15,8 @@ use Rattle.goblin_c.proofs.Common.{reloc_in, reloc_size, section_header_of, sect
 use Rattle.goblin_c.proofs.Common.{ctx_of, each_converted, is_mips64el, item_at, reloc_expected, relocs_expected}
 use Rattle.goblin_c.proofs.Common.{sections_expected, segment_expected, segments_expected, symbol_expected}
 use Rattle.goblin_c.proofs.Common.{symbols_expected, RefusalAt, reloc_converted, section_converted, segment_converted}
-use Rattle.goblin_c.proofs.Common.{symbol_converted, GoblinHeader, GoblinRange}
+use Rattle.goblin_c.proofs.Common.{symbol_converted, GoblinHeader, GoblinRange, records_from, records_in}
+use Rattle.goblin_c.proofs.Common.{program_header_laws, section_header_laws, sym_laws, section_expected, reloc_ctx}
 
 -- The item with an index of a list that is read from the bytes of its records. These lie in so many bytes, and the
 -- record with the index does.

@@ -8,8 +8,8 @@ use Rattle.goblin_c.proofs.Common.{Result, Ok, Err, if◌then◌else◌, codes, 
 use Rattle.goblin_c.proofs.Common.{drop-drop, Ctx, fits-room_of, Refusal, buffer_too_short, misplaced, refusal_of}
 use Rattle.goblin_c.proofs.Common.{refused_at, room_of, ◌>>=◌, refuse_as, refuse_if, records, no_records, get_records}
 use Rattle.goblin_c.proofs.Common.{past_records, section_header_of, section_header_size, section_headers_of, sym_of}
-use Rattle.goblin_c.proofs.Common.{sym_size, SectionHeader, Sym}
-use Rattle.goblin_base.specs.Eager.{records_from, records_in, room_of_each}
+use Rattle.goblin_c.proofs.Common.{sym_size, SectionHeader, Sym, records_from, records_in}
+use Rattle.goblin_base.specs.Eager.{room_of_each}
 use Rattle.goblin.specs.SectionHeaders.{count_asked, section_headers_from, section_headers_from_tested}
 use Rattle.goblin.specs.Symtab.{symtab_of}
 

@@ -7,16 +7,14 @@ use Rattle.goblin_c.proofs.Common.{◌≡◌, ◌+◌, ◌-◌, ◌<◌, ◌≤�
 use Rattle.goblin_c.proofs.Common.{length, take, drop, Option, Some, None, Result, Ok, refl, sym, ap, ◌∙◌, arith}
 use Rattle.goblin_c.proofs.Common.{leb-false, drop-take, take-nil, Ctx, Refusal, ◌>>=◌, RefusalAt, refused_at}
 use Rattle.goblin_c.proofs.Common.{GoblinHeader, GoblinRange, ctx_of, note_converted, nat_tests, ◌==◌, drop_all}
-use Rattle.goblin_c.proofs.Common.{length-drop, length-take, take_all}
+use Rattle.goblin_c.proofs.Common.{length-drop, length-take, take_all, lt-leb, bytes_from, note_expected}
 use Rattle.std.proofs.Math.Seq.{drop-drop}
 use Rattle.goblin.specs.declared.elf.note.NotePlaces.{NotePlaces}
 use Rattle.goblin.specs.Nhdr.{nhdr32_of}
 use Rattle.goblin.specs.Note.{NoteParts, note_there, places_at, note_at, note_items, item_and_rest, read_places}
 use Rattle.goblin.proofs.NoteLemmas.{places_at-before}
-use Rattle.std.proofs.lemmas.Bool.{lt-leb}
 use Rattle.goblin.specs.NoteLaws.{at_ok, note_by_note, places_lie_within, whole_is_note}
 use Rattle.goblin_c.specs.declared.types.GoblinNote.{GoblinNote}
-use Rattle.goblin_c.specs.Notes.{bytes_from, note_expected}
 use Rattle.goblin_c.specs.Laws.{NotesAreItems, NotesInARow, NotesLieInFile, items_reported, note_in, WholeNotesAreNotes}
 use Rattle.goblin_c.specs.Laws.{notes_reported}
 use Rattle.goblin_c.proofs.ListedLemmas.{one_converted}

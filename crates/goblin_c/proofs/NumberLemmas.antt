@@ -2,11 +2,10 @@
 use Rattle.goblin_c.proofs.Common.{◌≡◌, ◌≤◌, ◌+◌, ℕ, true, List, ◌++◌, length, take, drop, Some, Ok, refl, None}
 use Rattle.goblin_c.proofs.Common.{GoblinRange, sym, ap, arith, mod-eq_of_lt, Endian, number_at-lt}
 use Rattle.goblin_c.proofs.Common.{number_at-with_number, number_at, spelled, fits-room_of, room_of_fits, is_width}
-use Rattle.goblin_c.proofs.Common.{number_expected, ctx_of, GoblinHeader, IsBytes-part, length-part}
+use Rattle.goblin_c.proofs.Common.{number_expected, ctx_of, GoblinHeader, IsBytes-part, length-part, number_in_expected}
+use Rattle.goblin_c.proofs.Common.{with_bytes}
 use Rattle.goblin_base.specs.NumberLaws.{length-spelled, spelled-number}
 use Rattle.goblin_base.specs.Place.{with_number}
-use Rattle.goblin_c.specs.Places.{number_in_expected}
-use Rattle.goblin_c.specs.Write.{with_bytes}
 use Rattle.goblin_c.specs.WriteLaws.{ChangesOnly, NumbersArePut, NumbersInRangesArePut}
 use Rattle.goblin_c.proofs.OffsetLemmas.{numbers_lie_in_range}
 use Rattle.goblin_c.proofs.PutLemmas.{others_stay, put_found, rewritten}

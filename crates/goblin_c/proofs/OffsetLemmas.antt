@@ -11,17 +11,14 @@ use Rattle.goblin_c.proofs.Common.{leb-false, leb-true, nat_tests, drop_all, len
 use Rattle.goblin_c.proofs.Common.{slice_get-map, Decides, option_map, misplaced, RefusalAt, refused_at, fits-room_of}
 use Rattle.goblin_c.proofs.Common.{room_of_fits, room_of, ◌>>=◌, refuse_as, loaded_from, loads, offset_in}
 use Rattle.goblin_c.proofs.Common.{ProgramHeader, GoblinHeader, GoblinRange, segment_expected, segments_expected}
-use Rattle.goblin_c.proofs.Common.{segment_converted}
+use Rattle.goblin_c.proofs.Common.{segment_converted, bytes_in, cut_range, in_file, passes_at_first}
 use Rattle.goblin_base.specs.declared.scroll.Error.{Error as Misplaced}
 use Rattle.goblin_c.specs.declared.types.GoblinSegment.{GoblinSegment}
-use Rattle.goblin_c.specs.Laws.{bytes_in}
 use Rattle.goblin_c.specs.PlaceLaws.{AddressesAreLoaded, IsOffsetOf, IsSlice, LoadsByte, LoadsFirst, NumbersLieInRange}
 use Rattle.goblin_c.specs.PlaceLaws.{PartsLieInFile}
-use Rattle.goblin_c.specs.Places.{cut_range, in_file}
 use Rattle.goblin_c.proofs.FilledBufferLemmas.{ends-before}
 use Rattle.goblin_c.proofs.SearchLemmas.{converted_one, fails_before}
 use Rattle.std.proofs.lemmas.List.Folds.{find_at}
-use Rattle.std.proofs.lemmas.List.Sums.{passes_at_first}
 
 -- the part of a range has the same bytes of the file
 same_bytes : (bytes : List ℕ) (range : GoblinRange) (inside : Bool)

@@ -1,7 +1,6 @@
 -- The bytes of many strings, each at an offset.
-use Rattle.goblin_c.proofs.Common.{◌≡◌, ◌+◌, ◌<◌, ◌≤◌, ℕ, List, length, Some, None, Ok, Err}
-use Rattle.goblin_c.proofs.Common.{refl, nat_tests, arith, piece, RefusalAt, GoblinRange, strings_expected}
-use Rattle.goblin_c.specs.Bytes.{string_bytes_expected}
+use Rattle.goblin_c.proofs.Common.{◌≡◌, ◌+◌, ◌<◌, ◌≤◌, ℕ, List, length, Some, None, Ok, Err, refl, nat_tests, arith}
+use Rattle.goblin_c.proofs.Common.{piece, RefusalAt, GoblinRange, strings_expected, string_bytes_expected}
 
 -- the bytes of each string: at an offset in the strings, past them, and of strings that are refused
 pub bytes_there : (bytes : List ℕ) (range : GoblinRange) (offset : ℕ) (strings : List ℕ) (size : ℕ)

@@ -4,7 +4,8 @@
 -- offset, which is no longer than the strings from there on (`piece_short`).
 use Rattle.goblin_c.proofs.Common.{◌≡◌, ◌≤◌, ◌-◌, ◌==◌, ℕ, List, length, drop, Some, Ok, arith, nat_tests, length-drop}
 use Rattle.goblin_c.proofs.Common.{length-take, position_or_len, piece, fits-room_of, GoblinRange, range_expected}
-use Rattle.goblin_c.specs.Laws.{BytesLieInFile, EmptyHaveNoBytes, LiesIn, StringsAreBytes, StringsLieInFile}
+use Rattle.goblin_c.proofs.Common.{LiesIn}
+use Rattle.goblin_c.specs.Laws.{BytesLieInFile, EmptyHaveNoBytes, StringsAreBytes, StringsLieInFile}
 use Rattle.goblin_c.proofs.StringLemmas.{in_range, plain_is}
 
 -- a range that is stored lies in the file

@@ -10,19 +10,15 @@ use Rattle.goblin_c.proofs.Common.{slice_get-get_or, slice_get_within, IsRecord,
 use Rattle.goblin_c.proofs.Common.{each_converted, item_at, RefusalAt, Reloc, reloc_converted, ctx_of, IsBytes-part}
 use Rattle.goblin_c.proofs.Common.{length-part, length-drop, length-map, length_records, Bool, GoblinHeader}
 use Rattle.goblin_c.proofs.Common.{GoblinRange, section_converted, segment_converted, symbol_converted}
-use Rattle.goblin_c.proofs.Common.{sections_expected, segments_expected, symbols_expected, relocs_expected}
-use Rattle.goblin_c.specs.Write.{put_at, put_unless, put_if_there, with_bytes, reloc_ctx, reloc_layout, reloc_of}
-use Rattle.goblin_c.specs.Write.{section_layout, section_of, segment_layout, segment_of, symbol_layout, symbol_of}
-use Rattle.goblin_c.specs.Write.{unfit}
-use Rattle.goblin_c.specs.declared.misfit.Misfit.{Misfit}
+use Rattle.goblin_c.proofs.Common.{sections_expected, segments_expected, symbols_expected, relocs_expected, put_unless}
+use Rattle.goblin_c.proofs.Common.{with_bytes, reloc_ctx, Misfit, program_header_laws, section_header_laws, sym_laws}
+use Rattle.goblin_c.specs.Write.{put_at, put_if_there, reloc_layout, reloc_of, section_layout, section_of}
+use Rattle.goblin_c.specs.Write.{segment_layout, segment_of, symbol_layout, symbol_of, unfit}
 use Rattle.goblin_c.specs.WriteLaws.{ChangesOnly, CountsStay, IsUnfit, PutsAreRead, PutsChangeOne, ReadsArePut}
 use Rattle.goblin_c.specs.WriteLaws.{UnfitAreRefused}
 use Rattle.goblin_c.specs.declared.types.GoblinReloc.{GoblinReloc}
 use Rattle.goblin_c.proofs.ReadLemmas.{Lists, found_at, lists_relocs, lists_sections, lists_segments, lists_symbols}
-use Rattle.goblin_headers.specs.ProgramHeaderLaws.{program_header_laws}
-use Rattle.goblin_headers.specs.SectionHeaderLaws.{section_header_laws}
 use Rattle.goblin_records.specs.RelocLaws.{reloc_laws_in}
-use Rattle.goblin_records.specs.SymLaws.{sym_laws}
 
 -- the front of a list
 take_at : (front rest : List ℕ) (n : ℕ) → length front ≡ n → take n (front ++ rest) ≡ front

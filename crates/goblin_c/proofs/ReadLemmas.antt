@@ -4,16 +4,15 @@
 -- stores was read from its own bytes, which lie in the file (`found_at`).
 use Rattle.goblin_c.proofs.Common.{found_within, ◌≡◌, ◌≤◌, ◌+◌, ◌*◌, ◌/◌, ◌==◌, ℕ, Bool, true, false, nat_le, List, []}
 use Rattle.goblin_c.proofs.Common.{length, take, drop, map, slice_get, Some, Result, Ok, Err, if◌then◌else◌, refl, sym}
-use Rattle.goblin_c.proofs.Common.{◌∙◌, arith, leb-false, leb-true, slice_get-map, refusal_of}
-use Rattle.goblin_c.proofs.Common.{refuse_as, program_header_of, program_header_size, program_headers_from}
-use Rattle.goblin_c.proofs.Common.{section_header_of, section_header_size, section_headers_of, sym_of, sym_size}
-use Rattle.goblin_c.proofs.Common.{segment_count, reloc_in, reloc_size, relocs_of, unless_fault, fits-room_of}
-use Rattle.goblin_c.proofs.Common.{unless_fault-is, room_of, records, no_records, records-agree, div-mul-le_self}
-use Rattle.goblin_c.proofs.Common.{is_mips64el, relocs_expected, Refused, GoblinHeader, GoblinRange, ctx_of}
-use Rattle.goblin_c.proofs.Common.{each_converted, item_at, sections_expected, segments_expected, symbols_expected}
-use Rattle.goblin_c.proofs.Common.{Returns, RefusalAt, refusal_at, refused_at, converted_list}
+use Rattle.goblin_c.proofs.Common.{◌∙◌, arith, leb-false, leb-true, slice_get-map, refusal_of, refuse_as}
+use Rattle.goblin_c.proofs.Common.{program_header_of, program_header_size, program_headers_from, section_header_of}
+use Rattle.goblin_c.proofs.Common.{section_header_size, section_headers_of, sym_of, sym_size, segment_count, reloc_in}
+use Rattle.goblin_c.proofs.Common.{reloc_size, relocs_of, unless_fault, fits-room_of, unless_fault-is, room_of, records}
+use Rattle.goblin_c.proofs.Common.{no_records, records-agree, div-mul-le_self, is_mips64el, relocs_expected, Refused}
+use Rattle.goblin_c.proofs.Common.{GoblinHeader, GoblinRange, ctx_of, each_converted, item_at, sections_expected}
+use Rattle.goblin_c.proofs.Common.{segments_expected, symbols_expected, Returns, RefusalAt, refusal_at, refused_at}
+use Rattle.goblin_c.proofs.Common.{converted_list, reloc_ctx}
 use Rattle.std.proofs.lemmas.List.{take-take}
-use Rattle.goblin_c.specs.Write.{reloc_ctx}
 use Rattle.goblin_c.proofs.ListedLemmas.{IsListed, bind_ok, listed_at, listed_from, none_at, refused_at_ok}
 use Rattle.goblin_c.proofs.ListedLemmas.{sections_listed, symbols_listed}
 

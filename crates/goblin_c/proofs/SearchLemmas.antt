@@ -8,11 +8,9 @@ use Rattle.goblin_c.proofs.Common.{◌∷◌, map, drop, get_or, slice_get, Opti
 use Rattle.goblin_c.proofs.Common.{position_or_len, refl, sym, ap, subst, ◌∙◌, arith, nat_tests, get_or_from_slice_get}
 use Rattle.goblin_c.proofs.Common.{slice_get-get_or, slice_get-map, slice_get_within, Decides, option_map, ◌>>=◌}
 use Rattle.goblin_c.proofs.Common.{RefusalAt, GoblinSection, each_converted, first_item, found_item, item_at}
-use Rattle.goblin_c.proofs.Common.{sections_expected, section_converted}
-use Rattle.std.proofs.lemmas.Bool.Decides.{Decides-eqb}
+use Rattle.goblin_c.proofs.Common.{sections_expected, section_converted, Decides-eqb, fails_before_first, FindsItemFrom}
 use Rattle.std.proofs.lemmas.List.Quantifiers.{position-Some}
-use Rattle.std.proofs.lemmas.List.Sums.{fails_before_first}
-use Rattle.goblin_c.specs.Laws.{FindsFrom, FindsItemFrom, RefusesAll, SectionsByType}
+use Rattle.goblin_c.specs.Laws.{FindsFrom, RefusesAll, SectionsByType}
 use Rattle.goblin_c.proofs.IndexLemmas.{get_drop}
 
 -- the first item that passes a test, and that none does

@@ -4,17 +4,15 @@
 -- of its range (`in_range`): so the string stands in the file at both offsets together (`piece_there`). The library's
 -- look-up passes a name exactly if a call stores a string with its bytes (`named-Decides`), so the first item that it
 -- finds is the first with that name (`by_name`).
-use Rattle.goblin_c.proofs.Common.{◌≡◌, ◌+◌, ◌-◌, ◌<◌, ◌≤◌, ◌==◌, ℕ, Bool, nat_le, List, length, take, drop, min}
-use Rattle.goblin_c.proofs.Common.{Some, Result, Ok, Err, inl, inr, refl, sym, ap, subst, ◌∙◌, arith, nat_tests}
-use Rattle.goblin_c.proofs.Common.{drop-take, length-take, take_min, take-take, Decides, before_first, position_or_len}
-use Rattle.goblin_c.proofs.Common.{piece, ◌>>=◌, RefusalAt, refused_at, GoblinRange, each_converted, first_item}
-use Rattle.goblin_c.proofs.Common.{is_named, item_at, sections_expected, string_expected, strings_expected}
-use Rattle.goblin_c.proofs.Common.{symbols_expected, section_converted, symbol_converted}
-use Rattle.std.proofs.lemmas.Slice.Eq.{bytes_eq-Decides}
+use Rattle.goblin_c.proofs.Common.{◌≡◌, ◌+◌, ◌-◌, ◌<◌, ◌≤◌, ◌==◌, ℕ, Bool, nat_le, List, length, take, drop, min, Some}
+use Rattle.goblin_c.proofs.Common.{Result, Ok, Err, inl, inr, refl, sym, ap, subst, ◌∙◌, arith, nat_tests, drop-take}
+use Rattle.goblin_c.proofs.Common.{length-take, take_min, take-take, Decides, before_first, position_or_len, piece}
+use Rattle.goblin_c.proofs.Common.{◌>>=◌, RefusalAt, refused_at, GoblinRange, each_converted, first_item, is_named}
+use Rattle.goblin_c.proofs.Common.{item_at, sections_expected, string_expected, strings_expected, symbols_expected}
+use Rattle.goblin_c.proofs.Common.{section_converted, symbol_converted, bytes_eq-Decides, FindsItemFrom, bytes_in}
 use Rattle.std.proofs.Math.Seq.{drop-drop}
 use Rattle.goblin_base.specs.Strtab.{has_name, plain, range_in}
-use Rattle.goblin_c.specs.Laws.{IsNameAt, RefusesInTurn, SectionsByName, FindsItemFrom}
-use Rattle.goblin_c.specs.Laws.{StringsAreThere, SymbolsByName, bytes_in}
+use Rattle.goblin_c.specs.Laws.{IsNameAt, RefusesInTurn, SectionsByName, StringsAreThere, SymbolsByName}
 use Rattle.goblin_c.proofs.SearchLemmas.{first_found}
 use Rattle.goblin_c.proofs.ListedLemmas.{one_converted}
 

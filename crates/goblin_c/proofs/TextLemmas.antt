@@ -2,13 +2,11 @@
 use Rattle.goblin_c.proofs.Common.{◌≡◌, ◌+◌, ◌<◌, ◌≤◌, ℕ, zero, suc, IsTrue, nat_le, List, [], ◌∷◌, ◌++◌, length}
 use Rattle.goblin_c.proofs.Common.{get_or, take, drop, ap, length-append, arith, and_parts, leb-true, are_short}
 use Rattle.goblin_c.proofs.Common.{each_short, is_short, laid, Endian, Err, Ok, Refusal, Result, buffer_too_short}
-use Rattle.goblin_c.proofs.Common.{ctx_of, misplaced, refuse_as, room_of}
+use Rattle.goblin_c.proofs.Common.{ctx_of, misplaced, refuse_as, room_of, read_within, bytes_from, note_bytes_expected}
 use Rattle.goblin_base.specs.declared.texts.Part.{Part}
-use Rattle.goblin_base.specs.Record.{read_within}
 use Rattle.goblin_base.specs.Refusal.{bad_input}
 use Rattle.goblin.specs.Note.{PartRefusal, whole_places}
 use Rattle.goblin_c.specs.Laws.{KindsAreAboveOne}
-use Rattle.goblin_c.specs.Notes.{bytes_from, note_bytes_expected}
 use Rattle.goblin_c.specs.TextLaws.{PartHasSameText, PartsHaveSameText}
 use Rattle.std.specs.Bool.{⊤}
 use Rattle.goblin_c.proofs.FilledBufferLemmas.{laid-appended}

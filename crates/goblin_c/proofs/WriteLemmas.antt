@@ -1,8 +1,7 @@
 -- Puts: a record that is found is put at its place, in range, and the library's test decides whether it fits.
 use Rattle.goblin_c.proofs.Common.{◌≡◌, ◌≤◌, ◌+◌, ◌*◌, ◌^◌, ◌⊎◌, ℕ, List, [], ◌∷◌, length, map, Option, Some, Result}
 use Rattle.goblin_c.proofs.Common.{Ok, inl, arith, item_at, Returns, RefusalAt, converted_list, Container, Little, Big}
-use Rattle.goblin_c.proofs.Common.{Header, cases_lt, Refused}
-use Rattle.goblin_base.specs.Fields.{Field, FieldsFit}
+use Rattle.goblin_c.proofs.Common.{Header, cases_lt, Refused, Field, FieldsFit}
 use Rattle.goblin.specs.Header.{HeaderFits, as32, as64, header32, header64}
 use Rattle.goblin_c.proofs.ReadLemmas.{Lists, converted_is, found_at}
 

@@ -1,10 +1,9 @@
 -- The expected ranges of bytes of a section, a segment and a string, and the number of some bytes.
+use Rattle.goblin_base.specs.Pieces.{piece}
 use Rattle.std.specs.Prelude.{◌≡◌, ◌≢◌, ℕ, ◌+◌, ◌==◌, ◌||◌, not, nat_le, nat_lt, if◌then◌else◌, Bool, List, All, length}
 use Rattle.std.specs.Prelude.{take, drop, slice_get, Option, Some, None, Result, Ok}
-use Rattle.goblin_base.specs.Number.{number_at}
-use Rattle.goblin_base.specs.Pieces.{piece}
 use Rattle.goblin_c.specs.Common.{misplaced, room_of, ◌>>=◌, refuse_as, is_nobits, GoblinHeader, GoblinRange}
-use Rattle.goblin_c.specs.Common.{GoblinSection, GoblinSegment}
+use Rattle.goblin_c.specs.Common.{GoblinSection, GoblinSegment, number_at}
 use Rattle.goblin_c.specs.Refused.{RefusalAt, refused_at}
 use Rattle.goblin_c.specs.Expected.{ctx_of, strings_expected}
 

@@ -1,5 +1,7 @@
 -- What the definitions of this crate cite most, passed on from one place. Declares nothing.
-pub use Rattle.goblin.specs.Header.{HeaderFits, class_of, header_layout, header_size, magic, order_of}
+pub use Rattle.goblin.specs.Header.{HeaderFits, class_of, header_layout, header_size, magic, order_named, order_of}
+pub use Rattle.goblin.specs.Note.{NoteParts, PartRefusal}
+unfoldable pub use Rattle.goblin.specs.Note.{places_at, read_places, whole_places}
 pub use Rattle.goblin.specs.ProgramHeaders.{loaded_from, program_headers_from}
 unfoldable pub use Rattle.goblin.specs.ReadHeader.{read_header, read_in_order}
 pub use Rattle.goblin.specs.RelocSection.{is_mips64el_in, is_of_mips64el, relocs_of}
@@ -7,26 +9,30 @@ pub use Rattle.goblin.specs.SectionHeaders.{is_nobits, is_table, linked, names_i
 unfoldable pub use Rattle.goblin.specs.SectionHeaders.{section_headers_from, section_headers_from_tested}
 pub use Rattle.goblin.specs.Sym.{sym_layout, sym_size}
 pub use Rattle.goblin.specs.Symtab.{symtab_of}
-pub use Rattle.goblin.specs.WholePart.{segment_count}
+pub use Rattle.goblin.specs.WholePart.{sections_part, segment_count, segments_part}
 pub use Rattle.goblin.specs.declared.elf.header.Header.{Header}
 pub use Rattle.goblin.specs.declared.elf.program_header.ProgramHeader.{ProgramHeader}
 pub use Rattle.goblin.specs.declared.elf.reloc.Reloc.{Reloc}
 pub use Rattle.goblin.specs.declared.elf.section_header.SectionHeader.{SectionHeader}
 pub use Rattle.goblin.specs.declared.elf.sym.Sym.{Sym}
-pub use Rattle.goblin_base.specs.Layout.{Layout}
-pub use Rattle.goblin_base.specs.Refusal.{Refusal, buffer_too_short, malformed, misplaced, refusal_of}
+pub use Rattle.goblin_base.specs.Layout.{Layout, word_size}
+pub use Rattle.goblin_base.specs.Number.{IsBytes, number_at}
+pub use Rattle.goblin_base.specs.Refusal.{Refusal, bad_input, buffer_too_short, malformed, misplaced, refusal_of}
 unfoldable pub use Rattle.goblin_base.specs.Room.{room_of}
 pub use Rattle.goblin_base.specs.Steps.{refuse_as, with_size, ◌>>=◌}
 pub use Rattle.goblin_base.specs.Strtab.{plain}
 unfoldable pub use Rattle.goblin_base.specs.Strtab.{has_name, range_in}
-unfoldable pub use Rattle.goblin_base.specs.Wanted.{is_piece, starts_piece}
 pub use Rattle.goblin_base.specs.Texts.{Facts, facts_text, kind_number, kind_with, refusal_facts, refusal_text}
+unfoldable pub use Rattle.goblin_base.specs.Wanted.{is_piece, starts_piece}
+pub use Rattle.goblin_base.specs.declared.container.Container.TheVariants.{Big, Little}
 pub use Rattle.goblin_base.specs.declared.container.Ctx.{Ctx}
 pub use Rattle.goblin_base.specs.declared.error.Error.{Error}
 pub use Rattle.goblin_base.specs.declared.error.Fault.TheVariants.{Data, DataType, IntegerFit, InvalidClass}
 pub use Rattle.goblin_base.specs.declared.error.Fault.TheVariants.{InvalidEndianness}
 pub use Rattle.goblin_c.specs.declared.kinds.TheConstants.{END, INVALID_UTF8, OK, PROGRAM_HEADERS, SECTION_HEADERS}
+pub use Rattle.goblin_c.specs.declared.misfit.Misfit.{Misfit}
 pub use Rattle.goblin_c.specs.declared.refused.Refused.{Refused}
+pub use Rattle.goblin_c.specs.declared.types.GoblinDyn.{GoblinDyn}
 pub use Rattle.goblin_c.specs.declared.types.GoblinHeader.{GoblinHeader}
 pub use Rattle.goblin_c.specs.declared.types.GoblinNote.{GoblinNote}
 pub use Rattle.goblin_c.specs.declared.types.GoblinRange.{GoblinRange}
@@ -35,4 +41,6 @@ pub use Rattle.goblin_c.specs.declared.types.GoblinReloc.{GoblinReloc}
 pub use Rattle.goblin_c.specs.declared.types.GoblinSection.{GoblinSection}
 pub use Rattle.goblin_c.specs.declared.types.GoblinSegment.{GoblinSegment}
 pub use Rattle.goblin_c.specs.declared.types.GoblinSymbol.{GoblinSymbol}
-pub use Rattle.std.specs.Option.{option_map}
+pub use Rattle.goblin_dynamic.specs.declared.entry.Dyn.{Dyn}
+pub use Rattle.std.specs.Option.{is_some, option_map}
+pub use Rattle.std.specs.Str.{bytes_eq, is_utf8}

@@ -1,16 +1,14 @@
 -- The expected results of the calls for the dynamic section: its range, its entries, the value of a tag, and the range
 -- of its strings.
-use Rattle.std.specs.Prelude.{ℕ, List, [], ◌∷◌, drop, map, Option, Some, None, Result, Ok}
 use Rattle.goblin_dynamic.specs.Dynamic.{dynamic_range, entries_in, entries_up_to_null, first_value, strings_range}
 use Rattle.goblin_dynamic.specs.Dynamic.{whole_entries_in}
 use Rattle.goblin_dynamic.specs.declared.dynamic.FileRange.{FileRange}
-use Rattle.goblin_dynamic.specs.declared.entry.Dyn.{Dyn}
-use Rattle.goblin_c.specs.Common.{◌>>=◌, refusal_of, refuse_as, GoblinHeader, GoblinRange}
+use Rattle.std.specs.Prelude.{ℕ, List, [], ◌∷◌, drop, map, Option, Some, None, Result, Ok}
+use Rattle.goblin_c.specs.Common.{◌>>=◌, refusal_of, refuse_as, GoblinHeader, GoblinRange, Dyn, GoblinDyn}
 use Rattle.goblin_c.specs.Bytes.{range_expected}
 use Rattle.goblin_c.specs.Expected.{ctx_of, segments_expected}
 use Rattle.goblin_c.specs.Refused.{RefusalAt, refused_at}
 use Rattle.goblin_c.specs.Types.{dyn_converted}
-use Rattle.goblin_c.specs.declared.types.GoblinDyn.{GoblinDyn}
 
 -- a range from C, and one for C
 abbrev pub file_range_of : GoblinRange → FileRange

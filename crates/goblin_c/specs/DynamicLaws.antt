@@ -1,7 +1,6 @@
 -- Laws of the calls for the dynamic section.
 use Rattle.std.specs.Prelude.{◌≡◌, ◌≤◌, ℕ, List, drop, length, map, Some, Ok}
-use Rattle.goblin_dynamic.specs.declared.entry.Dyn.{Dyn}
-use Rattle.goblin_c.specs.Common.{GoblinHeader, GoblinRange}
+use Rattle.goblin_c.specs.Common.{GoblinHeader, GoblinRange, Dyn}
 use Rattle.goblin_c.specs.Dynamic.{dynamic_expected, dynamic_strings_expected, entries_expected}
 use Rattle.goblin_c.specs.Dynamic.{entries_from_expected, unless_empty}
 use Rattle.goblin_c.specs.Laws.{LiesIn}

@@ -2,15 +2,14 @@
 use Rattle.std.specs.Prelude.{ℕ, ◌+◌, ◌/◌, ◌==◌, nat_le, if◌then◌else◌, List, length, drop, map, position, slice_get}
 use Rattle.std.specs.Prelude.{Bool, Option, Some, None, Result, Ok}
 use Rattle.goblin_c.specs.Common.{option_map, Ctx, malformed, refusal_of, ◌>>=◌, refuse_as, range_in, plain, has_name}
-use Rattle.goblin_c.specs.Common.{is_piece, starts_piece}
-use Rattle.goblin_c.specs.Common.{SectionHeader, read_header, linked, section_headers_of, Sym, sym_size, ProgramHeader}
-use Rattle.goblin_c.specs.Common.{program_headers_from, Reloc, is_mips64el_in, relocs_of, symtab_of, segment_count}
-use Rattle.goblin_c.specs.Common.{GoblinHeader, GoblinRange, GoblinSection, GoblinSegment, GoblinReloc, GoblinSymbol}
+use Rattle.goblin_c.specs.Common.{is_piece, starts_piece, SectionHeader, read_header, linked, section_headers_of, Sym}
+use Rattle.goblin_c.specs.Common.{sym_size, ProgramHeader, program_headers_from, Reloc, is_mips64el_in, relocs_of}
+use Rattle.goblin_c.specs.Common.{symtab_of, segment_count, GoblinHeader, GoblinRange, GoblinSection, GoblinSegment}
+use Rattle.goblin_c.specs.Common.{GoblinReloc, GoblinSymbol, sections_part, segments_part}
 use Rattle.goblin_base.specs.declared.container.Container.TheVariants as class
 use Rattle.goblin_base.specs.declared.container.Endian.TheVariants as endian
 use Rattle.goblin_base.specs.declared.options.ParseMode.TheVariants.{Strict}
 use Rattle.goblin.specs.Addresses.{symbol_at}
-use Rattle.goblin.specs.WholePart.{sections_part, segments_part}
 use Rattle.goblin_c.specs.Refused.{RefusalAt, refused_at}
 use Rattle.goblin_c.specs.Types.{header_converted, names_index_of, reloc_converted, section_converted}
 use Rattle.goblin_c.specs.Types.{segment_converted, symbol_converted}

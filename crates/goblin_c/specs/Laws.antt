@@ -2,17 +2,15 @@
 use Rattle.std.specs.Prelude.{◌≡◌, ◌≢◌, ◌⊎◌, ◌+◌, ◌-◌, ◌/◌, ◌<◌, ◌≤◌, ℕ, zero, suc, min, Bool, true, false, List, []}
 use Rattle.std.specs.Prelude.{◌∷◌, if◌then◌else◌, length, take, drop, slice_get, Option, Some, None, Result, Ok, Err}
 use Rattle.std.specs.Prelude.{IsOk}
-use Rattle.std.specs.Str.{bytes_eq, is_utf8}
 use Rattle.goblin_c.specs.Common.{option_map, Ctx, InvalidClass, InvalidEndianness, Refusal, refusal_of, ◌>>=◌}
 use Rattle.goblin_c.specs.Common.{refuse_as, plain, Header, class_of, order_of, program_headers_from, read_header}
 use Rattle.goblin_c.specs.Common.{is_of_mips64el, relocs_of, is_table, section_headers_of, Sym, sym_size, symtab_of}
 use Rattle.goblin_c.specs.Common.{segment_count, ProgramHeader, GoblinHeader, GoblinNote, GoblinRange, GoblinReloc}
-use Rattle.goblin_c.specs.Common.{GoblinSection, GoblinSegment, GoblinSymbol}
+use Rattle.goblin_c.specs.Common.{GoblinSection, GoblinSegment, GoblinSymbol, bytes_eq, is_utf8, NoteParts}
 use Rattle.goblin.specs.WholePart.{whole_header as library_whole}
 use Rattle.goblin.specs.declared.elf.note.NoteDataIterator.{NoteDataIterator}
 use Rattle.goblin.specs.declared.elf.note.NotePart.TheVariants as part
 use Rattle.goblin.specs.Nhdr.{nhdr32_size}
-use Rattle.goblin.specs.Note.{NoteParts}
 use Rattle.goblin.specs.Notes.{items_left}
 use Rattle.goblin_c.specs.Refused.{RefusalAt, refused_at}
 use Rattle.goblin_c.specs.Expected.{ctx_of, is_mips64el, section_by_type_expected, section_count_expected}

@@ -1,9 +1,9 @@
 -- The note that a call stores.
 use Rattle.std.specs.Prelude.{◌≡◌, ℕ, ◌+◌, nat_le, if◌then◌else◌, List, take, drop, Option, Some, None, Result, Ok, Err}
-use Rattle.goblin_c.specs.Common.{◌>>=◌, GoblinHeader, GoblinNote, GoblinRange, GoblinRefusal, OK, END}
+use Rattle.goblin_c.specs.Common.{◌>>=◌, GoblinHeader, GoblinNote, GoblinRange, GoblinRefusal, OK, END, PartRefusal}
+use Rattle.goblin_c.specs.Common.{places_at, whole_places}
 use Rattle.goblin.specs.declared.elf.note.NotePart.{NotePart}
 use Rattle.goblin.specs.declared.elf.note.NotePart.TheVariants.{Header, Name, Desc}
-use Rattle.goblin.specs.Note.{PartRefusal, places_at, whole_places}
 use Rattle.goblin_c.specs.Refused.{RefusalAt, refused_at}
 use Rattle.goblin_c.specs.Expected.{ctx_of}
 use Rattle.goblin_c.specs.declared.kinds.TheConstants.{NOTE_HEADER, NOTE_NAME, NOTE_DESC}

@@ -1,9 +1,8 @@
 -- Laws of the calls for bytes and numbers, for offsets of addresses, and for ranges that are cut to the file, and of
 -- where whole notes are refused.
-use Rattle.std.specs.Prelude.{◌≡◌, ◌≢◌, ◌⊎◌, ◌+◌, ◌-◌, ◌^◌, ◌<◌, ◌≤◌, ℕ, min, List, length, Option, Some, None}
-use Rattle.std.specs.Prelude.{Result, Ok, Err}
-use Rattle.goblin.specs.Note.{PartRefusal}
-use Rattle.goblin_c.specs.Common.{GoblinHeader, GoblinRange, GoblinSection, GoblinSegment}
+use Rattle.std.specs.Prelude.{◌≡◌, ◌≢◌, ◌⊎◌, ◌+◌, ◌-◌, ◌^◌, ◌<◌, ◌≤◌, ℕ, min, List, length, Option, Some, None, Result}
+use Rattle.std.specs.Prelude.{Ok, Err}
+use Rattle.goblin_c.specs.Common.{GoblinHeader, GoblinRange, GoblinSection, GoblinSegment, PartRefusal}
 use Rattle.goblin_c.specs.Expected.{segment_expected}
 use Rattle.goblin_c.specs.Laws.{LiesIn, RefusesAll, bytes_in}
 use Rattle.goblin_c.specs.Places.{address_to_offset_expected, cut_range, number_in_expected}

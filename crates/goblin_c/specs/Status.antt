@@ -1,7 +1,7 @@
 -- What a call for C returns, a number, and what it stores where its caller points.
+use Rattle.goblin_c.specs.Refused.{RefusalAt, refusal_at}
 use Rattle.std.specs.Prelude.{◌≡◌, ◌≤◌, ℕ, List, length, take, drop, map, min, slice_get, Option, Some, None, Result}
 use Rattle.std.specs.Prelude.{Ok, Err, Bool, if◌then◌else◌}
-use Rattle.goblin_c.specs.Refused.{RefusalAt, refusal_at}
 use Rattle.goblin_c.specs.Common.{Refused, OK, END, GoblinRefusal}
 use Rattle.goblin_c.specs.FilledBuffer.{laid}
 use Rattle.goblin_c.specs.Types.{refusal_converted}

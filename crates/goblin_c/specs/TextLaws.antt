@@ -2,16 +2,14 @@
 use Rattle.std.proofs.Common.{◌≡◌, ◌⊎◌, ◌+◌, ℕ, zero, suc, Bool, List, codes, Option, Some, None, Result, Ok, Err, inl}
 use Rattle.std.proofs.Common.{inr, refl, arith}
 use Rattle.std.specs.Bool.{⊤}
-use Rattle.goblin_base.specs.declared.container.Container.TheVariants.{Little, Big}
 use Rattle.goblin_c.specs.Common.{Ctx, DataType, IntegerFit, Layout, Refusal, buffer_too_short, malformed, misplaced}
 use Rattle.goblin_c.specs.Common.{refusal_of, room_of, ◌>>=◌, refuse_as, with_size, range_in, refusal_text}
 use Rattle.goblin_c.specs.Common.{header_layout, header_size, read_header, read_in_order, section_headers_from}
 use Rattle.goblin_c.specs.Common.{section_headers_from_tested, GoblinHeader, GoblinRange, GoblinSection, GoblinSegment}
-use Rattle.goblin_c.specs.Common.{GoblinReloc, GoblinSymbol}
+use Rattle.goblin_c.specs.Common.{GoblinReloc, GoblinSymbol, Little, Big, PartRefusal, places_at, read_places, Misfit}
 use Rattle.goblin_base.specs.declared.container.Endian.{Endian}
 use Rattle.goblin_base.specs.Eager.{records_from, records_in, room_of_each}
 use Rattle.goblin_base.specs.Record.{read_within}
-use Rattle.goblin.specs.Note.{PartRefusal, places_at, read_places}
 use Rattle.goblin_c.specs.Refused.{RefusalAt, refused_at}
 use Rattle.goblin_c.specs.Expected.{ctx_of, header_expected, reloc_count_expected, reloc_expected, relocs_from_expected}
 use Rattle.goblin_c.specs.Expected.{relocs_expected, section_by_name_expected, section_by_type_expected}
@@ -31,7 +29,6 @@ use Rattle.goblin_c.specs.Types.{refusal_converted}
 use Rattle.goblin_c.specs.Write.{Put, header_put_expected, named_ctx, number_in_put_expected, number_put_expected}
 use Rattle.goblin_c.specs.Write.{put_if_there, put_unless, reloc_put_expected, section_put_expected}
 use Rattle.goblin_c.specs.Write.{segment_put_expected, symbol_put_expected}
-use Rattle.goblin_c.specs.declared.misfit.Misfit.{Misfit}
 use Rattle.goblin_c.specs.Texts.{NamesKnown, TextIsSame, converted_text}
 
 pub text_same : TextIsSame

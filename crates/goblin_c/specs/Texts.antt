@@ -1,9 +1,8 @@
 -- The text of a refusal that C has.
-use Rattle.std.specs.Prelude.{◌≡◌, ◌⊎◌, ⊤, ℕ, ◌==◌, not, if◌then◌else◌, List, [], codes, Option, Some, None}
 use Rattle.goblin_base.specs.declared.texts.Kind.{Kind}
-use Rattle.goblin_c.specs.Common.{Refusal, buffer_too_short, Facts, facts_text, kind_with, refusal_text}
-use Rattle.goblin_c.specs.Common.{INVALID_UTF8, SECTION_HEADERS, PROGRAM_HEADERS, GoblinRefusal}
-use Rattle.goblin_base.specs.Refusal.{bad_input}
+use Rattle.std.specs.Prelude.{◌≡◌, ◌⊎◌, ⊤, ℕ, ◌==◌, not, if◌then◌else◌, List, [], codes, Option, Some, None}
+use Rattle.goblin_c.specs.Common.{Refusal, buffer_too_short, Facts, facts_text, kind_with, refusal_text, INVALID_UTF8}
+use Rattle.goblin_c.specs.Common.{SECTION_HEADERS, PROGRAM_HEADERS, GoblinRefusal, bad_input}
 use Rattle.goblin_c.specs.Refused.{RefusalAt}
 use Rattle.goblin_c.specs.Types.{refusal_converted}
 

@@ -1,13 +1,10 @@
 -- The structs that calls share with C, each as it is converted from what the library reads.
 use Rattle.std.specs.Prelude.{ℕ, ◌+◌, if◌then◌else◌, Bool, List, codes, slice_index, pos, unwrap_or, Option}
-use Rattle.std.specs.Option.{is_some}
-use Rattle.std.specs.Str.{bytes_eq}
 use Rattle.goblin_c.specs.Common.{Facts, kind_number, refusal_facts, Header, ProgramHeader, Reloc, SectionHeader, Sym}
 use Rattle.goblin_c.specs.Common.{names_index, INVALID_UTF8, SECTION_HEADERS, PROGRAM_HEADERS, GoblinHeader, GoblinNote}
-use Rattle.goblin_c.specs.Common.{GoblinRefusal, GoblinReloc, GoblinSection, GoblinSegment, GoblinSymbol}
+use Rattle.goblin_c.specs.Common.{GoblinRefusal, GoblinReloc, GoblinSection, GoblinSegment, GoblinSymbol, is_some}
+use Rattle.goblin_c.specs.Common.{bytes_eq, Dyn, GoblinDyn}
 use Rattle.goblin.specs.declared.elf.note.NotePlaces.{NotePlaces}
-use Rattle.goblin_dynamic.specs.declared.entry.Dyn.{Dyn}
-use Rattle.goblin_c.specs.declared.types.GoblinDyn.{GoblinDyn}
 use Rattle.goblin_c.specs.Refused.{RefusalAt}
 
 -- 1 or 0

@@ -1,17 +1,16 @@
 -- Putting records and numbers into the bytes of a file: the bytes after, or the refusal.
-use Rattle.std.specs.Prelude.{◌≡◌, ◌⊎◌, ℕ, ◌+◌, ◌*◌, ◌==◌, ◌<◌, ◌^◌, nat_lt, not, Bool, if◌then◌else◌, List, []}
-use Rattle.std.specs.Prelude.{◌∷◌, ◌++◌, length, take, drop, Option, Some, None, Result, Ok, Err}
-use Rattle.goblin_c.specs.Common.{Ctx, Error, Data, InvalidClass, Layout, refusal_of, room_of, OK, END}
-use Rattle.goblin_c.specs.Common.{◌>>=◌, refuse_as, Header, ProgramHeader, Reloc, SectionHeader, Sym, HeaderFits}
-use Rattle.goblin_c.specs.Common.{class_of, header_layout, header_size, magic, order_of, sym_layout, GoblinHeader}
-use Rattle.goblin_c.specs.Common.{GoblinRange, GoblinRefusal, GoblinReloc, GoblinSection, GoblinSegment, GoblinSymbol}
+use Rattle.std.specs.Prelude.{◌≡◌, ◌⊎◌, ℕ, ◌+◌, ◌*◌, ◌==◌, ◌<◌, ◌^◌, nat_lt, not, Bool, if◌then◌else◌, List, [], ◌∷◌}
+use Rattle.std.specs.Prelude.{◌++◌, length, take, drop, Option, Some, None, Result, Ok, Err}
+use Rattle.goblin_c.specs.Common.{Ctx, Error, Data, InvalidClass, Layout, refusal_of, room_of, OK, END, ◌>>=◌}
+use Rattle.goblin_c.specs.Common.{refuse_as, Header, ProgramHeader, Reloc, SectionHeader, Sym, HeaderFits, class_of}
+use Rattle.goblin_c.specs.Common.{header_layout, header_size, magic, order_of, sym_layout, GoblinHeader, GoblinRange}
+use Rattle.goblin_c.specs.Common.{GoblinRefusal, GoblinReloc, GoblinSection, GoblinSegment, GoblinSymbol, word_size}
+use Rattle.goblin_c.specs.Common.{Little, Big, Misfit}
 use Rattle.goblin_base.specs.declared.error.Error.TheVariants.{Scroll}
 use Rattle.goblin_base.specs.Fields.{Field}
-use Rattle.goblin_base.specs.Layout.{word_size}
 use Rattle.goblin_base.specs.Place.{with_number}
 use Rattle.goblin_base.specs.Signed.{complement}
 use Rattle.goblin_base.specs.declared.container.Container.{Container}
-use Rattle.goblin_base.specs.declared.container.Container.TheVariants.{Little, Big}
 use Rattle.goblin.specs.declared.elf.reloc.RelocCtx.{RelocCtx}
 use Rattle.goblin.specs.Header.{header32, header64, as32 as header_as32, as64 as header_as64}
 use Rattle.goblin.specs.ProgramHeader.{program_header_layout, program_header32, program_header64}
@@ -27,7 +26,6 @@ use Rattle.goblin_c.specs.Expected.{symbol_expected}
 use Rattle.goblin_c.specs.Places.{number_in_expected}
 use Rattle.goblin_c.specs.Refused.{RefusalAt, refused_at}
 use Rattle.goblin_c.specs.Types.{refusal_converted, reloc_converted}
-use Rattle.goblin_c.specs.declared.misfit.Misfit.{Misfit}
 
 -- ---- one record
 -- the bytes after others were written over them at an offset

@@ -1,7 +1,5 @@
 -- Laws of the calls that put: what is put is read again, what was read is put without a change, no other byte changes,
 -- and what doesn't fit is refused.
-use Rattle.std.specs.Prelude.{◌≡◌, ◌+◌, ◌*◌, ℕ, Bool, List, length, take, drop, Option, Some, None, Ok, Err}
-use Rattle.goblin_base.specs.Number.{IsBytes}
 use Rattle.goblin_c.specs.Expected.{reloc_count_expected, reloc_expected, section_count_expected, section_expected}
 use Rattle.goblin_c.specs.Expected.{segment_count_expected, segment_expected, symbol_count_expected, symbol_expected}
 use Rattle.goblin_c.specs.Expected.{header_expected}
@@ -11,8 +9,9 @@ use Rattle.goblin_c.specs.Write.{FitsClass, NumberFits, Put, header_put_expected
 use Rattle.goblin_c.specs.Write.{number_put_expected, RelocFits, SectionFits, SegmentFits, SymbolFits, reloc_layout}
 use Rattle.goblin_c.specs.Write.{reloc_put_expected, section_layout, section_put_expected, segment_layout}
 use Rattle.goblin_c.specs.Write.{segment_put_expected, symbol_layout, symbol_put_expected}
-use Rattle.goblin_c.specs.declared.misfit.Misfit.{Misfit}
+use Rattle.std.specs.Prelude.{◌≡◌, ◌+◌, ◌*◌, ℕ, Bool, List, length, take, drop, Option, Some, None, Ok, Err}
 use Rattle.goblin_c.specs.Common.{GoblinHeader, GoblinRange, GoblinReloc, GoblinSection, GoblinSegment, GoblinSymbol}
+use Rattle.goblin_c.specs.Common.{IsBytes, Misfit}
 
 -- a record that fits and was put is stored by the call that reads it, if the list has as many items as before
 pub record PutsAreRead : Type 0 where

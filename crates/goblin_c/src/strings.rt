@@ -1,7 +1,6 @@
 //! Strings: where they lie in the file, and what they are.
-ghost use Rattle.std.specs.Prelude.{◌≡◌, ◌+◌, ◌≤◌, if◌then◌else◌, Ok, IfOk, IfSome, IsErr, IsErrAnd, MatchOption};
-ghost use Rattle.std.specs.Prelude.{drop, length, map, take};
-ghost use Rattle.goblin_base.specs.Wanted.{is_piece, starts_piece};
+ghost use Rattle.std.specs.Prelude.{◌≡◌, ◌+◌, ◌≤◌, if◌then◌else◌, Ok, IfOk, IfSome, IsErr, IsErrAnd, MatchOption, drop, length, map, take};
+ghost use Rattle.goblin_c.specs.Common.{is_piece, starts_piece};
 ghost use Rattle.goblin_c.specs.Bytes.{IsCString, string_bytes_expected, string_closed_expected};
 ghost use Rattle.goblin_c.specs.Refused.{Returns};
 ghost use Rattle.goblin_c.specs.Expected.{string_expected, string_is_expected, string_starts_expected, strings_expected};

@@ -1,7 +1,7 @@
 //! The structs that calls share with C, as `goblin.h` declares them. Each field is a number. Beside each struct stand
 //! its conversion from what the library reads, and the one from C.
 ghost use Rattle.std.specs.Prelude.{◌≡◌, ◌+◌, ◌<◌, ◌≤◌, ◌^◌, length};
-ghost use Rattle.std.specs.Option.{option_map};
+ghost use Rattle.goblin_c.specs.Common.{option_map};
 ghost use Rattle.goblin_c.specs.Write.{header_of, reloc_of, section_of, segment_of, symbol_of};
 ghost use Rattle.goblin_c.specs.Refused.{refusal_at};
 ghost use Rattle.goblin_c.specs.Types.{header_converted, item_number, names_index_of, dyn_converted, note_converted, refusal_converted, reloc_converted, section_converted, segment_converted, symbol_converted};

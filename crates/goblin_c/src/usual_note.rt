@@ -1,8 +1,8 @@
 //! Notes of little-endian files whose names are short and ASCII, as most are. They are read at once, without the steps
 //! that prepare a refusal.
 ghost use Rattle.std.specs.Prelude.{◌⊎◌, ◌≡◌, ◌≤◌, ◌<◌, Ok, Some, IfSome, IsTrue, drop, false, length};
+ghost use Rattle.goblin_c.specs.Common.{read_places};
 ghost use Rattle.std.specs.Str.{IsAscii};
-ghost use Rattle.goblin.specs.Note.{read_places};
 ghost use Rattle.goblin.specs.Notes.{LieWithin};
 ghost use Rattle.goblin_c.specs.Notes.{note_expected};
 ghost use Rattle.goblin_base.specs.declared.container.Endian.TheVariants as endian;

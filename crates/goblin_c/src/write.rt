@@ -1,9 +1,9 @@
 //! Records and numbers that are put into the bytes of a file. A record is put where the call that reads it finds one,
 //! if it fits. Then its bytes change, and no other.
 ghost use Rattle.std.specs.Prelude.{◌≡◌, ◌↔◌, ◌≤◌, ◌<◌, ◌+◌, ◌*◌, ◌^◌, IsTrue, IfOk, Ok, Some, length};
+ghost use Rattle.goblin_c.specs.Common.{header_size, order_named};
 ghost use Rattle.goblin.specs.Steps.{refuse_as};
 ghost use Rattle.goblin_base.specs.Place.{with_number};
-ghost use Rattle.goblin.specs.Header.{header_size, order_named};
 ghost use Rattle.goblin_c.specs.Bytes.{is_width};
 ghost use Rattle.goblin_c.specs.Expected.{ctx_of};
 ghost use Rattle.goblin_c.specs.Refused.{refusal_at};

@@ -1,12 +1,14 @@
 -- What the definitions of this crate cite most, passed on from one place. Declares nothing.
-pub use Rattle.goblin_base.specs.Common.{Field, FieldsFit, IsBytes, IsRecord, IsSameInEachClass, Layout, Refusal, Shape}
-pub use Rattle.goblin_base.specs.Common.{buffer_too_short, field, lows_of, name_in, number_at, or_refuse, refuse_as}
-pub use Rattle.goblin_base.specs.Common.{refuse_if, shaped, total, values_at, values_of, widened, widths_of, with_size}
-pub use Rattle.goblin_base.specs.Common.{◌>>=◌}
+pub use Rattle.goblin_base.specs.Common.{ComparesAndClones, Field, FieldsFit, Gives, HasPlaces, IsBytes, IsRecord}
+pub use Rattle.goblin_base.specs.Common.{IsSameInEachClass, Layout, Refusal, Refuses, Returns, Shape, buffer_too_short}
+pub use Rattle.goblin_base.specs.Common.{field, low_bits, lows_of, name_in, number_at, or_refuse, records, records_in}
+pub use Rattle.goblin_base.specs.Common.{refuse_as, refuse_if, room_of_each, shaped, total, values_at, values_of}
+pub use Rattle.goblin_base.specs.Common.{widened, widths_of, with_size, ◌>>=◌}
 unfoldable pub use Rattle.goblin_base.specs.Common.{Writes, image_of_fields, records_from, records_in, room_of}
 pub use Rattle.goblin_base.specs.Eager.{whole_of}
 pub use Rattle.goblin_base.specs.Record.{unless_fault}
 pub use Rattle.goblin_base.specs.Refusal.{misplaced, refusal_of}
+pub use Rattle.goblin_base.specs.Room.{span}
 pub use Rattle.goblin_base.specs.declared.container.Container.{Container}
 pub use Rattle.goblin_base.specs.declared.container.Container.TheVariants.{Big, Little}
 pub use Rattle.goblin_base.specs.declared.container.Ctx.{Ctx}
@@ -19,3 +21,5 @@ pub use Rattle.goblin_base.specs.declared.error.Fault.TheVariants.{InvalidEndian
 pub use Rattle.goblin_headers.specs.declared.header.Header.{Header}
 pub use Rattle.goblin_headers.specs.declared.program_header.ProgramHeader.{ProgramHeader}
 pub use Rattle.goblin_headers.specs.declared.section_header.SectionHeader.{SectionHeader}
+pub use Rattle.std.specs.Int.{IsBitSet}
+pub use Rattle.std.specs.Prelude.{None, Ok, Option, Result, Some, slice_index, take, ◌<◌, ◌^◌}

@@ -1,7 +1,7 @@
 //! The constants of a file's header and their names: System V gABI, "ELF Header" and "ELF
 //! Identification", with the machine numbers that were assigned later.
 ghost use Rattle.std.specs.Prelude.{◌≡◌};
-ghost use Rattle.goblin_base.specs.Common.{name_in};
+ghost use Rattle.goblin_headers.specs.Common.{name_in};
 ghost use Rattle.goblin_headers.specs.HeaderNames.{class_name, file_type_name};
 ghost use Rattle.goblin_headers.specs.Machines.{machine_name, machine_names_from_121, machine_names_from_200, machine_names_from_63, unknown_machine};
 

@@ -1,7 +1,6 @@
 //! The header of an ELF file: System V gABI, "ELF Header" and "ELF Identification".
 ghost use Rattle.std.specs.Prelude.{◌≡◌, ◌≤◌, ◌++◌, length, drop, [], ◌∷◌, ℕ, List, take, ◌%◌, ◌^◌, map};
-ghost use Rattle.goblin_base.specs.declared.container.Endian.{Endian};
-ghost use Rattle.goblin_base.specs.Common.{ComparesAndClones, HasPlaces};
+ghost use Rattle.goblin_headers.specs.Common.{Endian, ComparesAndClones, HasPlaces};
 ghost use Rattle.goblin_base.specs.declared.container.Container.TheVariants as class;
 ghost use Rattle.goblin_headers.specs.Constants.{class_numbers, data_numbers, file_type_numbers, ident_place_numbers, ident_size_numbers, system_numbers, unnamed_machine_numbers};
 ghost use Rattle.goblin_headers.specs.Header.{header_layout, header_size, magic, order_named};

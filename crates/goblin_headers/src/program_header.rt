@@ -1,15 +1,12 @@
 //! Program headers, which describe how a file is loaded: System V gABI, "Program Header".
-ghost use Rattle.std.specs.Int.{IsBitSet};
-ghost use Rattle.std.specs.Int.Bits.{bit_or};
 ghost use Rattle.std.specs.Prelude.{◌≡◌, ◌↔◌, IsTrue, IfErr, IsOk, find, replicate, [], ◌∷◌, ◌%◌, ◌^◌, map};
-ghost use Rattle.goblin_base.specs.declared.container.Endian.{Endian};
-ghost use Rattle.goblin_base.specs.Common.{ComparesAndClones, Gives, HasPlaces, IsSameInEachClass, Refuses, Returns, values_of};
+ghost use Rattle.goblin_headers.specs.Common.{IsBitSet, Endian, ComparesAndClones, Gives, HasPlaces, IsSameInEachClass, Refuses, Returns, values_of, span};
+ghost use Rattle.std.specs.Int.Bits.{bit_or};
 ghost use Rattle.goblin_base.specs.declared.container.Container.TheVariants as class;
 ghost use Rattle.goblin_headers.specs.Constants.{segment_flag_numbers, segment_type_numbers};
 ghost use Rattle.goblin_headers.specs.SegmentNames.{segment_name};
 ghost use Rattle.goblin_headers.specs.ProgramHeader.{as64, program_header64, program_header_layout, program_header_size};
 ghost use Rattle.goblin_headers.specs.ProgramHeaders.{loaded_from, loads, new_program_header, program_headers_from, program_headers_tested};
-ghost use Rattle.goblin_base.specs.Room.{span};
 
 pub use crate::{program_header32, program_header64};
 use goblin_base::container::{Container, Ctx, Endian};

@@ -1,6 +1,6 @@
 //! Program headers of the 64-bit class: System V gABI, "Program Header" (`Elf64_Phdr`).
 ghost use Rattle.std.specs.Prelude.{◌≡◌, ◌≤◌, ◌*◌, length, IfErr, IfOk, IsOk, alloc_error, replicate, [], ◌∷◌};
-ghost use Rattle.goblin_base.specs.Common.{ComparesAndClones, records_in, room_of_each, values_of, shaped, Gives, records};
+ghost use Rattle.goblin_headers.specs.Common.{ComparesAndClones, records_in, room_of_each, values_of, shaped, Gives, records};
 ghost use Rattle.goblin_headers.specs.Constants.{segment_flag_numbers, segment_type_numbers};
 ghost use Rattle.goblin_headers.specs.SegmentNames.{segment_name};
 ghost use Rattle.goblin_headers.specs.ProgramHeader.{program_header64, widened64, as64};

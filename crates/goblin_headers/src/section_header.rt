@@ -1,11 +1,8 @@
 //! Section headers, which describe what a file holds: System V gABI, "Section Header".
-ghost use Rattle.std.specs.Int.{IsBitSet};
 ghost use Rattle.std.specs.Prelude.{◌≡◌, ◌↔◌, IsTrue, IfErr, IsNone, IsOk, IfOk, IfSome, map, replicate, vec_capacity, [], ◌∷◌, ◌%◌, ◌^◌, ◌+◌, ◌<◌, ◌≤◌, ◌⊎◌, ℕ};
-ghost use Rattle.goblin_base.specs.declared.container.Endian.{Endian};
-ghost use Rattle.goblin_base.specs.Common.{ComparesAndClones, Gives, HasPlaces, IsSameInEachClass, Refuses, Returns, values_of};
+ghost use Rattle.goblin_headers.specs.Common.{IsBitSet, Endian, ComparesAndClones, Gives, HasPlaces, IsSameInEachClass, Refuses, Returns, values_of, span};
 ghost use Rattle.goblin_base.specs.declared.container.Container.TheVariants as class;
 ghost use Rattle.goblin_headers.specs.Constants.{section_flag_numbers, section_index_numbers, section_type_numbers};
-ghost use Rattle.goblin_base.specs.Room.{span};
 ghost use Rattle.goblin_headers.specs.SectionHeader.{as64, section_header64, section_header_layout, section_header_size};
 ghost use Rattle.goblin_headers.specs.SectionHeaders.{new_section_header, count_from, section_headers_from, section_headers_from_tested, section_headers_of, section_headers_of_tested, size_checked, size_checked_in};
 ghost use Rattle.goblin_headers.specs.SectionNames.{section_flag_name, section_flag_names, section_name};

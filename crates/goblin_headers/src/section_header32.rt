@@ -1,6 +1,6 @@
 //! Section headers of the 32-bit class: System V gABI, "Section Header" (`Elf32_Shdr`).
 ghost use Rattle.std.specs.Prelude.{◌≡◌, ◌≤◌, ◌*◌, length, map, IfErr, IfOk, IsOk, alloc_error, replicate, [], ◌∷◌};
-ghost use Rattle.goblin_base.specs.Common.{ComparesAndClones, values_of, low_bits, shaped, records};
+ghost use Rattle.goblin_headers.specs.Common.{ComparesAndClones, values_of, low_bits, shaped, records};
 ghost use Rattle.goblin_headers.specs.Constants.{section_flag_numbers, section_index_numbers, section_type_numbers};
 ghost use Rattle.goblin_headers.specs.SectionHeader.{section_header32, widened32, as32};
 ghost use Rattle.goblin_headers.specs.SectionNames.{section_flag_name, section_flag_names, section_name};

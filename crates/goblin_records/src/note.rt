@@ -1,6 +1,6 @@
 //! Note headers of both classes, and the types of notes: System V gABI, "Note Section".
 ghost use Rattle.std.specs.Prelude.{◌≡◌, [], ◌∷◌};
-ghost use Rattle.goblin_base.specs.Common.{Clones, HasPlaces, shaped};
+ghost use Rattle.goblin_records.specs.Common.{Clones, HasPlaces, shaped};
 ghost use Rattle.goblin_records.specs.Nhdr.{nhdr32, nhdr64};
 ghost use Rattle.goblin_records.specs.NhdrLaws.{nhdr32_laws, nhdr64_laws};
 

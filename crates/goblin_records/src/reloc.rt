@@ -1,9 +1,7 @@
 //! Relocations of either class, with an addend or without: System V gABI, "Relocation".
 ghost use Rattle.std.specs.Prelude.{◌≡◌, ◌≤◌, ◌/◌, ◌%◌, ◌^◌, Bool, List, ℕ, Some, None, false, true, length};
-ghost use Rattle.goblin_base.specs.Common.{ComparesAndClones, HasPlaces, Writes};
-ghost use Rattle.goblin_base.specs.Layout.{word_size};
+ghost use Rattle.goblin_records.specs.Common.{ComparesAndClones, HasPlaces, Writes, signed_of, word_size};
 ghost use Rattle.goblin_base.specs.Number.{number, spelled};
-ghost use Rattle.goblin_base.specs.Signed.{signed_of};
 ghost use Rattle.goblin_base.specs.declared.container.Container.TheVariants as class;
 ghost use Rattle.goblin_base.specs.declared.container.Ctx.{Ctx};
 ghost use Rattle.goblin_base.specs.declared.container.Endian.TheVariants as order;

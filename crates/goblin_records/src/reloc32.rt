@@ -1,7 +1,6 @@
 //! Relocations of the 32-bit class: System V gABI, "Relocation" (`Elf32_Rel` and `Elf32_Rela`).
 ghost use Rattle.std.specs.Prelude.{◌≡◌, ◌+◌, ◌*◌, ◌%◌, ◌^◌, ℕ};
-ghost use Rattle.goblin_base.specs.Common.{ComparesAndClones, HasPlaces, low_bits, shaped, zero};
-ghost use Rattle.goblin_base.specs.Signed.{signed_of};
+ghost use Rattle.goblin_records.specs.Common.{ComparesAndClones, HasPlaces, low_bits, shaped, zero, signed_of};
 ghost use Rattle.goblin_base.specs.declared.container.Container.TheVariants as class;
 ghost use Rattle.goblin_records.specs.Reloc.{rel32, rela32, rela32_layout, rela32_low, rela_widened32, rel_widened32, rela_as32, rel_as32};
 ghost use Rattle.goblin_records.specs.RelocInfo.{symbol_in, type_in, info_of, JoinsItsParts};

@@ -1,7 +1,6 @@
 //! Relocations of the 64-bit class: System V gABI, "Relocation" (`Elf64_Rel` and `Elf64_Rela`).
 ghost use Rattle.std.specs.Prelude.{◌≡◌, ◌<◌, ◌+◌, ◌*◌, ◌%◌, ◌^◌, ℕ};
-ghost use Rattle.goblin_base.specs.Common.{ComparesAndClones, HasPlaces, low_bits, shaped, zero};
-ghost use Rattle.goblin_base.specs.Signed.{signed_of};
+ghost use Rattle.goblin_records.specs.Common.{ComparesAndClones, HasPlaces, low_bits, shaped, zero, signed_of};
 ghost use Rattle.goblin_base.specs.declared.container.Container.TheVariants as class;
 ghost use Rattle.goblin_records.specs.Reloc.{rel64, rela64, rela64_layout, rela64_low, rela_widened64, rel_widened64, rela_as64, rel_as64};
 ghost use Rattle.goblin_records.specs.RelocInfo.{symbol_in, type_in, info_of, JoinsItsParts, mips64el_info, mips64el_info_inverse, Mips64elInverse, Mips64elOneToOne, Mips64elFourTimes};

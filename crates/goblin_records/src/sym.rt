@@ -1,7 +1,6 @@
 //! Symbols of either class: System V gABI, "Symbol Table".
 ghost use Rattle.std.specs.Prelude.{◌≡◌, ◌<◌, ◌/◌, ◌↔◌, IsTrue, length, codes, IsOk, [], ◌∷◌, ◌%◌, ◌^◌, ℕ};
-ghost use Rattle.goblin_base.specs.declared.container.Endian.{Endian};
-ghost use Rattle.goblin_base.specs.Common.{ComparesAndClones, HasPlaces, IsSameInEachClass, buffer_too_short, Gives, Refuses};
+ghost use Rattle.goblin_records.specs.Common.{Endian, ComparesAndClones, HasPlaces, IsSameInEachClass, buffer_too_short, Gives, Refuses};
 ghost use Rattle.goblin_base.specs.declared.container.Container.TheVariants as class;
 ghost use Rattle.goblin_records.specs.Constants.{bind_numbers, type_numbers, visibility_numbers};
 ghost use Rattle.goblin_records.specs.Sym.{is_in_section, sym_layout, sym_size, sym_zero, symbols_from};

@@ -1,6 +1,6 @@
 //! Symbols of the 32-bit class: System V gABI, "Symbol Table" (`Elf32_Sym`).
 ghost use Rattle.std.specs.Prelude.{◌≡◌, ◌↔◌, IsTrue, [], ◌∷◌};
-ghost use Rattle.goblin_base.specs.Common.{ComparesAndClones, HasPlaces, low_bits, shaped, zero};
+ghost use Rattle.goblin_records.specs.Common.{ComparesAndClones, HasPlaces, low_bits, shaped, zero};
 ghost use Rattle.goblin_records.specs.Constants.{bind_numbers, type_numbers, visibility_numbers};
 ghost use Rattle.goblin_records.specs.Sym.{sym32, widened32, as32};
 ghost use Rattle.goblin_records.specs.SymParts.{bind_name, bind_of, type_name, type_of, visibility_name, visibility_of, IsGlobalImport, IsImport};

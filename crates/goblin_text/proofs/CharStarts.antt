@@ -9,18 +9,17 @@
 --
 -- In bytes that are not UTF-8 more than three may go on. Then the edge is p + 3, and no UTF-8 contains the four bytes
 -- from p on.
-use Rattle.goblin_text.proofs.Common.{◌≡◌, ◌∙◌, ℕ, ◌+◌, ◌-◌, ◌<◌, ◌≤◌, true, List}
-use Rattle.goblin_text.proofs.Common.{[], ◌∷◌, ◌++◌, length, get_or, take, drop, refl, sym, ap, subst, ⊎_elim, arith}
-use Rattle.goblin_text.proofs.Common.{length-append, slice_range, take-append_seam, drop-append_seam, cases_lt}
-use Rattle.goblin_text.proofs.Common.{nat_tests, take-take, IsCharBoundary-start, IsUtf8-drop, IsUtf8-take, IsUtf8}
-use Rattle.goblin_text.proofs.Common.{IsCharBoundary, LacksText, char_start, after_continuation, up_to_zero}
+use Rattle.goblin_text.proofs.Common.{◌≡◌, ◌∙◌, ℕ, ◌+◌, ◌-◌, ◌<◌, ◌≤◌, true, List, [], ◌∷◌, ◌++◌, length, get_or, take}
+use Rattle.goblin_text.proofs.Common.{drop, refl, sym, ap, subst, ⊎_elim, arith, length-append, slice_range}
+use Rattle.goblin_text.proofs.Common.{take-append_seam, drop-append_seam, cases_lt, nat_tests, take-take}
+use Rattle.goblin_text.proofs.Common.{IsCharBoundary-start, IsUtf8-drop, IsUtf8-take, IsUtf8, IsCharBoundary, LacksText}
+use Rattle.goblin_text.proofs.Common.{char_start, after_continuation, up_to_zero, IsCharBoundary-at_seam}
+use Rattle.goblin_text.proofs.Common.{IsCharBoundary-from_rest, len_utf8_bounds, length-encode, encode, length_of_range}
+use Rattle.goblin_text.proofs.Common.{get_in_range, ranges-join}
 use Rattle.std.proofs.lemmas.Bool.{and_parts}
-use Rattle.std.proofs.lemmas.Str.{IsCharBoundary-at_seam, IsCharBoundary-from_rest, len_utf8_bounds, length-encode}
-use lib.Utf8.{encode, encodes, scalar, scalars}
+use lib.Utf8.{encodes, scalar, scalars}
 use Rattle.goblin_text.proofs.ByteRanges.{rest_of_range}
 use Rattle.goblin_text.proofs.Strings.{get_up, goes_on, no_zero_whole, stops, whole, whole_no_zero}
-use Rattle.goblin_base.proofs.FirstLemmas.{length_of_range, get_in_range}
-use Rattle.goblin.specs.TextLaws.{ranges-join}
 
 -- a byte that goes on with a character
 abbrev IsContinuation : ℕ → Type 0

@@ -6,14 +6,12 @@ use Rattle.goblin_text.proofs.Common.{drop-take, drop_more, get_or-take, length-
 use Rattle.goblin_text.proofs.Common.{IsCharBoundary-start, IsUtf8-drop, IsUtf8-from_is_utf8, IsUtf8-take}
 use Rattle.goblin_text.proofs.Common.{is_utf8-from_IsUtf8, IsCharBoundary, IsUtf8, IsValidUpTo, Refusal, ◌>>=◌}
 use Rattle.goblin_text.proofs.Common.{StringTable, table_of, walked, texts-join, invalid_utf8, Strict, text_table, lit<}
+use Rattle.goblin_text.proofs.Common.{IsCharBoundary-after_ascii, encode, first_bad, piece, piece_start, table_of-text}
 use Rattle.std.proofs.lemmas.Bool.{and_left, eqb-true, lt-ltb, ne_eqb}
-use Rattle.std.proofs.lemmas.Str.{IsCharBoundary-after_ascii}
-use lib.Utf8.{encode}
-use Rattle.goblin.specs.Pieces.{entries, first_bad, is_bad_start, is_readable, piece, piece_end, piece_start}
+use Rattle.goblin.specs.Pieces.{entries, is_bad_start, is_readable, piece_end}
 use Rattle.goblin_base.proofs.PiecesLemmas.{at_end, delim_before, end_before, end_from, piece_is_range, start_after}
 use Rattle.goblin_base.proofs.PiecesLemmas.{start_of_front, start_of_start, start_to}
 use Rattle.goblin_base.proofs.WalkLemmas.{bad_start_from, first_bad_is, no_bad_start_readable}
-use Rattle.goblin.specs.TextLaws.{table_of-text}
 
 module _ (bytes : List ℕ) where
   zero_at_end : (o : ℕ)

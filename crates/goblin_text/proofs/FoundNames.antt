@@ -1,12 +1,10 @@
 -- The names that look-ups find.
-use Rattle.goblin_text.proofs.Common.{◌≡◌, ◌∙◌, ℕ, ◌+◌, ◌-◌, ◌<◌, ◌≤◌, if◌then◌else◌, List, []}
-use Rattle.goblin_text.proofs.Common.{length, drop, refl, sym, ap, arith, nat_tests, slice_range, get_or, lit<}
-use Rattle.goblin_text.proofs.Common.{false_from_ne_true, IsUtf8-from_is_utf8, is_utf8-from_IsUtf8, IsUtf8, is_utf8}
-use Rattle.goblin_text.proofs.Common.{text_table, LacksText, after_continuation, up_to_zero, name_at}
-use Rattle.goblin.specs.Pieces.{piece}
-use Rattle.goblin.specs.TextLaws.{name-later, name-past, names_are_plain}
+use Rattle.goblin_text.proofs.Common.{◌≡◌, ◌∙◌, ℕ, ◌+◌, ◌-◌, ◌<◌, ◌≤◌, if◌then◌else◌, List, [], length, drop, refl, sym}
+use Rattle.goblin_text.proofs.Common.{ap, arith, nat_tests, slice_range, get_or, lit<, false_from_ne_true}
+use Rattle.goblin_text.proofs.Common.{IsUtf8-from_is_utf8, is_utf8-from_IsUtf8, IsUtf8, is_utf8, text_table, LacksText}
+use Rattle.goblin_text.proofs.Common.{after_continuation, up_to_zero, name_at, piece, name-later, name-past}
+use Rattle.goblin_text.proofs.Common.{names_are_plain, length_of_range, get_in_range}
 use Rattle.goblin_text.proofs.ByteRanges.{rest_of_range}
-use Rattle.goblin_base.proofs.FirstLemmas.{length_of_range, get_in_range}
 
 pub name_past_end : (bytes : List ℕ) (o : ℕ) → length bytes ≤ o → [] ≡ name_at (text_table bytes) o
 name_past_end bytes o l = sym (name-past bytes 0 o l)

@@ -2,11 +2,10 @@
 use Rattle.goblin_text.proofs.Common.{◌≡◌, ◌∙◌, ℕ, zero, suc, ◌+◌, ◌-◌, ◌*◌, ◌≤◌, List, ◌++◌, length, take, sym, ap}
 use Rattle.goblin_text.proofs.Common.{subst, arith, length-append, slice_range, take-append_seam, drop-append_seam}
 use Rattle.goblin_text.proofs.Common.{IsUtf8-drop, IsUtf8, texts-join, Kind, Text, ZeroFree, BLOCK, IsBlock, IsOfKind}
-use Rattle.goblin_text.proofs.Common.{IsZeroFree, IsRun, LacksText, block_start, up_to_zero}
-use Rattle.std.proofs.lemmas.Str.{IsCharBoundary-from_take, IsUtf8-append}
+use Rattle.goblin_text.proofs.Common.{IsZeroFree, IsRun, LacksText, block_start, up_to_zero, IsCharBoundary-from_take}
+use Rattle.goblin_text.proofs.Common.{IsUtf8-append, ranges-join}
 use Rattle.goblin_text.proofs.CharStarts.{char_start_bounds}
 use Rattle.goblin_text.proofs.Strings.{goes_on}
-use Rattle.goblin.specs.TextLaws.{ranges-join}
 
 -- what follows a text in a text is text
 rest_is_text : (a b : List ℕ) → IsUtf8 a → IsUtf8 (a ++ b) → IsUtf8 b

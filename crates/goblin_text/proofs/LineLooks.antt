@@ -1,9 +1,8 @@
 -- The looks that names in a text take: those of its lines, and what is left of them.
-use Rattle.goblin_text.proofs.Common.{◌≡◌, ◌∙◌, ℕ, ◌+◌, ◌*◌, ◌≤◌, List, [], ◌∷◌, ◌++◌, ap}
-use Rattle.std.proofs.Common.{◌==◌, filter, refl}
-use Rattle.goblin_text.proofs.Common.{arith, nat_tests, length, length-append, subst, sym, length-map, CountsAtLeast}
-use Rattle.goblin_text.proofs.Common.{StringTable, vec_items, Header, SectionHeader, parts_text, relocs_text}
-use Rattle.goblin_text.proofs.Common.{symbols_text, strings_in, name_at, section_lines}
+use Rattle.goblin_text.proofs.Common.{◌≡◌, ◌∙◌, ℕ, ◌+◌, ◌*◌, ◌≤◌, List, [], ◌∷◌, ◌++◌, ap, arith, nat_tests, length}
+use Rattle.goblin_text.proofs.Common.{length-append, subst, sym, length-map, CountsAtLeast, StringTable, vec_items}
+use Rattle.goblin_text.proofs.Common.{Header, SectionHeader, parts_text, relocs_text, symbols_text, strings_in, name_at}
+use Rattle.goblin_text.proofs.Common.{section_lines, ◌==◌, filter, refl}
 use Rattle.goblin.specs.Texts.{◌&◌}
 use Rattle.goblin_text.specs.declared.accept.Parts.{Parts}
 use Rattle.goblin_text.specs.declared.accept.SymbolPart.{SymbolPart}

@@ -1,12 +1,10 @@
 -- Strings: the bytes before the first zero byte.
-use Rattle.goblin_text.proofs.Common.{◌≡◌, ◌≢◌, ◌∙◌, ℕ, ◌+◌, ◌-◌, ◌<◌, ◌≤◌, ◌==◌, Bool, not, List}
-use Rattle.goblin_text.proofs.Common.{◌++◌, length, get_or, take, drop, sym, ap, ⊎_elim, arith, slice_range}
-use Rattle.goblin_text.proofs.Common.{take-append-add, cases_lt, nat_tests, get_or-take, length-take}
-use Rattle.goblin_text.proofs.Common.{length-take-le, take-append-le, take-take, take_all, position_or_len, up_to_zero}
+use Rattle.goblin_text.proofs.Common.{◌≡◌, ◌≢◌, ◌∙◌, ℕ, ◌+◌, ◌-◌, ◌<◌, ◌≤◌, ◌==◌, Bool, not, List, ◌++◌, length, get_or}
+use Rattle.goblin_text.proofs.Common.{take, drop, sym, ap, ⊎_elim, arith, slice_range, take-append-add, cases_lt}
+use Rattle.goblin_text.proofs.Common.{nat_tests, get_or-take, length-take, length-take-le, take-append-le, take-take}
+use Rattle.goblin_text.proofs.Common.{take_all, position_or_len, up_to_zero, length_of_range, get_in_range, ranges-join}
 use Rattle.std.proofs.lemmas.List.Folds.{prefix_len-append}
 use Rattle.std.proofs.lemmas.List.Sums.{fails_before_first, passes_at_first, prefix_len-le-length}
-use Rattle.goblin_base.proofs.FirstLemmas.{length_of_range, get_in_range}
-use Rattle.goblin.specs.TextLaws.{ranges-join}
 
 abbrev no_zero : ℕ → Bool
 no_zero b = not (b == 0)

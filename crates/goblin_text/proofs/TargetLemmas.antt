@@ -1,10 +1,8 @@
 -- What of a text was put into a target, and what is left of it.
-use Rattle.goblin_text.proofs.Common.{◌≡◌, ◌∙◌, ◌++◌, ◌∷◌, ℕ, List, [], Option, ap, append_assoc}
-use Rattle.goblin_text.proofs.Common.{get_or, set, append-nil, arith, length, min, refl, sym, take}
-use Rattle.goblin_text.proofs.Common.{Appends-trans, append_known-grown, append_known-moved, take_all}
-use Rattle.goblin_text.proofs.Common.{Appends, Keeps, append_known, State, held}
-use Rattle.goblin_text.specs.TargetState.{Stops}
-use Rattle.goblin_base.proofs.PartsLemmas.{parts_text_more}
+use Rattle.goblin_text.proofs.Common.{◌≡◌, ◌∙◌, ◌++◌, ◌∷◌, ℕ, List, [], Option, ap, append_assoc, get_or, set}
+use Rattle.goblin_text.proofs.Common.{append-nil, arith, length, min, refl, sym, take, Appends-trans}
+use Rattle.goblin_text.proofs.Common.{append_known-grown, append_known-moved, take_all, Appends, Keeps, append_known}
+use Rattle.goblin_text.proofs.Common.{State, held, Stops, parts_text_more}
 
 -- of a text the lines so far were put, and the rest is left
 pub record PutSoFar (old new : State) (all rest : List ℕ) : Type 0 where

@@ -1,12 +1,11 @@
 -- The looks at a file for its names: the view of what reads them, and how many looks it may take.
 use Rattle.std.specs.Prelude.{◌≡◌, ℕ, ◌+◌, ◌*◌, ◌≤◌, ◌==◌, if◌then◌else◌, List, [], ◌∷◌, length, Result, Ok, Err}
 use Rattle.std.specs.Prelude.{unwrap_or}
-use Rattle.goblin_text.specs.Common.{ParseMode, read_header, refusal_of, ◌>>=◌, refuse_as, BLOCK}
+use Rattle.goblin_text.specs.Common.{ParseMode, read_header, refusal_of, ◌>>=◌, refuse_as, BLOCK, ctx_of}
 use Rattle.std.specs.Result.{result_ok}
 use Rattle.goblin_base.specs.Entries.{CountsAtLeast}
 use Rattle.goblin_text.specs.RunOutcome.{input_limit}
 use Rattle.goblin_text.specs.Shown.{sections_of, shown}
-use Rattle.goblin.specs.Header.{ctx_of}
 
 -- the bytes of a file, how many looks at them were taken, how many more the blocks may take that weren't read yet, and
 -- where the range stands that was last found to be text

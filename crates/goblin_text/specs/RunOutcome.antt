@@ -1,6 +1,6 @@
 -- How a run ends: what it reads and writes.
-use Rattle.std.specs.Prelude.{◌≡◌, ◌≢◌, ℕ, ◌+◌, ◌-◌, ◌^◌, ◌<◌, ◌≤◌, ◌⊎◌, min, IfErr, IsTrue, List, length}
-use Rattle.std.specs.Prelude.{Option, Ok, Err, codes, decimal, vec_items}
+use Rattle.std.specs.Prelude.{◌≡◌, ◌≢◌, ℕ, ◌+◌, ◌-◌, ◌^◌, ◌<◌, ◌≤◌, ◌⊎◌, min, IfErr, IsTrue, List, length, Option, Ok}
+use Rattle.std.specs.Prelude.{Err, codes, decimal, vec_items}
 use Rattle.goblin_text.specs.Common.{Appends, Consumes, IsAtEnd, Refusal, ◌&◌, refusal_text, ParseMode}
 use Rattle.goblin_text.specs.ShownLines.{newline}
 use Rattle.goblin_text.specs.StreamMarks.{ReadsNoFurther, StopsAtError, StreamMarks}

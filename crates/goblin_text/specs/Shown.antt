@@ -3,10 +3,10 @@ use Rattle.std.specs.Prelude.{◌≡◌, ℕ, ◌+◌, ◌/◌, ◌==◌, ◌&&�
 use Rattle.std.specs.Prelude.{length, slice_get, Option, None, Some, Result, Ok, unwrap_or}
 use Rattle.goblin_text.specs.Common.{Header, SectionHeader, Reloc, Sym, ParseMode, Strict, Permissive, read_header}
 use Rattle.goblin_text.specs.Common.{Refusal, refusal_of, ◌>>=◌, refuse_as, StringTable, look_up, strtab_of, ◌&◌}
+use Rattle.goblin_text.specs.Common.{names_index_of, ctx_of, linked, section_headers_of, section_headers_of_tested}
+use Rattle.goblin_text.specs.Common.{size_checked_in}
 use Rattle.goblin.specs.declared.container.Ctx.{Ctx}
 use Rattle.goblin.specs.declared.error.Error.{Error}
-use Rattle.goblin.specs.Header.{names_index_of, ctx_of}
-use Rattle.goblin.specs.SectionHeaders.{linked, section_headers_of, section_headers_of_tested, size_checked_in}
 use Rattle.goblin.specs.RelocSection.{is_of_mips64el, relocs_of}
 use Rattle.goblin.specs.Sym.{sym_size}
 use Rattle.goblin.specs.Symtab.{symtab_by}

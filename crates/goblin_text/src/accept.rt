@@ -1,7 +1,6 @@
 //! Accepting a file: all that can be refused is tested here, so that writing its text takes no memory.
 ghost use Rattle.std.specs.Prelude.{◌≡◌, ◌+◌, ◌*◌, IfErr, IfOk, length};
-ghost use Rattle.goblin.specs.Refusal.{Returns, Gives, Refuses};
-ghost use Rattle.goblin.specs.SectionHeaders.{section_headers_of_tested};
+ghost use Rattle.goblin_text.specs.Common.{Returns, Gives, Refuses, section_headers_of_tested};
 ghost use Rattle.goblin_text.specs.Accepted.{accepted_text, parts_text, relocs_text, symbols_text};
 ghost use Rattle.goblin_text.specs.StringRanges.{strings_in};
 ghost use Rattle.goblin_text.specs.Looks.{ReadsNames, looks_by, section_count, table_looks};

@@ -1,6 +1,6 @@
 //! Runs of a file's blocks that are text, or text with no zero byte. Each block is read once for each of the two.
 ghost use Rattle.std.specs.Prelude.{◌≡◌, ◌↔◌, ◌+◌, ◌-◌, ◌*◌, ◌<◌, ◌≤◌, IsTrue, List, ℕ, length, slice_index, slice_range};
-ghost use Rattle.goblin_base.specs.Entries.{Reads};
+ghost use Rattle.goblin_text.specs.Common.{Reads};
 ghost use Rattle.goblin_text.specs.Looks.{block_looks};
 ghost use Rattle.goblin_text.specs.BlockRuns.{AreRunEnds, IsBlock, IsRunEnd, IsOfKind, blocks, unknown};
 

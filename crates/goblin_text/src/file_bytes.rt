@@ -3,10 +3,8 @@
 //! The bytes are private to this module, and each function here is one call of the library. So whoever accepts or shows
 //! a file reads its records by these functions, and everything else by the counted calls of [`Names`].
 ghost use Rattle.std.specs.Prelude.{◌≡◌, ◌*◌, ◌<◌, ◌≤◌, IfErr, length};
-ghost use Rattle.goblin.specs.ReadHeader.{read_header};
-ghost use Rattle.goblin.specs.Refusal.{Gives, Refuses};
+ghost use Rattle.goblin_text.specs.Common.{read_header, Gives, Refuses, section_headers_of, section_headers_of_tested};
 ghost use Rattle.goblin.specs.RelocSection.{relocs_of};
-ghost use Rattle.goblin.specs.SectionHeaders.{section_headers_of, section_headers_of_tested};
 ghost use Rattle.goblin.specs.Symtab.{symtab_by};
 ghost use Rattle.goblin_text.specs.Looks.{IsUnread};
 

@@ -1,7 +1,6 @@
 //! The input: all bytes of a reader up to its end.
 ghost use Rattle.std.specs.Prelude.{◌≡◌, ◌≢◌, ◌+◌, ◌<◌, ◌≤◌, OnOk, drop, take, vec_len};
-ghost use Rattle.std.specs.Io.{ReadsAtMost};
-ghost use Rattle.std.specs.Io.KnownBytes.{ReadConsumes};
+ghost use Rattle.goblin_text.specs.Common.{ReadsAtMost, ReadConsumes};
 ghost use Rattle.goblin_text.specs.StreamMarks.{ReadsNoFurther, after_read};
 ghost use Rattle.goblin_text.specs.RunOutcome.{IsInput, IsInputWithin, ReadsAtMostOneMore, read_limit};
 

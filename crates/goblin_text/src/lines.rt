@@ -1,10 +1,8 @@
 //! The lines of the text that is shown of a file, and the text of an error, put without an allocation.
 ghost use Rattle.std.specs.Prelude.{◌≡◌, Some, map};
-ghost use Rattle.std.specs.List.{concat};
-ghost use Rattle.goblin.specs.Texts.{◌&◌};
+ghost use Rattle.goblin_text.specs.Common.{concat, ◌&◌, refusal_of};
 ghost use Rattle.goblin_text.specs.ShownLines.{addend_text, header_line, is_control, newline, printable, printed, reloc_line, section_line, symbol_line};
 ghost use Rattle.goblin_text.specs.TargetState.{Prints};
-ghost use Rattle.goblin.specs.Refusal.{refusal_of};
 ghost use Rattle.goblin_base.specs.Texts.{facts_of, part_text, refusal_text};
 
 use crate::targets::Target;

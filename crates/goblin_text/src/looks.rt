@@ -1,11 +1,8 @@
 //! Reading a file's bytes for names. Each function here takes its looks from the view that counts them.
 ghost use Rattle.std.specs.Prelude.{◌≡◌, ◌+◌, ◌-◌, ◌*◌, ◌<◌, ◌≤◌, ◌↔◌, IfErr, IsTrue, OnOk, [], length, min, slice_range, if◌then◌else◌};
-ghost use Rattle.std.specs.Str.{IsUtf8, is_utf8};
+ghost use Rattle.goblin_text.specs.Common.{IsUtf8, is_utf8, Returns, table_of, CountsAtLeast, Reads};
 ghost use Rattle.std.specs.Str.Lossy.{utf8_valid_len};
 ghost use Rattle.goblin.specs.Pieces.{first_bad, piece_start};
-ghost use Rattle.goblin.specs.Refusal.{Returns};
-ghost use Rattle.goblin.specs.Strtab.{table_of};
-ghost use Rattle.goblin_base.specs.Entries.{CountsAtLeast, Reads};
 ghost use Rattle.goblin_text.specs.StringRanges.{text_table};
 ghost use Rattle.goblin_text.specs.BlockRuns.{EndsAt, IsTextUpTo, after_continuation, char_start, up_to_zero};
 

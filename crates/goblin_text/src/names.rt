@@ -1,11 +1,7 @@
 //! The string tables of a file and their names, read where they are. So that no byte is read again and again, `Names`
 //! stores of the file's blocks how far text goes on from each.
 ghost use Rattle.std.specs.Prelude.{◌≡◌, ◌↔◌, ◌+◌, ◌*◌, ◌<◌, ◌≤◌, ◌⊎◌, ◌-◌, ◌/◌, IfOk, IfSome, IsTrue, OnOk, length, min, slice_range};
-ghost use Rattle.std.specs.Str.{IsUtf8};
-ghost use Rattle.goblin_base.specs.Derives.{Clones};
-ghost use Rattle.goblin.specs.declared.options.ParseMode.{ParseMode};
-ghost use Rattle.goblin.specs.Refusal.{Returns};
-ghost use Rattle.goblin.specs.Strtab.{IsRange, strtab_of, table_of};
+ghost use Rattle.goblin_text.specs.Common.{IsUtf8, Clones, ParseMode, Returns, IsRange, strtab_of, table_of};
 ghost use Rattle.goblin_text.specs.StringRanges.{strings_in, text_table};
 ghost use Rattle.goblin_text.specs.Looks.{IsCached, IsShort, IsUnread, LooksAtMost, ReadsNames, looks_by, name_looks, table_looks};
 ghost use Rattle.goblin_text.specs.BlockRuns.{EndsAt, IsLong, IsTextUpTo, last_block};

@@ -1,7 +1,6 @@
 //! A run: from the bytes that a reader gives to the text that a writer holds.
 ghost use Rattle.std.specs.Prelude.{◌≡◌, ◌≢◌, ℕ, ◌+◌, ◌*◌, ◌≤◌, ◌==◌, List, IsTrue, OnOk, OnErr, codes, filter, length, ◌<◌, ◌⊎◌, Option, Result};
-ghost use Rattle.std.specs.Io.KnownBytes.{Appends};
-ghost use Rattle.goblin_base.specs.Derives.{ComparesAndClones};
+ghost use Rattle.goblin_text.specs.Common.{Appends, ComparesAndClones};
 ghost use Rattle.goblin_text.specs.Common.{Consumes, Error as ReadError, refusal_of, refusal_text};
 ghost use Rattle.goblin_text.specs.Looks.{IsShort, IsUnread, LooksAtMost, ReadsNames, line_looks, lines_in, section_count, shown_looks, table_looks, tables_looks};
 ghost use Rattle.goblin_text.specs.RunOutcome.{HasRun, ReadsAtMostOneMore, IsReasonOf, WritesRefusal, input_limit, read_limit, status_of};

@@ -1,7 +1,6 @@
 //! Readers and writers whose contracts say which bytes they read and write, and mark what they reported.
 ghost use Rattle.std.specs.Prelude.{◌≡◌, ℕ, List, Option, OnOk};
-ghost use Rattle.std.specs.Io.{ReadsAtMost};
-ghost use Rattle.std.specs.Io.KnownBytes.{Appends, Keeps, ReadConsumes};
+ghost use Rattle.goblin_text.specs.Common.{ReadsAtMost, Appends, Keeps, ReadConsumes};
 ghost use Rattle.std.specs.IoError.{error_kind};
 ghost use Rattle.goblin_text.specs.StreamMarks.{StreamMarks, after_read, after_write, is_interruption};
 

@@ -1,7 +1,7 @@
 //! Targets that a text is put into part by part: a buffer of fixed size before a writer, and a text in memory.
 ghost use Rattle.std.specs.Prelude.{◌≡◌, ◌↔◌, ◌+◌, ◌≤◌, ◌++◌, IsTrue, OnErr, OnOk, Some, false, length, [], string_bytes, take};
+ghost use Rattle.goblin_text.specs.Common.{Appends, Keeps};
 ghost use Rattle.std.specs.Borrow.{GName};
-ghost use Rattle.std.specs.Io.KnownBytes.{Appends, Keeps};
 ghost use Rattle.goblin_text.specs.StreamMarks.{StopsAtError};
 ghost use Rattle.goblin_text.specs.TargetState.{Prints, State, held};
 

@@ -1,12 +1,8 @@
 //! The text that is shown of a file, written line by line.
-ghost use Rattle.std.specs.Prelude.{◌≡◌, ℕ, List, Ok, Err, IfErr, IsTrue, OnErr, OnOk, string_bytes};
-ghost use Rattle.std.specs.Io.KnownBytes.{Appends};
-ghost use Rattle.goblin.specs.Refusal.{Gives, Refuses};
 ghost use Rattle.goblin.specs.Header.{ctx_of};
-ghost use Rattle.goblin.specs.SectionHeaders.{section_headers_of_tested};
-ghost use Rattle.goblin.specs.Steps.{refuse_as};
 ghost use Rattle.goblin_base.specs.declared.container.Ctx.{Ctx};
-ghost use Rattle.goblin_text.specs.Common.{Header, Refusal, read_header, refusal_of};
+ghost use Rattle.std.specs.Prelude.{◌≡◌, ℕ, List, Ok, Err, IfErr, IsTrue, OnErr, OnOk, string_bytes};
+ghost use Rattle.goblin_text.specs.Common.{Header, Refusal, read_header, refusal_of, Appends, Gives, Refuses, section_headers_of_tested, refuse_as};
 ghost use Rattle.goblin_text.specs.Accepted.{accepted_text, relocs_text, symbols_text};
 ghost use Rattle.goblin_text.specs.StringRanges.{strings_in};
 ghost use Rattle.goblin_text.specs.ShownLines.{section_line, symbol_line};

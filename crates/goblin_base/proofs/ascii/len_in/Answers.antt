@@ -1,5 +1,4 @@
-use Rattle.goblin_base.proofs.Common.{eqb, w8, bitmask_splat, length-chunk}
-use lib.Lanes.{chunk}
+use Rattle.goblin_base.proofs.Common.{eqb, w8, bitmask_splat, length-chunk, chunk}
 use Rattle.goblin_base.proofs.AsciiLemmas.{delim_is}
 use Rattle.goblin_base.proofs.ascii.len_in.Goals as goal
 

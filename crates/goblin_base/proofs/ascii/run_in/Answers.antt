@@ -1,5 +1,4 @@
-use Rattle.goblin_base.proofs.Common.{ℕ, leb, cond, zip2_splat, zip2_splat_left, zip2_of_maps, length-chunk}
-use lib.Lanes.{chunk}
+use Rattle.goblin_base.proofs.Common.{ℕ, leb, cond, zip2_splat, zip2_splat_left, zip2_of_maps, length-chunk, chunk}
 use Rattle.goblin_base.proofs.AsciiLemmas.{run_is}
 use Rattle.goblin_base.proofs.ascii.run_in.Goals as goal
 

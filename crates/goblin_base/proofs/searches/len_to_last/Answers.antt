@@ -1,7 +1,6 @@
 -- The highest bit of the mask is that of the last delimiter: the last piece begins after it.
 use Rattle.goblin_base.proofs.Common.{◌≡◌, ◌+◌, ◌<◌, ◌≤◌, eqb, length, w8, arith, ap, ◌∙◌, sym, ⊎_elim, cases_lt}
-use Rattle.goblin_base.proofs.Common.{take_all, bitmask_splat}
-use lib.Lanes.{chunk}
+use Rattle.goblin_base.proofs.Common.{take_all, bitmask_splat, chunk}
 use Rattle.goblin_base.proofs.LastLemmas.{IsLast, last_is, start_in, start_across, start_at_none}
 use Rattle.goblin_base.proofs.searches.len_to_last.Goals.{After-digits_of}
 use Rattle.goblin_base.proofs.searches.len_to_last.Goals as goal

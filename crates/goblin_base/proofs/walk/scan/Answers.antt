@@ -3,9 +3,8 @@
 -- (`scan_ends`). A byte that may not come there excludes each start up to it (`scan_faults`). A look changes the count
 -- only, so the view's bytes are those of the call (`same`).
 use Rattle.goblin_base.proofs.Common.{◌≡◌, ◌+◌, max, length, get_or, slice_index, false, eqb, sym, ap, subst, ◌∙◌, refl}
-use Rattle.goblin_base.proofs.Common.{arith, eq-eqb, after_byte, IsScan}
+use Rattle.goblin_base.proofs.Common.{arith, eq-eqb, after_byte, IsScan, Fault}
 use Rattle.std.proofs.lemmas.Bool.{ne_eqb}
-use Rattle.goblin_base.specs.declared.walk.Found.TheVariants.{Fault}
 use Rattle.goblin_base.proofs.ScanLemmas.{scan_starts, scan_steps, scan_faults, scan_ends}
 use Rattle.goblin_base.proofs.walk.scan.Goals as goal
 

@@ -5,10 +5,7 @@
 use Rattle.goblin_base.proofs.Common.{rules, ◌≡◌, ◌+◌, ◌-◌, ◌<◌, ◌≤◌, ℕ, List, false, true, length, slice_index, refl}
 use Rattle.goblin_base.proofs.Common.{sym, ap, subst, ⊎_elim, ◌∙◌, Ok, Err, arith, both_ways, cases_lt, false≢true}
 use Rattle.goblin_base.proofs.Common.{IsAscii, IsUtf8, slice_range, HaveMarks, piece_end, is_readable, walked}
-use Rattle.goblin_base.proofs.Common.{invalid_utf8, take_all}
-use Rattle.std.specs.Bool.{IsTrue}
-use Rattle.goblin_base.specs.Entries.{entries_between}
-use Rattle.goblin_base.specs.Scan.{IsWalkedTo}
+use Rattle.goblin_base.proofs.Common.{invalid_utf8, take_all, IsTrue, entries_between, IsWalkedTo}
 use Rattle.goblin_base.proofs.EntriesLemmas.{walked_none, walked_text}
 use Rattle.goblin_base.proofs.MarksLemmas.{low_is_text}
 use Rattle.goblin_base.proofs.WalkProgressLemmas.{IsTextSoFar, readable_from_text, bad_from_fault, bad_here}

@@ -1,8 +1,7 @@
 -- The entries stored so far and those from i on are all entries (`walked`), and strict mode found only text before i
 -- (`strict`). The marks reach at most sixteen bytes past i, as `next_end` requires (`near`).
 use Rattle.goblin_base.proofs.Common.{◌≡◌, ◌+◌, ◌-◌, ◌*◌, ◌<◌, ◌≤◌, length, max, min, IsAscii, CountsAtLeast, HaveMarks}
-use Rattle.goblin_base.proofs.Common.{piece_end, Strict}
-use Rattle.goblin_base.specs.Scan.{IsWalkedTo}
+use Rattle.goblin_base.proofs.Common.{piece_end, Strict, IsWalkedTo}
 use Rattle.goblin_base.proofs.WalkProgressLemmas.{IsTextSoFar}
 use Rattle.goblin_base.proofs.walk.walk.Given as goal
 

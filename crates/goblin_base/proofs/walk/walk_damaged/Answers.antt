@@ -1,8 +1,7 @@
 -- If an attempt succeeds, the rest of the piece is the next entry (`walked_text`). If it fails, no rest that begins
 -- before `next` is UTF-8, and `next` is still in the piece, because the empty rest at `end` is UTF-8 (`attempt_fault`):
 -- so each offset up to `next` has an entry with an empty text (`walked_empty`).
-use Rattle.goblin_base.proofs.Common.{◌≡◌, ap, subst, sym, ◌∙◌, arith, piece_end, is_readable}
-use Rattle.goblin_base.specs.Scan.{IsWalkedTo}
+use Rattle.goblin_base.proofs.Common.{◌≡◌, ap, subst, sym, ◌∙◌, arith, piece_end, is_readable, IsWalkedTo}
 use Rattle.goblin_base.proofs.EntriesLemmas.{walked_empty, walked_text}
 use Rattle.goblin_base.proofs.ScanLemmas.{attempt_fault}
 use Rattle.goblin_base.proofs.walk.walk_damaged.Goals as goal

@@ -1,8 +1,7 @@
 -- The offsets before i have their entries (`walked`), and i still lies in the piece that ends at `end` (`ends`). An
 -- attempt that fails takes at most two looks for each byte that it passes, and the next one begins where it stopped: so
 -- all together take at most two for each byte before i.
-use Rattle.goblin_base.proofs.Common.{◌≡◌, ◌+◌, ◌-◌, ◌*◌, ◌≤◌, CountsAtLeast, piece_end}
-use Rattle.goblin_base.specs.Scan.{IsWalkedTo}
+use Rattle.goblin_base.proofs.Common.{◌≡◌, ◌+◌, ◌-◌, ◌*◌, ◌≤◌, CountsAtLeast, piece_end, IsWalkedTo}
 use Rattle.goblin_base.proofs.walk.walk_damaged.Given as goal
 
 abbrev pub invariant-loop-i : goal.invariant-loop-i

@@ -2,10 +2,9 @@
 -- `rest-step`). At one past the table none is (`bytes_past`), and the call stops there (`fills_before`). So it does at
 -- the first offset if the table is refused (`bytes_refused`).
 use Rattle.goblin_c.proofs.Common.{◌≡◌, ◌+◌, length, map, take, get_or, slice_get, Some, None, Ok, Err, refl, ap, ◌∙◌}
-use Rattle.goblin_c.proofs.Common.{arith, GoblinRange, refusal_at}
+use Rattle.goblin_c.proofs.Common.{arith, GoblinRange, refusal_at, string_bytes_expected}
 use Rattle.goblin_c.proofs.PieceLemmas.{bytes_past, bytes_refused, bytes_there}
 use Rattle.goblin_c.proofs.EachLemmas.{each-step, fills_all, fills_before, rest-step, result_at}
-use Rattle.goblin_c.specs.Bytes.{string_bytes_expected}
 use Rattle.goblin_c.proofs.strings.goblin_strings.Goals as goal
 
 pub loop-i-preserved : goal.loop-i-preserved

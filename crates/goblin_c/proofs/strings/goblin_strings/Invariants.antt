@@ -1,5 +1,4 @@
-use Rattle.goblin_c.proofs.Common.{◌≡◌, Some, Ok, map, length, take, drop}
-use Rattle.goblin_c.specs.Bytes.{string_bytes_expected}
+use Rattle.goblin_c.proofs.Common.{◌≡◌, Some, Ok, map, length, take, drop, string_bytes_expected}
 use Rattle.goblin_c.proofs.strings.goblin_strings.Given as goal
 
 abbrev pub invariant-loop-i : goal.invariant-loop-i

@@ -1,7 +1,6 @@
 -- The text goes on with that of one part more (`parts_text_more`).
-use Rattle.goblin_text.proofs.Common.{◌∙◌, arith, subst, sym, common_steps, Appends, Appends-trans}
+use Rattle.goblin_text.proofs.Common.{◌∙◌, arith, subst, sym, common_steps, Appends, Appends-trans, parts_text_more}
 use Rattle.goblin_base.specs.Texts.{facts_of}
-use Rattle.goblin_base.proofs.PartsLemmas.{parts_text_more}
 use Rattle.goblin_text.proofs.lines.put_error.Goals as goal
 
 pub loop-part-preserved : goal.loop-part-preserved

@@ -1,6 +1,5 @@
-use Rattle.goblin_text.proofs.Common.{◌≡◌, take, Appends}
+use Rattle.goblin_text.proofs.Common.{◌≡◌, take, Appends, Stops}
 use Rattle.goblin_base.specs.Texts.{facts_of, parts_text}
-use Rattle.goblin_text.specs.TargetState.{Stops}
 use Rattle.goblin_text.proofs.lines.put_error.Given as goal
 
 -- the parts so far are put

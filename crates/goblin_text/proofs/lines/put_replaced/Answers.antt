@@ -1,6 +1,5 @@
 use Rattle.goblin_text.proofs.Common.{◌≡◌, ◌∙◌, ◌++◌, ◌∷◌, [], arith, subst, Appends-trans, common_steps, Appends}
-use Rattle.goblin_text.proofs.Common.{encode_utf8_all, printed}
-use Rattle.std.proofs.lemmas.Str.{encodes-append}
+use Rattle.goblin_text.proofs.Common.{encode_utf8_all, printed, encodes-append}
 use Rattle.goblin_text.proofs.Printed.{encode-printable}
 use Rattle.goblin_text.proofs.lines.put_replaced.Goals as goal
 

@@ -1,5 +1,4 @@
-use Rattle.goblin_text.proofs.Common.{◌≡◌, Appends, encode_utf8_all, printed}
-use Rattle.goblin_text.specs.TargetState.{Stops}
+use Rattle.goblin_text.proofs.Common.{◌≡◌, Appends, encode_utf8_all, printed, Stops}
 use Rattle.goblin_text.proofs.lines.put_replaced.Given as goal
 
 -- what was passed is put as it prints

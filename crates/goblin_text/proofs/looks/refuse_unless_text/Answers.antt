@@ -1,14 +1,12 @@
 -- The refused piece is the first one that is not UTF-8: the bytes up to the first fault are UTF-8, so it is the last
 -- string before the fault, which is searched for backwards from there.
 use Rattle.goblin_text.proofs.Common.{◌≡◌, ◌∙◌, ◌+◌, ◌-◌, ap, arith, length, refl, slice_range, take, Err, common_steps}
-use Rattle.goblin_text.proofs.Common.{length-take-le, IsValidUpTo, invalid_utf8}
-use Rattle.std.proofs.lemmas.Str.{utf8_valid_len-IsValidUpTo}
+use Rattle.goblin_text.proofs.Common.{length-take-le, IsValidUpTo, invalid_utf8, utf8_valid_len-IsValidUpTo, first_bad}
+use Rattle.goblin_text.proofs.Common.{piece_start, length_of_range}
 use Rattle.std.specs.Str.Lossy.{utf8_valid_len}
-use Rattle.goblin.specs.Pieces.{first_bad, piece_start}
 use Rattle.goblin_text.proofs.Faults.{first_bad_of_front, front_of_range, table_refused}
 use Rattle.goblin_text.proofs.looks.refuse_unless_text.Goals.{After-start_of_last_string-start}
 use Rattle.goblin_text.proofs.looks.refuse_unless_text.Goals as goal
-use Rattle.goblin_base.proofs.FirstLemmas.{length_of_range}
 
 -- where the fault is, and the last string before it
 record Fault (c : After-start_of_last_string-start) : Type 0 where

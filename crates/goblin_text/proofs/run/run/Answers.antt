@@ -1,10 +1,8 @@
 -- A run whose input is too long, or for which memory ran out, writes one line with that reason or fails, as `refuse`
 -- says. Of the reader it says what `input_of` says. If all was read, `show_file` says how it ended.
-use Rattle.goblin_text.proofs.Common.{◌≡◌, arith, inl, inr, refl, subst, common_steps}
+use Rattle.goblin_text.proofs.Common.{◌≡◌, arith, inl, inr, refl, subst, common_steps, rules, vec_items}
 use Rattle.goblin_text.specs.RunOutcome.{IsReasonOf}
-use Rattle.std.proofs.Common.{rules}
 use Rattle.std.specs.Fmt.{digits}
-use Rattle.std.specs.Prelude.{vec_items}
 use Rattle.goblin_text.proofs.run.run.Goals as goal
 
 pub returns-in-TooLong : goal.returns-in-TooLong

@@ -1,6 +1,5 @@
 use Rattle.goblin_base.proofs.Common.{◌≡◌, ◌-◌, ℕ, ap, length, arith, drop, subst, sym, length-drop, take_all}
-use Rattle.goblin_base.proofs.Common.{IsUtf8-from_ascii, IsUtf8}
-use Rattle.std.proofs.lemmas.Grind.{common_steps}
+use Rattle.goblin_base.proofs.Common.{IsUtf8-from_ascii, IsUtf8, common_steps}
 use Rattle.goblin_base.proofs.digits.Digits.as_str.Goals as goal
 
 pub from_utf8_unchecked-requires : goal.from_utf8_unchecked-requires

@@ -1,7 +1,7 @@
 -- The masks that the vectors compute are those of the bytes: comparing with a repeated byte tests each lane.
 use Rattle.goblin_base.proofs.Common.{◌≡◌, ◌%◌, ◌^◌, eqb, leb, length, map, replicate, ap, ◌∙◌, arith, w8, length-map}
 use Rattle.goblin_base.proofs.Common.{take_all, bitmask_splat, tops_compared, zip2_splat_left, mask_l-mod, mask_l}
-use lib.Lanes.{chunk}
+use Rattle.goblin_base.proofs.Common.{chunk}
 use Rattle.goblin_base.proofs.marks.Marks.of.Goals as goal
 
 pub returns-clause-delims : goal.returns-clause-delims

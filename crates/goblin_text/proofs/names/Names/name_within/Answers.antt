@@ -1,9 +1,9 @@
 -- The name is the string from its place on, if that is text: a place past the end or at a continuation byte has none. A
 -- long name is text and is returned whole, so its length bounds the looks for it.
 use Rattle.goblin_text.proofs.Common.{◌≡◌, ◌∙◌, ◌+◌, ◌-◌, arith, inl, inr, length, slice_range, common_steps}
+use Rattle.goblin_text.proofs.Common.{length_of_range}
 use Rattle.goblin_text.proofs.FoundNames.{name_in_range, nothing, text_length}
 use Rattle.goblin_text.proofs.names.Names.name_within.Goals as goal
-use Rattle.goblin_base.proofs.FirstLemmas.{length_of_range}
 
 pub returns-in-None-clause-value : goal.returns-in-None-clause-value
 returns-in-None-clause-value c =
