@@ -28,8 +28,7 @@ module _ (score : Sym → ℕ) (symbols : List Sym) where
 
   -- this is found among the first i: the first with the highest score, unless all are 0
   pub record IsFirst (i : ℕ) (found : Option (ℕ × Sym)) : Type 0 where
-    pub there : (at : ℕ × Sym)
-        → found ≡ Some at → (at.0 < i) × (slice_get symbols at.0 ≡ Some at.1) × (0 < score at.1)
+    pub there : (at : ℕ × Sym) → found ≡ Some at → (at.0 < i) × (slice_get symbols at.0 ≡ Some at.1) × (0 < score at.1)
     pub high : (k : ℕ) (other : Sym) → k < i → slice_get symbols k ≡ Some other → score other ≤ top found
     pub early : (at : ℕ × Sym) → found ≡ Some at → (k : ℕ) (other : Sym)
         → k < at.0 → slice_get symbols k ≡ Some other → score other < score at.1

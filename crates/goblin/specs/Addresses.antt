@@ -46,8 +46,7 @@ is_held address sections e_type s =
 -- a symbol is a candidate for an address: it is there or below, and its bytes contain the address or its section holds
 -- it
 abbrev pub is_candidate : ℕ → List SectionHeader → ℕ → Sym → Bool
-is_candidate address sections e_type s =
-    is_below address s && (reaches address s || is_held address sections e_type s)
+is_candidate address sections e_type s = is_below address s && (reaches address s || is_held address sections e_type s)
 
 -- a symbol passes a test, and none that passes it is higher
 abbrev pub is_highest : (Sym → Bool) → List Sym → Sym → Bool
@@ -80,13 +79,11 @@ is_taken address sections e_type s found = is_candidate address sections e_type 
 
 -- the symbol found so far with its index, after the symbol with index i
 abbrev pub taken : ℕ → List SectionHeader → ℕ → ℕ → Sym → Option (ℕ × Sym) → Option (ℕ × Sym)
-taken address sections e_type i s found =
-    if is_taken address sections e_type s found then Some (i, s) else found
+taken address sections e_type i s found = if is_taken address sections e_type s found then Some (i, s) else found
 
 -- the index of the symbol that was found in the end, if it contains the address or has size 0
 abbrev pub found_at : ℕ → Option (ℕ × Sym) → Option ℕ
-found_at address (Some found) =
-    if reaches address found.1 || found.1.st_size == 0 then Some found.0 else None
+found_at address (Some found) = if reaches address found.1 || found.1.st_size == 0 then Some found.0 else None
 found_at address None = None
 
 -- no symbol contains an address

@@ -119,8 +119,7 @@ module _ {bytes : List ℕ} {d o p : ℕ} {s : Awaited} where
       ⊎_elim
       (λ (e : s.more ≡ 0). subst (IsScan bytes d o) (sym (cond-true _ (Whole p) (Fault p) (eq-eqb _ _ e)))
       (record {
-        readable = h.back
-            (subst (CompletesFrom s) (sym empty) (subst (λ k. Completes k s.least s.most []) (sym e) tt));
+        readable = h.back (subst (CompletesFrom s) (sym empty) (subst (λ k. Completes k s.least s.most []) (sym e) tt));
         ends = sym same;
         ordered = from;
         within = within;

@@ -122,8 +122,7 @@ module _ (bytes : List ℕ) (d o : ℕ) where
             ∙ fails_before_first ends rest k e (omega (arith, size, l, long))),
       )
 
-  begins_Decides : (text : List ℕ)
-      → Decides (bytes_eq (take (length text) (piece bytes d o)) text) (begins text ≡ true)
+  begins_Decides : (text : List ℕ) → Decides (bytes_eq (take (length text) (piece bytes d o)) text) (begins text ≡ true)
   unfolding is_apart
   begins_Decides text = (
     (λ t.

@@ -113,8 +113,7 @@ module _ {R : Type 0} {l : Layout R} (laws : IsRecord l) where
   pub fits_exactly : FitsExactly l
   fits_exactly x = (
     λ fits. sym (laws.reads_low x) ∙ laws.reads_back x fits,
-    λ is.
-        subst (l.Fits) (laws.reads_low x ∙ is) (laws.reads_fit (l.image x) (laws.image_bytes x) (omega arith)),
+    λ is. subst (l.Fits) (laws.reads_low x ∙ is) (laws.reads_fit (l.image x) (laws.image_bytes x) (omega arith)),
   )
 
   image-of_read : (bytes : List ℕ) → IsBytes bytes → length bytes ≡ l.size → bytes ≡ l.image (l.read bytes)

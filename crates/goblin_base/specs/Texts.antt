@@ -67,8 +67,7 @@ numbers kind first second third overflow =
     record { kind = kind; item = []; first = first; second = second; third = third; overflow = overflow }
 
 abbrev pub with_item : Kind → ℕ → List ℕ → Facts
-with_item kind first item =
-    record { kind = kind; item = item; first = first; second = 0; third = 0; overflow = false }
+with_item kind first item = record { kind = kind; item = item; first = first; second = 0; third = 0; overflow = false }
 
 -- those of a fault
 abbrev pub fault_facts : Fault → Facts

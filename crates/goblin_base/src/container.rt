@@ -95,8 +95,7 @@ impl Ctx {
 impl From<Container> for Ctx {
     ghost use Rattle.goblin_base.specs.declared.container.Endian.TheVariants as endian;
 
-    ghost from_gives = { λ container ctx.
-        ctx ≡ record { container = container; le = endian.Little } };
+    ghost from_gives = { λ container ctx. ctx ≡ record { container = container; le = endian.Little } };
 
     fn from(container: Container) -> Self {
         Ctx {
@@ -110,8 +109,7 @@ impl From<Container> for Ctx {
 impl From<Endian> for Ctx {
     ghost use Rattle.goblin_base.specs.declared.container.Container.TheVariants as class;
 
-    ghost from_gives = { λ le ctx.
-        ctx ≡ record { container = class.Big; le = le } };
+    ghost from_gives = { λ le ctx. ctx ≡ record { container = class.Big; le = le } };
 
     fn from(le: Endian) -> Self {
         Ctx {

@@ -52,8 +52,7 @@ impl<'a, R: LaidOut<C>, C: Copy> TryFromCtx<'a, C> for R {
 
 /// Fails with the fault of `room` if the buffer doesn't hold the record, and then writes no byte.
 impl<R: LaidOut<C>, C: Copy> TryIntoCtx<C> for R {
-    ghost try_into_gives = { λ x ctx old answer new. let l = R.layout ctx in
-        Writes l.size (l.image x) old answer new };
+    ghost try_into_gives = { λ x ctx old answer new. let l = R.layout ctx in Writes l.size (l.image x) old answer new };
 
     #[tactic(auto, using(crate::specs::RecordLaws::record_answers))]
     fn try_into_ctx(self, bytes: &mut [u8], ctx: C) -> Result<usize> {
@@ -68,8 +67,7 @@ impl<R: LaidOut<C>, C: Copy> TryIntoCtx<C> for R {
 impl<R: LaidOut<C>, C: Copy> IntoCtx<C> for R {
     ghost can_into = { λ _ ctx old. (R.layout ctx).size ≤ length old };
 
-    ghost into_gives = { λ x ctx old new. let l = R.layout ctx in
-        new ≡ l.image x ++ drop l.size old };
+    ghost into_gives = { λ x ctx old new. let l = R.layout ctx in new ≡ l.image x ++ drop l.size old };
 
     fn into_ctx(self, bytes: &mut [u8], ctx: C) {
         self.put(bytes, ctx);

@@ -61,8 +61,7 @@ pub fn range_of(
 pub fn bytes_in_range(bytes: &[u8], offset: usize, len: usize, mode: ParseMode) -> Result<&[u8]>
     ensures given { let expected = refuse_as malformed (range_in mode bytes.now offset len) in
         Returns (λ range. range.now) result expected }
-    ensures range { IfErr (range_in mode bytes.now offset len)
-        (λ fault. result ≡ Err (Error.Malformed fault)) }
+    ensures range { IfErr (range_in mode bytes.now offset len) (λ fault. result ≡ Err (Error.Malformed fault)) }
 {
     let (start, end) = range_of(bytes.len(), offset, len, mode)?;
     Ok(&bytes[start..end])

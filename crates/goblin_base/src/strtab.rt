@@ -130,12 +130,9 @@ impl<'a> Strtab<'a> {
     ///
     /// The piece ends before the next delimiter, or at the end of the table. It must be UTF-8, which `get` tests.
     pub fn get_unsafe(&self, offset: usize) -> Option<&'a str>
-        requires { offset < length self.now.bytes
-            → IsOk (plain self.now.bytes self.now.delim offset) }
-        ensures { option_map (λ text. text.now) result
-            ≡ (if nat_lt offset (length self.now.bytes)
-            then Some (piece self.now.bytes self.now.delim offset)
-            else None) }
+        requires { offset < length self.now.bytes → IsOk (plain self.now.bytes self.now.delim offset) }
+        ensures { option_map (λ text. text.now) result ≡ (if nat_lt offset (length self.now.bytes)
+            then Some (piece self.now.bytes self.now.delim offset) else None) }
     {
         if offset >= self.bytes.len() {
             None
@@ -361,8 +358,7 @@ impl Wanted<'_> {
     /// compare it.
     #[tactic(auto, unfolding(crate::specs::Strtab::has_name))]
     pub fn is_at(&self, offset: usize) -> bool
-        ensures { let table = self.now.table in
-            result ≡ has_name table.bytes table.delim offset self.now.name }
+        ensures { let table = self.now.table in result ≡ has_name table.bytes table.delim offset self.now.name }
     {
         let table: &Strtab<'_> = self.table;
         self.name.is_at(table.bytes, offset)
@@ -413,8 +409,7 @@ fn texts<'a>(alloc: Global, entries: &Entries<'a>) -> Result<Vec<&'a str>>
 // Returns the index and the offset of the last entry at or before an offset. It reads one place more than `find`.
 fn last_entry(view: &mut Probes<'_>, offset: usize) -> Option<(usize, usize)>
     ensures value { let places = view.old.places in
-        MatchOption result
-        (EachIndex places (λ k. offset < slice_index places k))
+        MatchOption result (EachIndex places (λ k. offset < slice_index places k))
         (λ entry. IsLastUpTo places offset entry.0 × (entry.1 ≡ slice_index places entry.0)) }
     ensures probes { view.new.count ≤ view.old.count + digits (length view.old.places) + 1 }
     ensures probes_least { let least = view.old.count + digits (length view.old.places + 1) in
@@ -427,8 +422,7 @@ fn last_entry(view: &mut Probes<'_>, offset: usize) -> Option<(usize, usize)>
 
 // Returns the rest of a text, or `None` if it would begin inside a character.
 fn rest_of(text: &str, from: usize) -> Option<&str>
-    ensures { MatchOption result
-        (¬ (IsCharBoundary text.now from))
+    ensures { MatchOption result (¬ (IsCharBoundary text.now from))
         (λ rest. IsCharBoundary text.now from × (rest.now ≡ drop from text.now)) }
 {
     if text.is_char_boundary(from) {

@@ -60,8 +60,7 @@ impl<'a, R: Record<C>, C: Copy> Table<'a, R, C> {
     /// Fails as [`room`] does for the first record that doesn't lie in the bytes.
     #[tactic(auto, using(crate::proofs::Eager::lists), unfolding(crate::specs::Eager::records_in, crate::specs::Eager::records_from))]
     pub fn in_range(bytes: &'a [u8], offset: usize, count: usize, ctx: C) -> Result<Self>
-        ensures given { let expected =
-            records_in (R.size_of ctx) (R.read ctx) bytes.now offset count in
+        ensures given { let expected = records_in (R.size_of ctx) (R.read ctx) bytes.now offset count in
             Returns (λ table. table) result expected }
         ensures range { IfErr (room_of_each (length bytes.now) offset (R.size_of ctx) count)
             (λ e. result ≡ Err (Error.Scroll e)) }
@@ -88,8 +87,7 @@ impl<'a, R: Record<C>, C: Copy> Table<'a, R, C> {
         ctx: C,
         items: &'static str,
     ) -> Result<Self>
-        ensures { let expected =
-            records_from (R.size_of ctx) (R.read ctx) bytes.now offset count items.now in
+        ensures { let expected = records_from (R.size_of ctx) (R.read ctx) bytes.now offset count items.now in
             Returns (λ table. table) result expected }
     {
         if fit(bytes.len(), R::size_with(&ctx), count) {
@@ -260,11 +258,9 @@ pub fn read_all<R: Record<C>, C: Copy>(
     ctx: C,
     items: &'static str,
 ) -> Result<Vec<R>>
-    ensures given { let expected =
-        records_from (R.size_of ctx) (R.read ctx) bytes.now offset count items.now in
+    ensures given { let expected = records_from (R.size_of ctx) (R.read ctx) bytes.now offset count items.now in
         Gives (λ v. v.items) result expected }
-    ensures too_many { length bytes.now / R.size_of ctx < count →
-        Refuses result (buffer_too_short count items.now) }
+    ensures too_many { length bytes.now / R.size_of ctx < count → Refuses result (buffer_too_short count items.now) }
     ensures none { (count ≡ 0) → IsOk result }
 {
     let size = R::size_with(&ctx);
@@ -338,8 +334,7 @@ pub fn read_in_range<R: Record<C>, C: Copy>(
     count: usize,
     ctx: C,
 ) -> Result<Vec<R>>
-    ensures given { let expected =
-        records_in (R.size_of ctx) (R.read ctx) bytes.now offset count in
+    ensures given { let expected = records_in (R.size_of ctx) (R.read ctx) bytes.now offset count in
         Gives (λ v. v.items) result expected }
     ensures range { IfErr (room_of_each (length bytes.now) offset (R.size_of ctx) count)
         (λ e. result ≡ Err (Error.Scroll e)) }
@@ -350,8 +345,7 @@ pub fn read_in_range<R: Record<C>, C: Copy>(
 
 /// A law: records that fit, written one after another, are read back as the same list.
 pub fn read_back<R: Record<C>, C: Copy>()
-    ensures { (ctx : C) (all : List R)
-        → All (R.fits ctx) all
+    ensures { (ctx : C) (all : List R) → All (R.fits ctx) all
         → records (R.size_of ctx) (R.read ctx) (length all) (flat_map (R.image ctx) all) ≡ all }
 {}
 
@@ -361,6 +355,5 @@ pub fn read_back<R: Record<C>, C: Copy>()
 pub fn same_range<R: Record<C>, C: Copy>()
     ensures { (ctx : C) (count : ℕ) (bytes others : List ℕ)
         → take (count * R.size_of ctx) bytes ≡ take (count * R.size_of ctx) others
-        → records (R.size_of ctx) (R.read ctx) count bytes
-        ≡ records (R.size_of ctx) (R.read ctx) count others }
+        → records (R.size_of ctx) (R.read ctx) count bytes ≡ records (R.size_of ctx) (R.read ctx) count others }
 {}

@@ -50,8 +50,7 @@ pub fn walk<'a>(
     ensures given { Gives (λ entries. entries) result (walked mode view.old.bytes delim) }
     ensures unchanged { view.new.bytes ≡ view.old.bytes }
     ensures looks { view.new.count ≤ view.old.count + 5 * length view.old.bytes }
-    ensures looks_ascii { IsAscii view.old.bytes
-        → view.new.count ≤ view.old.count + length view.old.bytes }
+    ensures looks_ascii { IsAscii view.old.bytes → view.new.count ≤ view.old.count + length view.old.bytes }
     ensures rising { view.old.count ≤ view.new.count }
     ensures looks_least { let least = length view.old.bytes in
         IfOk result (λ _. CountsAtLeast view.old.count least view.new.count) }
@@ -59,8 +58,7 @@ pub fn walk<'a>(
     // Before a piece is refused, at least as many looks are taken as bytes come before its end.
     ensures looks_least_refused { let bad = first_bad view.old.bytes delim in
         let least = piece_end view.old.bytes delim bad in
-        IfErr result (λ e. refusal_of e ≢ out_of_memory
-        → CountsAtLeast view.old.count least view.new.count) }
+        IfErr result (λ e. refusal_of e ≢ out_of_memory → CountsAtLeast view.old.count least view.new.count) }
 
     // The first piece is looked at and tested before anything is allocated.
     ensures looks_first { let least = piece_end view.old.bytes delim 0 in

@@ -24,8 +24,7 @@ piece_is_there bytes range offset strings found before =
 abbrev place_in : GoblinRange → ℕ → Result (List ℕ) RefusalAt → Result (Option GoblinRange) RefusalAt
 place_in range offset answer = do
   strings ← answer
-  if nat_le (length strings) offset then Ok None
-      else Ok (Some (place_of range offset (piece strings 0 offset)))
+  if nat_le (length strings) offset then Ok None else Ok (Some (place_of range offset (piece strings 0 offset)))
 
 -- so they compare alike
 module _ (bytes : List ℕ) (range : GoblinRange) (offset : ℕ) where
@@ -47,8 +46,7 @@ module _ (bytes : List ℕ) (range : GoblinRange) (offset : ℕ) where
 name_compared : (strings : List ℕ) (offset : ℕ) (name : List ℕ)
     → is_utf8 name ≡ true → is_piece strings 0 offset name ≡ has_name strings 0 offset name
 unfolding is_piece has_name
-name_compared strings offset name is =
-    grind (arith, nat_tests, bytes_eq-Decides (piece strings 0 offset) name)
+name_compared strings offset name is = grind (arith, nat_tests, bytes_eq-Decides (piece strings 0 offset) name)
 
 named : (offset : ℕ) (name : List ℕ) (answer : Result (List ℕ) RefusalAt)
     → is_utf8 name ≡ true

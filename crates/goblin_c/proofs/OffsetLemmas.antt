@@ -78,8 +78,7 @@ none_loads address items none k y found =
     fails_before (loads address) items k y found (omega (arith, past, inside))
 
 -- the library's test is the one for C
-loads-Decides : (address : ℕ) (x : ProgramHeader)
-    → Decides (loads address x) (LoadsByte address (segment_converted x))
+loads-Decides : (address : ℕ) (x : ProgramHeader) → Decides (loads address x) (LoadsByte address (segment_converted x))
 loads-Decides address x = (
   λ is. (grind (arith, nat_tests), grind (arith, nat_tests), grind (arith, nat_tests)),
   λ is. grind (arith, nat_tests, is),
@@ -128,8 +127,7 @@ module _ (bytes : List ℕ) (h : GoblinHeader) (address : ℕ) (short : IsSlice 
 by_all : (bytes : List ℕ) (h : GoblinHeader) (address : ℕ) (all : Result (List ProgramHeader) RefusalAt)
     → IsSlice bytes → segments_expected bytes h ≡ all
     → IsOffsetOf bytes h address (all >>= λ segments. in_file bytes (loaded_from address segments))
-by_all bytes h address (Ok items) short is =
-    by_found bytes h address short items is (find (loads address) items) refl
+by_all bytes h address (Ok items) short is = by_found bytes h address short items is (find (loads address) items) refl
 by_all bytes h address (Err e) short is = inl (λ index. rw is refl)
 
 pub addresses_are_loaded : AddressesAreLoaded

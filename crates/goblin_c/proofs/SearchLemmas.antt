@@ -98,8 +98,7 @@ module _ {X Y : Type 0} (convert : X → Y) (IsSo : Y → Type 0) (test : X → 
   first_of_list : (all : Result (List X) RefusalAt) (first : ℕ)
       → let call = item_at (each_converted convert all) in
       FindsItemFrom first call IsSo (RefusesAll call) (all >>= λ items. Ok (first_item convert test first items))
-  first_of_list (Ok items) first =
-      first_found (RefusesAll (item_at (each_converted convert (Ok items)))) items first
+  first_of_list (Ok items) first = first_found (RefusesAll (item_at (each_converted convert (Ok items)))) items first
   first_of_list (Err e) first = λ index. refl
 
 pub sections_by_type : SectionsByType

@@ -30,8 +30,7 @@ short_parts parts short =
 pub laid-part : (text more part old now new : List ℕ) (len : ℕ)
     → more ≡ text ++ part → now ≡ laid text old → len ≡ length text → new ≡ take len now ++ laid part (drop len now)
     → new ≡ laid more old
-laid-part text more part old now new len is was long step =
-    rw (step, long, was, is) (laid-appended text part old)
+laid-part text more part old now new len is was long step = rw (step, long, was, is) (laid-appended text part old)
 
 pub long-part : (text more part : List ℕ) (n len : ℕ)
     → more ≡ text ++ part → len ≡ length text → n ≡ len + length part → n ≡ length more

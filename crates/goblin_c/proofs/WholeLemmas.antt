@@ -14,8 +14,7 @@ keeps_at place other_place list part is = grind arith
 
 sections_kept : (bytes : List ℕ) (h : GoblinHeader)
     → KeepsWhatIsRead (sections_expected bytes h) (sections_expected bytes (whole_header bytes h))
-sections_kept bytes h =
-    grind (arith, keeps_at, sections_of_whole bytes h.e_shoff h.e_shnum (ctx_of h))
+sections_kept bytes h = grind (arith, keeps_at, sections_of_whole bytes h.e_shoff h.e_shnum (ctx_of h))
 
 -- the program headers, with the two offsets of their refusals
 segments_by : (count other_count : Result ℕ Refusal) (list : ℕ → Result (List ProgramHeader) Refusal)

@@ -38,8 +38,7 @@ abbrev pub entries_from : List Dyn → ℕ → List GoblinDyn
 entries_from entries first = map dyn_converted (entries_up_to_null (drop first entries))
 
 -- those of a range, if there are some
-abbrev pub entries_from_expected :
-    List ℕ → GoblinHeader → GoblinRange → ℕ → Result (Option (List GoblinDyn)) RefusalAt
+abbrev pub entries_from_expected : List ℕ → GoblinHeader → GoblinRange → ℕ → Result (Option (List GoblinDyn)) RefusalAt
 entries_from_expected bytes h range first = do
   entries ← refused_at range.offset (refuse_as refusal_of (whole_entries_in bytes (file_range_of range) (ctx_of h)))
   Ok (unless_empty (entries_from entries first))

@@ -154,8 +154,7 @@ pub record WholeKeeps (bytes : List ℕ) (h : GoblinHeader) : Type 0 where
   pub segment :
       (index : ℕ)
       → KeepsWhatIsRead (segment_expected bytes h index) (segment_expected bytes (whole_header bytes h) index)
-  pub others :
-      record (whole_header bytes h) { e_shoff = h.e_shoff; e_shnum = h.e_shnum; e_phnum = h.e_phnum } ≡ h
+  pub others : record (whole_header bytes h) { e_shoff = h.e_shoff; e_shnum = h.e_shnum; e_phnum = h.e_phnum } ≡ h
 
 abbrev pub WholeHeaderKeeps : Type 0
 WholeHeaderKeeps = (bytes : List ℕ) (h : GoblinHeader) → WholeKeeps bytes h
@@ -280,8 +279,7 @@ abbrev pub FindsFrom :
 FindsFrom {Y} first call IsSo Refuses (Ok (Some index)) =
     (first ≤ index) × ((item : Y) × (call index ≡ Ok (Some item)) × IsSo item)
     × ((k : ℕ) (item : Y) → first ≤ k → k < index → call k ≡ Ok (Some item) → ¬ IsSo item)
-FindsFrom {Y} first call IsSo Refuses (Ok None) =
-    (k : ℕ) (item : Y) → first ≤ k → call k ≡ Ok (Some item) → ¬ IsSo item
+FindsFrom {Y} first call IsSo Refuses (Ok None) = (k : ℕ) (item : Y) → first ≤ k → call k ≡ Ok (Some item) → ¬ IsSo item
 FindsFrom first call IsSo Refuses (Err refusal) = Refuses refusal
 
 -- a result is such an index with the item there

@@ -22,8 +22,7 @@ abbrev pub bytes_from : List ℕ → GoblinRange → ℕ → List ℕ
 bytes_from bytes range offset = drop offset (take (range.offset + range.size) bytes)
 
 -- the whole note at an offset, which must lie in the range: none from the range's end on
-abbrev pub note_bytes_expected : List ℕ
-    → GoblinHeader → GoblinRange → ℕ → ℕ → Result (Option GoblinNote) PartRefusal
+abbrev pub note_bytes_expected : List ℕ → GoblinHeader → GoblinRange → ℕ → ℕ → Result (Option GoblinNote) PartRefusal
 note_bytes_expected bytes h range alignment offset =
     if nat_le (range.offset + range.size) offset then Ok None
     else do

@@ -29,8 +29,7 @@ StoresBoth expected first second was status new_first new_second why =
 -- kind, and the refusal. All else is unchanged.
 abbrev pub Reports : Result Bool RefusalAt → GoblinRefusal → ℕ → GoblinRefusal → Type 0
 Reports (Ok is_so) was status why = (status ≡ (if is_so then OK else END)) × (why ≡ was)
-Reports (Err refusal) was status why =
-    (status ≡ (refusal_converted refusal).kind) × (why ≡ refusal_converted refusal)
+Reports (Err refusal) was status why = (status ≡ (refusal_converted refusal).kind) × (why ≡ refusal_converted refusal)
 
 -- What a call returns and stores that fills a buffer with the items from an index on: 0, as many items as the buffer
 -- holds, and how many those are; 1 past the last item; or the number of the kind, and the refusal. All else is

@@ -75,8 +75,7 @@ Changes (Err refusal) old was status new why = (status ≡ refusal.kind) × (new
 
 -- What a call that puts a record returns and changes: the result that is expected if the record fits, or the one for
 -- its first value that doesn't.
-abbrev pub Puts : Type 0
-    → Misfit → (Option Misfit → Put) → List ℕ → GoblinRefusal → ℕ → List ℕ → GoblinRefusal → Type 0
+abbrev pub Puts : Type 0 → Misfit → (Option Misfit → Put) → List ℕ → GoblinRefusal → ℕ → List ℕ → GoblinRefusal → Type 0
 Puts Fits misfit expected old was status new why =
     (Fits × Changes (expected None) old was status new why)
     ⊎ (¬ Fits × Changes (expected (Some misfit)) old was status new why)
@@ -129,8 +128,7 @@ reloc_of r = record {
 
 -- the identification: the magic number, the bytes that the header for C has, and those that pad it in the file
 abbrev pub ident_of : List ℕ → GoblinHeader → List ℕ
-ident_of bytes h =
-    magic ++ h.ei_class ∷ h.ei_data ∷ h.ei_version ∷ h.ei_osabi ∷ h.ei_abiversion ∷ take 7 (drop 9 bytes)
+ident_of bytes h = magic ++ h.ei_class ∷ h.ei_data ∷ h.ei_version ∷ h.ei_osabi ∷ h.ei_abiversion ∷ take 7 (drop 9 bytes)
 
 abbrev pub header_of : List ℕ → GoblinHeader → Header
 header_of bytes h = record {

@@ -125,8 +125,7 @@ HeadersAreRead =
 -- a result is a refusal of kind 24 that names a value and the offset of its field, of a record at an offset
 abbrev pub IsUnfit : ℕ → Misfit → Put → Type 0
 IsUnfit place misfit (Ok put) = ⊥
-IsUnfit place misfit (Err why) =
-    (why.kind ≡ 24) × (why.first ≡ misfit.value) × (why.offset ≡ place + misfit.offset)
+IsUnfit place misfit (Err why) = (why.kind ≡ 24) × (why.first ≡ misfit.value) × (why.offset ≡ place + misfit.offset)
 
 -- so is what doesn't fit, if the call that reads stores an item there
 pub record UnfitAreRefused : Type 0 where

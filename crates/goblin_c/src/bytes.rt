@@ -50,8 +50,7 @@ pub extern "C" fn goblin_section_bytes(
     range: &mut GoblinRange,
     why: &mut GoblinRefusal,
 ) -> u32
-    ensures { Stores (section_bytes_expected bytes.now section.now)
-        range.old why.old result range.new why.new }
+    ensures { Stores (section_bytes_expected bytes.now section.now) range.old why.old result range.new why.new }
 {
     let sh_type = section.sh_type;
     if sh_type == SHT_NULL || sh_type == SHT_NOBITS || section.file.size == 0 {
@@ -68,8 +67,7 @@ pub extern "C" fn goblin_segment_bytes(
     range: &mut GoblinRange,
     why: &mut GoblinRefusal,
 ) -> u32
-    ensures { Stores (segment_bytes_expected bytes.now segment.now)
-        range.old why.old result range.new why.new }
+    ensures { Stores (segment_bytes_expected bytes.now segment.now) range.old why.old result range.new why.new }
 {
     if segment.p_type == PT_NULL || segment.file.size == 0 {
         return END;
@@ -86,8 +84,7 @@ pub extern "C" fn goblin_string_bytes(
     string: &mut GoblinRange,
     why: &mut GoblinRefusal,
 ) -> u32
-    ensures { Stores (string_bytes_expected bytes.now strings.now offset)
-        string.old why.old result string.new why.new }
+    ensures { Stores (string_bytes_expected bytes.now strings.now offset) string.old why.old result string.new why.new }
 {
     let start = offset as usize;
     let found = string_table_bytes(bytes, strings).map(|table| {
@@ -137,8 +134,7 @@ pub extern "C" fn goblin_number(
     value: &mut u64,
     why: &mut GoblinRefusal,
 ) -> u32
-    ensures { Stores (number_expected bytes.now header.now offset width)
-        value.old why.old result value.new why.new }
+    ensures { Stores (number_expected bytes.now header.now offset width) value.old why.old result value.new why.new }
 {
     store(number(bytes, header, offset, width), value, why)
 }

@@ -49,8 +49,7 @@ pub extern "C" fn goblin_dynamic(
     dynamic: &mut GoblinRange,
     why: &mut GoblinRefusal,
 ) -> u32
-    ensures { Stores (dynamic_expected bytes.now header.now)
-        dynamic.old why.old result dynamic.new why.new }
+    ensures { Stores (dynamic_expected bytes.now header.now) dynamic.old why.old result dynamic.new why.new }
 {
     let found = segments_of(bytes, header).map(|segments| Dynamic::range_by_segments(&segments));
     let found = found.and_then(|range| range_in_file(bytes, range));
@@ -123,8 +122,7 @@ fn entries_of<'a>(
     header: &GoblinHeader,
     range: &GoblinRange,
 ) -> Result<Dynamic<'a>>
-    ensures { Returns (λ entries. entries) result
-        (entries_expected bytes.now header.now range.now) }
+    ensures { Returns (λ entries. entries) result (entries_expected bytes.now header.now range.now) }
 {
     let entries = Dynamic::in_range(bytes, file_range_of(range), ctx_of(header));
     refused_at(range.offset, entries)
@@ -153,8 +151,7 @@ fn strings_of(
     header: &GoblinHeader,
     range: &GoblinRange,
 ) -> Result<Option<GoblinRange>>
-    ensures { Returns (λ found. found) result
-        (dynamic_strings_expected bytes.now header.now range.now) }
+    ensures { Returns (λ found. found) result (dynamic_strings_expected bytes.now header.now range.now) }
 {
     let entries = entries_of(bytes, header, range)?;
     let segments = segments_of(bytes, header)?;

@@ -93,8 +93,7 @@ pub extern "C" fn goblin_section_count(
     count: &mut u64,
     why: &mut GoblinRefusal,
 ) -> u32
-    ensures { Stores (section_count_expected bytes.now header.now)
-        count.old why.old result count.new why.new }
+    ensures { Stores (section_count_expected bytes.now header.now) count.old why.old result count.new why.new }
 {
     store(count_of(sections_of(bytes, header)), count, why)
 }
@@ -116,8 +115,7 @@ impl Listed for Table<'_, SectionHeader, Ctx> {
 
 // Returns the position of the first section of a type among those from an index on.
 fn find_type(sections: &Table<'_, SectionHeader, Ctx>, sh_type: u32, first: usize) -> Option<usize>
-    ensures value { result
-        ≡ position (λ section. section.sh_type == sh_type) (drop first sections.now) }
+    ensures value { result ≡ position (λ section. section.sh_type == sh_type) (drop first sections.now) }
     ensures bound { IfSome result (λ place. first + place < 2 ^ 64) }
 {
     sections
@@ -177,8 +175,7 @@ pub extern "C" fn goblin_linked_section(
     section: &mut GoblinSection,
     why: &mut GoblinRefusal,
 ) -> u32
-    ensures { Stores (table_expected bytes.now header.now index)
-        section.old why.old result section.new why.new }
+    ensures { Stores (table_expected bytes.now header.now index) section.old why.old result section.new why.new }
 {
     let sections = sections_of(bytes, header);
     let found = sections.map(|sections| converted_table(&sections, index as usize));
@@ -193,8 +190,7 @@ pub extern "C" fn goblin_section_names(
     section: &mut GoblinSection,
     why: &mut GoblinRefusal,
 ) -> u32
-    ensures { Stores (section_names_expected bytes.now header.now)
-        section.old why.old result section.new why.new }
+    ensures { Stores (section_names_expected bytes.now header.now) section.old why.old result section.new why.new }
 {
     let found = sections_of(bytes, header).map(|sections| {
         let index = header.names_index(sections.get(0).as_ref());
@@ -259,8 +255,7 @@ pub extern "C" fn goblin_segment_count(
     count: &mut u64,
     why: &mut GoblinRefusal,
 ) -> u32
-    ensures { Stores (segment_count_expected bytes.now header.now)
-        count.old why.old result count.new why.new }
+    ensures { Stores (segment_count_expected bytes.now header.now) count.old why.old result count.new why.new }
 {
     store(count_of(segments_of(bytes, header)), count, why)
 }

@@ -93,8 +93,7 @@ fn symbol_inside(
     ctx: Ctx,
 ) -> Option<Sym>
     requires { ctx_of header.now ≡ ctx }
-    ensures { IfSome result (λ found.
-        symbol_expected bytes.now header.now range.now index
+    ensures { IfSome result (λ found. symbol_expected bytes.now header.now range.now index
         ≡ Ok (Some (symbol_converted found))) }
 {
     let found: Sym = record_in(bytes, range.offset, range.size, index, ctx)?;
@@ -198,8 +197,7 @@ pub extern "C" fn goblin_section(
     section: &mut GoblinSection,
     why: &mut GoblinRefusal,
 ) -> u32
-    ensures { Stores (section_expected bytes.now header.now index)
-        section.old why.old result section.new why.new }
+    ensures { Stores (section_expected bytes.now header.now index) section.old why.old result section.new why.new }
 {
     if let Some(found) = section_inside(bytes, header, index) {
         *section = found;
@@ -218,8 +216,7 @@ fn store_any_section(
     section: &mut GoblinSection,
     why: &mut GoblinRefusal,
 ) -> u32
-    ensures { Stores (section_expected bytes.now header.now index)
-        section.old why.old result section.new why.new }
+    ensures { Stores (section_expected bytes.now header.now index) section.old why.old result section.new why.new }
 {
     store(item_at(sections_of(bytes, header), index), section, why)
 }
@@ -247,8 +244,7 @@ pub extern "C" fn goblin_segment(
     segment: &mut GoblinSegment,
     why: &mut GoblinRefusal,
 ) -> u32
-    ensures { Stores (segment_expected bytes.now header.now index)
-        segment.old why.old result segment.new why.new }
+    ensures { Stores (segment_expected bytes.now header.now index) segment.old why.old result segment.new why.new }
 {
     if let Some(found) = segment_inside(bytes, header, index) {
         *segment = found;
@@ -267,8 +263,7 @@ fn store_any_segment(
     segment: &mut GoblinSegment,
     why: &mut GoblinRefusal,
 ) -> u32
-    ensures { Stores (segment_expected bytes.now header.now index)
-        segment.old why.old result segment.new why.new }
+    ensures { Stores (segment_expected bytes.now header.now index) segment.old why.old result segment.new why.new }
 {
     store(item_at(segments_of(bytes, header), index), segment, why)
 }
@@ -285,8 +280,7 @@ fn reloc_inside(
     ctx: Ctx,
 ) -> Option<GoblinReloc>
     requires { ctx_of header.now ≡ ctx }
-    ensures { IfSome result (λ found.
-        reloc_expected bytes.now header.now range.now is_rela index ≡ Ok (Some found)) }
+    ensures { IfSome result (λ found. reloc_expected bytes.now header.now range.now is_rela index ≡ Ok (Some found)) }
 {
     if header.e_machine == EM_MIPS {
         return None;

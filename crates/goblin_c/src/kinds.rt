@@ -23,10 +23,7 @@ pub const NOTE_DESC: u32 = 6;
 
 /// Laws: the number of each constant.
 pub fn constants()
-    ensures answers { OK ∷ END ∷ []
-        ≡ 0 ∷ 1 ∷ [] }
-    ensures items { INVALID_UTF8 ∷ SECTION_HEADERS ∷ PROGRAM_HEADERS ∷ []
-        ≡ 1 ∷ 2 ∷ 3 ∷ [] }
-    ensures notes { NOTE_HEADER ∷ NOTE_NAME ∷ NOTE_DESC ∷ []
-        ≡ 4 ∷ 5 ∷ 6 ∷ [] }
+    ensures answers { OK ∷ END ∷ [] ≡ 0 ∷ 1 ∷ [] }
+    ensures items { INVALID_UTF8 ∷ SECTION_HEADERS ∷ PROGRAM_HEADERS ∷ [] ≡ 1 ∷ 2 ∷ 3 ∷ [] }
+    ensures notes { NOTE_HEADER ∷ NOTE_NAME ∷ NOTE_DESC ∷ [] ≡ 4 ∷ 5 ∷ 6 ∷ [] }
 {}

@@ -129,8 +129,7 @@ pub extern "C" fn goblin_note_bytes(
     note: &mut GoblinNote,
     why: &mut GoblinRefusal,
 ) -> u32
-    ensures { StoresNote offset
-        (note_bytes_expected bytes.now header.now range.now alignment offset)
+    ensures { StoresNote offset (note_bytes_expected bytes.now header.now range.now alignment offset)
         note.old why.old result note.new why.new }
 {
     if offset >= range.offset && offset - range.offset >= range.size {

@@ -40,8 +40,7 @@ pub fn number_in(
     offset: u64,
     width: u64,
 ) -> Result<Option<u64>>
-    ensures { Returns (λ found. found) result
-        (number_in_expected bytes.now header.now range.now offset width) }
+    ensures { Returns (λ found. found) result (number_in_expected bytes.now header.now range.now offset width) }
 {
     if !is_width(width) {
         return Ok(None);
@@ -70,8 +69,7 @@ pub extern "C" fn goblin_number_in(
 
 /// Returns the offset in the file of the byte that is loaded at an address.
 pub fn address_to_offset(bytes: &[u8], header: &GoblinHeader, address: u64) -> Result<Option<u64>>
-    ensures { Returns (λ found. found) result
-        (address_to_offset_expected bytes.now header.now address) }
+    ensures { Returns (λ found. found) result (address_to_offset_expected bytes.now header.now address) }
 {
     let segments = segments_of(bytes, header)?;
     match ProgramHeader::loaded_from(&segments, address) {

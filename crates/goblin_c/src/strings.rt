@@ -18,8 +18,7 @@ use goblin::strtab::{bytes_in_range, is_piece, piece_len, short_piece_len, start
 /// Returns the bytes of a string table.
 #[tactic(auto, unfolding(goblin_base::specs::Strtab::range_in))]
 pub fn string_table_bytes<'a>(bytes: &'a [u8], range: &GoblinRange) -> Result<&'a [u8]>
-    ensures given { Returns (λ strings. strings.now) result
-        (strings_expected bytes.now range.now) }
+    ensures given { Returns (λ strings. strings.now) result (strings_expected bytes.now range.now) }
     ensures fits { IfOk result (λ strings. range.now.offset + length strings.now ≤ length bytes.now) }
 {
     let strings = bytes_in_range(
@@ -57,8 +56,7 @@ pub extern "C" fn goblin_string(
     string: &mut GoblinRange,
     why: &mut GoblinRefusal,
 ) -> u32
-    ensures { Stores (string_expected bytes.now strings.now offset)
-        string.old why.old result string.new why.new }
+    ensures { Stores (string_expected bytes.now strings.now offset) string.old why.old result string.new why.new }
 {
     store(string_at(bytes, strings, offset), string, why)
 }
@@ -68,8 +66,7 @@ pub extern "C" fn goblin_string(
 #[inline(always)]
 #[tactic(auto, using(crate::proofs::CompareLemmas::inside))]
 fn up_to_table_end<'a>(bytes: &'a [u8], range: &GoblinRange) -> Option<&'a [u8]>
-    ensures value { MatchOption result
-        (IsErr (strings_expected bytes.now range.now))
+    ensures value { MatchOption result (IsErr (strings_expected bytes.now range.now))
         (λ file. strings_expected bytes.now range.now ≡ Ok (drop range.now.offset file.now)) }
     ensures fits { IfSome result (λ file. range.now.offset ≤ length file.now) }
 {
@@ -122,8 +119,7 @@ pub extern "C" fn goblin_string_is(
     name: &[u8],
     why: &mut GoblinRefusal,
 ) -> u32
-    ensures { Reports (string_is_expected bytes.now strings.now offset name.now)
-        why.old result why.new }
+    ensures { Reports (string_is_expected bytes.now strings.now offset name.now) why.old result why.new }
 {
     match up_to_table_end(bytes, strings) {
         Some(file) => piece_status(file, strings.offset as usize, offset as usize, name),
@@ -140,8 +136,7 @@ pub extern "C" fn goblin_string_starts(
     start: &[u8],
     why: &mut GoblinRefusal,
 ) -> u32
-    ensures { Reports (string_starts_expected bytes.now strings.now offset start.now)
-        why.old result why.new }
+    ensures { Reports (string_starts_expected bytes.now strings.now offset start.now) why.old result why.new }
 {
     match up_to_table_end(bytes, strings) {
         Some(file) => start_status(file, strings.offset as usize, offset as usize, start),
@@ -197,8 +192,7 @@ pub extern "C" fn goblin_strings(
     filled: &mut u64,
     why: &mut GoblinRefusal,
 ) -> u32
-    ensures { FillsEach
-        (map (string_bytes_expected bytes.now strings.now) (take (length ranges.old) offsets.now))
+    ensures { FillsEach (map (string_bytes_expected bytes.now strings.now) (take (length ranges.old) offsets.now))
         ranges.old why.old result ranges.new filled.new why.new }
 {
     *filled = 0;

@@ -25,8 +25,7 @@ pub fn symbols_of<'a>(
     header: &GoblinHeader,
     range: &GoblinRange,
 ) -> Result<Symtab<'a>>
-    ensures { Returns (λ table. table.symbols) result
-        (symbols_expected bytes.now header.now range.now) }
+    ensures { Returns (λ table. table.symbols) result (symbols_expected bytes.now header.now range.now) }
 {
     let (offset, size) = (range.offset as usize, range.size as usize);
     let table = Symtab::in_range(bytes, offset, size, ctx_of(header), &ParseOptions::strict());
@@ -60,8 +59,7 @@ pub extern "C" fn goblin_symbol_count(
     count: &mut u64,
     why: &mut GoblinRefusal,
 ) -> u32
-    ensures { Stores (symbol_count_expected bytes.now header.now table.now)
-        count.old why.old result count.new why.new }
+    ensures { Stores (symbol_count_expected bytes.now header.now table.now) count.old why.old result count.new why.new }
 {
     store(count_of(symbols_of(bytes, header, table)), count, why)
 }
@@ -87,8 +85,7 @@ pub fn relocs_of<'a>(
     range: &GoblinRange,
     is_rela: bool,
 ) -> Result<RelocSection<'a>>
-    ensures { Returns (λ relocs. relocs) result
-        (relocs_expected bytes.now header.now range.now is_rela) }
+    ensures { Returns (λ relocs. relocs) result (relocs_expected bytes.now header.now range.now is_rela) }
 {
     let ctx = ctx_of(header);
     let relocs = RelocSection::parse_inner(
@@ -161,8 +158,7 @@ pub fn section_by_name(
     name: &[u8],
     first: u64,
 ) -> Result<Option<(u64, GoblinSection)>>
-    ensures { Returns (λ found. found) result
-        (section_by_name_expected bytes.now header.now names.now name.now first) }
+    ensures { Returns (λ found. found) result (section_by_name_expected bytes.now header.now names.now name.now first) }
 {
     let sections = sections_of(bytes, header)?;
     let strings = string_table_bytes(bytes, names)?;
@@ -243,8 +239,7 @@ pub fn symbol_by_address(
     range: &GoblinRange,
     address: u64,
 ) -> Result<Option<u64>>
-    ensures { Returns (λ found. found) result
-        (symbol_by_address_expected bytes.now header.now range.now address) }
+    ensures { Returns (λ found. found) result (symbol_by_address_expected bytes.now header.now range.now address) }
 {
     let symbols = symbols_of(bytes, header, range)?;
     let sections = sections_of(bytes, header)?;

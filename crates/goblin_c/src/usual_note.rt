@@ -64,8 +64,7 @@ pub fn usual_note(
     alignment: u64,
     offset: u64,
 ) -> Option<GoblinNote>
-    ensures { IfSome result (λ note.
-        note_expected bytes.now header.now range.now alignment offset ≡ Ok (Some note)) }
+    ensures { IfSome result (λ note. note_expected bytes.now header.now range.now alignment offset ≡ Ok (Some note)) }
 {
     if header.ei_data == ELFDATA2MSB || offset >= bytes.len() as u64 {
         return None;

@@ -57,8 +57,7 @@ fn put_found<T: Drop, R: LaidOut<C>, C: Copy>(
     requires { (x : T) → found ≡ Ok (Some x)
         → start + index * (R.layout ctx).size + (R.layout ctx).size ≤ length bytes.old }
     ensures { let put = put_at (R.layout ctx) bytes.old start index own misfit in
-        Changes (put_if_there (refuse_as refusal_at found) put)
-        bytes.old why.old result bytes.new why.new }
+        Changes (put_if_there (refuse_as refusal_at found) put) bytes.old why.old result bytes.new why.new }
 {
     match found {
         Ok(Some(_)) => {
@@ -85,8 +84,7 @@ pub extern "C" fn goblin_put_section(
 ) -> u32
     ensures { Puts (SectionFits header.now section.now)
         (section_misfit (ctx_of header.now).container (section_of section.now))
-        (section_put_expected bytes.old header.now index section.now)
-        bytes.old why.old result bytes.new why.new }
+        (section_put_expected bytes.old header.now index section.now) bytes.old why.old result bytes.new why.new }
 {
     let found = item_at(sections_of(bytes, header), index);
     let (ctx, record) = (ctx_of(header), section_of(section));
@@ -105,8 +103,7 @@ pub extern "C" fn goblin_put_segment(
 ) -> u32
     ensures { Puts (SegmentFits header.now segment.now)
         (segment_misfit (ctx_of header.now).container (segment_of segment.now))
-        (segment_put_expected bytes.old header.now index segment.now)
-        bytes.old why.old result bytes.new why.new }
+        (segment_put_expected bytes.old header.now index segment.now) bytes.old why.old result bytes.new why.new }
 {
     let found = item_at(segments_of(bytes, header), index);
     let (ctx, record) = (ctx_of(header), segment_of(segment));
@@ -166,8 +163,7 @@ pub extern "C" fn goblin_put_reloc(
     reloc: &GoblinReloc,
     why: &mut GoblinRefusal,
 ) -> u32
-    ensures { Puts (RelocFits header.now is_rela reloc.now)
-        (reloc_misfit (ctx_of header.now).container reloc.now)
+    ensures { Puts (RelocFits header.now is_rela reloc.now) (reloc_misfit (ctx_of header.now).container reloc.now)
         (reloc_put_expected bytes.old header.now table.now is_rela index reloc.now)
         bytes.old why.old result bytes.new why.new }
 {
@@ -217,8 +213,7 @@ pub extern "C" fn goblin_put_number(
     why: &mut GoblinRefusal,
 ) -> u32
     ensures { Puts (NumberFits width value) (number_misfit value)
-        (number_put_expected bytes.old header.now offset width value)
-        bytes.old why.old result bytes.new why.new }
+        (number_put_expected bytes.old header.now offset width value) bytes.old why.old result bytes.new why.new }
 {
     match number(bytes, header, offset, width) {
         Ok(Some(_)) => {
@@ -290,8 +285,7 @@ pub extern "C" fn goblin_put_header(
 ) -> u32
     ensures { Puts (FitsClass bytes.old header.now)
         (header_misfit (ctx_of header.now).container (header_of bytes.old header.now))
-        (header_put_expected bytes.old header.now)
-        bytes.old why.old result bytes.new why.new }
+        (header_put_expected bytes.old header.now) bytes.old why.old result bytes.new why.new }
 {
     let ctx = match named_ctx(bytes, header) {
         Ok(ctx) => ctx,

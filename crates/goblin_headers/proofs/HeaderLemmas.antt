@@ -78,8 +78,7 @@ module _ {R : Type 0} (s : HeaderShape R)
       (take_at (s.ident h) (after ++ rest) 16 long)
       ∙ ap (s.of_values (s.ident h)) values
 
-  image-read : (bytes : List ℕ)
-      → IsBytes bytes → l.size ≤ length bytes → l.image (l.read bytes) ≡ take (l.size) bytes
+  image-read : (bytes : List ℕ) → IsBytes bytes → l.size ≤ length bytes → l.image (l.read bytes) ≡ take (l.size) bytes
   image-read bytes are room =
       ap (λ (i : List ℕ). i ++ image_of_fields order (s.fields (l.read bytes))) (ident-read bytes)
       ∙ ap (λ (all : List Field). take 16 bytes ++ image_of_fields order all) (fields_read order bytes)
@@ -161,8 +160,7 @@ pub one_header_image : {R : Type 0} {ident : R → List ℕ} {layout : Endian �
 one_header_image {layout = layout} all order h bytes long are =
     let laws = all order in (
       λ is. rw is (laws.image_bytes h are, laws.length_image h long, reads_alone laws h long),
-      λ so.
-          image_of_read laws bytes so.0 so.1 ∙ ap ((layout order).image) so.2 ∙ image-low laws h long are,
+      λ so. image_of_read laws bytes so.0 so.1 ∙ ap ((layout order).image) so.2 ∙ image-low laws h long are,
     )
 
 -- those that fit are those that are their own low bits

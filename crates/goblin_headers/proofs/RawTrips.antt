@@ -6,13 +6,13 @@
 -- (`was_read_in_order`), so it is written in that order, over the same bytes (`raw_writes_back`).
 use Rattle.goblin_headers.proofs.Common.{◌≡◌, ◌<◌, ◌≤◌, ℕ, List, ◌++◌, length, take, drop, slice_index, Some, Result}
 use Rattle.goblin_headers.proofs.Common.{Ok, refl, sym, ap, ◌∙◌, arith, Endian, Error, Layout, Writes, room_of_fits}
-use Rattle.goblin_headers.proofs.Common.{fits-room_of, order_named, order_of, WritesInOrder, room_of}
+use Rattle.goblin_headers.proofs.Common.{fits-room_of, order_named, order_of, WritesInOrder, room_of, step, found}
+use Rattle.goblin_headers.proofs.Common.{found_within}
 use Rattle.std.proofs.lemmas.List.{append_assoc, get_or_append_left, get_or-take, length-append, take-append-drop}
 use Rattle.goblin_base.specs.declared.error.Fault.{Fault}
 use Rattle.goblin_headers.specs.HeaderTrips.{IsReadBack, IsWrittenAndReadBack, IsWrittenBack}
 use Rattle.goblin_headers.specs.ReadHeader.{needs, read_in_order}
 use Rattle.goblin_headers.proofs.HeaderLemmas.{IsHeader}
-use Rattle.goblin_base.proofs.StepLemmas.{step, found, found_within}
 
 -- ---- reading and writing in the byte order that is named
 -- the result of writing into a buffer that is large enough, and what it leaves there

@@ -7,15 +7,12 @@
 use Rattle.goblin_headers.proofs.Common.{◌≡◌, ◌<◌, ◌≤◌, ◌/◌, ℕ, List, length, take, drop, codes, max, nat_lt, true}
 use Rattle.goblin_headers.proofs.Common.{false, Result, Ok, Err, IfErr, inl, inr, refl, sym, ap, ◌∙◌, arith, cases_lt}
 use Rattle.goblin_headers.proofs.Common.{nat_tests, Ctx, Error, unless_fault, unless_fault-is, unless_fault-err}
-use Rattle.goblin_headers.proofs.Common.{fits-room_of, room_of, not_too_many, too_many, SectionHeader}
+use Rattle.goblin_headers.proofs.Common.{fits-room_of, room_of, not_too_many, too_many, SectionHeader, records_from}
+use Rattle.goblin_headers.proofs.Common.{section_header_size, section_header_of, section_header_laws, le-div_iff_mul-le}
 use Rattle.std.proofs.lemmas.List.{take-append-drop, length-take-le, length-drop}
-use Rattle.goblin_base.specs.Eager.{records_from}
 use Rattle.goblin_base.specs.Refusal.{refusal_of, buffer_too_short, Refuses}
-use Rattle.goblin_headers.specs.SectionHeader.{section_header_size, section_header_of}
-use Rattle.goblin_headers.specs.SectionHeaderLaws.{section_header_laws}
 use Rattle.goblin_headers.specs.SectionHeaders.{header_count, count_asked, count_from, section_headers_from_tested}
 use Rattle.goblin_headers.specs.SectionHeaders.{section_headers_from}
-use Rattle.std.proofs.Math.Nat.{le-div_iff_mul-le}
 
 -- the result of reading the first header
 abbrev pub read_first : List ℕ → ℕ → Ctx → Result SectionHeader Error

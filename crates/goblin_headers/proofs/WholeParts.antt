@@ -7,24 +7,21 @@ use Rattle.goblin_headers.proofs.Common.{◌≡◌, ◌<◌, ◌≤◌, ◌+◌,
 use Rattle.goblin_headers.proofs.Common.{codes, Bool, true, false, nat_lt, min, max, Result, Ok, Err, IsOk, refl, sym}
 use Rattle.goblin_headers.proofs.Common.{ap, ◌∙◌, arith, if◌then◌else◌, nat_tests, Ctx, Error, unless_fault}
 use Rattle.goblin_headers.proofs.Common.{fits-room_of, unless_fault-is, room_of, all_fit, SectionHeader, refuse_as}
-use Rattle.goblin_headers.proofs.Common.{refuse_if}
-use Rattle.std.proofs.Math.Nat.{le-div_iff_mul-le}
+use Rattle.goblin_headers.proofs.Common.{refuse_if, le-div_iff_mul-le, records_from, section_header_of}
+use Rattle.goblin_headers.proofs.Common.{section_header_size, section_header_laws, step, found_within}
 use Rattle.goblin_base.specs.declared.scroll.Error.{Error as Misplaced}
-use Rattle.goblin_base.specs.Eager.{records_from, room_of_each}
+use Rattle.goblin_base.specs.Eager.{room_of_each}
 use Rattle.goblin_base.specs.Refusal.{buffer_too_short, misplaced, refusal_of}
 use Rattle.goblin_base.specs.Record.{records}
 use Rattle.goblin_headers.specs.declared.program_header.ProgramHeader.{ProgramHeader}
 use Rattle.goblin_headers.specs.declared.whole_part.WholePart.{WholePart}
 use Rattle.goblin_headers.specs.ProgramHeader.{program_header_of, program_header_size}
-use Rattle.goblin_headers.specs.SectionHeader.{section_header_of, section_header_size}
 use Rattle.goblin_headers.specs.SectionHeaders.{count_asked, count_from, section_headers_from, section_headers_of}
 use Rattle.goblin_headers.specs.WholePart.{IsListOfWhole, SectionsOfWhole, SegmentsOfWhole, WholeIsListed, cut_sections}
 use Rattle.goblin_headers.specs.WholePart.{cut_segments, program_headers_of, sections_part, segment_count}
 use Rattle.goblin_headers.specs.WholePart.{whole_sections, whole_segments}
 use Rattle.goblin_headers.proofs.ReadSections.{first_refused, from_is}
 use Rattle.goblin_headers.specs.ProgramHeaderLaws.{program_header_laws}
-use Rattle.goblin_headers.specs.SectionHeaderLaws.{section_header_laws}
-use Rattle.goblin_base.proofs.StepLemmas.{step, found_within}
 
 -- records that pass the test of room one by one lie in the bytes
 each_fits : (len start size count : ℕ)

@@ -8,6 +8,7 @@ use Rattle.goblin_headers.proofs.Common.{◌≡◌, ◌≤◌, ℕ, true, nat_eq
 use Rattle.goblin_headers.proofs.Common.{Some, Result, Ok, refl, sym, ap, ◌∙◌, arith, false, nat_lt, not, Err}
 use Rattle.goblin_headers.proofs.Common.{Container, Endian, Error, with_size, Layout, number_at, refuse_if, Header}
 use Rattle.goblin_headers.proofs.Common.{header_layout, order_named, class_of, WritesHeader, WritesInOrder, nat_tests}
+use Rattle.goblin_headers.proofs.Common.{BadMagic, DataType, ElfClass, Malformed, TooSmall, step, passed, found}
 use Rattle.std.specs.List.{starts_with}
 use Rattle.std.proofs.lemmas.List.{append_assoc, append-nil, length-append, length-take-le, take-append-drop}
 use Rattle.std.proofs.lemmas.List.{take-append-le}
@@ -21,8 +22,6 @@ use Rattle.goblin_headers.specs.ReadHeader.{read_header, read_in_order}
 use Rattle.goblin_headers.proofs.HeaderLemmas.{header_laws, headers_fit, one_header_image}
 use Rattle.goblin_headers.proofs.RawTrips.{WasReadInOrder, front_byte, ident_byte, raw_reads_back, raw_writes_back}
 use Rattle.goblin_headers.proofs.RawTrips.{was_read_in_order, writes_in_order, reads_in_order}
-use Rattle.goblin_headers.specs.Common.{BadMagic, DataType, ElfClass, Malformed, TooSmall}
-use Rattle.goblin_base.proofs.StepLemmas.{step, passed, found}
 
 -- ---- reading a header of either class is reading a raw one, after the tests of its magic number and its class byte
 -- the bytes begin as a file of a class does

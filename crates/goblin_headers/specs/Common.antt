@@ -21,5 +21,9 @@ pub use Rattle.goblin_base.specs.declared.error.Fault.TheVariants.{InvalidEndian
 pub use Rattle.goblin_headers.specs.declared.header.Header.{Header}
 pub use Rattle.goblin_headers.specs.declared.program_header.ProgramHeader.{ProgramHeader}
 pub use Rattle.goblin_headers.specs.declared.section_header.SectionHeader.{SectionHeader}
+pub use Rattle.std.proofs.Common.{lit<, refl}
 pub use Rattle.std.specs.Int.{IsBitSet}
-pub use Rattle.std.specs.Prelude.{None, Ok, Option, Result, Some, slice_index, take, ◌<◌, ◌^◌}
+pub use Rattle.std.specs.Prelude.{Bool, Err, IfErr, IfOk, IfSome, IsNone, IsOk, IsTrue, List, None, Ok, Option, Result}
+pub use Rattle.std.specs.Prelude.{Some, [], alloc_error, codes, drop, find, if◌then◌else◌, length, map, max, min}
+pub use Rattle.std.specs.Prelude.{nat_eq, nat_le, nat_lt, not, replicate, slice_index, take, true, vec_capacity, ℕ, ◌%◌}
+pub use Rattle.std.specs.Prelude.{◌&&◌, ◌*◌, ◌++◌, ◌+◌, ◌-◌, ◌/◌, ◌<◌, ◌==◌, ◌^◌, ◌||◌, ◌↔◌, ◌∷◌, ◌≡◌, ◌≤◌, ◌⊎◌}

@@ -1,6 +1,5 @@
 -- The names of classes and file types (System V gABI, "ELF Identification" and "ELF Header", e_type).
-use Rattle.std.specs.Prelude.{ℕ, List, [], ◌∷◌, codes}
-use Rattle.goblin_headers.specs.Common.{name_in}
+use Rattle.goblin_headers.specs.Common.{name_in, ℕ, List, [], ◌∷◌, codes}
 
 -- each class byte that has a name, and the name
 abbrev pub class_names : List (ℕ × List ℕ)

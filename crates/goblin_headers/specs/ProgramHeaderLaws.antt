@@ -1,6 +1,5 @@
 -- Laws of program headers of each class: written headers are read back, and headers that were read are written back.
-use Rattle.std.proofs.Common.{refl, lit<}
-use Rattle.goblin_headers.specs.Common.{Container, Endian, IsRecord, IsSameInEachClass, shaped, Little, Big}
+use Rattle.goblin_headers.specs.Common.{Container, Endian, IsRecord, IsSameInEachClass, shaped, Little, Big, refl, lit<}
 use Rattle.goblin_base.specs.LayoutLaws.{plain_laws, widened_laws, same_in_each_class}
 use Rattle.goblin_headers.specs.ProgramHeader.{program_header32, program_header64, program_header_layout, as32, as64}
 use Rattle.goblin_headers.specs.ProgramHeader.{widened32, widened64}

@@ -1,6 +1,5 @@
 -- Laws of section headers of each class: written headers are read back, and headers that were read are written back.
-use Rattle.std.proofs.Common.{refl, lit<}
-use Rattle.goblin_headers.specs.Common.{Container, Endian, IsRecord, IsSameInEachClass, shaped, Little, Big}
+use Rattle.goblin_headers.specs.Common.{Container, Endian, IsRecord, IsSameInEachClass, shaped, Little, Big, refl, lit<}
 use Rattle.goblin_base.specs.LayoutLaws.{plain_laws, widened_laws, same_in_each_class}
 use Rattle.goblin_headers.specs.SectionHeader.{section_header32, section_header64, section_header_layout, as32, as64}
 use Rattle.goblin_headers.specs.SectionHeader.{widened32, widened64}

@@ -1,7 +1,6 @@
 -- The names of section types and of their flags (System V gABI, "Section Header", sh_type and sh_flags, and the numbers
 -- assigned later).
-use Rattle.std.specs.Prelude.{ℕ, List, [], ◌∷◌, codes}
-use Rattle.goblin_headers.specs.Common.{name_in}
+use Rattle.goblin_headers.specs.Common.{name_in, ℕ, List, [], ◌∷◌, codes}
 
 -- each section type that has a name, and the name
 abbrev pub section_names : List (ℕ × List ℕ)

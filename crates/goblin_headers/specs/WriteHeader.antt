@@ -1,6 +1,6 @@
 -- Writing a header: the first refusal that applies, which changes nothing, or else the header's bytes at the start.
-use Rattle.std.specs.Prelude.{◌≡◌, ℕ, List, Result, Ok, Err}
-use Rattle.goblin_headers.specs.Common.{Endian, Error, Layout, Writes, Header, InvalidClass, Data}
+use Rattle.goblin_headers.specs.Common.{Endian, Error, Layout, Writes, Header, InvalidClass, Data, ◌≡◌, ℕ, List, Result}
+use Rattle.goblin_headers.specs.Common.{Ok, Err}
 use Rattle.goblin_headers.specs.Header.{header_layout, class_of, order_of}
 
 -- a found value decides what is written; an error is the result, and nothing changes
@@ -17,5 +17,4 @@ WritesInOrder ident layout h =
 
 -- a header of either class, in the class and the byte order that its own bytes name
 unfoldable pub WritesHeader : Header → List ℕ → Result ℕ Error → List ℕ → Type 0
-WritesHeader h =
-    WritesBy (class_of InvalidClass h.e_ident) (λ class. WritesInOrder h.e_ident (header_layout class) h)
+WritesHeader h = WritesBy (class_of InvalidClass h.e_ident) (λ class. WritesInOrder h.e_ident (header_layout class) h)

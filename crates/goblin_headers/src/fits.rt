@@ -90,8 +90,7 @@ impl ProgramHeader {
 
 // Reports whether the numbers of a header whose width depends on the class fit the 32-bit class.
 fn fits_class32(header: Header) -> bool
-    ensures { IsTrue result ↔ (header.e_entry < 256 ^ 4) × (header.e_phoff < 256 ^ 4)
-        × (header.e_shoff < 256 ^ 4) }
+    ensures { IsTrue result ↔ (header.e_entry < 256 ^ 4) × (header.e_phoff < 256 ^ 4) × (header.e_shoff < 256 ^ 4) }
 {
     is_word(header.e_entry) && is_word(header.e_phoff) && is_word(header.e_shoff)
 }

@@ -130,8 +130,7 @@ impl ProgramHeader {
     ) -> Result<Vec<ProgramHeader>>
         ensures given { let expected = program_headers_from bytes.now offset count ctx in
             Gives (λ v. v.items) result expected }
-        ensures tested { IfErr (program_headers_tested bytes.now count ctx)
-            (λ refusal. Refuses result refusal) }
+        ensures tested { IfErr (program_headers_tested bytes.now count ctx) (λ refusal. Refuses result refusal) }
         ensures none { (count ≡ 0) → IsOk result }
     {
         read_all(alloc, bytes, offset, count, ctx, "program headers")
@@ -245,8 +244,7 @@ pub fn laws()
         let cut =
         (⟦<ProgramHeader as LaidOut<Ctx>>⟧.layout (record { container = class.Little; le = order })).low h in
         cut.p_type ∷ cut.p_offset ∷ cut.p_vaddr ∷ cut.p_paddr ∷ cut.p_filesz ∷ cut.p_memsz ∷ cut.p_flags ∷ cut.p_align
-        ∷ []
-        ≡ map (λ n. n % 2 ^ 32)
+        ∷ [] ≡ map (λ n. n % 2 ^ 32)
         (h.p_type ∷ h.p_offset ∷ h.p_vaddr ∷ h.p_paddr ∷ h.p_filesz ∷ h.p_memsz ∷ h.p_flags ∷ h.p_align ∷ []) }
     ensures zeros { (h : ProgramHeader) → ⟦<ProgramHeader as Default>⟧.is_default h
         → values_of (program_header64.fields (as64 h)) ≡ replicate 8 0 }
@@ -273,10 +271,8 @@ fn name(segment_type: u32) -> &'static str
 /// Laws: the numbers of the constants that this module re-exports, under the names that they have
 /// here. A call does nothing.
 pub fn constants()
-    ensures types { PT_NULL ∷ PT_LOAD ∷ PT_DYNAMIC ∷ PT_INTERP ∷ PT_NOTE ∷ PT_SHLIB ∷ PT_PHDR
-        ∷ PT_TLS ∷ PT_NUM ∷ PT_LOOS ∷ PT_HIOS ∷ PT_LOPROC ∷ PT_HIPROC ∷ PT_GNU_EH_FRAME
-        ∷ PT_GNU_STACK ∷ PT_GNU_RELRO ∷ PT_GNU_PROPERTY ∷ PT_LOSUNW ∷ PT_SUNWBSS ∷ PT_SUNWSTACK
-        ∷ PT_HISUNW ∷ PT_ARM_EXIDX ∷ []
-        ≡ segment_type_numbers }
+    ensures types { PT_NULL ∷ PT_LOAD ∷ PT_DYNAMIC ∷ PT_INTERP ∷ PT_NOTE ∷ PT_SHLIB ∷ PT_PHDR ∷ PT_TLS ∷ PT_NUM
+        ∷ PT_LOOS ∷ PT_HIOS ∷ PT_LOPROC ∷ PT_HIPROC ∷ PT_GNU_EH_FRAME ∷ PT_GNU_STACK ∷ PT_GNU_RELRO ∷ PT_GNU_PROPERTY
+        ∷ PT_LOSUNW ∷ PT_SUNWBSS ∷ PT_SUNWSTACK ∷ PT_HISUNW ∷ PT_ARM_EXIDX ∷ [] ≡ segment_type_numbers }
     ensures flags { PF_X ∷ PF_W ∷ PF_R ∷ PF_MASKOS ∷ PF_MASKPROC ∷ [] ≡ segment_flag_numbers }
 {}

@@ -182,10 +182,8 @@ fn name(segment_type: u32) -> &'static str
 /// names that they have here. A call does nothing.
 pub fn constants()
     ensures size { SIZEOF_PHDR ≡ 56 }
-    ensures types { PT_NULL ∷ PT_LOAD ∷ PT_DYNAMIC ∷ PT_INTERP ∷ PT_NOTE ∷ PT_SHLIB ∷ PT_PHDR
-        ∷ PT_TLS ∷ PT_NUM ∷ PT_LOOS ∷ PT_HIOS ∷ PT_LOPROC ∷ PT_HIPROC ∷ PT_GNU_EH_FRAME
-        ∷ PT_GNU_STACK ∷ PT_GNU_RELRO ∷ PT_GNU_PROPERTY ∷ PT_LOSUNW ∷ PT_SUNWBSS ∷ PT_SUNWSTACK
-        ∷ PT_HISUNW ∷ PT_ARM_EXIDX ∷ []
-        ≡ segment_type_numbers }
+    ensures types { PT_NULL ∷ PT_LOAD ∷ PT_DYNAMIC ∷ PT_INTERP ∷ PT_NOTE ∷ PT_SHLIB ∷ PT_PHDR ∷ PT_TLS ∷ PT_NUM
+        ∷ PT_LOOS ∷ PT_HIOS ∷ PT_LOPROC ∷ PT_HIPROC ∷ PT_GNU_EH_FRAME ∷ PT_GNU_STACK ∷ PT_GNU_RELRO ∷ PT_GNU_PROPERTY
+        ∷ PT_LOSUNW ∷ PT_SUNWBSS ∷ PT_SUNWSTACK ∷ PT_HISUNW ∷ PT_ARM_EXIDX ∷ [] ≡ segment_type_numbers }
     ensures flags { PF_X ∷ PF_W ∷ PF_R ∷ PF_MASKOS ∷ PF_MASKPROC ∷ [] ≡ segment_flag_numbers }
 {}

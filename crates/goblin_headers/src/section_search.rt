@@ -15,8 +15,7 @@ impl SectionHeader {
     /// then it is the `sh_link` of the first section, or 0 if there are no sections.
     /// `Header::names_index` asks with the index of a header.
     pub fn names_index(index: u16, first: Option<&SectionHeader>) -> usize
-        ensures { let seen = option_map (λ section. section.now) first.entry in
-            result ≡ names_index index seen }
+        ensures { let seen = option_map (λ section. section.now) first.entry in result ≡ names_index index seen }
     {
         if u32::from(index) != SHN_XINDEX {
             return usize::from(index);
@@ -37,8 +36,7 @@ impl SectionHeader {
     /// Returns the section at an index that another section or the file's header names as a table, or
     /// `None` for index 0, past the end, and for a section without bytes in the file (`SHT_NOBITS`).
     pub fn linked(sections: &[SectionHeader], index: usize) -> Option<&SectionHeader>
-        ensures value { option_map (λ section. section.now) result
-            ≡ linked index (slice_get sections.now index) }
+        ensures value { option_map (λ section. section.now) result ≡ linked index (slice_get sections.now index) }
     {
         sections
             .get(index)
@@ -82,8 +80,7 @@ impl SectionHeader {
         delim: u8,
         name: &[u8],
     ) -> Option<usize>
-        ensures { result ≡ position (λ section.
-            has_name strings.now delim section.sh_name name.now) sections.now }
+        ensures { result ≡ position (λ section. has_name strings.now delim section.sh_name name.now) sections.now }
     {
         SectionHeader::position_from(sections, 0, strings, delim, name)
     }

@@ -4,7 +4,9 @@ pub use Rattle.goblin_base.specs.Common.{IsSameInEachClass, Layout, Refusal, Ref
 pub use Rattle.goblin_base.specs.Common.{converted, field, low_bits, name_in, number_at, shaped, values_of, widened}
 pub use Rattle.goblin_base.specs.Common.{zero}
 unfoldable pub use Rattle.goblin_base.specs.Common.{number, records_from, spelled}
-pub use Rattle.goblin_base.specs.Signed.{FitsSigned, signed_of}
+pub use Rattle.goblin_base.specs.Layout.{widths, word_size}
+pub use Rattle.goblin_base.specs.LayoutLaws.{converted_laws, plain_laws, same_in_each_class, shape_laws, widened_laws}
+pub use Rattle.goblin_base.specs.Signed.{FitsSigned, complement, signed_low, signed_of}
 pub use Rattle.goblin_base.specs.declared.container.Container.{Container}
 pub use Rattle.goblin_base.specs.declared.container.Container.TheVariants.{Big, Little}
 pub use Rattle.goblin_base.specs.declared.container.Endian.{Endian}

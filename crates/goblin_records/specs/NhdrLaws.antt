@@ -1,7 +1,5 @@
 -- Laws of note headers of each class: written headers are read back, and headers that were read are written back.
-use Rattle.std.proofs.Common.{refl, lit<}
-use Rattle.goblin_records.specs.Common.{Endian, IsRecord, shaped}
-use Rattle.goblin_base.specs.LayoutLaws.{plain_laws}
+use Rattle.goblin_records.specs.Common.{Endian, IsRecord, shaped, refl, lit<, plain_laws}
 use Rattle.goblin_records.specs.Nhdr.{nhdr32, nhdr64}
 
 -- the laws follow from the lists of fields

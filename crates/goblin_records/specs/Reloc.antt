@@ -3,10 +3,9 @@ use Rattle.std.specs.Prelude.{◌-◌, negsuc}
 use Rattle.std.specs.Prelude.{◌%◌, ℤ, pos, Bool, false, true, Option, Some, None, unwrap_or, IsSomeAnd, [], ◌∷◌}
 use Rattle.std.specs.Prelude.{slice_index, ◌≡◌, ◌<◌, ◌^◌, ℕ, List}
 use Rattle.goblin_records.specs.Common.{Container, Endian, field, Layout, Shape, shaped, converted, widened, low_bits}
-use Rattle.goblin_records.specs.Common.{IsSameInEachClass, Little, Big, FitsSigned, Reloc, RelocCtx}
+use Rattle.goblin_records.specs.Common.{IsSameInEachClass, Little, Big, FitsSigned, Reloc, RelocCtx, word_size}
+use Rattle.goblin_records.specs.Common.{signed_of, complement, signed_low}
 use Rattle.goblin_base.specs.declared.container.Endian.TheVariants as order
-use Rattle.goblin_base.specs.Layout.{word_size}
-use Rattle.goblin_base.specs.Signed.{signed_of, complement, signed_low}
 use Rattle.goblin_records.specs.declared.reloc32.Rel.{Rel as Rel32}
 use Rattle.goblin_records.specs.declared.reloc32.Rela.{Rela as Rela32}
 use Rattle.goblin_records.specs.declared.reloc64.Rel.{Rel as Rel64}
@@ -185,8 +184,7 @@ as_stored true r =
 -- the relocation to store fits; for MIPS64 its symbol and its type are words of 32 bits
 abbrev pub StoredFits : Bool → Bool → Container → Reloc → Type 0
 StoredFits false is_rela class r = RelocFits is_rela class r
-StoredFits true is_rela class r =
-    (r.r_sym < 2 ^ 32) × (r.r_type < 2 ^ 32) × RelocFits is_rela class (as_stored true r)
+StoredFits true is_rela class r = (r.r_sym < 2 ^ 32) × (r.r_type < 2 ^ 32) × RelocFits is_rela class (as_stored true r)
 
 -- the context of these parts
 abbrev pub context : Bool → Container → Endian → Bool → RelocCtx

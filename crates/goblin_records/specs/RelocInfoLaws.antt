@@ -1,6 +1,6 @@
 -- Laws of the parts of an `r_info`: they can be joined again, and the decoding of MIPS64 can be undone.
-use Rattle.std.proofs.Common.{◌≡◌, ◌<◌, ◌*◌, ◌^◌, ℕ, List, refl, ◌∙◌, arith, ◌+◌, ◌/◌, ◌%◌, reverse, sym, ap}
-use Rattle.goblin_records.specs.Common.{Container, number, spelled}
+use Rattle.std.proofs.Common.{◌≡◌, ◌<◌, ◌*◌, ◌^◌, ℕ, List, ◌+◌, ◌/◌, ◌%◌, reverse}
+use Rattle.goblin_records.specs.Common.{Container, number, spelled, refl, ◌∙◌, arith, sym, ap}
 use Rattle.std.proofs.lemmas.List.{reverse-reverse}
 use Rattle.goblin_base.specs.declared.container.Endian.TheVariants as order
 use Rattle.goblin_base.specs.NumberLaws.{IsBytes-spelled, number-lt, number-spelled, length-spelled, spelled-number}

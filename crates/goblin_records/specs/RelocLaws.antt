@@ -1,13 +1,11 @@
 -- Laws of relocations of each class, with an addend or without, of MIPS64 or not: written relocations are read back,
 -- and relocations that were read are written back.
 use Rattle.std.specs.Prelude.{ℤ, pos, negsuc, unwrap_or, None, IsSomeAnd}
-use Rattle.std.proofs.Common.{refl, lit<, ◌∙◌, arith, sym, ap, ◌<◌, ◌^◌, ◌≡◌, ◌*◌, ℕ, Bool, true, false, Option, Some}
-use Rattle.std.proofs.Common.{subst}
+use Rattle.std.proofs.Common.{◌≡◌, ◌<◌, ◌*◌, ◌^◌, ℕ, Bool, true, false, Option, Some, subst}
 use Rattle.goblin_records.specs.Common.{Container, Endian, IsRecord, shaped, number_at, Little, Big, FitsSigned, Reloc}
-use Rattle.goblin_records.specs.Common.{RelocCtx, shape_laws, plain_laws, converted_laws, same_in_each_class}
-use Rattle.goblin_records.specs.Common.{signed_low, word_size, widths}
+use Rattle.goblin_records.specs.Common.{RelocCtx, refl, lit<, ◌∙◌, arith, sym, ap, shape_laws, plain_laws}
+use Rattle.goblin_records.specs.Common.{converted_laws, same_in_each_class, signed_low, word_size, widths}
 use Rattle.std.proofs.Math.Nat.{mod-eq_of_lt, one-le-pow}
-use Rattle.goblin_base.specs.LayoutLaws.{shape_laws, plain_laws, converted_laws, same_in_each_class}
 use Rattle.goblin_base.specs.SignedLaws.{signed_of-complement, complement-lt, complement-mod}
 use Rattle.goblin_base.specs.SignedLaws.{complement-signed_number_at, signed_of-fits}
 use Rattle.goblin_base.specs.FieldLaws.{FieldsFit-fields_at}
@@ -16,11 +14,8 @@ use Rattle.goblin_records.specs.Reloc.{reloc_layout, reloc_layout_in, RelocFits,
 use Rattle.goblin_records.specs.Reloc.{rel_widened64, rela_widened64, rel_as32, rela_as32, rel_as64, rela_as64}
 use Rattle.goblin_records.specs.Reloc.{as_meant, as_stored, StoredFits, context, SameInEachClass, AddendFits, split}
 use Rattle.goblin_records.specs.Reloc.{KeepsLow, KeepsLowAddend}
-use Rattle.goblin_base.specs.Signed.{signed_low}
-use Rattle.goblin_base.specs.Layout.{word_size}
 use Rattle.goblin_records.specs.RelocInfo.{symbols, types, symbol_in, type_in, info_of}
 use Rattle.goblin_records.specs.RelocInfoLaws.{info_of-parts, joins_its_parts, reversed-lt, reversed-reversed}
-use Rattle.goblin_base.specs.Layout.{widths}
 
 -- the laws of relocations without an addend follow from the list of fields
 pub rel32_laws : (order : Endian) → IsRecord (shaped rel32 order)
@@ -81,8 +76,7 @@ split_fits is_rela Little o i a = record { offset = o; symbol = omega arith; typ
 split_fits is_rela Big o i a = record { offset = o; symbol = omega arith; typ = omega arith; addend = a }
 
 -- a relocation of either class, with an addend or without, is a converted raw one
-pub reloc_laws : (is_rela : Bool) (class : Container) (order : Endian)
-    → IsRecord (reloc_layout is_rela class order)
+pub reloc_laws : (is_rela : Bool) (class : Container) (order : Endian) → IsRecord (reloc_layout is_rela class order)
 reloc_laws false Little order =
     converted_laws rel_widened32 rel_as32 (RelocFits false Little) (rel32_laws order)
     (λ r fits. let parts = fits_parts false Little r fits in

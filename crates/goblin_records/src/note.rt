@@ -105,11 +105,8 @@ pub use crate::constants_note::{
 /// Laws: the numbers of this module's constants.
 pub fn constants()
     ensures gnu { NT_GNU_ABI_TAG ∷ ELF_NOTE_ABI ∷ NT_GNU_HWCAP ∷ NT_GNU_BUILD_ID ∷
-        NT_GNU_GOLD_VERSION ∷ NT_GNU_PROPERTY_TYPE_0 ∷ []
-        ≡ 1 ∷ 1 ∷ 2 ∷ 3 ∷ 4 ∷ 5 ∷ [] }
-    ensures systems { ELF_NOTE_OS_LINUX ∷ ELF_NOTE_OS_GNU ∷ ELF_NOTE_OS_SOLARIS2 ∷
-        ELF_NOTE_OS_FREEBSD ∷ []
+        NT_GNU_GOLD_VERSION ∷ NT_GNU_PROPERTY_TYPE_0 ∷ [] ≡ 1 ∷ 1 ∷ 2 ∷ 3 ∷ 4 ∷ 5 ∷ [] }
+    ensures systems { ELF_NOTE_OS_LINUX ∷ ELF_NOTE_OS_GNU ∷ ELF_NOTE_OS_SOLARIS2 ∷ ELF_NOTE_OS_FREEBSD ∷ []
         ≡ 0 ∷ 1 ∷ 2 ∷ 3 ∷ [] }
-    ensures core { NT_PRSTATUS ∷ NT_PRPSINFO ∷ NT_SIGINFO ∷ NT_FILE ∷ []
-        ≡ 1 ∷ 3 ∷ 0x5349_4749 ∷ 0x4649_4c45 ∷ [] }
+    ensures core { NT_PRSTATUS ∷ NT_PRPSINFO ∷ NT_SIGINFO ∷ NT_FILE ∷ [] ≡ 1 ∷ 3 ∷ 0x5349_4749 ∷ 0x4649_4c45 ∷ [] }
 {}

@@ -212,8 +212,7 @@ pub fn laws()
         let stored = (⟦<Reloc as LaidOut<(bool, Ctx)>>⟧.layout (is_rela, ctx)).read bytes in
         let meant = (⟦<Reloc as LaidOut<RelocCtx>>⟧.layout c).read bytes in
         (meant.r_offset ≡ stored.r_offset) × (meant.r_sym ≡ stored.r_type)
-        × (meant.r_type ≡ number order.Big (spelled order.Little 4 stored.r_sym))
-        × (meant.r_addend ≡ stored.r_addend) }
+        × (meant.r_type ≡ number order.Big (spelled order.Little 4 stored.r_sym)) × (meant.r_addend ≡ stored.r_addend) }
     ensures mips64_image { (is_rela : Bool) (ctx : Ctx) (r : Reloc) →
         let c : RelocCtx = record { is_rela = is_rela; ctx = ctx; is_mips64el = true } in
         let symbol = number order.Big (spelled order.Little 4 r.r_type) in
@@ -222,8 +221,7 @@ pub fn laws()
         (record r { r_sym = symbol; r_type = r.r_sym % 2 ^ 32 }) }
     ensures low { (is_rela : Bool) (ctx : Ctx) (r : Reloc) →
         let cut = (⟦<Reloc as LaidOut<(bool, Ctx)>>⟧.layout (is_rela, ctx)).low r in
-        KeepsLow ctx.container r cut
-        × KeepsLowAddend is_rela (word_size ctx.container) r.r_addend cut.r_addend }
+        KeepsLow ctx.container r cut × KeepsLowAddend is_rela (word_size ctx.container) r.r_addend cut.r_addend }
     ensures zeros { (reloc : Reloc) → ⟦<Reloc as Default>⟧.is_default reloc → reloc ≡ reloc_zero }
     ensures default_ctx { (ctx : RelocCtx) → ⟦<RelocCtx as Default>⟧.is_default ctx → ctx ≡ reloc_ctx_default }
     ensures derived { ComparesAndClones ⟦<Reloc as PartialEq>⟧ ⟦<Reloc as Clone>⟧ }

@@ -104,8 +104,7 @@ impl Sym {
         count: usize,
         ctx: Ctx,
     ) -> Result<Vec<Sym>>
-        ensures given { let expected = symbols_from bytes.now offset count ctx in
-            Gives (λ v. v.items) result expected }
+        ensures given { let expected = symbols_from bytes.now offset count ctx in Gives (λ v. v.items) result expected }
         ensures too_many { length bytes.now / sym_size ctx.container < count →
             Refuses result (buffer_too_short count (codes "symbols")) }
         ensures none { (count ≡ 0) → IsOk result }
@@ -221,12 +220,9 @@ pub use crate::constants_sym::{
 /// here. A call does nothing.
 pub fn constants()
     ensures bindings { STB_LOCAL ∷ STB_GLOBAL ∷ STB_WEAK ∷ STB_NUM ∷ STB_LOOS ∷ STB_GNU_UNIQUE
-        ∷ STB_HIOS ∷ STB_LOPROC ∷ STB_HIPROC ∷ []
-        ≡ bind_numbers }
+        ∷ STB_HIOS ∷ STB_LOPROC ∷ STB_HIPROC ∷ [] ≡ bind_numbers }
     ensures types { STT_NOTYPE ∷ STT_OBJECT ∷ STT_FUNC ∷ STT_SECTION ∷ STT_FILE ∷ STT_COMMON
-        ∷ STT_TLS ∷ STT_NUM ∷ STT_LOOS ∷ STT_GNU_IFUNC ∷ STT_HIOS ∷ STT_LOPROC ∷ STT_HIPROC ∷ []
-        ≡ type_numbers }
+        ∷ STT_TLS ∷ STT_NUM ∷ STT_LOOS ∷ STT_GNU_IFUNC ∷ STT_HIOS ∷ STT_LOPROC ∷ STT_HIPROC ∷ [] ≡ type_numbers }
     ensures visibilities { STV_DEFAULT ∷ STV_INTERNAL ∷ STV_HIDDEN ∷ STV_PROTECTED ∷ STV_EXPORTED
-        ∷ STV_SINGLETON ∷ STV_ELIMINATE ∷ []
-        ≡ visibility_numbers }
+        ∷ STV_SINGLETON ∷ STV_ELIMINATE ∷ [] ≡ visibility_numbers }
 {}

@@ -169,12 +169,9 @@ fn parts(info: u8, other: u8, value: u64) -> (u8, u8, u8, bool)
 pub fn constants()
     ensures size { SIZEOF_SYM ≡ 16 }
     ensures bindings { STB_LOCAL ∷ STB_GLOBAL ∷ STB_WEAK ∷ STB_NUM ∷ STB_LOOS ∷ STB_GNU_UNIQUE
-        ∷ STB_HIOS ∷ STB_LOPROC ∷ STB_HIPROC ∷ []
-        ≡ bind_numbers }
+        ∷ STB_HIOS ∷ STB_LOPROC ∷ STB_HIPROC ∷ [] ≡ bind_numbers }
     ensures types { STT_NOTYPE ∷ STT_OBJECT ∷ STT_FUNC ∷ STT_SECTION ∷ STT_FILE ∷ STT_COMMON
-        ∷ STT_TLS ∷ STT_NUM ∷ STT_LOOS ∷ STT_GNU_IFUNC ∷ STT_HIOS ∷ STT_LOPROC ∷ STT_HIPROC ∷ []
-        ≡ type_numbers }
+        ∷ STT_TLS ∷ STT_NUM ∷ STT_LOOS ∷ STT_GNU_IFUNC ∷ STT_HIOS ∷ STT_LOPROC ∷ STT_HIPROC ∷ [] ≡ type_numbers }
     ensures visibilities { STV_DEFAULT ∷ STV_INTERNAL ∷ STV_HIDDEN ∷ STV_PROTECTED ∷ STV_EXPORTED
-        ∷ STV_SINGLETON ∷ STV_ELIMINATE ∷ []
-        ≡ visibility_numbers }
+        ∷ STV_SINGLETON ∷ STV_ELIMINATE ∷ [] ≡ visibility_numbers }
 {}

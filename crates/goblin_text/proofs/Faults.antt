@@ -162,5 +162,4 @@ module _ (bytes : List ℕ) where
 -- the first bytes of a range
 pub front_of_range : (bytes : List ℕ) (i j p : ℕ)
     → p ≤ j - i → slice_range bytes i (i + p) ≡ take p (slice_range bytes i j)
-front_of_range bytes i j p l =
-    rw (take-take p (j - i) (drop i bytes) l) (ap (λ n. take n (drop i bytes)) (omega arith))
+front_of_range bytes i j p l = rw (take-take p (j - i) (drop i bytes) l) (ap (λ n. take n (drop i bytes)) (omega arith))

@@ -44,7 +44,6 @@ text_length bytes text u e = ap length e ∙ ap (λ b. length (if b then bytes e
 
 -- where a text is lacking there is no name
 pub nothing : (bytes : List ℕ) → LacksText bytes → [] ≡ text_or_nothing (up_to_zero bytes)
-nothing bytes lacks =
-    rw (false_from_ne_true _ (λ t. lacks (IsUtf8-from_is_utf8 (up_to_zero bytes) t))) refl
+nothing bytes lacks = rw (false_from_ne_true _ (λ t. lacks (IsUtf8-from_is_utf8 (up_to_zero bytes) t))) refl
 
 pub ruleset names_found = (name_past_end, name_later, name_in_range, nothing, text_length, length_of_range)

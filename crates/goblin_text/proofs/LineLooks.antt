@@ -26,8 +26,7 @@ looks-append a b = omega (arith, length-append a b, lines-append a b)
 -- a line that ends with a name
 pub named_line_looks : (head name : List ℕ) → name_looks + length name ≤ names_looks (named_line head name)
 unfolding names_looks
-named_line_looks head name =
-    grind (arith, length-map, length-append {A = ℕ}, lines-append)
+named_line_looks head name = grind (arith, length-map, length-append {A = ℕ}, lines-append)
 
 -- names are read, and then more names
 pub more_names : (old mid new : NamesView) (a b most : ℕ)
@@ -41,8 +40,7 @@ more_names old mid new a b most l s t = record {
 -- of a text the names so far were read, and the looks of the rest are left
 pub record ReadSoFar (old new : NamesView) (all rest : List ℕ) : Type 0 where
   pub unchanged : new.bytes ≡ old.bytes
-  pub looks : IsShort old.bytes
-      → new.count + new.left + names_looks rest ≤ old.count + old.left + names_looks all
+  pub looks : IsShort old.bytes → new.count + new.left + names_looks rest ≤ old.count + old.left + names_looks all
   pub looks_least : CountsAtLeast old.count 0 new.count
 
 -- with one line more

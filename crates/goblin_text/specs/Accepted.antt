@@ -11,8 +11,7 @@ use Rattle.goblin_text.specs.Shown.{reloc_lines, section_lines, symbol_lines}
 
 -- the lines of the symbols of some parts of a file with these bytes
 abbrev pub symbols_text : List ℕ → List SymbolPart → List ℕ
-symbols_text bytes parts =
-    flat_map (λ p. symbol_lines (strings_in bytes p.strings) p.section 0 p.table.symbols) parts
+symbols_text bytes parts = flat_map (λ p. symbol_lines (strings_in bytes p.strings) p.section 0 p.table.symbols) parts
 
 -- the lines of the relocations of some parts
 abbrev pub relocs_text : List RelocPart → List ℕ

@@ -133,8 +133,7 @@ impl Context<'_> {
             self.now.ctx self.now.sections.now number section.now in
             Adds (symbols_text file.old.bytes parts.old.items)
             (symbols_text file.old.bytes parts.new.items) result expected }
-        ensures reading { let most = looks_by result table_looks file.old.bytes in
-            ReadsNames file.old file.new 0 most }
+        ensures reading { let most = looks_by result table_looks file.old.bytes in ReadsNames file.old file.new 0 most }
     {
         if !has_symbols(section) {
             return Ok(());
@@ -158,8 +157,7 @@ impl Context<'_> {
     ) -> Result<()>
         ensures added { let shows = symbols_shown self.now.opts.now.parse_mode file.old.bytes
             self.now.ctx self.now.sections.now in
-            Adds (symbols_text file.old.bytes parts.old.items)
-            (symbols_text file.old.bytes parts.new.items) result
+            Adds (symbols_text file.old.bytes parts.old.items) (symbols_text file.old.bytes parts.new.items) result
             (each_shown shows 0 self.now.sections.now) }
         ensures reading { let tables = table_looks * length self.now.sections.now in
             ReadsNames file.old file.new 0 (looks_by result tables file.old.bytes) }
@@ -180,8 +178,7 @@ impl Context<'_> {
         number: usize,
         section: &SectionHeader,
     ) -> Result<()>
-        ensures { let expected = relocs_shown file.now.bytes self.now.ctx is_mips64el number
-            section.now in
+        ensures { let expected = relocs_shown file.now.bytes self.now.ctx is_mips64el number section.now in
             Adds (relocs_text parts.old.items) (relocs_text parts.new.items) result expected }
     {
         if !has_relocs(section) {

@@ -16,8 +16,7 @@ const USAGE: &[u8; 32] = b"usage: goblin_show [permissive]\n";
 
 // Writes how the program is called.
 fn write_usage<W: Sink>(writer: &mut W)
-    ensures { WritesUsage (W.contents writer.old) (W.contents writer.new) (W.marks writer.old)
-        (W.marks writer.new) }
+    ensures { WritesUsage (W.contents writer.old) (W.contents writer.new) (W.marks writer.old) (W.marks writer.new) }
 {
     if writer.write_all(USAGE).is_ok() {
         let _ = writer.flush();
@@ -38,18 +37,14 @@ pub fn show<R: Source, W: Sink>(
     ensures statuses { result < 3 }
 
     // Nothing was read or written.
-    ensures unknown { OnErr words
-        ((result ≡ 2) × (reader.new ≡ reader.old) × (writer.new ≡ writer.old)) }
+    ensures unknown { OnErr words ((result ≡ 2) × (reader.new ≡ reader.old) × (writer.new ≡ writer.old)) }
 
     // Nothing was read, and the line on how the program is called was written.
-    ensures usage { OnOk words (wanted words ≡ None → (result ≡ 2)
-        × (reader.new ≡ reader.old)
-        × WritesUsage (W.contents writer.old) (W.contents writer.new) (W.marks writer.old)
-        (W.marks writer.new)) }
+    ensures usage { OnOk words (wanted words ≡ None → (result ≡ 2) × (reader.new ≡ reader.old)
+        × WritesUsage (W.contents writer.old) (W.contents writer.new) (W.marks writer.old) (W.marks writer.new)) }
 
     // By the options that the words ask for there was a run, and this is its exit status.
-    ensures ran { (opts : ParseOptions) → wanted words ≡ Some opts → (outcome : Outcome)
-        × (result ≡ status_of outcome)
+    ensures ran { (opts : ParseOptions) → wanted words ≡ Some opts → (outcome : Outcome) × (result ≡ status_of outcome)
         × HasRun opts.parse_mode outcome (R.remaining reader.old) (R.remaining reader.new)
         (R.marks reader.old) (R.marks reader.new) (W.contents writer.old) (W.contents writer.new)
         (W.marks writer.old) (W.marks writer.new) }

@@ -71,8 +71,7 @@ fn read_into<R: Source>(reader: &mut R, bytes: &mut Vec<u8>, filled: usize) -> i
     ensures bound { ReadsAtMost result (drop filled bytes.new.items) }
     ensures bytes { ReadConsumes (R.remaining reader.old) (R.remaining reader.new) result
         (drop filled bytes.new.items) }
-    ensures marks { R.marks reader.new ≡
-        after_read (R.marks reader.old) result (drop filled bytes.new.items) }
+    ensures marks { R.marks reader.new ≡ after_read (R.marks reader.old) result (drop filled bytes.new.items) }
 {
     reader.read(&mut bytes[filled..])
 }

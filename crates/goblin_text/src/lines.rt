@@ -18,8 +18,7 @@ use goblin_base::texts::{Part, Report};
 
 // Puts texts one after another.
 fn put_all<T: Target>(target: &mut T, texts: &[&str]) -> Result<(), T::Error>
-    ensures put { Prints (T.state target.old) (T.state target.new) result
-        (concat (map (λ text. text.now) texts.now)) }
+    ensures put { Prints (T.state target.old) (T.state target.new) result (concat (map (λ text. text.now) texts.now)) }
     ensures same_writer { T.writer_name target.new ≡ T.writer_name target.old }
 {
     for text in texts {
@@ -68,8 +67,7 @@ fn put_printed<T: Target>(target: &mut T, name: &str) -> Result<(), T::Error>
 
 // Puts a name as it prints, and the end of its line.
 fn put_name<T: Target>(target: &mut T, name: &str) -> Result<(), T::Error>
-    ensures put { Prints (T.state target.old) (T.state target.new) result
-        (printed name.now & newline) }
+    ensures put { Prints (T.state target.old) (T.state target.new) result (printed name.now & newline) }
     ensures same_writer { T.writer_name target.new ≡ T.writer_name target.old }
 {
     if !name.is_empty() {
@@ -118,8 +116,7 @@ pub fn put_section<T: Target>(
     section: &SectionHeader,
     name: &str,
 ) -> Result<(), T::Error>
-    ensures put { Prints (T.state target.old) (T.state target.new) result
-        (section_line number section.now name.now) }
+    ensures put { Prints (T.state target.old) (T.state target.new) result (section_line number section.now name.now) }
     ensures same_writer { T.writer_name target.new ≡ T.writer_name target.old }
 {
     let offset = section.sh_offset;
@@ -178,8 +175,7 @@ pub fn put_symbol<T: Target>(
 
 // Puts an addend, and the end of its line.
 fn put_signed<T: Target>(target: &mut T, addend: i64) -> Result<(), T::Error>
-    ensures put { Prints (T.state target.old) (T.state target.new) result
-        (addend_text (Some addend) & newline) }
+    ensures put { Prints (T.state target.old) (T.state target.new) result (addend_text (Some addend) & newline) }
     ensures same_writer { T.writer_name target.new ≡ T.writer_name target.old }
 {
     if addend < 0 {
@@ -193,8 +189,7 @@ fn put_signed<T: Target>(target: &mut T, addend: i64) -> Result<(), T::Error>
 
 // Puts an addend, or a dash if there is none, and the end of its line.
 fn put_addend<T: Target>(target: &mut T, addend: Option<i64>) -> Result<(), T::Error>
-    ensures put { Prints (T.state target.old) (T.state target.new) result
-        (addend_text addend & newline) }
+    ensures put { Prints (T.state target.old) (T.state target.new) result (addend_text addend & newline) }
     ensures same_writer { T.writer_name target.new ≡ T.writer_name target.old }
 {
     match addend {
@@ -210,8 +205,7 @@ pub fn put_reloc<T: Target>(
     number: usize,
     reloc: &Reloc,
 ) -> Result<(), T::Error>
-    ensures put { Prints (T.state target.old) (T.state target.new) result
-        (reloc_line section number reloc.now) }
+    ensures put { Prints (T.state target.old) (T.state target.new) result (reloc_line section number reloc.now) }
     ensures same_writer { T.writer_name target.new ≡ T.writer_name target.old }
 {
     put_all(
@@ -235,8 +229,7 @@ pub fn put_reloc<T: Target>(
 
 // Puts a part of the text of an error.
 fn put_part<T: Target>(target: &mut T, report: &Report, part: &Part) -> Result<(), T::Error>
-    ensures put { Prints (T.state target.old) (T.state target.new) result
-        (part_text (facts_of report.now) part.now) }
+    ensures put { Prints (T.state target.old) (T.state target.new) result (part_text (facts_of report.now) part.now) }
     ensures same_writer { T.writer_name target.new ≡ T.writer_name target.old }
 {
     match part {

@@ -51,12 +51,10 @@ pub fn char_start(view: &mut CountedBytes<'_>, place: usize) -> usize
 pub fn end_of_string(view: &mut CountedBytes<'_>, from: usize, to: usize) -> usize
     requires ordered { from ≤ to }
     requires within { to ≤ length view.old.bytes }
-    ensures value { slice_range view.old.bytes from result
-        ≡ up_to_zero (slice_range view.old.bytes from to) }
+    ensures value { slice_range view.old.bytes from result ≡ up_to_zero (slice_range view.old.bytes from to) }
     ensures ordered { from ≤ result }
     ensures bound { result ≤ to }
-    ensures reading { let looks = min (result + 1) to - from in
-        Reads view.old view.new looks looks }
+    ensures reading { let looks = min (result + 1) to - from in Reads view.old view.new looks looks }
 {
     view.find(0, from, to)
 }
@@ -131,8 +129,7 @@ pub fn end_of_text(view: &mut CountedBytes<'_>, from: usize, to: usize) -> Optio
 fn start_of_last_string(view: &mut CountedBytes<'_>, from: usize, to: usize) -> usize
     requires ordered { from ≤ to }
     requires within { to ≤ length view.old.bytes }
-    ensures value { let bytes = slice_range view.old.bytes from to in
-        result ≡ from + piece_start bytes 0 (to - from) }
+    ensures value { let bytes = slice_range view.old.bytes from to in result ≡ from + piece_start bytes 0 (to - from) }
     ensures ordered { from ≤ result }
     ensures bound { result ≤ to }
     ensures reading { Reads view.old view.new (to - result) (to - from) }

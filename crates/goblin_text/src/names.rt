@@ -98,14 +98,12 @@ impl<'a> Names<'a> {
             Returns (strings_in self.old.bytes) result expected }
         ensures range { IfOk result (λ strings.
             IsRange opts.now.parse_mode self.old.bytes offset size strings.start strings.end) }
-        ensures reading { let most = looks_by result table_looks self.old.bytes in
-            ReadsNames self.old self.new 0 most }
+        ensures reading { let most = looks_by result table_looks self.old.bytes in ReadsNames self.old self.new 0 most }
 
         // A strict table that is asked for again at once takes no look.
         ensures cached { OnOk result (opts.now.parse_mode ≡ ParseMode.Strict
             → IsCached self.new offset (offset + size)) }
-        ensures looks_cached { IsCached self.old offset (offset + size)
-            → self.new.count ≡ self.old.count }
+        ensures looks_cached { IsCached self.old offset (offset + size) → self.new.count ≡ self.old.count }
     {
         let (start, end) = range_of(self.view.len(), offset, size, opts.parse_mode)?;
         if !opts.parse_mode.is_permissive() {
@@ -122,8 +120,7 @@ impl<'a> Names<'a> {
         requires within { end ≤ length self.old.bytes }
         ensures given { let bytes = slice_range self.old.bytes start end in
             Returns (λ _. text_table bytes) result (table_of ParseMode.Strict bytes 0) }
-        ensures reading { let most = looks_by result table_looks self.old.bytes in
-            ReadsNames self.old self.new 0 most }
+        ensures reading { let most = looks_by result table_looks self.old.bytes in ReadsNames self.old self.new 0 most }
         ensures cached { OnOk result (IsCached self.new start end) }
         ensures looks_cached { IsCached self.old start end → self.new.count ≡ self.old.count }
     {
@@ -172,8 +169,7 @@ impl<'a> Names<'a> {
     pub fn name(&mut self, strings: Strings, offset: usize) -> &'a str
         ensures value { result.now ≡ name_at (strings_in self.old.bytes strings) offset }
         ensures cached { IsCached self.new self.old.text_start self.old.text_end }
-        ensures reading { let len = length result.now in
-            ReadsNames self.old self.new len (name_looks + len) }
+        ensures reading { let len = length result.now in ReadsNames self.old self.new len (name_looks + len) }
     {
         let end = strings.end.min(self.view.len());
         self.name_within(strings.start.min(end), end, offset)
@@ -187,8 +183,7 @@ impl<'a> Names<'a> {
         ensures value { let table = text_table (slice_range self.old.bytes start end) in
             result.now ≡ name_at table offset }
         ensures cached { IsCached self.new self.old.text_start self.old.text_end }
-        ensures reading { let len = length result.now in
-            ReadsNames self.old self.new len (name_looks + len) }
+        ensures reading { let len = length result.now in ReadsNames self.old self.new len (name_looks + len) }
     {
         if offset >= end - start {
             return "";

@@ -48,10 +48,8 @@ impl Outcome {
 const OUT_OF_MEMORY: &str = "Out of memory";
 
 fn write_refusal<W: Sink>(writer: &mut W, line: &str) -> io::Result<()>
-    ensures ok { OnOk result
-        (WritesRefusal (W.contents writer.old) (W.contents writer.new) line.now) }
-    ensures heeded { OnOk result
-        ((W.marks writer.new).reported_error ≡ (W.marks writer.old).reported_error) }
+    ensures ok { OnOk result (WritesRefusal (W.contents writer.old) (W.contents writer.new) line.now) }
+    ensures heeded { OnOk result ((W.marks writer.new).reported_error ≡ (W.marks writer.old).reported_error) }
     ensures err { OnErr result (IsTrue (W.marks writer.new).reported_error) }
     ensures stopped { StopsAtError (W.marks writer.old) (W.marks writer.new) }
 {
@@ -81,8 +79,7 @@ fn refuse<W: Sink>(writer: &mut W, line: &str) -> Outcome
 fn write_error<W: Sink>(writer: &mut W, e: &Error) -> io::Result<()>
     ensures ok { OnOk result (WritesRefusal (W.contents writer.old) (W.contents writer.new)
         (refusal_text (refusal_of e.now))) }
-    ensures heeded { OnOk result
-        ((W.marks writer.new).reported_error ≡ (W.marks writer.old).reported_error) }
+    ensures heeded { OnOk result ((W.marks writer.new).reported_error ≡ (W.marks writer.old).reported_error) }
     ensures err { OnErr result (IsTrue (W.marks writer.new).reported_error) }
     ensures stopped { StopsAtError (W.marks writer.old) (W.marks writer.new) }
 {
@@ -106,13 +103,11 @@ pub fn show_file<W: Sink>(
     opts: &ParseOptions,
 ) -> Outcome
     // The text was written.
-    ensures shown { result ≡ Outcome.Shown → (text : List ℕ)
-        × (shown opts.now.parse_mode file.old.bytes ≡ Ok text)
+    ensures shown { result ≡ Outcome.Shown → (text : List ℕ) × (shown opts.now.parse_mode file.old.bytes ≡ Ok text)
         × Appends (W.contents writer.old) (W.contents writer.new) text }
 
     // One line with the reason was written.
-    ensures refused { result ≡ Outcome.Refused → (line : List ℕ)
-        × IsReasonOf opts.now.parse_mode file.old.bytes line
+    ensures refused { result ≡ Outcome.Refused → (line : List ℕ) × IsReasonOf opts.now.parse_mode file.old.bytes line
         × WritesRefusal (W.contents writer.old) (W.contents writer.new) line }
     ensures heeded { result ≢ Outcome.Failed →
         (W.marks writer.new).reported_error ≡ (W.marks writer.old).reported_error }
@@ -133,8 +128,7 @@ pub fn show_file<W: Sink>(
         → result ≡ Outcome.Shown → shown opts.now.parse_mode file.old.bytes ≡ Ok text
         → file.new.count ≤ 5 * length file.old.bytes + length text + 4096 * lines_in text }
     ensures most_refused { IsShort file.old.bytes → IsUnread file.old → result ≡ Outcome.Refused
-        → file.new.count ≤ 7 * length file.old.bytes
-        + 1040 * (section_count opts.now.parse_mode file.old.bytes + 1) }
+        → file.new.count ≤ 7 * length file.old.bytes + 1040 * (section_count opts.now.parse_mode file.old.bytes + 1) }
 {
     match accept(alloc, file, opts) {
         Ok(accepted) => match write_text(writer, &mut file.names, &accepted) {

@@ -43,8 +43,7 @@ impl<'a, W: Sink> Buffered<'a, W> {
     pub fn new(writer: &'a mut W) -> Self
         ensures same_writer { result.writer.ghost_name ≡ writer.entry.ghost_name }
         ensures unchanged { result.writer.now ≡ writer.old }
-        ensures empty { held (W.contents result.writer.now) result.room result.filled
-            ≡ W.contents writer.old }
+        ensures empty { held (W.contents result.writer.now) result.room result.filled ≡ W.contents writer.old }
     {
         Buffered {
             writer,
@@ -58,8 +57,7 @@ impl<'a, W: Sink> Buffered<'a, W> {
     fn pass_on(&mut self) -> io::Result<()>
         ensures same_writer { self.new.writer.ghost_name ≡ self.old.writer.ghost_name }
         ensures ok { OnOk result (self.new.filled ≡ 0) }
-        ensures bytes { OnOk result (Keeps
-            (held (W.contents self.old.writer.now) self.old.room self.old.filled)
+        ensures bytes { OnOk result (Keeps (held (W.contents self.old.writer.now) self.old.room self.old.filled)
             (W.contents self.new.writer.now)) }
         ensures heeded { OnOk result ((W.marks self.new.writer.now).reported_error
             ≡ (W.marks self.old.writer.now).reported_error) }
@@ -83,8 +81,7 @@ impl<'a, W: Sink> Buffered<'a, W> {
         requires { self.old.filled + length bytes.now ≤ ROOM }
         ensures same_writer { self.new.writer.ghost_name ≡ self.old.writer.ghost_name }
         ensures unchanged { self.new.writer.now ≡ self.old.writer.now }
-        ensures written { take self.new.filled self.new.room
-            ≡ take self.old.filled self.old.room ++ bytes.now }
+        ensures written { take self.new.filled self.new.room ≡ take self.old.filled self.old.room ++ bytes.now }
     {
         let end = self.filled + bytes.len();
         copy(&mut self.room[self.filled..end], bytes);
@@ -97,8 +94,7 @@ impl<'a, W: Sink> Buffered<'a, W> {
     #[tactic(auto, using(crate::proofs::TargetLemmas::put_on))]
     fn put_after_writing(&mut self, bytes: &[u8]) -> io::Result<()>
         ensures same_writer { self.new.writer.ghost_name ≡ self.old.writer.ghost_name }
-        ensures bytes { OnOk result (Appends
-            (held (W.contents self.old.writer.now) self.old.room self.old.filled)
+        ensures bytes { OnOk result (Appends (held (W.contents self.old.writer.now) self.old.room self.old.filled)
             (held (W.contents self.new.writer.now) self.new.room self.new.filled) bytes.now) }
         ensures heeded { OnOk result ((W.marks self.new.writer.now).reported_error
             ≡ (W.marks self.old.writer.now).reported_error) }
@@ -117,8 +113,7 @@ impl<'a, W: Sink> Buffered<'a, W> {
     /// Writes the buffer's bytes, and flushes the writer.
     pub fn finish(&mut self) -> io::Result<()>
         ensures same_writer { self.new.writer.ghost_name ≡ self.old.writer.ghost_name }
-        ensures bytes { OnOk result (Keeps
-            (held (W.contents self.old.writer.now) self.old.room self.old.filled)
+        ensures bytes { OnOk result (Keeps (held (W.contents self.old.writer.now) self.old.room self.old.filled)
             (W.contents self.new.writer.now)) }
         ensures heeded { OnOk result ((W.marks self.new.writer.now).reported_error
             ≡ (W.marks self.old.writer.now).reported_error) }

@@ -35,8 +35,7 @@ fn put_named_section<T: Target>(
     section: &SectionHeader,
 ) -> Result<(), T::Error>
     ensures put { let name = name_at (strings_in names.old.bytes strings) section.now.sh_name in
-        Prints (T.state target.old) (T.state target.new) result
-        (section_line number section.now name) }
+        Prints (T.state target.old) (T.state target.new) result (section_line number section.now name) }
     ensures same_writer { T.writer_name target.new ≡ T.writer_name target.old }
     ensures reading { let name = name_at (strings_in names.old.bytes strings) section.now.sh_name in
         ReadsNames names.old names.new 0 (names_looks (section_line number section.now name)) }
@@ -52,12 +51,10 @@ fn put_sections<T: Target>(
     file: &Accepted<'_>,
 ) -> Result<(), T::Error>
     ensures put { let strings = strings_in names.old.bytes file.now.parts.strings in
-        Prints (T.state target.old) (T.state target.new) result
-        (section_lines strings 0 file.now.sections.items) }
+        Prints (T.state target.old) (T.state target.new) result (section_lines strings 0 file.now.sections.items) }
     ensures same_writer { T.writer_name target.new ≡ T.writer_name target.old }
     ensures reading { let strings = strings_in names.old.bytes file.now.parts.strings in
-        ReadsNames names.old names.new 0
-        (names_looks (section_lines strings 0 file.now.sections.items)) }
+        ReadsNames names.old names.new 0 (names_looks (section_lines strings 0 file.now.sections.items)) }
 {
     let sections = file.sections.as_slice();
     for (number, section) in sections.iter().enumerate() {
@@ -76,12 +73,10 @@ fn put_named_symbol<T: Target>(
     symbol: &Sym,
 ) -> Result<(), T::Error>
     ensures put { let name = name_at (strings_in names.old.bytes part.now.strings) symbol.now.st_name in
-        Prints (T.state target.old) (T.state target.new) result
-        (symbol_line part.now.section number symbol.now name) }
+        Prints (T.state target.old) (T.state target.new) result (symbol_line part.now.section number symbol.now name) }
     ensures same_writer { T.writer_name target.new ≡ T.writer_name target.old }
     ensures reading { let name = name_at (strings_in names.old.bytes part.now.strings) symbol.now.st_name in
-        ReadsNames names.old names.new 0
-        (names_looks (symbol_line part.now.section number symbol.now name)) }
+        ReadsNames names.old names.new 0 (names_looks (symbol_line part.now.section number symbol.now name)) }
 {
     let name = names.name(part.strings, symbol.st_name);
     put_symbol(target, part.section, number, symbol, name)
@@ -113,8 +108,7 @@ fn put_all_symbols<T: Target>(
     names: &mut Names<'_>,
     parts: &[SymbolPart<'_>],
 ) -> Result<(), T::Error>
-    ensures put { Prints (T.state target.old) (T.state target.new) result
-        (symbols_text names.old.bytes parts.now) }
+    ensures put { Prints (T.state target.old) (T.state target.new) result (symbols_text names.old.bytes parts.now) }
     ensures same_writer { T.writer_name target.new ≡ T.writer_name target.old }
     ensures reading { let text = symbols_text names.old.bytes parts.now in
         ReadsNames names.old names.new 0 (names_looks text) }
@@ -131,8 +125,7 @@ fn put_relocs<T: Target>(
     section: usize,
     relocs: &RelocSection<'_>,
 ) -> Result<(), T::Error>
-    ensures put { Prints (T.state target.old) (T.state target.new) result
-        (reloc_lines section 0 relocs.now) }
+    ensures put { Prints (T.state target.old) (T.state target.new) result (reloc_lines section 0 relocs.now) }
     ensures same_writer { T.writer_name target.new ≡ T.writer_name target.old }
 {
     for (number, reloc) in relocs.iter().enumerate() {
@@ -179,8 +172,7 @@ pub fn write_text<W: Sink>(
 ) -> io::Result<()>
     ensures ok { OnOk result (Appends (W.contents writer.old) (W.contents writer.new)
         (accepted_text names.old.bytes file.now)) }
-    ensures heeded { OnOk result
-        ((W.marks writer.new).reported_error ≡ (W.marks writer.old).reported_error) }
+    ensures heeded { OnOk result ((W.marks writer.new).reported_error ≡ (W.marks writer.old).reported_error) }
     ensures err { OnErr result (IsTrue (W.marks writer.new).reported_error) }
     ensures stopped { StopsAtError (W.marks writer.old) (W.marks writer.new) }
 

@@ -90,8 +90,7 @@ fn push_line(
 ) -> std::result::Result<(), AllocError>
     ensures { let name = unwrap_or (look_up names.now function.now.st_name) (codes "?") in
         OnOk result (string_bytes text.new ≡ string_bytes text.old ++ (name & codes ": "
-        & decimal function.now.st_size & codes " bytes at 0x"
-        & hexadecimal function.now.st_value & codes "\n")) }
+        & decimal function.now.st_size & codes " bytes at 0x" & hexadecimal function.now.st_value & codes "\n")) }
 {
     let name = names.get_at(function.st_name).unwrap_or("?");
     let value = function.st_value;

@@ -17,8 +17,7 @@ use std::alloc::{AllocError, Global};
 /// Returns the offset of the last zero byte, which closes the last name.
 pub fn last_zero(bytes: &[u8]) -> Option<usize>
     ensures zero { IfSome result (λ i. slice_get bytes.now i ≡ Some 0) }
-    ensures last { IfSome result
-        (λ i. EachIndex bytes.now (λ k. i < k → slice_index bytes.now k ≢ 0)) }
+    ensures last { IfSome result (λ i. EachIndex bytes.now (λ k. i < k → slice_index bytes.now k ≢ 0)) }
     ensures none { MatchOption result (All (λ byte. byte ≢ 0) bytes.now) (λ _. ⊤) }
 {
     bytes.iter().rposition(|byte| *byte == 0)
@@ -28,8 +27,7 @@ pub fn last_zero(bytes: &[u8]) -> Option<usize>
 pub fn longest(names: &[&str]) -> Option<usize>
     ensures greatest { MatchOption result (names.now ≡ [])
         (λ longest. All (λ name. length name.now ≤ longest) names.now) }
-    ensures among { IfSome result
-        (λ longest. IsTrue (list_any (λ name. length name.now == longest) names.now)) }
+    ensures among { IfSome result (λ longest. IsTrue (list_any (λ name. length name.now == longest) names.now)) }
 {
     names.iter().map(|name| name.len()).max()
 }
@@ -49,8 +47,7 @@ pub fn probes_of(entries: &Entries<'_>, offset: usize) -> u64
 // Returns the number of names in these bytes, and the number of stored offsets that the search for
 // one reads.
 fn count_names(alloc: Global, bytes: &[u8], offset: usize) -> Result<(usize, u64)>
-    ensures count { IfOk result (λ r. IfOk (walked ParseMode.Strict bytes.now 0)
-        (λ entries. r.0 ≡ length entries)) }
+    ensures count { IfOk result (λ r. IfOk (walked ParseMode.Strict bytes.now 0) (λ entries. r.0 ≡ length entries)) }
     ensures most { IfOk result (λ r. r.1 ≤ digits r.0) }
     ensures least { IfOk result (λ r. digits (r.0 + 1) ≤ r.1 + 1) }
     ensures first { RefusesFirst ParseMode.Strict bytes.now 0 result }

@@ -16,8 +16,7 @@ use std::alloc::AllocError;
 /// Returns the notes of a section.
 pub fn notes_of<'a>(bytes: &'a [u8], section: &SectionHeader, ctx: Ctx) -> NoteDataIterator<'a>
     ensures { let s = section.now in
-        items_left result
-        ≡ note_items bytes.now (span s.sh_offset s.sh_size).1 s.sh_offset (s.sh_addralign, ctx) }
+        items_left result ≡ note_items bytes.now (span s.sh_offset s.sh_size).1 s.sh_offset (s.sh_addralign, ctx) }
 {
     let offset = section.sh_offset as usize;
     NoteDataIterator {

@@ -40,8 +40,7 @@ pub fn rows(
           symbol = r.r_sym;
           addend = unwrap_or r.r_addend (pos 0);
         }) relocations)) }
-    ensures first { IfErr (relocations_of bytes.now section.now header.now ctx)
-        (λ e. result ≡ Err e) }
+    ensures first { IfErr (relocations_of bytes.now section.now header.now ctx) (λ e. result ≡ Err e) }
 {
     let relocations = RelocSection::parse_inner(
         bytes,
@@ -79,8 +78,7 @@ pub fn push_relocations(
     header: &Header,
     ctx: Ctx,
 ) -> Result<()>
-    ensures first { IfErr (relocations_of bytes.now section.now header.now ctx)
-        (λ e. result ≡ Err e) }
+    ensures first { IfErr (relocations_of bytes.now section.now header.now ctx) (λ e. result ≡ Err e) }
 {
     let rows = rows(alloc, bytes, section, header, ctx)?;
     push_count(text, rows.as_slice())?;

@@ -74,11 +74,9 @@ pub fn strings_of<'a>(
 
 /// Returns the bytes of a section in the file, or none if it has none there.
 pub fn bytes_of<'a>(bytes: &'a [u8], section: Option<&SectionHeader>) -> &'a [u8]
-    ensures there { IfSome section.entry (λ s. s.now.sh_type ≢ 8
-        → s.now.sh_offset + s.now.sh_size ≤ length bytes.now
+    ensures there { IfSome section.entry (λ s. s.now.sh_type ≢ 8 → s.now.sh_offset + s.now.sh_size ≤ length bytes.now
         → result.now ≡ take s.now.sh_size (drop s.now.sh_offset bytes.now)) }
-    ensures past { IfSome section.entry (λ s. length bytes.now < s.now.sh_offset + s.now.sh_size
-        → result.now ≡ []) }
+    ensures past { IfSome section.entry (λ s. length bytes.now < s.now.sh_offset + s.now.sh_size → result.now ≡ []) }
     ensures nobits { IfSome section.entry (λ s. s.now.sh_type ≡ 8 → result.now ≡ []) }
     ensures none { IfNone section.entry (result.now ≡ []) }
 {
@@ -90,8 +88,7 @@ pub fn bytes_of<'a>(bytes: &'a [u8], section: Option<&SectionHeader>) -> &'a [u8
 
 /// Returns the symbols of a section, as many as it holds whole.
 pub fn symbols_of<'a>(bytes: &'a [u8], section: &SectionHeader, ctx: Ctx) -> Result<Symtab<'a>>
-    ensures { let s = section.now in
-        result ≡ symtab_in ParseMode.Strict bytes.now s.sh_offset s.sh_size ctx }
+    ensures { let s = section.now in result ≡ symtab_in ParseMode.Strict bytes.now s.sh_offset s.sh_size ctx }
 {
     let offset = section.sh_offset as usize;
     let size = section.sh_size as usize;

@@ -152,10 +152,8 @@ impl<'a> Iterator for NoteIterator<'a> {
 
     /// Says nothing about how many items are left.
     fn size_hint(&self) -> (usize, Option<usize>)
-        ensures lower { IsWithinCount result.0
-            (at_most (most_left_in (drop self.now.index self.now.iters.items))) }
-        ensures upper { IfSome result.1
-            (UpTo (at_most (most_left_in (drop self.now.index self.now.iters.items)))) }
+        ensures lower { IsWithinCount result.0 (at_most (most_left_in (drop self.now.index self.now.iters.items))) }
+        ensures upper { IfSome result.1 (UpTo (at_most (most_left_in (drop self.now.index self.now.iters.items)))) }
         ensures value { result ≡ (0, None) }
     {
         (0, None)
@@ -300,8 +298,7 @@ impl<'a> Note<'a> {
     /// a note from the offset on.
     #[tactic(auto, using(crate::proofs::NoteLemmas::no_notes))]
     pub fn at(bytes: &'a [u8], offset: usize, ctx: (usize, Ctx)) -> Result<(Self, NotePlaces)>
-        ensures given { Returns (λ found. (parts_of found.0, found.1.next)) result
-            (note_at bytes.now offset ctx) }
+        ensures given { Returns (λ found. (parts_of found.0, found.1.next)) result (note_at bytes.now offset ctx) }
         ensures places { Returns (λ found. found.1) result (places_at bytes.now offset ctx) }
         ensures within { IfOk result (λ found. LieWithin (length bytes.now) offset found.1) }
     {
@@ -404,8 +401,7 @@ fn utf8_at(bytes: &[u8], place: usize, size: usize) -> Result<&str>
 impl<'a> TryFromCtx<'a, (usize, Ctx)> for Note<'a> {
     ghost use Rattle.goblin.specs.Note.{note_and_len, read_note};
 
-    ghost try_from_gives = { λ bytes ctx answer.
-        Returns note_and_len answer (read_note ctx.0 ctx.1.le bytes) };
+    ghost try_from_gives = { λ bytes ctx answer. Returns note_and_len answer (read_note ctx.0 ctx.1.le bytes) };
 
     #[tactic(auto, unfolding(crate::specs::Note::read_note))]
     fn try_from_ctx(bytes: &'a [u8], ctx: (usize, Ctx)) -> Result<(Self, usize)> {
@@ -417,13 +413,10 @@ impl<'a> TryFromCtx<'a, (usize, Ctx)> for Note<'a> {
 /// Laws: the numbers of this module's constants.
 pub fn constants()
     ensures gnu { NT_GNU_ABI_TAG ∷ ELF_NOTE_ABI ∷ NT_GNU_HWCAP ∷ NT_GNU_BUILD_ID ∷
-        NT_GNU_GOLD_VERSION ∷ NT_GNU_PROPERTY_TYPE_0 ∷ []
-        ≡ 1 ∷ 1 ∷ 2 ∷ 3 ∷ 4 ∷ 5 ∷ [] }
-    ensures systems { ELF_NOTE_OS_LINUX ∷ ELF_NOTE_OS_GNU ∷ ELF_NOTE_OS_SOLARIS2 ∷
-        ELF_NOTE_OS_FREEBSD ∷ []
+        NT_GNU_GOLD_VERSION ∷ NT_GNU_PROPERTY_TYPE_0 ∷ [] ≡ 1 ∷ 1 ∷ 2 ∷ 3 ∷ 4 ∷ 5 ∷ [] }
+    ensures systems { ELF_NOTE_OS_LINUX ∷ ELF_NOTE_OS_GNU ∷ ELF_NOTE_OS_SOLARIS2 ∷ ELF_NOTE_OS_FREEBSD ∷ []
         ≡ 0 ∷ 1 ∷ 2 ∷ 3 ∷ [] }
-    ensures core { NT_PRSTATUS ∷ NT_PRPSINFO ∷ NT_SIGINFO ∷ NT_FILE ∷ []
-        ≡ 1 ∷ 3 ∷ 0x5349_4749 ∷ 0x4649_4c45 ∷ [] }
+    ensures core { NT_PRSTATUS ∷ NT_PRPSINFO ∷ NT_SIGINFO ∷ NT_FILE ∷ [] ≡ 1 ∷ 3 ∷ 0x5349_4749 ∷ 0x4649_4c45 ∷ [] }
 {}
 
 /// Laws of notes: how the items of a range follow one another, where the parts of a note are, where

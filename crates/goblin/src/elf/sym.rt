@@ -218,8 +218,7 @@ impl<'a> Symtab<'a> {
     /// Returns the index of the first symbol with this name, as [`Symtab::find`] does. The names
     /// are read from the bytes of a string table whose strings end with `delim`.
     pub fn find_in(&self, strings: &[u8], delim: u8, name: &[u8]) -> Option<usize>
-        ensures { result ≡ position (λ symbol.
-            has_name strings.now delim symbol.st_name name.now) self.now.symbols }
+        ensures { result ≡ position (λ symbol. has_name strings.now delim symbol.st_name name.now) self.now.symbols }
     {
         self.position_from(0, strings, delim, name)
     }
@@ -493,14 +492,11 @@ fn parts(info: u8, other: u8, value: u64) -> (u8, u8, u8, bool)
 /// Laws: the numbers of the constants that this module re-exports.
 pub fn constants()
     ensures bindings { STB_LOCAL ∷ STB_GLOBAL ∷ STB_WEAK ∷ STB_NUM ∷ STB_LOOS ∷ STB_GNU_UNIQUE ∷
-        STB_HIOS ∷ STB_LOPROC ∷ STB_HIPROC ∷ []
-        ≡ bind_numbers }
+        STB_HIOS ∷ STB_LOPROC ∷ STB_HIPROC ∷ [] ≡ bind_numbers }
     ensures types { STT_NOTYPE ∷ STT_OBJECT ∷ STT_FUNC ∷ STT_SECTION ∷ STT_FILE ∷ STT_COMMON ∷
-        STT_TLS ∷ STT_NUM ∷ STT_LOOS ∷ STT_GNU_IFUNC ∷ STT_HIOS ∷ STT_LOPROC ∷ STT_HIPROC ∷
-        [] ≡ type_numbers }
+        STT_TLS ∷ STT_NUM ∷ STT_LOOS ∷ STT_GNU_IFUNC ∷ STT_HIOS ∷ STT_LOPROC ∷ STT_HIPROC ∷ [] ≡ type_numbers }
     ensures visibilities { STV_DEFAULT ∷ STV_INTERNAL ∷ STV_HIDDEN ∷ STV_PROTECTED ∷ STV_EXPORTED ∷
-        STV_SINGLETON ∷ STV_ELIMINATE ∷ []
-        ≡ visibility_numbers }
+        STV_SINGLETON ∷ STV_ELIMINATE ∷ [] ≡ visibility_numbers }
 {}
 
 /// Laws: a table that strict options accept is the same with permissive ones; a table depends only

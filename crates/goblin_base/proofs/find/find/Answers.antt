@@ -51,8 +51,7 @@ loop-size-preserved c =
       same = c.at.ensures.unchanged ∙ s.invariant.same;
       within = omega arith;
       before = λ k h. s.invariant.before k (omega arith);
-      after = λ k h w.
-          to_the_right ps _ c.args.offset place c.len-size.ensures.rising here l k (omega arith) w;
+      after = λ k h w. to_the_right ps _ c.args.offset place c.len-size.ensures.rising here l k (omega arith) w;
       rising = omega arith;
       most = at_most _ _ _ s.size _ _ s.invariant.most (omega (arith, n)) (omega arith) (omega arith);
       least = at_least _ _ _ s.size _ s.invariant.least (λ d h. omega (arith, n, h)) (omega arith);

@@ -1,5 +1,4 @@
-use Rattle.goblin_headers.proofs.Common.{◌≡◌, ℕ, List, and_from, arith, comparing, refl, rules, take}
-use Rattle.goblin_headers.specs.Common.{Container, Endian}
+use Rattle.goblin_headers.proofs.Common.{◌≡◌, ℕ, List, and_from, arith, comparing, refl, rules, take, Container, Endian}
 use Rattle.goblin_headers.specs.Header.{header_layout}
 use Rattle.goblin_headers.proofs.WholeTrips.{each_fits, one_image, reads_back, written_and_read_back, image_of_read}
 use Rattle.goblin_headers.proofs.WholeTrips.{new_is_of_context, new_is_read_back, writes_back}

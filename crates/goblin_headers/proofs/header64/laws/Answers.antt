@@ -1,8 +1,7 @@
-use Rattle.goblin_headers.proofs.Common.{and_from, arith, comparing, refl, rules}
+use Rattle.goblin_headers.proofs.Common.{and_from, arith, comparing, refl, rules, common_steps}
 use Rattle.goblin_headers.proofs.HeaderLemmas.{header64_laws, headers_fit, one_header_image}
 use Rattle.goblin_headers.proofs.RawTrips.{raw_reads_back, raw_written_and_read_back, raw_writes_back}
 use Rattle.goblin_headers.proofs.header64.laws.Goals as goal
-use Rattle.std.proofs.lemmas.Grind.{common_steps}
 
 pub returns : goal.returns
 returns c = record {

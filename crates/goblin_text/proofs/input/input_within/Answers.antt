@@ -4,15 +4,13 @@ use Rattle.goblin_text.proofs.Common.{arith, common_steps, Consumes-kept}
 use Rattle.goblin_text.proofs.InputLemmas.{Consumes-after}
 use Rattle.goblin_text.proofs.input.input_within.Goals as goal
 
-pub returns-then-filled-gt-INPUT_LIMIT-clause-input :
-    goal.returns-then-filled-gt-INPUT_LIMIT-clause-input
+pub returns-then-filled-gt-INPUT_LIMIT-clause-input : goal.returns-then-filled-gt-INPUT_LIMIT-clause-input
 returns-then-filled-gt-INPUT_LIMIT-clause-input g c =
     let taken = Consumes-after _ _ _ c.loop.bytes.items _ c.loop.filled c.in-Ok.count (grind (arith, common_steps))
     c.loop.invariant.taken c.in-Ok.ensures.bytes.0 in
     (_, record { taken = taken; long = grind (arith, common_steps) })
 
-pub returns-then-filled-gt-INPUT_LIMIT-clause-most :
-    goal.returns-then-filled-gt-INPUT_LIMIT-clause-most
+pub returns-then-filled-gt-INPUT_LIMIT-clause-most : goal.returns-then-filled-gt-INPUT_LIMIT-clause-most
 returns-then-filled-gt-INPUT_LIMIT-clause-most g c =
     let taken = Consumes-after _ _ _ c.loop.bytes.items _ c.loop.filled c.in-Ok.count (grind (arith, common_steps))
     c.loop.invariant.taken c.in-Ok.ensures.bytes.0 in

@@ -1,7 +1,7 @@
 -- If `e_phnum` is the escape, the number is that of section 0: the first header, read from its own bytes alone
 -- (`same_first`), or the fault of it.
-use Rattle.goblin_headers.proofs.Common.{length, rules, take, drop, unless_fault-err, room_of}
-use Rattle.goblin_headers.specs.SectionHeader.{section_header_of, section_header_size}
+use Rattle.goblin_headers.proofs.Common.{length, rules, take, drop, unless_fault-err, room_of, section_header_of}
+use Rattle.goblin_headers.proofs.Common.{section_header_size}
 use Rattle.goblin_headers.proofs.ReadSections.{same_first}
 use Rattle.goblin_headers.proofs.program_header.ProgramHeader.count_in.Goals as goal
 
