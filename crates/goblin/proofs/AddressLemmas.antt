@@ -17,7 +17,13 @@ use Rattle.goblin_headers.specs.declared.section_header.SectionHeader.{SectionHe
 use Rattle.goblin_records.specs.declared.sym.Sym.{Sym}
 use Rattle.goblin.specs.Addresses.{IsBelowInSection, IsSymbolAt, NoneContains, SymbolAtComesFirst, contains, found_at}
 use Rattle.goblin.specs.Addresses.{is_candidate, is_highest, is_nearer, is_nearest, reaches, symbol_at, taken}
-use Rattle.goblin.proofs.Positions.{some-within}
+
+-- ---- items of lists by their indices
+
+-- below its length a list has an item
+pub some-within : {X : Type 0} (items : List X) (i : ℕ) → i < length items → None ≡ slice_get items i → ⊥
+some-within [] i h e = absurd (omega arith)
+some-within (x ∷ items) i h e = let is = slice_get-get_or (x ∷ items) i x h in cc
 
 -- ---- a search for the highest score through the symbols, one after another
 module _ (score : Sym → ℕ) (symbols : List Sym) where

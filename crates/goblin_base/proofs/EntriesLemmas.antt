@@ -8,8 +8,7 @@ use Rattle.goblin_base.proofs.Common.{◌++◌, length, get_or, refl, sym, ap, s
 use Rattle.goblin_base.proofs.Common.{places_of, text_of, IsRising, is_utf8-from_IsUtf8, IsUtf8-nil, piece_end}
 use Rattle.goblin_base.proofs.Common.{is_readable, entries_from, entries_between, IsWalkedTo}
 use Rattle.goblin_base.specs.Entries.{next_of, IsText, AreTexts}
-use Rattle.goblin_base.proofs.WalkLemmas.{entries_more_bad}
-use Rattle.goblin_base.proofs.WalkProgressLemmas.{found_more, text_from_readable, entry_of_text}
+use Rattle.goblin_base.proofs.WalkLemmas.{entries_more_bad, found_more, text_from_readable, entry_of_text}
 
 module _ (bytes : List ℕ) where
   pub places_between : (ps : List ℕ) (c : ℕ) → places_of (entries_between bytes ps c) ≡ ps

@@ -10,7 +10,7 @@ use Rattle.goblin_c.proofs.Common.{take_rest, laid}
 use Rattle.std.proofs.Common.{take_all}
 use Rattle.std.proofs.lemmas.Slice.{take-put_mid}
 use borrow.Rule.Slice.PartMut.{put_mid}
-use Rattle.goblin.proofs.Positions.{some-within}
+use Rattle.goblin.proofs.AddressLemmas.{some-within}
 use Rattle.goblin_c.specs.Laws.{IsFilled, BufferIsFilled, TextIsClosed}
 
 -- one item more

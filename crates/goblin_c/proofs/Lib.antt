@@ -5,7 +5,6 @@ pub mod ListedLemmas
 pub mod NumberLemmas
 pub mod OffsetLemmas
 pub mod ClosedLemmas
-pub mod CompareLemmas
 pub mod DynamicLemmas
 pub mod EachLemmas
 pub mod HeaderPutLemmas

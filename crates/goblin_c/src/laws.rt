@@ -85,7 +85,7 @@ pub fn strings()
 /// Laws: `goblin_string_is` and `goblin_string_starts` return 0 exactly if `goblin_string_bytes` stores a range whose
 /// bytes are the name, or start with it. They return the same refusals. With a name that is UTF-8 `goblin_string_is`
 /// compares as `goblin_section_by_name` and `goblin_symbol_by_name` do.
-#[tactic(auto, using(crate::proofs::CompareLemmas::strings_are_compared))]
+#[tactic(auto, using(crate::proofs::StringLemmas::strings_are_compared))]
 pub fn comparisons()
     ensures { StringsAreCompared }
 {}

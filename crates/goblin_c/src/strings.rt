@@ -64,7 +64,7 @@ pub extern "C" fn goblin_string(
 // Returns the bytes of the file up to the end of a string table that lies in it, without the steps that prepare a
 // refusal.
 #[inline(always)]
-#[tactic(auto, using(crate::proofs::CompareLemmas::inside))]
+#[tactic(auto, using(crate::proofs::StringLemmas::inside))]
 fn up_to_table_end<'a>(bytes: &'a [u8], range: &GoblinRange) -> Option<&'a [u8]>
     ensures value { MatchOption result (IsErr (strings_expected bytes.now range.now))
         (λ file. strings_expected bytes.now range.now ≡ Ok (drop range.now.offset file.now)) }

@@ -133,7 +133,7 @@ impl Header {
     /// - The fault of `room`: the bytes don't hold the 16 bytes of the identification.
     /// - `Data`: the data byte is neither 1 nor 2.
     /// - The fault of `room`: the bytes don't hold the 64 bytes of a header.
-    #[tactic(auto, using(crate::proofs::RawTrips::reads_found), unfolding(crate::specs::ReadHeader::read_in_order))]
+    #[tactic(auto, using(crate::proofs::WholeTrips::reads_found), unfolding(crate::specs::ReadHeader::read_in_order))]
     pub fn parse(bytes: &[u8]) -> Result<Header>
         ensures { result ≡ read_in_order (headed header64) faults.Data bytes.now }
     {
@@ -206,7 +206,7 @@ impl<'a> TryFromCtx<'a, Endian> for Header {
     ghost try_from_gives = { λ bytes _ answer.
         answer ≡ with_size 64 (read_in_order (headed header64) faults.DataType bytes) };
 
-    #[tactic(auto, using(crate::proofs::RawTrips::reads_found), unfolding(crate::specs::ReadHeader::read_in_order))]
+    #[tactic(auto, using(crate::proofs::WholeTrips::reads_found), unfolding(crate::specs::ReadHeader::read_in_order))]
     fn try_from_ctx(bytes: &'a [u8], _ctx: Endian) -> Result<(Self, usize)> {
         room(bytes.len(), 0, SIZEOF_IDENT)?;
         let Some(order) = order_of(bytes[EI_DATA]) else {

@@ -4,7 +4,6 @@ mod Common
 mod Faults
 mod FoundNames
 mod InputLemmas
-mod JoinedRanges
 mod LineLooks
 mod LongNames
 mod Printed

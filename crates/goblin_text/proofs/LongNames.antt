@@ -3,8 +3,7 @@ use Rattle.goblin_text.proofs.Common.{◌≡◌, ℕ, ◌+◌, ◌*◌, ◌<◌,
 use Rattle.goblin_text.proofs.Common.{Option, None, Some, cases_lt, IsUtf8, texts-join, ZeroFree, BLOCK, EndsAt}
 use Rattle.goblin_text.proofs.Common.{IsBlock, IsLong, IsZeroFree, IsRun, IsTextUpTo, LacksText, block_start}
 use Rattle.goblin_text.proofs.Common.{both_ways, next_block, up_to_zero}
-use Rattle.goblin_text.proofs.CharStarts.{char_start_bounds, lacks-on, whole_to_start}
-use Rattle.goblin_text.proofs.JoinedRanges.{lacks-after, of_up_to}
+use Rattle.goblin_text.proofs.CharStarts.{char_start_bounds, lacks-on, whole_to_start, lacks-after, of_up_to}
 use Rattle.goblin_text.proofs.Strings.{string-after, string-within}
 
 -- text with no zero byte goes on from a place up to a block

@@ -1,8 +1,7 @@
 -- Texts that go on through blocks.
 use Rattle.goblin_text.proofs.Common.{ℕ, ◌+◌, ◌*◌, ◌<◌, ◌≤◌, List, length, arith, slice_range, IsUtf8, texts-join, Text}
 use Rattle.goblin_text.proofs.Common.{BLOCK, IsBlock, IsRun, block_start, last_block, next_block}
-use Rattle.goblin_text.proofs.CharStarts.{char_start_bounds, text_cut}
-use Rattle.goblin_text.proofs.JoinedRanges.{of_up_to}
+use Rattle.goblin_text.proofs.CharStarts.{char_start_bounds, text_cut, of_up_to}
 
 -- the parts of a range are text: up to the next block, the blocks, and what is left
 pub record AreText (bytes : List ℕ) (start end : ℕ) : Type 0 where

@@ -8,9 +8,9 @@ use Rattle.goblin_base.proofs.Common.{IsAscii, IsUtf8, slice_range, HaveMarks, p
 use Rattle.goblin_base.proofs.Common.{invalid_utf8, take_all, IsTrue, entries_between, IsWalkedTo}
 use Rattle.goblin_base.proofs.EntriesLemmas.{walked_none, walked_text}
 use Rattle.goblin_base.proofs.MarksLemmas.{low_is_text}
-use Rattle.goblin_base.proofs.WalkProgressLemmas.{IsTextSoFar, readable_from_text, bad_from_fault, bad_here}
-use Rattle.goblin_base.proofs.WalkProgressLemmas.{text_so_far_none, text_so_far_more, nothing_passed, walked_fault}
-use Rattle.goblin_base.proofs.WalkProgressLemmas.{walked_all, strict_if_not_permissive, found_all}
+use Rattle.goblin_base.proofs.WalkLemmas.{IsTextSoFar, readable_from_text, bad_from_fault, bad_here, text_so_far_none}
+use Rattle.goblin_base.proofs.WalkLemmas.{text_so_far_more, nothing_passed, walked_fault, walked_all}
+use Rattle.goblin_base.proofs.WalkLemmas.{strict_if_not_permissive, found_all}
 use Rattle.goblin_base.proofs.PiecesLemmas.{end_within}
 use Rattle.goblin_base.proofs.walk.walk.Goals as goal
 

@@ -2,7 +2,7 @@
 -- (`strict`). The marks reach at most sixteen bytes past i, as `next_end` requires (`near`).
 use Rattle.goblin_base.proofs.Common.{◌≡◌, ◌+◌, ◌-◌, ◌*◌, ◌<◌, ◌≤◌, length, max, min, IsAscii, CountsAtLeast, HaveMarks}
 use Rattle.goblin_base.proofs.Common.{piece_end, Strict, IsWalkedTo}
-use Rattle.goblin_base.proofs.WalkProgressLemmas.{IsTextSoFar}
+use Rattle.goblin_base.proofs.WalkLemmas.{IsTextSoFar}
 use Rattle.goblin_base.proofs.walk.walk.Given as goal
 
 abbrev pub invariant-loop-i : goal.invariant-loop-i

@@ -1,6 +1,6 @@
 -- The data byte names the byte order, and the bytes hold the header, so it is read in that order (`reads_found`).
 use Rattle.goblin_headers.proofs.Common.{refl, sym, ◌∙◌, arith, headed, header32}
-use Rattle.goblin_headers.proofs.RawTrips.{reads_found}
+use Rattle.goblin_headers.proofs.WholeTrips.{reads_found}
 use Rattle.goblin_headers.proofs.header32.Header.parse.Goals as goal
 
 pub returns : goal.returns

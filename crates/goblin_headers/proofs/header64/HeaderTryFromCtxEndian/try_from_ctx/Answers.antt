@@ -1,6 +1,6 @@
 -- The data byte names the byte order, and the bytes hold the header, so it is read in that order (`reads_found`).
 use Rattle.goblin_headers.proofs.Common.{refl, sym, ap, ◌∙◌, arith, headed, header64, with_size}
-use Rattle.goblin_headers.proofs.RawTrips.{reads_found}
+use Rattle.goblin_headers.proofs.WholeTrips.{reads_found}
 use Rattle.goblin_headers.proofs.header64.HeaderTryFromCtxEndian.try_from_ctx.Goals as goal
 
 pub returns : goal.returns

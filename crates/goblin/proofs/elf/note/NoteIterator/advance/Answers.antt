@@ -3,7 +3,7 @@
 -- and it is the only one that has moved (`moved`).
 use Rattle.std.proofs.Common.{◌≡◌, ◌<◌, [], arith, drop, get_or, length, ◌∙◌}
 use Rattle.goblin.specs.Notes.{index_of_next, items_left, spent}
-use Rattle.goblin.proofs.NoteRangeLemmas.{Skipped, unspent, moved, next_is, skipped}
+use Rattle.goblin.proofs.NoteLemmas.{Skipped, unspent, moved, next_is, skipped}
 use Rattle.goblin.proofs.elf.note.NoteIterator.advance.Goals as goal
 
 pub returns-in-Some-clause-ranges : goal.returns-in-Some-clause-ranges
