@@ -23,7 +23,4 @@ pub use Rattle.goblin_headers.specs.declared.program_header.ProgramHeader.{Progr
 pub use Rattle.goblin_headers.specs.declared.section_header.SectionHeader.{SectionHeader}
 pub use Rattle.std.proofs.Common.{lit<, refl}
 pub use Rattle.std.specs.Int.{IsBitSet}
-pub use Rattle.std.specs.Prelude.{Bool, Err, IfErr, IfOk, IfSome, IsNone, IsOk, IsTrue, List, None, Ok, Option, Result}
-pub use Rattle.std.specs.Prelude.{Some, [], alloc_error, codes, drop, find, if◌then◌else◌, length, map, max, min}
-pub use Rattle.std.specs.Prelude.{nat_eq, nat_le, nat_lt, not, replicate, slice_index, take, true, vec_capacity, ℕ, ◌%◌}
-pub use Rattle.std.specs.Prelude.{◌&&◌, ◌*◌, ◌++◌, ◌+◌, ◌-◌, ◌/◌, ◌<◌, ◌==◌, ◌^◌, ◌||◌, ◌↔◌, ◌∷◌, ◌≡◌, ◌≤◌, ◌⊎◌}
+pub use Rattle.std.specs.Prelude.{None, Ok, Option, Result, Some, slice_index, take, ◌<◌, ◌^◌}

@@ -1,6 +1,6 @@
 -- The numbers of the constants of headers, in the order in which the laws list their names (System V gABI, "ELF
 -- Header", "Program Header" and "Section Header", and the numbers assigned later).
-use Rattle.goblin_headers.specs.Common.{ℕ, List, [], ◌∷◌}
+use Rattle.std.specs.Prelude.{ℕ, List, [], ◌∷◌}
 
 -- file types, and the ends of their ranges
 abbrev pub file_type_numbers : List ℕ

@@ -1,9 +1,9 @@
 -- The header of a file of either class (System V gABI, "ELF Header" and "ELF Identification").
+use Rattle.std.specs.Prelude.{◌≡◌, ◌+◌, ℕ, ◌==◌, if◌then◌else◌, List, [], ◌∷◌, ◌++◌, length, replicate, slice_index}
+use Rattle.std.specs.Prelude.{take, Option, Some, None, Result, Ok}
 use Rattle.goblin_headers.specs.Common.{Container, Ctx, Endian, Error, Malformed, Fault, values_of, Field, field, total}
 use Rattle.goblin_headers.specs.Common.{FieldsFit, image_of_fields, values_at, widths_of, lows_of, Layout, widened}
-use Rattle.goblin_headers.specs.Common.{◌>>=◌, or_refuse, Header, SectionHeader, InvalidClass, InvalidEndianness, ◌≡◌}
-use Rattle.goblin_headers.specs.Common.{◌+◌, ℕ, ◌==◌, if◌then◌else◌, List, [], ◌∷◌, ◌++◌, length, replicate}
-use Rattle.goblin_headers.specs.Common.{slice_index, take, Option, Some, None, Result, Ok}
+use Rattle.goblin_headers.specs.Common.{◌>>=◌, or_refuse, Header, SectionHeader, InvalidClass, InvalidEndianness}
 use Rattle.goblin_base.specs.declared.container.Container.TheVariants as class
 use Rattle.goblin_base.specs.declared.container.Endian.TheVariants as endian
 use Rattle.goblin_headers.specs.declared.header32.Header.{Header as Raw32}

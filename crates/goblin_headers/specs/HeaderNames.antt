@@ -1,5 +1,6 @@
 -- The names of classes and file types (System V gABI, "ELF Identification" and "ELF Header", e_type).
-use Rattle.goblin_headers.specs.Common.{name_in, ℕ, List, [], ◌∷◌, codes}
+use Rattle.std.specs.Prelude.{ℕ, List, [], ◌∷◌, codes}
+use Rattle.goblin_headers.specs.Common.{name_in}
 
 -- each class byte that has a name, and the name
 abbrev pub class_names : List (ℕ × List ℕ)

@@ -1,7 +1,7 @@
 -- Headers are read back from the bytes that they were written as, and written back as the bytes that they were read
 -- from.
-use Rattle.goblin_headers.specs.Common.{Container, Ctx, Endian, Error, Fault, Layout, IsBytes, Header, ◌≡◌, ◌↔◌, ◌≤◌, ℕ}
-use Rattle.goblin_headers.specs.Common.{List, ◌++◌, length, take, Result, Ok}
+use Rattle.std.specs.Prelude.{◌≡◌, ◌↔◌, ◌≤◌, ℕ, List, ◌++◌, length, take, Result, Ok}
+use Rattle.goblin_headers.specs.Common.{Container, Ctx, Endian, Error, Fault, Layout, IsBytes, Header}
 use Rattle.goblin_base.specs.Layout.{EachReadFits}
 use Rattle.goblin_headers.specs.Header.{header_size, header_layout, HeaderFits, NamesOrder, Identifies, new_header}
 use Rattle.goblin_headers.specs.ReadHeader.{read_in_order, read_header}

@@ -1,5 +1,6 @@
 -- The machines of ELF (System V gABI, "ELF Header", e_machine, and the numbers assigned later).
-use Rattle.goblin_headers.specs.Common.{name_in, ℕ, List, [], ◌∷◌, codes, map}
+use Rattle.std.specs.Prelude.{ℕ, List, [], ◌∷◌, codes, map}
+use Rattle.goblin_headers.specs.Common.{name_in}
 
 -- each machine with a number from 200 on that has a name, and the name
 abbrev pub machine_names_from_200 : List (ℕ × List ℕ)

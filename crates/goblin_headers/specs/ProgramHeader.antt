@@ -1,6 +1,7 @@
 -- Program headers of either class (System V gABI, "Program Header").
+use Rattle.std.specs.Prelude.{ℕ, List, [], ◌∷◌, slice_index}
 use Rattle.goblin_headers.specs.Common.{Container, Endian, field, values_of, Layout, Shape, shaped, widened, Little}
-use Rattle.goblin_headers.specs.Common.{Big, ProgramHeader, ℕ, List, [], ◌∷◌, slice_index}
+use Rattle.goblin_headers.specs.Common.{Big, ProgramHeader}
 use Rattle.goblin_headers.specs.declared.program_header32.ProgramHeader.{ProgramHeader as Raw32}
 use Rattle.goblin_headers.specs.declared.program_header64.ProgramHeader.{ProgramHeader as Raw64}
 

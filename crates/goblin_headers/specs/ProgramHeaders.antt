@@ -1,7 +1,7 @@
 -- New program headers, and lists of them (System V gABI, "Program Header").
-use Rattle.goblin_headers.specs.Common.{Ctx, records_from, Refusal, buffer_too_short, refuse_if, ProgramHeader, ◌+◌}
-use Rattle.goblin_headers.specs.Common.{◌-◌, ◌/◌, ◌^◌, ◌&&◌, ◌==◌, ℕ, nat_le, nat_lt, min, Bool, List, codes, find}
-use Rattle.goblin_headers.specs.Common.{length, Option, Result, []}
+use Rattle.std.specs.Prelude.{◌+◌, ◌-◌, ◌/◌, ◌^◌, ◌&&◌, ◌==◌, ℕ, nat_le, nat_lt, min, Bool, List, codes, find, length}
+use Rattle.std.specs.Prelude.{Option, Result, []}
+use Rattle.goblin_headers.specs.Common.{Ctx, records_from, Refusal, buffer_too_short, refuse_if, ProgramHeader}
 use Rattle.std.specs.Option.{option_map}
 use Rattle.goblin_headers.specs.ProgramHeader.{program_header_size, program_header_of, program_header_of_values}
 

@@ -1,7 +1,7 @@
 -- Reading a header: the first refusal that applies, or else the header.
+use Rattle.std.specs.Prelude.{ℕ, nat_lt, nat_eq, not, List, length, Result, Ok}
 use Rattle.goblin_headers.specs.Common.{Endian, Error, Malformed, BadMagic, Scroll, Fault, Layout, number_at, ◌>>=◌}
 use Rattle.goblin_headers.specs.Common.{with_size, Header, room_of, refuse_if, refuse_as, TooSmall, ElfClass, DataType}
-use Rattle.goblin_headers.specs.Common.{ℕ, nat_lt, nat_eq, not, List, length, Result, Ok}
 use Rattle.std.specs.List.{starts_with}
 use Rattle.goblin_headers.specs.Header.{header_size, header_layout, magic, class_of, order_of}
 use Rattle.goblin_base.specs.declared.container.Endian.TheVariants as endian

@@ -1,6 +1,7 @@
 -- Section headers of either class (System V gABI, "Section Header").
+use Rattle.std.specs.Prelude.{ℕ, List, [], ◌∷◌, slice_index}
 use Rattle.goblin_headers.specs.Common.{Container, Endian, field, values_of, Layout, Shape, shaped, widened, Little}
-use Rattle.goblin_headers.specs.Common.{Big, SectionHeader, ℕ, List, [], ◌∷◌, slice_index}
+use Rattle.goblin_headers.specs.Common.{Big, SectionHeader}
 use Rattle.goblin_headers.specs.declared.section_header32.SectionHeader.{SectionHeader as Raw32}
 use Rattle.goblin_headers.specs.declared.section_header64.SectionHeader.{SectionHeader as Raw64}
 

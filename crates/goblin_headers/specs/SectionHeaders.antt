@@ -1,8 +1,8 @@
 -- New section headers, lists of them, and whether a section lies in its file (System V gABI, "Section Header").
+use Rattle.std.specs.Prelude.{◌+◌, ◌/◌, ◌^◌, ◌||◌, ◌==◌, ℕ, nat_lt, nat_le, if◌then◌else◌, not, List, [], codes, drop}
+use Rattle.std.specs.Prelude.{length, max, Bool, true, Option, Some, None, Result, Ok}
 use Rattle.goblin_headers.specs.Common.{Ctx, Error, Malformed, records_in, unless_fault, Refusal, buffer_too_short}
-use Rattle.goblin_headers.specs.Common.{misplaced, room_of, refuse_if, refuse_as, SectionHeader, ◌>>=◌, ◌+◌, ◌/◌, ◌^◌}
-use Rattle.goblin_headers.specs.Common.{◌||◌, ◌==◌, ℕ, nat_lt, nat_le, if◌then◌else◌, not, List, [], codes, drop}
-use Rattle.goblin_headers.specs.Common.{length, max, Bool, true, Option, Some, None, Result, Ok}
+use Rattle.goblin_headers.specs.Common.{misplaced, room_of, refuse_if, refuse_as, SectionHeader, ◌>>=◌}
 use Rattle.goblin_base.specs.declared.error.Fault.TheVariants.{SectionOffset, SectionAddr}
 use Rattle.goblin_headers.specs.SectionHeader.{section_header_size, section_header_of, section_header_of_values}
 

@@ -1,6 +1,7 @@
 -- The names of section types and of their flags (System V gABI, "Section Header", sh_type and sh_flags, and the numbers
 -- assigned later).
-use Rattle.goblin_headers.specs.Common.{name_in, ℕ, List, [], ◌∷◌, codes}
+use Rattle.std.specs.Prelude.{ℕ, List, [], ◌∷◌, codes}
+use Rattle.goblin_headers.specs.Common.{name_in}
 
 -- each section type that has a name, and the name
 abbrev pub section_names : List (ℕ × List ℕ)

@@ -1,5 +1,6 @@
 -- The names of segment types (System V gABI, "Program Header", p_type, and the numbers assigned later).
-use Rattle.goblin_headers.specs.Common.{name_in, ℕ, List, [], ◌∷◌, codes}
+use Rattle.std.specs.Prelude.{ℕ, List, [], ◌∷◌, codes}
+use Rattle.goblin_headers.specs.Common.{name_in}
 
 -- each segment type that has a name, and the name
 abbrev pub segment_names : List (ℕ × List ℕ)

@@ -1,8 +1,8 @@
 -- The number of segments, and the headers that count only what lies whole in the file (System V gABI, "ELF Header":
 -- `e_phnum`, `e_shnum` and extended numbering).
+use Rattle.std.specs.Prelude.{◌≡◌, ◌==◌, ◌||◌, ℕ, if◌then◌else◌, not, min, IsOk, List, length, drop, Result, Ok, Err}
 use Rattle.goblin_headers.specs.Common.{Ctx, Error, whole_of, unless_fault, Refusal, refusal_of, room_of, refuse_as}
-use Rattle.goblin_headers.specs.Common.{Header, ProgramHeader, SectionHeader, ◌>>=◌, ◌≡◌, ◌==◌, ◌||◌, ℕ, if◌then◌else◌}
-use Rattle.goblin_headers.specs.Common.{not, min, IsOk, List, length, drop, Result, Ok, Err}
+use Rattle.goblin_headers.specs.Common.{Header, ProgramHeader, SectionHeader, ◌>>=◌}
 use Rattle.goblin_headers.specs.declared.whole_part.WholePart.{WholePart}
 use Rattle.goblin_headers.specs.Header.{ctx_of}
 use Rattle.goblin_headers.specs.ProgramHeader.{program_header_size}

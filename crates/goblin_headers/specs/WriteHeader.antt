@@ -1,6 +1,6 @@
 -- Writing a header: the first refusal that applies, which changes nothing, or else the header's bytes at the start.
-use Rattle.goblin_headers.specs.Common.{Endian, Error, Layout, Writes, Header, InvalidClass, Data, ◌≡◌, ℕ, List, Result}
-use Rattle.goblin_headers.specs.Common.{Ok, Err}
+use Rattle.std.specs.Prelude.{◌≡◌, ℕ, List, Result, Ok, Err}
+use Rattle.goblin_headers.specs.Common.{Endian, Error, Layout, Writes, Header, InvalidClass, Data}
 use Rattle.goblin_headers.specs.Header.{header_layout, class_of, order_of}
 
 -- a found value decides what is written; an error is the result, and nothing changes

@@ -1,10 +1,11 @@
 -- Laws of relocations of each class, with an addend or without, of MIPS64 or not: written relocations are read back,
 -- and relocations that were read are written back.
 use Rattle.std.specs.Prelude.{ℤ, pos, negsuc, unwrap_or, None, IsSomeAnd}
-use Rattle.std.proofs.Common.{◌≡◌, ◌<◌, ◌*◌, ◌^◌, ℕ, Bool, true, false, Option, Some, subst}
+use Rattle.std.proofs.Common.{refl, lit<, ◌∙◌, arith, sym, ap, ◌<◌, ◌^◌, ◌≡◌, ◌*◌, ℕ, Bool, true, false, Option, Some}
+use Rattle.std.proofs.Common.{subst}
 use Rattle.goblin_records.specs.Common.{Container, Endian, IsRecord, shaped, number_at, Little, Big, FitsSigned, Reloc}
-use Rattle.goblin_records.specs.Common.{RelocCtx, refl, lit<, ◌∙◌, arith, sym, ap, shape_laws, plain_laws}
-use Rattle.goblin_records.specs.Common.{converted_laws, same_in_each_class, signed_low, word_size, widths}
+use Rattle.goblin_records.specs.Common.{RelocCtx, shape_laws, plain_laws, converted_laws, same_in_each_class}
+use Rattle.goblin_records.specs.Common.{signed_low, word_size, widths}
 use Rattle.std.proofs.Math.Nat.{mod-eq_of_lt, one-le-pow}
 use Rattle.goblin_base.specs.SignedLaws.{signed_of-complement, complement-lt, complement-mod}
 use Rattle.goblin_base.specs.SignedLaws.{complement-signed_number_at, signed_of-fits}

@@ -1,5 +1,6 @@
 -- Laws of symbols of each class: written symbols are read back, and symbols that were read are written back.
-use Rattle.goblin_records.specs.Common.{Container, Endian, IsRecord, IsSameInEachClass, shaped, Little, Big, refl, lit<}
+use Rattle.std.proofs.Common.{refl, lit<}
+use Rattle.goblin_records.specs.Common.{Container, Endian, IsRecord, IsSameInEachClass, shaped, Little, Big}
 use Rattle.goblin_records.specs.Common.{plain_laws, widened_laws, same_in_each_class}
 use Rattle.goblin_records.specs.Sym.{sym32, sym64, sym_layout, as32, as64, widened32, widened64}
 
