@@ -1,8 +1,9 @@
 /* Lists the symbols of an ELF file, in most files as `nm -a -p --special-syms` does: nm [-D] FILE
    With -D it lists the dynamic symbol table. A line has the value of a symbol (the size of a common symbol),
-   its letter, the index of its section and its name. nm lists no values of undefined symbols, even values of Thumb
-   functions, versions after names with -D, and other letters for small common symbols of MIPS and for sections
-   with names of PE, such as .pdata. With a plugin it lists the compiler's symbols of files for link-time optimization.
+   its letter, the index of its section and its name. nm lists no values of undefined symbols, Thumb functions without
+   the lowest bit of their values, versions after names with -D, and other letters for small common symbols of MIPS and
+   for sections with names of PE, such as .pdata. With a plugin it lists the compiler's symbols of files for link-time
+   optimization.
    In a file of 65,280 or more sections an index may not fit in its symbol; then it is read from the section of
    type SHT_SYMTAB_SHNDX. */
 #include "goblin.h"
