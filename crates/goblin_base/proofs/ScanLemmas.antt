@@ -6,7 +6,7 @@ use Rattle.goblin_base.proofs.Common.{is_utf8-from_IsUtf8, Awaited, awaits_first
 use Rattle.goblin_base.proofs.Common.{is_readable, IsDamaged, IsScan, scan_end, Whole, Fault}
 use Rattle.std.proofs.Common.{eq-eqb}
 use Rattle.goblin_base.proofs.Utf8Lemmas.{Completes, any_bounds, IsUtf8-from_Completes, Completes-from_IsUtf8}
-use Rattle.goblin_base.proofs.Utf8ByteLemmas.{CompletesFrom, IsInner, Steps, StepsTo, steps}
+use Rattle.goblin_base.proofs.Utf8Lemmas.{CompletesFrom, IsInner, Steps, StepsTo, steps}
 use Rattle.goblin_base.proofs.WalkLemmas.{bad_within}
 use Rattle.goblin_base.proofs.PiecesLemmas.{end_is, end_same, end_from, at_end, piece_more, piece_at_end}
 

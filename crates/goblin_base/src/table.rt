@@ -98,7 +98,7 @@ impl<'a, R: Record<C>, C: Copy> Table<'a, R, C> {
     }
 
     /// Returns the number of records.
-    #[tactic(auto, using(crate::proofs::Records::record_steps))]
+    #[tactic(auto, using(crate::proofs::Eager::record_steps))]
     pub fn len(&self) -> usize
         ensures value { result ≡ length self.now }
         ensures bound { result < usize.MAX }
@@ -107,7 +107,7 @@ impl<'a, R: Record<C>, C: Copy> Table<'a, R, C> {
     }
 
     /// Reports whether the table has no records.
-    #[tactic(auto, using(crate::proofs::Records::record_steps))]
+    #[tactic(auto, using(crate::proofs::Eager::record_steps))]
     pub fn is_empty(&self) -> bool
         ensures { IsTrue result ↔ (self.now ≡ []) }
     {
@@ -116,7 +116,7 @@ impl<'a, R: Record<C>, C: Copy> Table<'a, R, C> {
 
     /// Returns the record at an index, or `None` from `len()` on.
     #[inline(always)]
-    #[tactic(auto, using(crate::proofs::Records::record_steps))]
+    #[tactic(auto, using(crate::proofs::Eager::record_steps))]
     pub fn get(&self, index: usize) -> Option<R>
         ensures { result ≡ slice_get self.now index }
     {
@@ -129,7 +129,7 @@ impl<'a, R: Record<C>, C: Copy> Table<'a, R, C> {
     }
 
     // Removes the first record and returns it, or returns `None` if none is left.
-    #[tactic(auto, using(crate::proofs::Records::record_steps))]
+    #[tactic(auto, using(crate::proofs::Eager::record_steps))]
     fn take_first(&mut self) -> Option<R>
         ensures { YieldsFirst (λ left. left) self.old result self.new }
     {
@@ -144,7 +144,7 @@ impl<'a, R: Record<C>, C: Copy> Table<'a, R, C> {
     }
 
     /// Returns an iterator over the records, from the first to the last.
-    #[tactic(auto, using(crate::proofs::Records::record_steps))]
+    #[tactic(auto, using(crate::proofs::Eager::record_steps))]
     pub fn iter(&self) -> TableIter<'a, R, C>
         ensures value { result ≡ self.now }
         ensures bound { length self.now < 2 ^ 64 }

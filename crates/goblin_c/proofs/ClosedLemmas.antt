@@ -10,9 +10,8 @@ use Rattle.goblin_c.proofs.Common.{Stores, refusal_at, refuse_as, strings_expect
 use Rattle.goblin_c.proofs.Common.{prefix_len-le-length, IsCString, string_closed_expected}
 use Rattle.std.specs.Prelude.{All, not, ◌≢◌}
 use Rattle.goblin_c.proofs.EachLemmas.{stored_item}
-use Rattle.goblin_c.proofs.PlaceLemmas.{piece_short}
+use Rattle.goblin_c.proofs.StringLemmas.{piece_short, in_range, place_of, piece_is_there}
 use Rattle.goblin_c.proofs.ReadLemmas.{expected_is}
-use Rattle.goblin_c.proofs.StringLemmas.{in_range, place_of, piece_is_there}
 
 -- a string that ends before its strings do
 module _ (bytes : List ℕ) (range : GoblinRange) (offset : ℕ) (strings : List ℕ)

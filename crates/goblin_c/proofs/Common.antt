@@ -5,7 +5,7 @@ pub use Rattle.goblin.specs.Reloc.{reloc_in, reloc_size}
 pub use Rattle.goblin.specs.SectionHeader.{section_header_of, section_header_size}
 pub use Rattle.goblin.specs.Sym.{sym_of}
 pub use Rattle.goblin_base.proofs.ByteorderLemmas.{length-part}
-pub use Rattle.goblin_base.proofs.Records.{get_records, length_records, past_records}
+pub use Rattle.goblin_base.proofs.Eager.{get_records, length_records, past_records}
 pub use Rattle.goblin_base.proofs.StepLemmas.{found, found_within}
 unfoldable pub use Rattle.goblin_base.specs.Eager.{records_from, records_in}
 pub use Rattle.goblin_base.specs.FieldLaws.{IsBytes-part, number_at-lt, number_at-with_number}

@@ -19,7 +19,7 @@ use Rattle.goblin_c.specs.Dynamic.{file_range_of, range_in_file, unless_empty}
 use Rattle.goblin_c.specs.DynamicLaws.{DynamicLiesInFile, EntriesAreListed}
 use Rattle.goblin_c.specs.declared.types.GoblinDyn.{GoblinDyn}
 use Rattle.goblin_c.proofs.IndexLemmas.{get_drop}
-use Rattle.goblin_c.proofs.PlaceLemmas.{range_lies}
+use Rattle.goblin_c.proofs.StringLemmas.{range_lies}
 
 -- an entry for C, unless it ends the entries
 abbrev pub unless_end : Dyn → Option GoblinDyn

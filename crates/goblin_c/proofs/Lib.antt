@@ -12,11 +12,9 @@ pub mod IndexLemmas
 pub mod InsideLemmas
 pub mod NoteLemmas
 pub mod PieceLemmas
-pub mod PlaceLemmas
 pub mod SearchLemmas
 pub mod PutLemmas
 pub mod ReadLemmas
 pub mod StringLemmas
 pub mod TextLemmas
 pub mod WholeLemmas
-pub mod WriteLemmas

@@ -11,10 +11,12 @@ use Rattle.goblin_c.proofs.Common.{reloc_size, relocs_of, unless_fault, fits-roo
 use Rattle.goblin_c.proofs.Common.{no_records, records-agree, div-mul-le_self, is_mips64el, relocs_expected, Refused}
 use Rattle.goblin_c.proofs.Common.{GoblinHeader, GoblinRange, ctx_of, each_converted, item_at, sections_expected}
 use Rattle.goblin_c.proofs.Common.{segments_expected, symbols_expected, Returns, RefusalAt, refusal_at, refused_at}
-use Rattle.goblin_c.proofs.Common.{converted_list, reloc_ctx}
+use Rattle.goblin_c.proofs.Common.{converted_list, reloc_ctx, ◌^◌, ◌⊎◌, ◌∷◌, Option, inl, Container, Little, Big}
+use Rattle.goblin_c.proofs.Common.{Header, cases_lt, Field, FieldsFit}
 use Rattle.std.proofs.lemmas.List.{take-take}
 use Rattle.goblin_c.proofs.ListedLemmas.{IsListed, bind_ok, listed_at, listed_from, none_at, refused_at_ok}
 use Rattle.goblin_c.proofs.ListedLemmas.{sections_listed, symbols_listed}
+use Rattle.goblin.specs.Header.{HeaderFits, as32, as64, header32, header64}
 
 -- a list that is not refused has so many records
 abbrev pub Lists : {R : Type 0} → ℕ → (List ℕ → R) → List ℕ → ℕ → Result (List R) RefusalAt → Type 0
@@ -106,3 +108,26 @@ lists_relocs bytes h table is_rela items is =
     let read = found_within refusal_of found items (refused_at_ok table.offset (refuse_as refusal_of found) items is) in
     in_range (reloc_size is_rela (ctx_of h).container) (reloc_in (reloc_ctx h is_rela)) bytes table.offset table.size
     items (table.size == 0) read
+
+-- ---- puts: a record that is found is put at its place, in range, and the library's test decides whether it fits
+
+-- an item that a call found in a list lies in the file
+pub room_for : {L R Y : Type 0} (convert : R → Y) (view : L → List R) {size : ℕ} {read : List ℕ → R}
+    {bytes : List ℕ} {start : ℕ} (index : ℕ) (answer : Result L Refused) {expected : Result (List R) RefusalAt}
+    (found : Result (Option Y) Refused) (y : Y)
+    → Lists size read bytes start expected → Returns view answer expected
+    → Returns (λ x. x) found (item_at (converted_list (λ list. map convert (view list)) answer) index)
+    → found ≡ Ok (Some y)
+    → start + index * size + size ≤ length bytes
+room_for convert view {size} {read} {bytes} {start} index answer {expected} found y lists is stored there =
+    (found_at convert size read bytes start index expected y lists
+    (rw (there, converted_is convert view answer expected is) at stored)).0
+
+-- fields fit, or not
+fields_decided : (fields : List Field) → FieldsFit fields ⊎ (¬ (FieldsFit fields))
+fields_decided [] = inl tt
+fields_decided (f ∷ fields) = grind (arith, cases_lt f.value (256 ^ f.width), fields_decided fields)
+
+pub header_decided : (class : Container) (h : Header) → HeaderFits class h ⊎ (¬ (HeaderFits class h))
+header_decided Little h = fields_decided (header32.fields (as32 h))
+header_decided Big h = fields_decided (header64.fields (as64 h))

@@ -10,11 +10,12 @@ use Rattle.goblin_c.proofs.Common.{length-take, take_min, take-take, Decides, be
 use Rattle.goblin_c.proofs.Common.{◌>>=◌, RefusalAt, refused_at, GoblinRange, each_converted, first_item, is_named}
 use Rattle.goblin_c.proofs.Common.{item_at, sections_expected, string_expected, strings_expected, symbols_expected}
 use Rattle.goblin_c.proofs.Common.{section_converted, symbol_converted, bytes_eq-Decides, FindsItemFrom, bytes_in, true}
-use Rattle.goblin_c.proofs.Common.{if◌then◌else◌, Option, None}
+use Rattle.goblin_c.proofs.Common.{if◌then◌else◌, Option, None, length-drop, fits-room_of, range_expected, LiesIn}
 use Rattle.std.proofs.Math.Seq.{drop-drop}
 use Rattle.goblin_base.specs.Strtab.{has_name, plain, range_in}
 use Rattle.goblin_c.specs.Laws.{IsNameAt, RefusesInTurn, SectionsByName, StringsAreThere, SymbolsByName}
-use Rattle.goblin_c.specs.Laws.{StringsAreCompared, range_is, range_starts}
+use Rattle.goblin_c.specs.Laws.{StringsAreCompared, range_is, range_starts, BytesLieInFile, EmptyHaveNoBytes}
+use Rattle.goblin_c.specs.Laws.{StringsAreBytes, StringsLieInFile}
 use Rattle.goblin_c.proofs.SearchLemmas.{first_found}
 use Rattle.goblin_c.proofs.ListedLemmas.{one_converted}
 use Rattle.std.specs.Prelude.{IsErr}
@@ -208,3 +209,43 @@ unfolding range_in
 outside_is bytes range past = grind (arith, nat_tests)
 
 pub ruleset inside = (inside_is, outside_is)
+
+-- ---- where the bytes of stored ranges lie
+-- A range is stored only after the test of room for it (`range_lies`). The bytes of a string are the piece at its
+-- offset, which is no longer than the strings from there on (`piece_short`).
+
+-- a range that is stored lies in the file
+pub range_lies : (bytes : List ℕ) (range found : GoblinRange)
+    → range_expected bytes range ≡ Ok (Some found) → LiesIn bytes found
+range_lies bytes range found is = grind (arith, fits-room_of (length bytes) range.offset range.size)
+
+-- a piece is no longer than the strings from its offset on
+pub piece_short : (strings : List ℕ) (offset : ℕ) → length (piece strings 0 offset) ≤ length strings - offset
+unfolding piece
+piece_short strings offset =
+    let rest = drop offset strings in
+    omega (arith, length-drop offset strings, length-take (position_or_len (λ b. b == 0) rest) rest)
+
+pub bytes_lie_in_file : BytesLieInFile
+bytes_lie_in_file = record {
+  section = λ bytes s found is. grind (arith, range_lies bytes s.file found);
+  segment = λ bytes s found is. grind (arith, range_lies bytes s.file found);
+  string = λ bytes range offset found is.
+      grind (arith, nat_tests, in_range bytes range, piece_short, length-take, length-drop);
+}
+
+pub empty_have_no_bytes : EmptyHaveNoBytes
+empty_have_no_bytes = record {
+  section = λ bytes s is. grind (arith, nat_tests, is);
+  segment = λ bytes s is. grind (arith, nat_tests, is);
+}
+
+-- a string that is text lies where its bytes do
+pub strings_are_bytes : StringsAreBytes
+strings_are_bytes bytes range offset found is = grind (arith, nat_tests, plain_is)
+
+pub strings_lie_in_file : StringsLieInFile
+strings_lie_in_file bytes range offset found is =
+    bytes_lie_in_file.string bytes range offset found (strings_are_bytes bytes range offset found is)
+
+pub ruleset place_laws = (bytes_lie_in_file, empty_have_no_bytes, strings_are_bytes)

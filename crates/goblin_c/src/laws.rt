@@ -76,7 +76,7 @@ pub fn buffers()
 
 /// Laws: the range that `goblin_string` stores has the string that the library reads there, and lies in
 /// the file.
-#[tactic(auto, using(crate::proofs::StringLemmas::strings_are_there, crate::proofs::PlaceLemmas::strings_lie_in_file))]
+#[tactic(auto, using(crate::proofs::StringLemmas::strings_are_there, crate::proofs::StringLemmas::strings_lie_in_file))]
 pub fn strings()
     ensures there { StringsAreThere }
     ensures within { StringsLieInFile }
@@ -110,7 +110,7 @@ pub fn types()
 /// Laws: the ranges that `goblin_section_bytes`, `goblin_segment_bytes` and `goblin_string_bytes` store lie
 /// in the file. A section of type 0 or 8 or without a size has none, nor has a segment of type 0 or without a size. If
 /// `goblin_string` stores a range, `goblin_string_bytes` stores the same one.
-#[tactic(auto, using(crate::proofs::PlaceLemmas::place_laws))]
+#[tactic(auto, using(crate::proofs::StringLemmas::place_laws))]
 pub fn places()
     ensures within { BytesLieInFile }
     ensures none { EmptyHaveNoBytes }

@@ -4,7 +4,7 @@ use Rattle.std.proofs.Common.{◌+◌, ◌/◌, length, arith}
 use Rattle.std.proofs.Math.Nat.{le-div_iff_mul-le}
 use Rattle.std.proofs.lemmas.Bool.Decides.{nat_tests}
 use Rattle.goblin_base.specs.RecordLaws.{fits-room_of, room_of_fits}
-use Rattle.goblin_base.proofs.Records.{get_records, past_records}
+use Rattle.goblin_base.proofs.Eager.{get_records, past_records}
 use Rattle.goblin_dynamic.specs.Dyn.{entry_laws, entry_of, entry_size}
 use Rattle.goblin_dynamic.specs.DynamicLaws.{EntriesInARow, RangesLieInFile}
 

@@ -6,7 +6,7 @@ use Rattle.std.proofs.lemmas.List.{length-map}
 use Rattle.std.proofs.lemmas.List.Folds.{length-prefix_len}
 use Rattle.std.proofs.lemmas.List.FromFn.{take-map-range_with_len}
 use Rattle.std.proofs.lemmas.List.Sums.{count_by-le-length, length-filter}
-use Rattle.goblin_base.proofs.Records.{length_records}
+use Rattle.goblin_base.proofs.Eager.{length_records}
 
 pub ruleset first_entries =
     (common_steps, length-prefix_len, length_records, div-mul-le_self, mul-le-mul_right, take-map-range_with_len)

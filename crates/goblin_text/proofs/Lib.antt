@@ -3,13 +3,10 @@ mod CharStarts
 mod Common
 mod Faults
 mod FoundNames
-mod InputLemmas
 mod LineLooks
 mod LongNames
-mod Printed
 mod RunEnds
 mod StrictAndPermissive
 mod StringTables
 mod Strings
 mod TargetLemmas
-mod TextBlocks

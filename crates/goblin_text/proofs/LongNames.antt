@@ -1,9 +1,9 @@
 -- Names that go on through blocks.
 use Rattle.goblin_text.proofs.Common.{◌≡◌, ℕ, ◌+◌, ◌*◌, ◌<◌, ◌≤◌, List, length, sym, subst, ⊎_elim, arith, slice_range}
 use Rattle.goblin_text.proofs.Common.{Option, None, Some, cases_lt, IsUtf8, texts-join, ZeroFree, BLOCK, EndsAt}
-use Rattle.goblin_text.proofs.Common.{IsBlock, IsLong, IsZeroFree, IsRun, IsTextUpTo, LacksText, block_start}
-use Rattle.goblin_text.proofs.Common.{both_ways, next_block, up_to_zero}
-use Rattle.goblin_text.proofs.CharStarts.{char_start_bounds, lacks-on, whole_to_start, lacks-after, of_up_to}
+use Rattle.goblin_text.proofs.Common.{IsBlock, IsLong, IsZeroFree, IsRun, IsTextUpTo, LacksText, block_start, both_ways}
+use Rattle.goblin_text.proofs.Common.{next_block, up_to_zero, Text, last_block}
+use Rattle.goblin_text.proofs.CharStarts.{char_start_bounds, lacks-on, whole_to_start, lacks-after, of_up_to, text_cut}
 use Rattle.goblin_text.proofs.Strings.{string-after, string-within}
 
 -- text with no zero byte goes on from a place up to a block
@@ -79,3 +79,35 @@ text_after bytes place from end (Some stop) l zero_free e t =
     texts-join bytes place from stop l e.order zero_free.text t
 
 pub ruleset refused_heads = (both_ways, lacks_at_head)
+
+-- ---- texts that go on through blocks
+
+-- the parts of a range are text: up to the next block, the blocks, and what is left
+pub record AreText (bytes : List ℕ) (start end : ℕ) : Type 0 where
+  pub head : IsUtf8 (slice_range bytes start (block_start bytes (next_block start)))
+  pub blocks : IsRun Text bytes (next_block start) (last_block end)
+  pub rest : IsUtf8 (slice_range bytes (block_start bytes (last_block end)) end)
+
+-- a block of a text is text
+block_of_text : (bytes : List ℕ) (start end k : ℕ) → start ≤ k * BLOCK → (k + 1) * BLOCK + 3 ≤ end → end ≤ length bytes
+    → IsUtf8 (slice_range bytes start end) → IsBlock Text bytes k
+unfolding IsBlock
+block_of_text bytes start end k from to within u =
+    let bounds = char_start_bounds bytes (k * BLOCK) in
+    let rest = (text_cut bytes start (k * BLOCK) end from (omega arith) within u).1 in
+    (text_cut bytes (block_start bytes k) ((k + 1) * BLOCK) end (omega arith) to within rest).0
+
+module _ (bytes : List ℕ) (start end : ℕ) (long : next_block start < last_block end) (within : end ≤ length bytes) where
+  pub text_has_parts : IsUtf8 (slice_range bytes start end) → AreText bytes start end
+  text_has_parts u = record {
+    head = (text_cut bytes start (next_block start * BLOCK) end (omega arith) (omega arith) within u).0;
+    blocks = λ k from to. block_of_text bytes start end k (omega arith) (omega arith) within u;
+    rest = (text_cut bytes start (last_block end * BLOCK) end (omega arith) (omega arith) within u).1;
+  }
+
+  pub parts_are_text : AreText bytes start end → IsUtf8 (slice_range bytes start end)
+  parts_are_text are =
+      let bounds = char_start_bounds bytes (last_block end * BLOCK) in
+      let front = of_up_to Text bytes start (next_block start) (last_block end) (omega arith)
+      (omega arith) are.head are.blocks in
+      texts-join bytes start (block_start bytes (last_block end)) end (omega arith) (omega arith) front are.rest

@@ -1,6 +1,5 @@
 use Rattle.goblin_c.proofs.Common.{symbol_converted}
-use Rattle.goblin_c.proofs.ReadLemmas.{lists_symbols}
-use Rattle.goblin_c.proofs.WriteLemmas.{room_for}
+use Rattle.goblin_c.proofs.ReadLemmas.{lists_symbols, room_for}
 use Rattle.goblin_c.proofs.write.goblin_put_symbol.Goals as goal
 
 pub put_found-requires : goal.put_found-requires

@@ -1,8 +1,15 @@
 -- The filled bytes are those that the reader returned, because each read fills the bytes right after them. If they are
 -- more than the limit, the input is too long.
-use Rattle.goblin_text.proofs.Common.{arith, common_steps, Consumes-kept}
-use Rattle.goblin_text.proofs.InputLemmas.{Consumes-after}
+use Rattle.goblin_text.proofs.Common.{arith, common_steps, Consumes-kept, ◌≡◌, ◌+◌, ℕ, List, Option, take, drop}
+use Rattle.goblin_text.proofs.Common.{Consumes-trans, take-add, Consumes}
 use Rattle.goblin_text.proofs.input.input_within.Goals as goal
+
+-- what was filled before and what was read after it is what was taken in all
+Consumes-after : (a b c : Option (List ℕ)) (old new : List ℕ) (filled count : ℕ) → take filled new ≡ take filled old
+    → Consumes a b (take filled old)
+    → Consumes b c (take count (drop filled new)) → Consumes a c (take (filled + count) new)
+Consumes-after a b c old new filled count kept before after =
+    rw (take-add filled count new, kept) (Consumes-trans a b c _ _ before after)
 
 pub returns-then-filled-gt-INPUT_LIMIT-clause-input : goal.returns-then-filled-gt-INPUT_LIMIT-clause-input
 returns-then-filled-gt-INPUT_LIMIT-clause-input g c =

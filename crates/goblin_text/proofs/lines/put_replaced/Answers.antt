@@ -1,7 +1,11 @@
 use Rattle.goblin_text.proofs.Common.{◌≡◌, ◌∙◌, ◌++◌, ◌∷◌, [], arith, subst, Appends-trans, common_steps, Appends}
-use Rattle.goblin_text.proofs.Common.{encode_utf8_all, printed, encodes-append}
-use Rattle.goblin_text.proofs.Printed.{encode-printable}
+use Rattle.goblin_text.proofs.Common.{encode_utf8_all, printed, encodes-append, ℕ, nat_tests, printable, encode}
 use Rattle.goblin_text.proofs.lines.put_replaced.Goals as goal
+
+-- the bytes of a character as it prints
+encode-printable : (c : ℕ) → encode (printable c) ≡ printed (encode c)
+unfolding encode
+encode-printable c = grind (arith, nat_tests)
 
 pub loop-c-preserved : goal.loop-c-preserved
 loop-c-preserved g c =

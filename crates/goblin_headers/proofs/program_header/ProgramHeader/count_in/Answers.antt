@@ -2,7 +2,7 @@
 -- (`same_first`), or the fault of it.
 use Rattle.goblin_headers.proofs.Common.{length, rules, take, drop, unless_fault-err, room_of, section_header_of}
 use Rattle.goblin_headers.proofs.Common.{section_header_size}
-use Rattle.goblin_headers.proofs.ReadSections.{same_first}
+use Rattle.goblin_headers.proofs.WholeParts.{same_first}
 use Rattle.goblin_headers.proofs.program_header.ProgramHeader.count_in.Goals as goal
 
 pub returns-in_err-first : goal.returns-in_err-first

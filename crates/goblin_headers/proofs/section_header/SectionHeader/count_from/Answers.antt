@@ -1,5 +1,5 @@
 use Rattle.goblin_headers.proofs.Common.{◌≡◌, ◌==◌, true, arith, nat_tests}
-use Rattle.goblin_headers.proofs.ReadSections.{first_counts}
+use Rattle.goblin_headers.proofs.WholeParts.{first_counts}
 use Rattle.goblin_headers.proofs.section_header.SectionHeader.count_from.Goals as goal
 
 pub returns : goal.returns

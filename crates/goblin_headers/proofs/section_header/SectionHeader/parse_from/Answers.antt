@@ -2,7 +2,7 @@
 -- `first_tested`). Otherwise the list is that of the records that were asked for (`from_is`), as `read_all` reads it,
 -- and the only test that is left is whether the bytes could hold so many (`all_tested`).
 use Rattle.goblin_headers.proofs.Common.{rules, sym, subst, ap, ◌∙◌, Ok, arith, Gives}
-use Rattle.goblin_headers.proofs.ReadSections.{first_refused, first_tested, from_is, all_tested}
+use Rattle.goblin_headers.proofs.WholeParts.{first_refused, first_tested, from_is, all_tested}
 use Rattle.goblin_headers.proofs.section_header.SectionHeader.parse_from.Goals as goal
 
 pub returns-in_err-asked : goal.returns-in_err-asked

@@ -1,5 +1,5 @@
 use Rattle.goblin_headers.proofs.Common.{rules, sym, subst, Returns}
-use Rattle.goblin_headers.proofs.ReadSections.{first_refused, from_is}
+use Rattle.goblin_headers.proofs.WholeParts.{first_refused, from_is}
 use Rattle.goblin_headers.proofs.section_header.SectionHeader.table_from.Goals as goal
 
 pub returns-in_err-most : goal.returns-in_err-most

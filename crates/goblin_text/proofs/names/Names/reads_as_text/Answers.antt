@@ -1,7 +1,7 @@
 -- A range is text exactly if its two ends are text and the blocks between them: no edge cuts a character.
 use Rattle.goblin_text.proofs.Common.{◌≡◌, ◌<◌, ◌≤◌, arith, refl, slice_range, subst, sym, both_ways, common_steps}
 use Rattle.goblin_text.proofs.Common.{IsUtf8, Text, IsRunEnd, block_start, blocks, last_block, next_block}
-use Rattle.goblin_text.proofs.TextBlocks.{parts_are_text, text_has_parts}
+use Rattle.goblin_text.proofs.LongNames.{parts_are_text, text_has_parts}
 use Rattle.goblin_text.proofs.names.Names.reads_as_text.Goals.{After-run_end}
 use Rattle.goblin_text.proofs.names.Names.reads_as_text.Goals as goal
 
