@@ -251,14 +251,13 @@ impl IntoCtx<Ctx> for Header {
 pub fn laws()
     ensures ident { (class : Container) (order : Endian) (bytes : List ℕ)
         → ((header_layout class order).read bytes).e_ident ≡ take 16 bytes }
-    ensures places32 { HasPlaces (header_layout class.Little) (λ n h.
+    ensures places { let fields : Header → List ℕ = λ h.
         h.e_type ∷ h.e_machine ∷ h.e_version ∷ h.e_entry ∷ h.e_phoff ∷ h.e_shoff ∷ h.e_flags ∷ h.e_ehsize
-        ∷ h.e_phentsize ∷ h.e_phnum ∷ h.e_shentsize ∷ h.e_shnum ∷ h.e_shstrndx ∷ []
+        ∷ h.e_phentsize ∷ h.e_phnum ∷ h.e_shentsize ∷ h.e_shnum ∷ h.e_shstrndx ∷ [] in
+        HasPlaces (header_layout class.Little) (λ n h. fields h
         ≡ n 16 2 ∷ n 18 2 ∷ n 20 4 ∷ n 24 4 ∷ n 28 4 ∷ n 32 4 ∷ n 36 4 ∷ n 40 2 ∷ n 42 2 ∷ n 44 2 ∷ n 46 2
-        ∷ n 48 2 ∷ n 50 2 ∷ []) }
-    ensures places64 { HasPlaces (header_layout class.Big) (λ n h.
-        h.e_type ∷ h.e_machine ∷ h.e_version ∷ h.e_entry ∷ h.e_phoff ∷ h.e_shoff ∷ h.e_flags ∷ h.e_ehsize
-        ∷ h.e_phentsize ∷ h.e_phnum ∷ h.e_shentsize ∷ h.e_shnum ∷ h.e_shstrndx ∷ []
+        ∷ n 48 2 ∷ n 50 2 ∷ [])
+        × HasPlaces (header_layout class.Big) (λ n h. fields h
         ≡ n 16 2 ∷ n 18 2 ∷ n 20 4 ∷ n 24 8 ∷ n 32 8 ∷ n 40 8 ∷ n 48 4 ∷ n 52 2 ∷ n 54 2 ∷ n 56 2 ∷ n 58 2
         ∷ n 60 2 ∷ n 62 2 ∷ []) }
     ensures low32 { (order : Endian) (h : Header) → let cut = (header_layout class.Little order).low h in

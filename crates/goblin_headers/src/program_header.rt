@@ -1,5 +1,5 @@
 //! Program headers, which describe how a file is loaded: System V gABI, "Program Header".
-ghost use Rattle.std.specs.Prelude.{◌≡◌, ◌↔◌, IsTrue, IfErr, IsOk, find, replicate, [], ◌∷◌, ◌%◌, ◌^◌, map};
+ghost use Rattle.std.specs.Prelude.{◌≡◌, ◌↔◌, IsTrue, IfErr, IsOk, List, find, replicate, [], ◌∷◌, ◌%◌, ◌^◌, map, ℕ};
 ghost use Rattle.goblin_headers.specs.Common.{IsBitSet, Endian, ComparesAndClones, Gives, HasPlaces, IsSameInEachClass, Refuses, Returns, values_of, span};
 ghost use Rattle.std.specs.Int.Bits.{bit_or};
 ghost use Rattle.goblin_base.specs.declared.container.Container.TheVariants as class;
@@ -240,12 +240,10 @@ pub fn laws()
         (λ order. ⟦<ProgramHeader as LaidOut<Ctx>>⟧.layout (record { container = class.Big; le = order }))
         (λ n h. h.p_type ∷ h.p_flags ∷ h.p_offset ∷ h.p_vaddr ∷ h.p_paddr ∷ h.p_filesz ∷ h.p_memsz ∷ h.p_align ∷ []
         ≡ n 0 4 ∷ n 4 4 ∷ n 8 8 ∷ n 16 8 ∷ n 24 8 ∷ n 32 8 ∷ n 40 8 ∷ n 48 8 ∷ []) }
-    ensures low32 { (order : Endian) (h : ProgramHeader) →
-        let cut =
-        (⟦<ProgramHeader as LaidOut<Ctx>>⟧.layout (record { container = class.Little; le = order })).low h in
-        cut.p_type ∷ cut.p_offset ∷ cut.p_vaddr ∷ cut.p_paddr ∷ cut.p_filesz ∷ cut.p_memsz ∷ cut.p_flags ∷ cut.p_align
-        ∷ [] ≡ map (λ n. n % 2 ^ 32)
-        (h.p_type ∷ h.p_offset ∷ h.p_vaddr ∷ h.p_paddr ∷ h.p_filesz ∷ h.p_memsz ∷ h.p_flags ∷ h.p_align ∷ []) }
+    ensures low32 { (order : Endian) (h : ProgramHeader) → let fields : ProgramHeader → List ℕ = λ h.
+        h.p_type ∷ h.p_offset ∷ h.p_vaddr ∷ h.p_paddr ∷ h.p_filesz ∷ h.p_memsz ∷ h.p_flags ∷ h.p_align ∷ [] in
+        fields ((⟦<ProgramHeader as LaidOut<Ctx>>⟧.layout (record { container = class.Little; le = order })).low h)
+        ≡ map (λ n. n % 2 ^ 32) (fields h) }
     ensures zeros { (h : ProgramHeader) → ⟦<ProgramHeader as Default>⟧.is_default h
         → values_of (program_header64.fields (as64 h)) ≡ replicate 8 0 }
     ensures derived { ComparesAndClones ⟦<ProgramHeader as PartialEq>⟧ ⟦<ProgramHeader as Clone>⟧ }

@@ -1,5 +1,5 @@
 //! Section headers, which describe what a file holds: System V gABI, "Section Header".
-ghost use Rattle.std.specs.Prelude.{◌≡◌, ◌↔◌, IsTrue, IfErr, IsNone, IsOk, IfOk, IfSome, map, replicate, vec_capacity, [], ◌∷◌, ◌%◌, ◌^◌, ◌+◌, ◌<◌, ◌≤◌, ◌⊎◌, ℕ};
+ghost use Rattle.std.specs.Prelude.{◌≡◌, ◌↔◌, IsTrue, IfErr, IsNone, IsOk, IfOk, IfSome, List, map, replicate, vec_capacity, [], ◌∷◌, ◌%◌, ◌^◌, ◌+◌, ◌<◌, ◌≤◌, ◌⊎◌, ℕ};
 ghost use Rattle.goblin_headers.specs.Common.{IsBitSet, Endian, ComparesAndClones, Gives, HasPlaces, IsSameInEachClass, Refuses, Returns, values_of, span};
 ghost use Rattle.goblin_base.specs.declared.container.Container.TheVariants as class;
 ghost use Rattle.goblin_headers.specs.Constants.{section_flag_numbers, section_index_numbers, section_type_numbers};
@@ -321,23 +321,20 @@ pub fn laws()
         h.sh_name ∷ h.sh_type ∷ h.sh_flags ∷ h.sh_addr ∷ h.sh_offset ∷ h.sh_size ∷ h.sh_link ∷ h.sh_info
         ∷ h.sh_addralign ∷ h.sh_entsize ∷ []
         ≡ n 0 4 ∷ n 4 4 ∷ n 8 8 ∷ n 16 8 ∷ n 24 8 ∷ n 32 8 ∷ n 40 4 ∷ n 44 4 ∷ n 48 8 ∷ n 56 8 ∷ []) }
-    ensures places32 { HasPlaces
-        (λ order. ⟦<SectionHeader as LaidOut<Ctx>>⟧.layout (record { container = class.Little; le = order }))
-        (λ n h. h.sh_name ∷ h.sh_type ∷ h.sh_flags ∷ h.sh_addr ∷ h.sh_offset ∷ h.sh_size ∷ h.sh_link ∷ h.sh_info
-        ∷ h.sh_addralign ∷ h.sh_entsize ∷ []
-        ≡ n 0 4 ∷ n 4 4 ∷ n 8 4 ∷ n 12 4 ∷ n 16 4 ∷ n 20 4 ∷ n 24 4 ∷ n 28 4 ∷ n 32 4 ∷ n 36 4 ∷ []) }
-    ensures places64 { HasPlaces
-        (λ order. ⟦<SectionHeader as LaidOut<Ctx>>⟧.layout (record { container = class.Big; le = order }))
-        (λ n h. h.sh_name ∷ h.sh_type ∷ h.sh_flags ∷ h.sh_addr ∷ h.sh_offset ∷ h.sh_size ∷ h.sh_link ∷ h.sh_info
-        ∷ h.sh_addralign ∷ h.sh_entsize ∷ []
+    ensures places { let fields : SectionHeader → List ℕ = λ h.
+        h.sh_name ∷ h.sh_type ∷ h.sh_flags ∷ h.sh_addr ∷ h.sh_offset ∷ h.sh_size ∷ h.sh_link ∷ h.sh_info
+        ∷ h.sh_addralign ∷ h.sh_entsize ∷ [] in
+        HasPlaces (λ order. ⟦<SectionHeader as LaidOut<Ctx>>⟧.layout (record { container = class.Little; le = order }))
+        (λ n h. fields h
+        ≡ n 0 4 ∷ n 4 4 ∷ n 8 4 ∷ n 12 4 ∷ n 16 4 ∷ n 20 4 ∷ n 24 4 ∷ n 28 4 ∷ n 32 4 ∷ n 36 4 ∷ [])
+        × HasPlaces (λ order. ⟦<SectionHeader as LaidOut<Ctx>>⟧.layout (record { container = class.Big; le = order }))
+        (λ n h. fields h
         ≡ n 0 4 ∷ n 4 4 ∷ n 8 8 ∷ n 16 8 ∷ n 24 8 ∷ n 32 8 ∷ n 40 4 ∷ n 44 4 ∷ n 48 8 ∷ n 56 8 ∷ []) }
-    ensures low32 { (order : Endian) (h : SectionHeader) →
-        let cut =
-        (⟦<SectionHeader as LaidOut<Ctx>>⟧.layout (record { container = class.Little; le = order })).low h in
-        cut.sh_name ∷ cut.sh_type ∷ cut.sh_flags ∷ cut.sh_addr ∷ cut.sh_offset ∷ cut.sh_size ∷ cut.sh_link
-        ∷ cut.sh_info ∷ cut.sh_addralign ∷ cut.sh_entsize ∷ []
-        ≡ map (λ n. n % 2 ^ 32) (h.sh_name ∷ h.sh_type ∷ h.sh_flags ∷ h.sh_addr ∷ h.sh_offset ∷ h.sh_size ∷ h.sh_link
-        ∷ h.sh_info ∷ h.sh_addralign ∷ h.sh_entsize ∷ []) }
+    ensures low32 { (order : Endian) (h : SectionHeader) → let fields : SectionHeader → List ℕ = λ h.
+        h.sh_name ∷ h.sh_type ∷ h.sh_flags ∷ h.sh_addr ∷ h.sh_offset ∷ h.sh_size ∷ h.sh_link ∷ h.sh_info
+        ∷ h.sh_addralign ∷ h.sh_entsize ∷ [] in
+        fields ((⟦<SectionHeader as LaidOut<Ctx>>⟧.layout (record { container = class.Little; le = order })).low h)
+        ≡ map (λ n. n % 2 ^ 32) (fields h) }
     ensures low64 { (order : Endian) (h : SectionHeader) →
         ((⟦<SectionHeader as LaidOut<Ctx>>⟧.layout (record { container = class.Big; le = order })).low h).sh_name
         ≡ h.sh_name % 2 ^ 32 }

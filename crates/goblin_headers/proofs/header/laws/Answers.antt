@@ -11,8 +11,7 @@ ident class order bytes = grind arith
 pub returns : goal.returns
 returns c = record {
   ident = ident;
-  places32 = λ order bytes. refl;
-  places64 = λ order bytes. refl;
+  places = (λ order bytes. refl, λ order bytes. refl);
   low32 = λ order h. refl;
   image = one_image;
   fits = each_fits;
