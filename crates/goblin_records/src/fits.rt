@@ -7,23 +7,9 @@ ghost use Rattle.goblin_records.specs.Sym.{sym_layout};
 
 use crate::reloc::{Reloc, RelocCtx};
 use crate::sym::Sym;
+use crate::{sym32, sym64};
 use goblin_base::container::{Container, Ctx};
 use goblin_base::number::is_word;
-
-// Reports whether each field of a symbol is in the range that a class has for it.
-fn fits_class(sym: Sym, ctx: Ctx) -> bool
-    ensures { IsTrue result ↔ (sym_layout ctx.container ctx.le).Fits sym }
-{
-    match ctx.container {
-        Container::Little => {
-            is_word(sym.st_name as u64)
-                && is_word(sym.st_value)
-                && is_word(sym.st_size)
-                && sym.st_shndx < 1 << 16
-        }
-        Container::Big => is_word(sym.st_name as u64) && sym.st_shndx < 1 << 16,
-    }
-}
 
 impl Sym {
     /// Reports whether each field is in the range that a class has for it: then the symbol is read back as it was
@@ -31,7 +17,11 @@ impl Sym {
     pub fn fits(&self, ctx: Ctx) -> bool
         ensures { IsTrue result ↔ (sym_layout ctx.container ctx.le).Fits self.now }
     {
-        fits_class(*self, ctx)
+        let low: Sym = match ctx.container {
+            Container::Little => sym32::Sym::from(*self).into(),
+            Container::Big => sym64::Sym::from(*self).into(),
+        };
+        *self == low
     }
 }
 
