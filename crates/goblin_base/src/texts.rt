@@ -1,8 +1,9 @@
 //! An error as its kind, its numbers and its item, and the text of each kind, in parts.
 ghost use Rattle.std.specs.Fmt.{WritesOnOk};
 ghost use Rattle.std.specs.Prelude.{◌≡◌, [], ◌∷◌, IsTrue, Some, map};
-ghost use Rattle.goblin_base.specs.Common.{find, ComparesAndClones, Facts, KindsAreFound, are_short, facts_of, facts_text, is_kind, parts_text, kind_number, kind_text, kind_with, part_text, prefix};
+ghost use Rattle.goblin_base.specs.Common.{find, ComparesAndClones, Facts, KindsAreFound, are_short, facts_of, facts_text, fault_facts, is_kind, parts_text, kind_number, kind_text, kind_with, out_of_memory, part_text, prefix, refusal_facts};
 
+use crate::error::Fault;
 use Part::{First, Hexadecimal, Item, Overflow, Second, Text, Third};
 use std::fmt;
 
@@ -294,11 +295,13 @@ impl fmt::Display for Report {
     }
 }
 
-/// Laws: each kind is found by its number. They are listed by their numbers, each once. `==` is true exactly if both
-/// kinds are the same. `clone` returns the kind, and never fails.
+/// Laws: each kind is found by its number. They are listed by their numbers, each once. Faults and want of memory have
+/// no item. `==` is true exactly if both kinds are the same. `clone` returns the kind, and never fails.
 pub fn laws()
     ensures found { KindsAreFound }
     ensures listed { map kind_number KINDS.now ≡ 2 ∷ 3 ∷ 4 ∷ 5 ∷ 6 ∷ 7 ∷ 10 ∷ 11 ∷ 12 ∷ 13 ∷ 14 ∷ 15 ∷ 16 ∷ 17 ∷ 18 ∷ 19
         ∷ 20 ∷ 21 ∷ 22 ∷ 23 ∷ 24 ∷ [] }
+    ensures faults { (f : Fault) → (fault_facts f).item ≡ [] }
+    ensures memory { (refusal_facts out_of_memory).item ≡ [] }
     ensures derived { ComparesAndClones ⟦<Kind as PartialEq>⟧ ⟦<Kind as Clone>⟧ }
 {}
