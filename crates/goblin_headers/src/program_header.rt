@@ -1,5 +1,5 @@
 //! Program headers, which describe how a file is loaded: System V gABI, "Program Header".
-ghost use Rattle.std.specs.Prelude.{◌≡◌, ◌↔◌, IsTrue, IfErr, IsOk, List, find, replicate, [], ◌∷◌, ◌%◌, ◌^◌, map, ℕ};
+ghost use Rattle.std.specs.Prelude.{◌≡◌, ◌↔◌, ◌+◌, ◌<◌, ◌≤◌, IsTrue, IfErr, IsOk, List, find, replicate, [], ◌∷◌, ◌%◌, ◌^◌, map, ℕ};
 ghost use Rattle.goblin_headers.specs.Common.{IsBitSet, Endian, ComparesAndClones, Gives, HasPlaces, IsSameInEachClass, Refuses, Returns, values_of, span};
 ghost use Rattle.std.specs.Int.Bits.{bit_or};
 ghost use Rattle.goblin_base.specs.declared.container.Container.TheVariants as class;
@@ -221,7 +221,8 @@ impl LaidOut<Ctx> for ProgramHeader {
 
 /// Laws: a list of program headers that fit both classes is read back the same in each class and byte
 /// order. Where each field of a program header lies, and of a raw one. The low bits of one that doesn't fit 32 bits.
-/// All fields of the default one are 0. `==` is true exactly if all fields are equal. `clone` returns the program
+/// A segment loads an address exactly if it is of type 1 and the address is of one of its bytes in the file. All fields
+/// of the default one are 0. `==` is true exactly if all fields are equal. `clone` returns the program
 /// header, and never fails.
 #[tactic(auto, using(crate::specs::ProgramHeaderLaws::same_program_headers))]
 pub fn laws()
@@ -244,6 +245,8 @@ pub fn laws()
         h.p_type ∷ h.p_offset ∷ h.p_vaddr ∷ h.p_paddr ∷ h.p_filesz ∷ h.p_memsz ∷ h.p_flags ∷ h.p_align ∷ [] in
         fields ((⟦<ProgramHeader as LaidOut<Ctx>>⟧.layout (record { container = class.Little; le = order })).low h)
         ≡ map (λ n. n % 2 ^ 32) (fields h) }
+    ensures loads { (address : ℕ) (s : ProgramHeader) → IsTrue (loads address s)
+        ↔ ((s.p_type ≡ 1) × (s.p_vaddr ≤ address) × (address < s.p_vaddr + s.p_filesz)) }
     ensures zeros { (h : ProgramHeader) → ⟦<ProgramHeader as Default>⟧.is_default h
         → values_of (program_header64.fields (as64 h)) ≡ replicate 8 0 }
     ensures derived { ComparesAndClones ⟦<ProgramHeader as PartialEq>⟧ ⟦<ProgramHeader as Clone>⟧ }
