@@ -1,12 +1,12 @@
 //! Notes: System V gABI, "Note Section".
 ghost use Rattle.std.specs.Int.{next_multiple_of};
-ghost use Rattle.std.specs.Prelude.{⊤, ◌⊎◌, ◌≡◌, ◌+◌, ◌≤◌, ◌<◌, ◌^◌, ◌++◌, IfOk, IfSome, length, min, [], ◌∷◌, take, drop, vec_capacity};
+ghost use Rattle.std.specs.Prelude.{⊤, ◌⊎◌, ◌≡◌, ℕ, ◌+◌, ◌-◌, ◌≤◌, ◌<◌, ◌^◌, ◌++◌, IfOk, IfSome, length, min, [], ◌∷◌, take, drop, vec_capacity};
 ghost use Rattle.std.specs.Iterator.{MakesProgress, UpTo, YieldsFirstBy, at_most};
 ghost use Rattle.std.specs.Iterator.SizeHint.{IsWithinCount};
 ghost use Rattle.goblin_base.specs.Common.{ComparesAndClones, Returns};
 ghost use Rattle.goblin.specs.Notes.{NoteByNote, NotesAdvance, FewNotes, PlacesLieWithin, WholeIsNote, RangeByRange};
 ghost use Rattle.goblin.specs.NoteType.{note_type_name};
-ghost use Rattle.goblin.specs.Note.{FindsParts, bytes_at, note_at, utf8_at, whole_places, with_part};
+ghost use Rattle.goblin.specs.Note.{FindsParts, bytes_at, note_at, note_places, utf8_at, whole_places, with_part};
 
 use goblin_base::container::{Ctx, LE};
 use goblin_base::error::{Error, Fault, Result};
@@ -182,7 +182,6 @@ pub struct NotePlaces {
 }
 
 impl NotePlaces {
-    ghost use Rattle.goblin.specs.Note.{note_places};
     ghost use Rattle.goblin.specs.Notes.{LieWithin};
 
     /// Returns the parts of the note with a header, for an alignment of 4 or 8.
@@ -419,14 +418,18 @@ pub fn constants()
     ensures core { NT_PRSTATUS ∷ NT_PRPSINFO ∷ NT_SIGINFO ∷ NT_FILE ∷ [] ≡ 1 ∷ 3 ∷ 0x5349_4749 ∷ 0x4649_4c45 ∷ [] }
 {}
 
-/// Laws of notes: how the items of a range follow one another, where the parts of a note are, where
-/// it ends, how many items a range has, which note is a whole note, and that a refusal ends its own
+/// Laws of notes: how the items of a range follow one another, where the parts of a note are, also in
+/// numbers, where it ends, how many items a range has, which note is a whole note, and that a refusal ends its own
 /// range alone. `==` is true exactly if two places or two parts are the same. `clone` returns the
 /// value, and never fails.
 #[tactic(auto, using(crate::specs::NoteLaws::note_laws))]
 pub fn laws()
     ensures items { NoteByNote }
     ensures places { PlacesLieWithin }
+    ensures parts { (align : ℕ) (h : Nhdr32) → let p = note_places align h in
+        p.n_type ∷ p.name ∷ p.name_size ∷ p.desc ∷ p.desc_size ∷ p.next ∷ []
+        ≡ h.n_type ∷ 12 ∷ (h.n_namesz - 1) ∷ next_multiple_of (12 + h.n_namesz) align ∷ h.n_descsz
+        ∷ next_multiple_of (p.desc + h.n_descsz) align ∷ [] }
     ensures advance { NotesAdvance }
     ensures few { FewNotes }
     ensures whole { WholeIsNote }

@@ -1,5 +1,5 @@
 //! Symbols and symbol tables: System V gABI, "Symbol Table".
-ghost use Rattle.std.specs.Prelude.{◌≡◌, ◌≤◌, ◌<◌, ◌+◌, ◌-◌, ◌*◌, ◌^◌, ◌↔◌, [], ◌∷◌, drop, length, slice_get, IsTrue, IfOk, IfErr, IfSome, IsOk, alloc_error, position};
+ghost use Rattle.std.specs.Prelude.{◌≡◌, ◌≤◌, ◌<◌, ◌+◌, ◌-◌, ◌*◌, ◌%◌, ◌^◌, ◌↔◌, ◌⊎◌, ℕ, [], ◌∷◌, drop, length, slice_get, IsTrue, IfOk, IfErr, IfSome, IsOk, alloc_error, position};
 ghost use Rattle.std.specs.Option.{option_map};
 ghost use Rattle.goblin.specs.Addresses.{found_at, has_place, holds, is_below, is_held, is_nearer, is_nearest, is_taken, reaches, symbol_at, taken, SymbolAtComesFirst};
 ghost use Rattle.goblin.specs.Symtab.{symbols_at, symtab_by, symtab_in, symtab_of, DependsOnItsRange, PermissiveKeepsStrict};
@@ -507,12 +507,16 @@ pub fn laws()
     ensures range { DependsOnItsRange }
 {}
 
-/// A law: of the symbols that contain an address, the one that [`Symtab::at`] finds is as high as any
+/// Laws: which symbols have an address in a section, and which bytes are a symbol's. Of the symbols that contain an address, the one that [`Symtab::at`] finds is as high as any
 /// and the first of those as high. If none contains it, the one found has size 0, and is at the address
 /// or below it in a section that holds the address. Of the symbols there it is as high as any, and the
 /// first of size 0 of those as high. `None` is returned exactly if no symbol contains the address, and
 /// each one of size 0 there has a higher one there.
 #[tactic(auto, using(crate::proofs::AddressLemmas::symbol_at_comes_first))]
 pub fn addresses()
-    ensures { SymbolAtComesFirst }
+    ensures first { SymbolAtComesFirst }
+    ensures has_place { (s : Sym) → IsTrue (has_place s)
+        ↔ (((0 < s.st_shndx) × (s.st_shndx < 0xff00)) ⊎ (s.st_shndx ≡ 0xffff))
+        × ((s.st_info % 16 ≡ 0) ⊎ (s.st_info % 16 ≡ 1) ⊎ (s.st_info % 16 ≡ 2) ⊎ (s.st_info % 16 ≡ 10)) }
+    ensures reaches { (address : ℕ) (s : Sym) → IsTrue (reaches address s) ↔ (address < s.st_value + s.st_size) }
 {}
