@@ -1,12 +1,13 @@
 //! A run: from the bytes that a reader gives to the text that a writer holds.
-ghost use Rattle.std.specs.Prelude.{◌≡◌, ◌≢◌, ℕ, ◌+◌, ◌*◌, ◌≤◌, ◌==◌, List, IsTrue, OnOk, OnErr, codes, filter, length, ◌<◌, ◌⊎◌, Option, Result};
+ghost use Rattle.std.specs.Prelude.{◌≡◌, ◌≢◌, ℕ, ◌+◌, ◌*◌, ◌≤◌, ◌==◌, List, IsTrue, OnOk, OnErr, codes, filter, length, replicate, false, [], ◌∷◌, ◌<◌, ◌⊎◌, Option, Result, Some};
 ghost use Rattle.goblin_text.specs.Common.{Appends, ComparesAndClones};
-ghost use Rattle.goblin_text.specs.Common.{Consumes, Error as ReadError, refusal_of, refusal_text};
+ghost use Rattle.goblin_text.specs.Common.{Consumes, Error as ReadError, Permissive, refusal_of, refusal_text};
+ghost use Rattle.goblin_text.specs.Options.{asked};
 ghost use Rattle.goblin_text.specs.Looks.{IsShort, IsUnread, LooksAtMost, ReadsNames, line_looks, lines_in, section_count, shown_looks, table_looks, tables_looks};
 ghost use Rattle.goblin_text.specs.RunOutcome.{HasRun, ReadsAtMostOneMore, IsReasonOf, WritesRefusal, input_limit, read_limit, status_of};
 ghost use Rattle.goblin_text.specs.Shown.{shown};
 ghost use Rattle.goblin_text.specs.ShownLines.{printable};
-ghost use Rattle.goblin_text.specs.StreamMarks.{StopsAtError, StreamMarks, after_read, after_write};
+ghost use Rattle.goblin_text.specs.StreamMarks.{StopsAtError, StreamMarks, after_read, after_write, no_marks};
 
 use crate::accept::accept;
 use crate::block_runs::{BLOCK, BLOCKS};
@@ -171,7 +172,8 @@ pub fn run<R: Source, W: Sink>(
 
 /// The limits of a run, and of the looks for names, in numbers, and the line for an input that is too long. A text has
 /// as many lines as newlines. Of names the bytes below 32 and 127 are printed as `?`, and all others as they are. A
-/// read after a failure or the end counts as reading on, and a write or a flush after an error as going on.
+/// read after a failure or the end counts as reading on, and a write or a flush after an error as going on; before any
+/// call there was none of it.
 #[tactic(auto, using(crate::proofs::LineLooks::lines_filtered))]
 pub fn constants()
     ensures input { INPUT_LIMIT ≡ 16777216 }
@@ -184,10 +186,13 @@ pub fn constants()
     ensures lines { (text : List ℕ) → lines_in text ≡ length (filter (λ b. b == 10) text) }
     ensures printable { (byte : ℕ) → (byte < 32 → printable byte ≡ 63) × (printable 127 ≡ 63)
         × (32 ≤ byte → byte ≢ 127 → printable byte ≡ byte) }
+    ensures words { asked (codes "permissive" ∷ []) ≡ Some (record { parse_mode = Permissive }) }
     ensures most { (old new : Option (List ℕ)) → ReadsAtMostOneMore old new
         → (bytes : List ℕ) × Consumes old new bytes × (length bytes ≤ 16777217) }
     ensures read_on { (m : StreamMarks) (answer : Result ℕ ReadError) (buf : List ℕ)
         → (IsTrue m.reported_failure ⊎ IsTrue m.reported_end) → IsTrue (after_read m answer buf).read_on }
+    ensures no_marks { (no_marks.read_calls ≡ 0) × (no_marks.reported_error ∷ no_marks.reported_failure
+        ∷ no_marks.reported_end ∷ no_marks.went_on ∷ no_marks.read_on ∷ [] ≡ replicate 5 false) }
     ensures went_on { (m : StreamMarks) (answer : Result ℕ ReadError)
         → IsTrue m.reported_error → IsTrue (after_write m answer).went_on }
 {}
