@@ -142,6 +142,9 @@ install_below() {
     # (what may fail comes before the earlier installation is removed)
     python3 faces/constants.py --made
     if [ "$kind" = library ]; then link_shared; fi
+    if [ "$kind$shared" = library ] && grep -qs 'libgoblin_c-shared\.so$' "$to/share/goblin_c/library.files"; then
+        echo "the shared library of the earlier installation is removed, since SHARED is not 1"
+    fi
     remove_from "$to" "$kind"
     # (what an earlier installation made and something else keeps is still of this one)
     while read -r made; do if [ -d "$to/$made" ]; then echo "$made" >> "$files"; fi; done < "$folder/made"

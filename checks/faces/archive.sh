@@ -34,6 +34,8 @@ python3 checks/installed.py "$folder/multiarch.tar.gz"
 echo share/goblin_c/rust/src/earlier.rs >> "$root/share/goblin_c/library.files"
 touch "$root/share/goblin_c/rust/src/earlier.rs"
 (umask 022 && quietly env LIBDIR=lib sh faces/install.sh "$root")
+grep -q '^the shared library of the earlier installation is removed' "$folder/output" \
+    || fail 'an installation does not say that it removes an earlier shared library'
 ends_with 0 '' find "$root" -path '*/x86_64-linux-gnu/*' ! -type d -o -name earlier.rs -o -name '*-shared*'
 # (as if cargo had built the crate, and Python imported the package)
 mkdir "$root/share/goblin_c/rust/target" "$root/share/goblin_c/python/goblin_elf/__pycache__"
