@@ -59,7 +59,9 @@ check_examples() {
         /^(uint(32|64)_t|void) goblin_/ { calls++ }
         sub(/^ *Example: /, "") { examples++; is_example = 1; printf "    { " }
         is_example { is_example = !sub(/ \*\/$/, ""); print $0 (is_example ? "" : " }") }
-        END { print "    return range.size + string.size + value + note.n_type + count > 0;\n}"; exit calls == 0 || calls != examples }' \
+        END { print "    if (goblin_header(bytes, len, &header, GOBLIN_UNREAD)) return 1;"
+            print "    return range.size + string.size + value + note.n_type + count > 0;\n}"
+            exit calls == 0 || calls != examples }' \
         faces/c/goblin.h > "$folder/examples.c" || fail "each call in goblin.h must have one example"
     awk '{ print "#if !defined GOBLIN_" $1 " || GOBLIN_" $1 " != " $2 "\n#error " $1 " is another number in elf.h\n#endif" }' \
         checks/files/elf_constants >> "$folder/examples.c"

@@ -282,8 +282,10 @@ typedef struct {
 } goblin_layout_t;
 
 /* A refusal that is written and not read, for `why`: in C up to the end of the block, in C++ (11 or later) one for
-   each thread. */
-#ifndef __cplusplus
+   each thread. (In C89 compilers warn of it without __extension__.) */
+#if !defined __cplusplus && defined __GNUC__
+#define GOBLIN_UNREAD (__extension__ &(goblin_refusal_t){0})
+#elif !defined __cplusplus
 #define GOBLIN_UNREAD (&(goblin_refusal_t){0})
 #elif __cplusplus >= 201103L
 static inline goblin_refusal_t *goblin_unread(void) {
