@@ -8,7 +8,7 @@
 package=$folder/python/share/goblin_c/python
 tests=faces/python/tests
 export PYTHONDONTWRITEBYTECODE=1 LIBRARY="$folder/libgoblin_c.a" TARGET='' CPU='' LIBDIR=''
-unset GOBLIN_ELF_LIBRARY PYTHONPATH
+unset GOBLIN_ELF_LIBRARY PYTHONPATH PYTHONUNBUFFERED
 
 has_module() { "$python" -c "import $1" 2> "$folder/output"; }
 

@@ -10,7 +10,7 @@ import signal
 import sys
 from typing import Any, Dict, Iterator, List, Optional
 
-from .arguments import Parser
+from .arguments import Parser, put
 from .elf import Elf
 from .facts import facts, refusal
 from .refused import Refused
@@ -59,8 +59,7 @@ def main(arguments: Optional[List[str]] = None) -> int:
             raise OSError(0, 'it is closed')
         print(as_json(all_found) if options.json else '\n'.join(line for found in all_found for line in lines(found)), flush=True)
     except OSError as error:
-        with contextlib.suppress(OSError):  # (they may be one file)
-            print(f'{parser.prog}: the output can not be written: {error.strerror}', file=sys.stderr)
+        put(f'{parser.prog}: the output can not be written: {error.strerror}\n', sys.stderr)
         with contextlib.suppress(AttributeError, OSError):
             sys.stdout.close()  # (Python would write it again at its end)
         return 2

@@ -1,12 +1,23 @@
-"""The arguments of commands."""
+"""The arguments of commands, and what these say to a person."""
 import argparse
 import contextlib
+import sys
 from typing import Any
 
 
+def put(text: str, stream: Any) -> None:
+    """Writes a text to a stream, which may be closed, at once. One that does not take it is closed: Python would write to it again at its end,
+    and change the exit status."""
+    try:
+        stream.write(text)
+        stream.flush()
+    except (AttributeError, OSError, ValueError):
+        with contextlib.suppress(AttributeError, OSError):
+            stream.close()
+
+
 class Parser(argparse.ArgumentParser):
-    """A parser that ends the program with the same exit status if what it says can't be written, as that of Python 3.11 and later does."""
+    """A parser that ends the program with the same exit status if what it says can't be written."""
 
     def _print_message(self, message: str, file: Any = None) -> None:
-        with contextlib.suppress(AttributeError, OSError):
-            super()._print_message(message, file)
+        put(message, file or sys.stderr)

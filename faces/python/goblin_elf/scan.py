@@ -33,7 +33,7 @@ import time
 from typing import IO, Any, Callable, Dict, FrozenSet, Iterator, List, Optional, Set, TextIO, Tuple
 
 from . import workers
-from .arguments import Parser
+from .arguments import Parser, put
 from .elf import Elf, content_of
 from .facts import facts, refusal
 from .refused import Refused
@@ -473,8 +473,7 @@ def is_shown() -> bool:
 
 def say(*lines: str) -> None:
     """Ends the line of the progress, and prints lines for a person, who may have left."""
-    with contextlib.suppress(OSError):
-        print(*[''] * is_shown(), *lines, sep='\n', file=sys.stderr, flush=True)
+    put('\n'.join([*[''] * is_shown(), *lines, '']), sys.stderr)
 
 
 def report_on(results: workers.Results, report: Report) -> None:
