@@ -6,6 +6,7 @@ import os
 import sys
 
 from goblin_elf import Elf, Refused
+from goblin_elf.arguments import put
 from goblin_elf.scan import escaped
 
 sys.stdout.reconfigure(errors='replace')  # (it need not take each sign)
@@ -45,7 +46,9 @@ if not sys.argv[1:]:
 try:
     print(escaped(f'{sys.argv[1]} (interpreter => {Elf.open(sys.argv[1]).interpreter})'))
     show(sys.argv[1])
+    print(end='', flush=True)
 except Refused as error:
     sys.exit(f'refused: {error}')
 except OSError as error:
-    sys.exit(escaped(f'{error.filename}: {error.strerror}'))
+    put('', sys.stdout)  # (which may be full)
+    sys.exit(escaped(f'{error.filename or sys.argv[1]}: {error.strerror}'))

@@ -159,7 +159,9 @@ class Example(unittest.TestCase):
             said = [subprocess.run([sys.executable, '-c', run, script, *arguments], stdout=subprocess.PIPE, stderr=subprocess.PIPE,
                                    encoding='utf-8', timeout=60) for arguments in ([stored('facts/full'), root],
                                                                                    [stored('facts/cut_dynamic'), root], [odd, root],
-                                                                                   ['\x1babsent'], [])]
+                                                                                   ['\x1babsent'], [], ['/proc/self/mem'])]
+            with open('/dev/full', 'w') as full:
+                said.append(subprocess.run([sys.executable, script, odd], stdout=full, stderr=subprocess.PIPE, encoding='utf-8'))
         path = stored('facts/full')
         self.assertEqual(said[0].stdout, f'{path} (interpreter => /lib/ld-made.so.1)\n    libfirst.so.1 => {root}/lib/libfirst.so.1\n'
                                          f'    libsecond.so.1 => {root}/made/runpath/libsecond.so.1\n'
@@ -168,7 +170,8 @@ class Example(unittest.TestCase):
         self.assertEqual(said[2].stdout.split('\n')[1], '    \\x1bib\\xffirst.so.1 => not found')
         self.assertEqual([(one.returncode, one.stderr) for one in said],
                          [(0, ''), (1, 'refused: type is too big (384) for 40\n'), (0, ''), (1, '\\x1babsent: No such file or directory\n'),
-                          (1, 'usage: lddtree.py FILE [ROOT]\n')])
+                          (1, 'usage: lddtree.py FILE [ROOT]\n'), (1, '/proc/self/mem: Input/output error\n'),
+                          (1, f'{odd}: No space left on device\n')])
 
 
 if __name__ == '__main__':
