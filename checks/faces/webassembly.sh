@@ -22,6 +22,13 @@ if [ -e "$folder/node" ]; then
     for script in test calls; do ends_with 2 "$missing" call faces/web/$script.mjs "$folder"; done
     example() { (name=$1; shift; call "$web/examples/$name.mjs" "$@"); }
     try_examples needed segments truncated flag
+    for name in needed segments truncated; do
+        # shellcheck disable=SC2016 # (they are of the shell that is run)
+        ends_with 1 "$name: stdout: ENOSPC: no space left on device*" \
+            sh -c '"$@" > /dev/full' sh node ${flag:+"$flag"} "$web/examples/$name.mjs" $program_file
+        # shellcheck disable=SC2016
+        ends_with 0 '' sh -c '"$@" | true' sh node ${flag:+"$flag"} "$web/examples/$name.mjs" $program_file
+    done
     # (a loader reads the program headers, and readelf finds no dynamic section without them)
     ends_with 0 '' example needed checks/files/facts/no_segments
     if has tsc 'goblin.d.ts is not compiled: install TypeScript'; then

@@ -12,6 +12,11 @@ export async function run(usage, example) {
         process.exit(2);
     }
     if (!is_list) paths.length = 1;
+    // (a disk may be full; a reader such as head may leave)
+    process.stdout.on('error', ({ code, message }) => {
+        if (code !== 'EPIPE') console.error(`${name.replace('.mjs', '')}: stdout: ${message}`);
+        process.exit(1);
+    });
     await init();
     for (const path of paths) {
         if (paths.length > 1) console.log(`file: ${path}`);

@@ -16,6 +16,11 @@ if (paths.length === 0) {
     console.error('usage: segments.mjs FILE..');
     process.exit(2);
 }
+// (a disk may be full; a reader such as head may leave)
+process.stdout.on('error', ({ code, message }) => {
+    if (code !== 'EPIPE') console.error(`segments: stdout: ${message}`);
+    process.exit(1);
+});
 await init();
 for (const path of paths) {
     if (paths.length > 1) console.log(`file: ${path}`);
