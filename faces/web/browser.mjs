@@ -1891,6 +1891,14 @@ check('If the engine lacks what the library needs, the page says so, and reads n
     assert.deepEqual([await is_hidden('unsupported'), await is_hidden('drop')], [true, false]);
 });
 
+check('A page has memories for as many files at once as goblin.js says', async () => {
+    const comments = readFileSync(new URL('goblin.js', import.meta.url), 'utf8');
+    const [, number] = /can hold at least (\d+) files at once/.exec(comments);
+    await evaluate(`void (globalThis.held = Array.from({ length: ${number} }, () => new WebAssembly.Instance(
+        new WebAssembly.Module(new Uint8Array([0, 97, 115, 109, 1, 0, 0, 0, 5, 3, 1, 4, 0])))))`);
+    await browser.open(url); // (which lets go of them)
+});
+
 // Tests that the test sees the requests of an empty page. Else it would miss the page's.
 async function check_hearing() {
     const asked = 'http://127.0.0.1:4999/heard';

@@ -615,6 +615,9 @@ export class Elf {
     /**
      * Reads the header of a file. Of a view it takes the bytes, whatever the type of its items. Throws a `TypeError`
      * for anything but a buffer or a view.
+     *
+     * A file has a memory of its own until nothing refers to it, of which a browser may have few: a page in Chromium
+     * can hold at least 50 files at once. Throws a `RangeError` if there is no memory for another one.
      * @param {ArrayBufferLike | ArrayBufferView} bytes
      * @returns {Elf}
      */
