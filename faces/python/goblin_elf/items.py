@@ -47,8 +47,10 @@ class Entry:
     def __hash__(self: Any) -> int:
         return hash(self._key())
 
-    def __lt__(self: Any, other: Any) -> Any:
-        return self._key() < other._key() if type(other) is type(self) else NotImplemented
+    def __lt__(self: Any, other: Any) -> bool:
+        if type(other) is not type(self):
+            return NotImplemented
+        return bool(self._key() < other._key())
 
 
 class Held(Entry):

@@ -678,6 +678,8 @@ class Library(unittest.TestCase):
                     found[function.__qualname__] = typing.get_type_hints(function)
         self.assertGreater(len(found), 50)
         self.assertEqual((found['Elf.whole'], str in found['Elf.open']['path'].__args__), ({'return': Elf}, True))
+        # (mypy --strict takes no result of any type for that of a function that returns whether an item is less)
+        self.assertIs(typing.get_type_hints(goblin_elf.Symbol.__lt__)['return'], bool)
 
     def test_names_of_numbers(self):
         names = [goblin_elf.class_to_str(2), goblin_elf.et_to_str(3), goblin_elf.machine_to_str(62), goblin_elf.pt_to_str(1),
