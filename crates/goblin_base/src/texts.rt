@@ -295,7 +295,7 @@ impl fmt::Display for Report {
     }
 }
 
-/// Laws: each kind is found by its number. They are listed by their numbers, each once. Faults and want of memory have
+/// Laws: each kind is found by its number. They are listed by their numbers, each once. Faults and out of memory have
 /// no item. `==` is true exactly if both kinds are the same. `clone` returns the kind, and never fails.
 pub fn laws()
     ensures found { KindsAreFound }

@@ -507,11 +507,11 @@ pub fn laws()
     ensures range { DependsOnItsRange }
 {}
 
-/// Laws: which symbols have an address in a section, and which bytes are a symbol's. Of the symbols that contain an address, the one that [`Symtab::at`] finds is as high as any
-/// and the first of those as high. If none contains it, the one found has size 0, and is at the address
-/// or below it in a section that holds the address. Of the symbols there it is as high as any, and the
-/// first of size 0 of those as high. `None` is returned exactly if no symbol contains the address, and
-/// each one of size 0 there has a higher one there.
+/// Laws: which symbols have an address in a section, and which bytes are a symbol's. Of the symbols that contain an
+/// address, the one that [`Symtab::at`] finds is as high as any and the first of those as high. If none contains it,
+/// the one found has size 0, and is at the address or below it in a section that holds the address. Of the symbols
+/// there it is as high as any, and the first of size 0 of those as high. `None` is returned exactly if no symbol
+/// contains the address, and each one of size 0 there has a higher one there.
 #[tactic(auto, using(crate::proofs::AddressLemmas::symbol_at_comes_first))]
 pub fn addresses()
     ensures first { SymbolAtComesFirst }
