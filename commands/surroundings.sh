@@ -3,7 +3,7 @@
 # In the first one `make gate` proves all. In the others `make test` runs over these proofs, without edits, since they depend on nothing that
 # is changed here. By default there are four runs: plain, bare+homeless+two, locale+user+spaces, and all.
 #   plain     this machine as it is
-#   bare      a PATH of Debian's essential packages, git, make, awk, python3 and rt alone
+#   bare      a PATH of Debian's essential packages, git, make, awk, python3 and rt alone, and no other variable but HOME
 #   locale    the locale tr_TR.UTF-8, in which the capital of i isn't I, and the time zone Asia/Kathmandu
 #   homeless  no HOME
 #   user      a user who isn't root, and owns nothing but the clone and TMPDIR
@@ -54,7 +54,8 @@ test_in() {
         plain) set -- sh -c 'make gate && make test OVER=.' ;;
         bare)
             make_bare
-            set -- env PATH="$room/bin" "$@"
+            # shellcheck disable=SC2046 # (they are names; one such as PYTHONUNBUFFERED changes what a program does)
+            set -- env $(env | sed -n 's/^\([A-Za-z_][A-Za-z_0-9]*\)=.*/-u \1/p' | grep -v ' HOME$') PATH="$room/bin" "$@"
             ;;
         locale)
             mkdir -p "$room/locales"
