@@ -1,9 +1,10 @@
 -- The symbol of an address (System V gABI, "Symbol Table").
 use Rattle.std.specs.Prelude.{◌≡◌, ◌≢◌, ◌↔◌, ◌⊎◌, ◌+◌, ◌<◌, ◌≤◌, ◌==◌, ◌&&◌, ◌||◌, not, ℕ, Bool, true, false, nat_lt}
-use Rattle.std.specs.Prelude.{nat_le, if◌then◌else◌, List, position, slice_get, Option, Some, None, unwrap_or, bit_and}
-use Rattle.std.specs.Prelude.{IsBitSet}
+use Rattle.std.specs.Prelude.{nat_le, if◌then◌else◌, List, position, slice_get, Option, Some, None, unwrap_or}
+use Rattle.std.specs.Prelude.{IsTrue}
 use Rattle.goblin.specs.Common.{list_any, Sym, is_in_section}
 use Rattle.std.specs.Option.{option_map, option_or}
+use Rattle.goblin_headers.specs.SectionHeader.{has_flag}
 use Rattle.goblin_headers.specs.declared.section_header.SectionHeader.{SectionHeader}
 use Rattle.goblin_records.specs.SymParts.{type_of}
 
@@ -28,7 +29,7 @@ contains address s = is_below address s && reaches address s
 
 -- a section is in memory while the program runs: bit 1 of its flags (SHF_ALLOC)
 abbrev pub is_in_memory : SectionHeader → Bool
-is_in_memory section = not (bit_and section.sh_flags 2 == 0)
+is_in_memory section = has_flag section 2
 
 -- a section holds an address: one of its own, which only sections in memory have. In a relocatable file (type 1) the
 -- symbols have offsets in their sections in place of addresses, so there a section holds what is below its size
@@ -103,7 +104,7 @@ pub record ContainsFirst (address : ℕ) (symbols : List Sym) (i : ℕ) (s : Sym
 abbrev pub HoldsAddress : ℕ → ℕ → SectionHeader → Type 0
 HoldsAddress address e_type section =
     ((e_type ≡ 1) × (address < section.sh_size))
-    ⊎ ((e_type ≢ 1) × IsBitSet section.sh_flags 1 × (section.sh_addr ≤ address)
+    ⊎ ((e_type ≢ 1) × IsTrue (has_flag section 2) × (section.sh_addr ≤ address)
     × (address < section.sh_addr + section.sh_size))
 
 -- A symbol is at an address or below it, and the section that its index names holds the address.

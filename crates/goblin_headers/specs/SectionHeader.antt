@@ -1,5 +1,5 @@
 -- Section headers of either class (System V gABI, "Section Header").
-use Rattle.std.specs.Prelude.{ℕ, List, [], ◌∷◌, slice_index}
+use Rattle.std.specs.Prelude.{ℕ, List, [], ◌∷◌, slice_index, Bool, not, ◌==◌, bit_and}
 use Rattle.goblin_headers.specs.Common.{Container, Endian, field, values_of, Layout, Shape, shaped, widened, Little}
 use Rattle.goblin_headers.specs.Common.{Big, SectionHeader}
 use Rattle.goblin_headers.specs.declared.section_header32.SectionHeader.{SectionHeader as Raw32}
@@ -67,6 +67,10 @@ section_header_of_values values = record {
   sh_addralign = slice_index values 8;
   sh_entsize = slice_index values 9;
 }
+
+-- a section header has at least one of these flags
+abbrev pub has_flag : SectionHeader → ℕ → Bool
+has_flag h flags = not (bit_and h.sh_flags flags == 0)
 
 -- the values of the fields of a section header in file order, which is the same in both classes
 abbrev pub section_header_values : SectionHeader → List ℕ

@@ -4,11 +4,7 @@ use Rattle.std.specs.Prelude.{length, max, Bool, true, Option, Some, None, Resul
 use Rattle.goblin_headers.specs.Common.{Ctx, Error, Malformed, records_in, unless_fault, Refusal, buffer_too_short}
 use Rattle.goblin_headers.specs.Common.{misplaced, room_of, refuse_if, refuse_as, SectionHeader, ◌>>=◌}
 use Rattle.goblin_base.specs.declared.error.Fault.TheVariants.{SectionOffset, SectionAddr}
-use Rattle.goblin_headers.specs.SectionHeader.{section_header_size, section_header_of, section_header_of_values}
-
--- a header of type 1 (data of the program) with flag 2 (allocated), aligned to 512 bytes, with all other fields 0
-abbrev pub new_section_header : SectionHeader
-new_section_header = record (section_header_of_values []) { sh_type = 1; sh_flags = 2; sh_addralign = 512 }
+use Rattle.goblin_headers.specs.SectionHeader.{section_header_size, section_header_of}
 
 -- the number of headers that are asked for: the count, or the first header's `sh_size` if the count is 0
 abbrev pub header_count : SectionHeader → ℕ → ℕ

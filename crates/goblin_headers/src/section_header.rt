@@ -1,10 +1,10 @@
 //! Section headers, which describe what a file holds: System V gABI, "Section Header".
-ghost use Rattle.std.specs.Prelude.{◌≡◌, ◌↔◌, IsTrue, IfErr, IsNone, IsOk, IfOk, IfSome, List, map, replicate, vec_capacity, [], ◌∷◌, ◌%◌, ◌^◌, ◌+◌, ◌<◌, ◌≤◌, ◌⊎◌, ℕ};
+ghost use Rattle.std.specs.Prelude.{◌≡◌, ◌↔◌, ◌&&◌, IsTrue, IfErr, IsNone, IsOk, IfOk, IfSome, List, map, replicate, vec_capacity, slice_index, [], ◌∷◌, ◌%◌, ◌^◌, ◌+◌, ◌<◌, ◌≤◌, ◌⊎◌, ℕ};
 ghost use Rattle.goblin_headers.specs.Common.{IsBitSet, Endian, ComparesAndClones, Gives, HasPlaces, IsSameInEachClass, Refuses, Returns, values_of, span};
 ghost use Rattle.goblin_base.specs.declared.container.Container.TheVariants as class;
 ghost use Rattle.goblin_headers.specs.Constants.{section_flag_numbers, section_index_numbers, section_type_numbers};
-ghost use Rattle.goblin_headers.specs.SectionHeader.{as64, section_header64, section_header_layout, section_header_size};
-ghost use Rattle.goblin_headers.specs.SectionHeaders.{new_section_header, count_from, section_headers_from, section_headers_from_tested, section_headers_of, section_headers_of_tested, size_checked, size_checked_in};
+ghost use Rattle.goblin_headers.specs.SectionHeader.{as64, has_flag, section_header64, section_header_layout, section_header_of_values, section_header_size, section_header_values};
+ghost use Rattle.goblin_headers.specs.SectionHeaders.{count_from, section_headers_from, section_headers_from_tested, section_headers_of, section_headers_of_tested, size_checked, size_checked_in};
 ghost use Rattle.goblin_headers.specs.SectionNames.{section_flag_name, section_flag_names, section_name};
 
 pub use crate::{section_header32, section_header64};
@@ -52,7 +52,7 @@ impl SectionHeader {
     /// Returns a header of type `SHT_PROGBITS` with the flag `SHF_ALLOC`, aligned to 512 bytes,
     /// with all other fields 0.
     pub fn new() -> Self
-        ensures { result ≡ new_section_header }
+        ensures { result ≡ section_header_of_values (0 ∷ SHT_PROGBITS ∷ SHF_ALLOC ∷ 0 ∷ 0 ∷ 0 ∷ 0 ∷ 0 ∷ 512 ∷ 0 ∷ []) }
     {
         SectionHeader {
             sh_type: SHT_PROGBITS,
@@ -232,25 +232,34 @@ impl SectionHeader {
         self.sh_type == SHT_RELA
     }
 
-    /// Reports whether the section is in memory and may be executed: bits 1 and 2 of its flags.
+    /// Reports whether the section is in memory and may be executed: it has the flags 2 and 4 (`SHF_ALLOC`,
+    /// `SHF_EXECINSTR`).
     pub fn is_executable(&self) -> bool
-        ensures { IsTrue result ↔ (IsBitSet self.now.sh_flags 1 × IsBitSet self.now.sh_flags 2) }
+        ensures { result ≡ (has_flag self.now 2 && has_flag self.now 4) }
     {
-        self.is_alloc() && self.sh_flags & u64::from(SHF_EXECINSTR) != 0
+        self.is_alloc() && self.has_flag(SHF_EXECINSTR)
     }
 
-    /// Reports whether the section is in memory and may be written: bits 1 and 0 of its flags.
+    /// Reports whether the section is in memory and may be written: it has the flags 2 and 1 (`SHF_ALLOC`,
+    /// `SHF_WRITE`).
     pub fn is_writable(&self) -> bool
-        ensures { IsTrue result ↔ (IsBitSet self.now.sh_flags 1 × IsBitSet self.now.sh_flags 0) }
+        ensures { result ≡ (has_flag self.now 2 && has_flag self.now 1) }
     {
-        self.is_alloc() && self.sh_flags & u64::from(SHF_WRITE) != 0
+        self.is_alloc() && self.has_flag(SHF_WRITE)
     }
 
-    /// Reports whether the section is in memory while the program runs: bit 1 of its flags.
+    /// Reports whether the section is in memory while the program runs: it has the flag 2 (`SHF_ALLOC`).
     pub fn is_alloc(&self) -> bool
-        ensures { IsTrue result ↔ IsBitSet self.now.sh_flags 1 }
+        ensures { result ≡ has_flag self.now 2 }
     {
-        self.sh_flags & u64::from(SHF_ALLOC) != 0
+        self.has_flag(SHF_ALLOC)
+    }
+
+    // Reports whether the section has at least one of these flags.
+    fn has_flag(&self, flags: u32) -> bool
+        ensures { result ≡ has_flag self.now flags }
+    {
+        self.sh_flags & u64::from(flags) != 0
     }
 
     /// Returns the number of headers to read from an offset on: as many as are asked for, or if
@@ -305,11 +314,11 @@ impl LaidOut<Ctx> for SectionHeader {
     ghost layout_laws = { λ ctx. section_header_laws ctx.container ctx.le };
 }
 
-/// Laws: a list of section headers that fit both classes is read back the same in each class and byte
-/// order. Where each field of a section header lies, and of a raw one. The low bits of one that doesn't fit. A section
-/// passes `check_size` exactly if its type is 8, its size is 0, or it lies in the file and its addresses end below
-/// 2 ^ 64. All fields of the default one are 0. `==` is true exactly if all fields are equal. `clone` returns the
-/// section header, and never fails.
+/// Laws: a list of section headers that fit both classes is read back the same in each class and byte order. Where each
+/// field of a section header lies, and of a raw one. The low bits of one that doesn't fit. A flag is a bit of the third
+/// field. A section passes `check_size` exactly if its type is 8, its size is 0, or it lies in the file and its
+/// addresses end below 2 ^ 64. All fields of the default one are 0. `==` is true exactly if all fields are equal.
+/// `clone` returns the section header, and never fails.
 #[tactic(auto, using(crate::specs::SectionHeaderLaws::same_section_headers))]
 pub fn laws()
     ensures same { IsSameInEachClass section_header_layout }
@@ -329,15 +338,15 @@ pub fn laws()
         ≡ n 0 4 ∷ n 4 4 ∷ n 8 4 ∷ n 12 4 ∷ n 16 4 ∷ n 20 4 ∷ n 24 4 ∷ n 28 4 ∷ n 32 4 ∷ n 36 4 ∷ [])
         × HasPlaces (λ order. ⟦<SectionHeader as LaidOut<Ctx>>⟧.layout (record { container = class.Big; le = order }))
         (λ n h. fields h
-        ≡ n 0 4 ∷ n 4 4 ∷ n 8 8 ∷ n 16 8 ∷ n 24 8 ∷ n 32 8 ∷ n 40 4 ∷ n 44 4 ∷ n 48 8 ∷ n 56 8 ∷ []) }
-    ensures low32 { (order : Endian) (h : SectionHeader) → let fields : SectionHeader → List ℕ = λ h.
-        h.sh_name ∷ h.sh_type ∷ h.sh_flags ∷ h.sh_addr ∷ h.sh_offset ∷ h.sh_size ∷ h.sh_link ∷ h.sh_info
-        ∷ h.sh_addralign ∷ h.sh_entsize ∷ [] in
+        ≡ n 0 4 ∷ n 4 4 ∷ n 8 8 ∷ n 16 8 ∷ n 24 8 ∷ n 32 8 ∷ n 40 4 ∷ n 44 4 ∷ n 48 8 ∷ n 56 8 ∷ [])
+        × ((order : Endian) (h : SectionHeader) →
         fields ((⟦<SectionHeader as LaidOut<Ctx>>⟧.layout (record { container = class.Little; le = order })).low h)
-        ≡ map (λ n. n % 2 ^ 32) (fields h) }
+        ≡ map (λ n. n % 2 ^ 32) (fields h)) }
     ensures low64 { (order : Endian) (h : SectionHeader) →
         ((⟦<SectionHeader as LaidOut<Ctx>>⟧.layout (record { container = class.Big; le = order })).low h).sh_name
         ≡ h.sh_name % 2 ^ 32 }
+    ensures flags { (h : SectionHeader) (bit : ℕ) →
+        IsTrue (has_flag h (2 ^ bit)) ↔ IsBitSet (slice_index (section_header_values h) 2) bit }
     ensures checked { (len : ℕ) (s : SectionHeader) → IsOk (size_checked len s) ↔ ((s.sh_type ≡ 8) ⊎ ((s.sh_size ≡ 0)
         ⊎ ((s.sh_offset + s.sh_size ≤ len) × (s.sh_addr + s.sh_size < 2 ^ 64)))) }
     ensures zeros { (h : SectionHeader) → ⟦<SectionHeader as Default>⟧.is_default h
