@@ -1,6 +1,10 @@
 -- One of each struct that calls share with C, with marks by which C can check the place of each field.
-use Rattle.std.specs.Prelude.{ℕ, ◌+◌, ◌-◌, ◌*◌, ◌/◌, ◌^◌, pos}
+use Rattle.std.specs.Prelude.{ℕ, ◌+◌, ◌-◌, ◌*◌, ◌/◌, ◌^◌, pos, [], ◌∷◌}
+use Rattle.goblin.specs.ProgramHeader.{program_header_of_values}
+use Rattle.goblin.specs.SectionHeader.{section_header_of_values}
+use Rattle.goblin.specs.Sym.{sym_of_values}
 use Rattle.goblin_c.specs.Common.{GoblinRange}
+use Rattle.goblin_c.specs.Types.{section_converted, segment_converted, symbol_converted}
 use Rattle.goblin_c.specs.declared.layout.GoblinLayout.{GoblinLayout}
 
 -- the number of so many bytes, each of which is a mark
@@ -53,34 +57,12 @@ layout = record {
     ei_osabi = 17;
     ei_abiversion = 18;
   };
-  section = record {
-    file = range_marked 1;
-    sh_name = each_byte 8 3;
-    sh_flags = each_byte 8 4;
-    sh_addr = each_byte 8 5;
-    sh_addralign = each_byte 8 6;
-    sh_entsize = each_byte 8 7;
-    sh_type = each_byte 4 8;
-    sh_link = each_byte 4 9;
-    sh_info = each_byte 4 10;
-  };
-  segment = record {
-    file = range_marked 1;
-    p_vaddr = each_byte 8 3;
-    p_paddr = each_byte 8 4;
-    p_memsz = each_byte 8 5;
-    p_align = each_byte 8 6;
-    p_type = each_byte 4 7;
-    p_flags = each_byte 4 8;
-  };
-  symbol = record {
-    st_name = each_byte 8 1;
-    st_value = each_byte 8 2;
-    st_size = each_byte 8 3;
-    st_shndx = each_byte 8 4;
-    st_info = 5;
-    st_other = 6;
-  };
+  section = section_converted (section_header_of_values (each_byte 8 3 ∷ each_byte 4 8 ∷ each_byte 8 4 ∷ each_byte 8 5
+      ∷ each_byte 8 1 ∷ each_byte 8 2 ∷ each_byte 4 9 ∷ each_byte 4 10 ∷ each_byte 8 6 ∷ each_byte 8 7 ∷ []));
+  segment = segment_converted (program_header_of_values (each_byte 4 7 ∷ each_byte 4 8 ∷ each_byte 8 1 ∷ each_byte 8 3
+      ∷ each_byte 8 4 ∷ each_byte 8 2 ∷ each_byte 8 5 ∷ each_byte 8 6 ∷ []));
+  symbol = symbol_converted (sym_of_values
+      (each_byte 8 1 ∷ 5 ∷ 6 ∷ each_byte 8 4 ∷ each_byte 8 2 ∷ each_byte 8 3 ∷ []));
   reloc = record {
     r_offset = each_byte 8 1;
     r_sym = each_byte 8 2;
