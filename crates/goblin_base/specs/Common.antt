@@ -5,8 +5,9 @@ unfoldable pub use Rattle.goblin_base.specs.Eager.{records_from, records_in}
 pub use Rattle.goblin_base.specs.Fields.{Field, FieldsFit, field, fields_at, lows_of, size_of_fields, total, values_at}
 pub use Rattle.goblin_base.specs.Fields.{values_of, widths_of}
 unfoldable pub use Rattle.goblin_base.specs.Fields.{image_of_fields}
-pub use Rattle.goblin_base.specs.Layout.{EachReadFits, FitsExactly, HasPlaces, IsOneImage, IsRecord, IsSameInEachClass}
-pub use Rattle.goblin_base.specs.Layout.{Layout, Obeys, Shape, converted, low_bits, shaped, widened, word_size, zero}
+pub use Rattle.goblin_base.specs.Layout.{EachReadFits, FitsExactly, HasFields, HasPlaces, IsOneImage, IsRecord}
+pub use Rattle.goblin_base.specs.Layout.{IsSameInEachClass, Layout, Obeys, Shape, converted, low_bits, shaped, widened}
+pub use Rattle.goblin_base.specs.Layout.{word_size, zero}
 pub use Rattle.goblin_base.specs.Number.{IsBytes, ReadsSpelling, SpellsBack, SpellsWidth, number_at}
 unfoldable pub use Rattle.goblin_base.specs.Number.{number, spelled}
 pub use Rattle.goblin_base.specs.Record.{unless_fault}

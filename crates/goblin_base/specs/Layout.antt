@@ -1,5 +1,6 @@
 -- What every record obeys: its layout, and the laws of reading and writing it.
-use Rattle.std.specs.Prelude.{◌≡◌, ◌↔◌, ◌≤◌, ◌<◌, ℕ, List, ◌++◌, [], All, flat_map, length, take, Result}
+use Rattle.std.specs.Prelude.{◌≡◌, ◌↔◌, ◌≤◌, ◌<◌, ◌%◌, ◌^◌, ℕ, List, ◌++◌, [], ◌∷◌, All, flat_map, length, map, take}
+use Rattle.std.specs.Prelude.{Result}
 use Rattle.goblin_base.specs.declared.container.Container.{Container}
 use Rattle.goblin_base.specs.declared.container.Container.TheVariants.{Little, Big}
 use Rattle.goblin_base.specs.declared.container.Endian.{Endian}
@@ -127,7 +128,21 @@ IsOneImage {R = R} l =
 abbrev pub FitsExactly : {R : Type 0} → Layout R → Type 0
 FitsExactly {R = R} l = (x : R) → l.Fits x ↔ (l.low x ≡ x)
 
--- the fields of a record are these numbers, each at its offset and of its width, in either byte order
+-- the low bits of some numbers, as many as each of these places, an offset and a width in bytes, holds
+abbrev pub lows_at : List (ℕ × ℕ) → List ℕ → List ℕ
+lows_at (place ∷ places) (value ∷ values) = value % 256 ^ place.1 ∷ lows_at places values
+lows_at _ _ = []
+
+-- The fields of a record are the numbers at these places, in either byte order. Of one that doesn't fit, each keeps its
+-- low bits.
+abbrev pub HasFields : {R : Type 0} → (Endian → Layout R) → (R → List ℕ) → List (ℕ × ℕ) → Type 0
+HasFields {R = R} layout fields places =
+    (order : Endian)
+    → ((bytes : List ℕ)
+    → fields ((layout order).read bytes) ≡ map (λ place. number_at order bytes place.0 place.1) places)
+    × ((x : R) → fields ((layout order).low x) ≡ lows_at places (fields x))
+
+-- the parts of a record are made of numbers, each at its offset and of its width, in either byte order
 abbrev pub HasPlaces : {R : Type 0} → (Endian → Layout R) → ((ℕ → ℕ → ℕ) → R → Type 0) → Type 0
 HasPlaces layout Are = (order : Endian) (bytes : List ℕ) → Are (number_at order bytes) ((layout order).read bytes)
 

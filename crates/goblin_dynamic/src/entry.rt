@@ -1,7 +1,6 @@
 //! Entries of the dynamic section: System V gABI, "Dynamic Section" (`Elf32_Dyn` and `Elf64_Dyn`).
-ghost use Rattle.std.specs.Prelude.{◌≡◌, [], ◌∷◌, ◌%◌, ◌^◌};
-ghost use Rattle.goblin_base.specs.declared.container.Endian.{Endian};
-ghost use Rattle.goblin_base.specs.Common.{ComparesAndClones, HasPlaces, IsSameInEachClass, zero};
+ghost use Rattle.std.specs.Prelude.{◌≡◌, [], ◌∷◌};
+ghost use Rattle.goblin_base.specs.Common.{ComparesAndClones, HasFields, IsSameInEachClass, zero};
 ghost use Rattle.goblin_base.specs.declared.container.Container.TheVariants as class;
 ghost use Rattle.goblin_dynamic.specs.Dyn.{entry, entry_laws, entry_layout};
 
@@ -66,21 +65,18 @@ impl LaidOut<Ctx> for Dyn {
 }
 
 /// Laws of entries: their sizes. A list of entries that fit both classes is read back the same in each class and byte
-/// order. Where each field lies in each class. The low bits of one that doesn't fit 32 bits. Both fields of the default
-/// entry are 0. `==` is true exactly if both fields are equal. `clone` returns the entry, and never fails.
+/// order. Where each field lies in each class, and which low bits of it are kept. Both fields of the default entry are
+/// 0. `==` is true exactly if both fields are equal. `clone` returns the entry, and never fails.
 #[tactic(auto, using(crate::specs::Dyn::same_entries))]
 pub fn laws()
     ensures sizes { (SIZEOF_DYN32 ≡ 8) × (SIZEOF_DYN64 ≡ 16) }
     ensures same { IsSameInEachClass entry_layout }
-    ensures places32 { HasPlaces
+    ensures places32 { HasFields
         (λ order. ⟦<Dyn as LaidOut<Ctx>>⟧.layout (record { container = class.Little; le = order }))
-        (λ n d. d.d_tag ∷ d.d_val ∷ [] ≡ n 0 4 ∷ n 4 4 ∷ []) }
-    ensures places64 { HasPlaces
+        (λ d. d.d_tag ∷ d.d_val ∷ []) ((0, 4) ∷ (4, 4) ∷ []) }
+    ensures places64 { HasFields
         (λ order. ⟦<Dyn as LaidOut<Ctx>>⟧.layout (record { container = class.Big; le = order }))
-        (λ n d. d.d_tag ∷ d.d_val ∷ [] ≡ n 0 8 ∷ n 8 8 ∷ []) }
-    ensures low32 { (order : Endian) (d : Dyn) →
-        let cut = (⟦<Dyn as LaidOut<Ctx>>⟧.layout (record { container = class.Little; le = order })).low d in
-        (cut.d_tag ≡ d.d_tag % 2 ^ 32) × (cut.d_val ≡ d.d_val % 2 ^ 32) }
+        (λ d. d.d_tag ∷ d.d_val ∷ []) ((0, 8) ∷ (8, 8) ∷ []) }
     ensures zeros { (d : Dyn) → ⟦<Dyn as Default>⟧.is_default d → d ≡ zero (entry 8) }
     ensures derived { ComparesAndClones ⟦<Dyn as PartialEq>⟧ ⟦<Dyn as Clone>⟧ }
 {}

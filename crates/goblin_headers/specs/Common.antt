@@ -1,5 +1,5 @@
 -- What the definitions of this crate cite most, passed on from one place. Declares nothing.
-pub use Rattle.goblin_base.specs.Common.{ComparesAndClones, Field, FieldsFit, Gives, HasPlaces, IsBytes, IsRecord}
+pub use Rattle.goblin_base.specs.Common.{ComparesAndClones, Field, FieldsFit, Gives, HasFields, IsBytes, IsRecord}
 pub use Rattle.goblin_base.specs.Common.{IsSameInEachClass, Layout, Refusal, Refuses, Returns, Shape, buffer_too_short}
 pub use Rattle.goblin_base.specs.Common.{field, low_bits, lows_of, name_in, number_at, or_refuse, records, records_in}
 pub use Rattle.goblin_base.specs.Common.{refuse_as, refuse_if, room_of_each, shaped, total, values_at, values_of}

@@ -1,6 +1,6 @@
 //! The header of an ELF file: System V gABI, "ELF Header" and "ELF Identification".
-ghost use Rattle.std.specs.Prelude.{◌≡◌, ◌≤◌, ◌++◌, length, drop, [], ◌∷◌, ℕ, List, take, ◌%◌, ◌^◌, map};
-ghost use Rattle.goblin_headers.specs.Common.{Endian, ComparesAndClones, HasPlaces};
+ghost use Rattle.std.specs.Prelude.{◌≡◌, ◌≤◌, ◌++◌, length, drop, [], ◌∷◌, ℕ, List, take};
+ghost use Rattle.goblin_headers.specs.Common.{Endian, ComparesAndClones, HasFields};
 ghost use Rattle.goblin_base.specs.declared.container.Container.TheVariants as class;
 ghost use Rattle.goblin_headers.specs.Constants.{class_numbers, data_numbers, file_type_numbers, ident_place_numbers, ident_size_numbers, system_numbers, unnamed_machine_numbers};
 ghost use Rattle.goblin_headers.specs.Header.{header_layout, header_size, magic, order_named};
@@ -235,9 +235,8 @@ impl IntoCtx<Ctx> for Header {
 
 /// Laws of headers:
 ///
-/// - Each field of a header lies at its offset in its class.
+/// - Each field of a header lies at its offset in its class. Of one that doesn't fit, the low bits are kept.
 /// - The image of a header is the only list of bytes that is read as that header.
-/// - Of one that doesn't fit 32 bits, the low bits of the entry and of both offsets are kept.
 /// - A header that was read fits. A header fits exactly if the fields after its identification are
 ///   their own low bits.
 /// - A header that fits the class that it names is read back from its image in that class, whatever
@@ -254,14 +253,12 @@ pub fn laws()
     ensures places { let fields : Header → List ℕ = λ h.
         h.e_type ∷ h.e_machine ∷ h.e_version ∷ h.e_entry ∷ h.e_phoff ∷ h.e_shoff ∷ h.e_flags ∷ h.e_ehsize
         ∷ h.e_phentsize ∷ h.e_phnum ∷ h.e_shentsize ∷ h.e_shnum ∷ h.e_shstrndx ∷ [] in
-        HasPlaces (header_layout class.Little) (λ n h. fields h
-        ≡ n 16 2 ∷ n 18 2 ∷ n 20 4 ∷ n 24 4 ∷ n 28 4 ∷ n 32 4 ∷ n 36 4 ∷ n 40 2 ∷ n 42 2 ∷ n 44 2 ∷ n 46 2
-        ∷ n 48 2 ∷ n 50 2 ∷ [])
-        × HasPlaces (header_layout class.Big) (λ n h. fields h
-        ≡ n 16 2 ∷ n 18 2 ∷ n 20 4 ∷ n 24 8 ∷ n 32 8 ∷ n 40 8 ∷ n 48 4 ∷ n 52 2 ∷ n 54 2 ∷ n 56 2 ∷ n 58 2
-        ∷ n 60 2 ∷ n 62 2 ∷ []) }
-    ensures low32 { (order : Endian) (h : Header) → let cut = (header_layout class.Little order).low h in
-        cut.e_entry ∷ cut.e_phoff ∷ cut.e_shoff ∷ [] ≡ map (λ n. n % 2 ^ 32) (h.e_entry ∷ h.e_phoff ∷ h.e_shoff ∷ []) }
+        HasFields (header_layout class.Little) fields
+        ((16, 2) ∷ (18, 2) ∷ (20, 4) ∷ (24, 4) ∷ (28, 4) ∷ (32, 4) ∷ (36, 4) ∷ (40, 2) ∷ (42, 2) ∷ (44, 2) ∷ (46, 2)
+        ∷ (48, 2) ∷ (50, 2) ∷ [])
+        × HasFields (header_layout class.Big) fields
+        ((16, 2) ∷ (18, 2) ∷ (20, 4) ∷ (24, 8) ∷ (32, 8) ∷ (40, 8) ∷ (48, 4) ∷ (52, 2) ∷ (54, 2) ∷ (56, 2) ∷ (58, 2)
+        ∷ (60, 2) ∷ (62, 2) ∷ []) }
     ensures image { OneImage }
     ensures fits { EachFits }
     ensures reads_back { ReadsBack }

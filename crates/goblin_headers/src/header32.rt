@@ -1,6 +1,6 @@
 //! The header of a 32-bit ELF file: System V gABI, "ELF Header", `Elf32_Ehdr`.
 ghost use Rattle.std.specs.Prelude.{◌≡◌, ◌≤◌, ◌++◌, length, drop, replicate, [], ◌∷◌, ℕ, List, take};
-ghost use Rattle.goblin_headers.specs.Common.{ComparesAndClones, HasPlaces, values_of};
+ghost use Rattle.goblin_headers.specs.Common.{ComparesAndClones, HasFields, values_of};
 ghost use Rattle.goblin_headers.specs.Constants.{class_numbers, data_numbers, file_type_numbers, ident_place_numbers, ident_size_numbers, system_numbers, unnamed_machine_numbers};
 ghost use Rattle.goblin_headers.specs.Header.{magic, headed, header32, low_header, widened32, as32};
 ghost use Rattle.goblin_headers.specs.HeaderTrips.{HeadersFit, IsOneHeaderImage, IsReadBack, IsWrittenAndReadBack, IsWrittenBack};
@@ -241,18 +241,18 @@ impl TryIntoCtx<Endian> for Header {
     }
 }
 
-/// Laws of headers: where each field lies. The image of a header is the only list of bytes that is read as that header.
-/// A header that fits is read back from its image, and from the bytes that it was written to. A header that was read is
-/// written back unchanged, and fits. A header fits exactly if the fields after its identification are their own low
-/// bits. All fields of the default header are 0. `==` is true exactly if all fields are equal. `clone` returns the
-/// header, and never fails.
+/// Laws of headers: where each field lies, and which low bits of it are kept. The image of a header is the only list of
+/// bytes that is read as that header. A header that fits is read back from its image, and from the bytes that it was
+/// written to. A header that was read is written back unchanged, and fits. A header fits exactly if the fields after
+/// its identification are their own low bits. All fields of the default header are 0. `==` is true exactly if all
+/// fields are equal. `clone` returns the header, and never fails.
 pub fn laws()
     ensures ident { (order : Endian) (bytes : List ℕ) → ((headed header32 order).read bytes).e_ident ≡ take 16 bytes }
-    ensures places { HasPlaces (headed header32) (λ n h.
+    ensures places { HasFields (headed header32) (λ h.
         h.e_type ∷ h.e_machine ∷ h.e_version ∷ h.e_entry ∷ h.e_phoff ∷ h.e_shoff ∷ h.e_flags ∷ h.e_ehsize
-        ∷ h.e_phentsize ∷ h.e_phnum ∷ h.e_shentsize ∷ h.e_shnum ∷ h.e_shstrndx ∷ []
-        ≡ n 16 2 ∷ n 18 2 ∷ n 20 4 ∷ n 24 4 ∷ n 28 4 ∷ n 32 4 ∷ n 36 4 ∷ n 40 2 ∷ n 42 2 ∷ n 44 2 ∷ n 46 2
-        ∷ n 48 2 ∷ n 50 2 ∷ []) }
+        ∷ h.e_phentsize ∷ h.e_phnum ∷ h.e_shentsize ∷ h.e_shnum ∷ h.e_shstrndx ∷ [])
+        ((16, 2) ∷ (18, 2) ∷ (20, 4) ∷ (24, 4) ∷ (28, 4) ∷ (32, 4) ∷ (36, 4) ∷ (40, 2) ∷ (42, 2) ∷ (44, 2) ∷ (46, 2)
+        ∷ (48, 2) ∷ (50, 2) ∷ []) }
     ensures image { IsOneHeaderImage (λ h. h.e_ident) (headed header32) }
     ensures fits { HeadersFit (λ h. h.e_ident) (headed header32) }
     ensures reads_back { IsReadBack (λ h. h.e_ident) (headed header32) }

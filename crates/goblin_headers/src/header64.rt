@@ -1,6 +1,6 @@
 //! The header of a 64-bit ELF file: System V gABI, "ELF Header", `Elf64_Ehdr`.
 ghost use Rattle.std.specs.Prelude.{◌≡◌, ◌≤◌, ◌++◌, length, drop, replicate, [], ◌∷◌, ℕ, List, take};
-ghost use Rattle.goblin_headers.specs.Common.{ComparesAndClones, HasPlaces, values_of};
+ghost use Rattle.goblin_headers.specs.Common.{ComparesAndClones, HasFields, values_of};
 ghost use Rattle.goblin_headers.specs.Constants.{class_numbers, data_numbers, file_type_numbers, ident_place_numbers, ident_size_numbers, system_numbers, unnamed_machine_numbers};
 ghost use Rattle.goblin_headers.specs.Header.{magic, headed, header64, widened64, as64};
 ghost use Rattle.goblin_headers.specs.HeaderTrips.{HeadersFit, IsOneHeaderImage, IsReadBack, IsWrittenAndReadBack, IsWrittenBack};
@@ -240,18 +240,18 @@ impl TryIntoCtx<Endian> for Header {
     }
 }
 
-/// Laws of headers: where each field lies. The image of a header is the only list of bytes that is read as that header.
-/// A header that fits is read back from its image, and from the bytes that it was written to. A header that was read is
-/// written back unchanged, and fits. A header fits exactly if the fields after its identification are their own low
-/// bits. All fields of the default header are 0. `==` is true exactly if all fields are equal. `clone` returns the
-/// header, and never fails.
+/// Laws of headers: where each field lies, and which low bits of it are kept. The image of a header is the only list of
+/// bytes that is read as that header. A header that fits is read back from its image, and from the bytes that it was
+/// written to. A header that was read is written back unchanged, and fits. A header fits exactly if the fields after
+/// its identification are their own low bits. All fields of the default header are 0. `==` is true exactly if all
+/// fields are equal. `clone` returns the header, and never fails.
 pub fn laws()
     ensures ident { (order : Endian) (bytes : List ℕ) → ((headed header64 order).read bytes).e_ident ≡ take 16 bytes }
-    ensures places { HasPlaces (headed header64) (λ n h.
+    ensures places { HasFields (headed header64) (λ h.
         h.e_type ∷ h.e_machine ∷ h.e_version ∷ h.e_entry ∷ h.e_phoff ∷ h.e_shoff ∷ h.e_flags ∷ h.e_ehsize
-        ∷ h.e_phentsize ∷ h.e_phnum ∷ h.e_shentsize ∷ h.e_shnum ∷ h.e_shstrndx ∷ []
-        ≡ n 16 2 ∷ n 18 2 ∷ n 20 4 ∷ n 24 8 ∷ n 32 8 ∷ n 40 8 ∷ n 48 4 ∷ n 52 2 ∷ n 54 2 ∷ n 56 2 ∷ n 58 2
-        ∷ n 60 2 ∷ n 62 2 ∷ []) }
+        ∷ h.e_phentsize ∷ h.e_phnum ∷ h.e_shentsize ∷ h.e_shnum ∷ h.e_shstrndx ∷ [])
+        ((16, 2) ∷ (18, 2) ∷ (20, 4) ∷ (24, 8) ∷ (32, 8) ∷ (40, 8) ∷ (48, 4) ∷ (52, 2) ∷ (54, 2) ∷ (56, 2) ∷ (58, 2)
+        ∷ (60, 2) ∷ (62, 2) ∷ []) }
     ensures image { IsOneHeaderImage (λ h. h.e_ident) (headed header64) }
     ensures fits { HeadersFit (λ h. h.e_ident) (headed header64) }
     ensures reads_back { IsReadBack (λ h. h.e_ident) (headed header64) }

@@ -1,6 +1,6 @@
 //! Program headers, which describe how a file is loaded: System V gABI, "Program Header".
-ghost use Rattle.std.specs.Prelude.{◌≡◌, ◌↔◌, ◌+◌, ◌<◌, ◌≤◌, IsTrue, IfErr, IsOk, List, find, replicate, [], ◌∷◌, ◌%◌, ◌^◌, map, ℕ};
-ghost use Rattle.goblin_headers.specs.Common.{IsBitSet, Endian, ComparesAndClones, Gives, HasPlaces, IsSameInEachClass, Refuses, Returns, values_of, span};
+ghost use Rattle.std.specs.Prelude.{◌≡◌, ◌↔◌, ◌+◌, ◌<◌, ◌≤◌, IsTrue, IfErr, IsOk, find, replicate, [], ◌∷◌, ℕ};
+ghost use Rattle.goblin_headers.specs.Common.{IsBitSet, ComparesAndClones, Gives, HasFields, IsSameInEachClass, Refuses, Returns, values_of, span};
 ghost use Rattle.std.specs.Int.Bits.{bit_or};
 ghost use Rattle.goblin_base.specs.declared.container.Container.TheVariants as class;
 ghost use Rattle.goblin_headers.specs.Constants.{segment_flag_numbers, segment_type_numbers};
@@ -219,32 +219,27 @@ impl LaidOut<Ctx> for ProgramHeader {
     ghost layout_laws = { λ ctx. program_header_laws ctx.container ctx.le };
 }
 
-/// Laws: a list of program headers that fit both classes is read back the same in each class and byte
-/// order. Where each field of a program header lies, and of a raw one. The low bits of one that doesn't fit 32 bits.
-/// A segment loads an address exactly if it is of type 1 and the address is of one of its bytes in the file. All fields
-/// of the default one are 0. `==` is true exactly if all fields are equal. `clone` returns the program
-/// header, and never fails.
+/// Laws: a list of program headers that fit both classes is read back the same in each class and byte order. Where each
+/// field of a program header lies, and of a raw one, and which low bits of it are kept. A segment loads an address
+/// exactly if it is of type 1 and the address is of one of its bytes in the file. All fields of the default one are 0.
+/// `==` is true exactly if all fields are equal. `clone` returns the program header, and never fails.
 #[tactic(auto, using(crate::specs::ProgramHeaderLaws::same_program_headers))]
 pub fn laws()
     ensures same { IsSameInEachClass program_header_layout }
-    ensures raw32 { HasPlaces ⟦<program_header32::ProgramHeader as LaidOut<Endian>>⟧.layout (λ n h.
-        h.p_type ∷ h.p_offset ∷ h.p_vaddr ∷ h.p_paddr ∷ h.p_filesz ∷ h.p_memsz ∷ h.p_flags ∷ h.p_align ∷ []
-        ≡ n 0 4 ∷ n 4 4 ∷ n 8 4 ∷ n 12 4 ∷ n 16 4 ∷ n 20 4 ∷ n 24 4 ∷ n 28 4 ∷ []) }
-    ensures raw64 { HasPlaces ⟦<program_header64::ProgramHeader as LaidOut<Endian>>⟧.layout (λ n h.
-        h.p_type ∷ h.p_flags ∷ h.p_offset ∷ h.p_vaddr ∷ h.p_paddr ∷ h.p_filesz ∷ h.p_memsz ∷ h.p_align ∷ []
-        ≡ n 0 4 ∷ n 4 4 ∷ n 8 8 ∷ n 16 8 ∷ n 24 8 ∷ n 32 8 ∷ n 40 8 ∷ n 48 8 ∷ []) }
-    ensures places32 { HasPlaces
+    ensures raw32 { HasFields ⟦<program_header32::ProgramHeader as LaidOut<Endian>>⟧.layout (λ h.
+        h.p_type ∷ h.p_offset ∷ h.p_vaddr ∷ h.p_paddr ∷ h.p_filesz ∷ h.p_memsz ∷ h.p_flags ∷ h.p_align ∷ [])
+        ((0, 4) ∷ (4, 4) ∷ (8, 4) ∷ (12, 4) ∷ (16, 4) ∷ (20, 4) ∷ (24, 4) ∷ (28, 4) ∷ []) }
+    ensures raw64 { HasFields ⟦<program_header64::ProgramHeader as LaidOut<Endian>>⟧.layout (λ h.
+        h.p_type ∷ h.p_flags ∷ h.p_offset ∷ h.p_vaddr ∷ h.p_paddr ∷ h.p_filesz ∷ h.p_memsz ∷ h.p_align ∷ [])
+        ((0, 4) ∷ (4, 4) ∷ (8, 8) ∷ (16, 8) ∷ (24, 8) ∷ (32, 8) ∷ (40, 8) ∷ (48, 8) ∷ []) }
+    ensures places32 { HasFields
         (λ order. ⟦<ProgramHeader as LaidOut<Ctx>>⟧.layout (record { container = class.Little; le = order }))
-        (λ n h. h.p_type ∷ h.p_offset ∷ h.p_vaddr ∷ h.p_paddr ∷ h.p_filesz ∷ h.p_memsz ∷ h.p_flags ∷ h.p_align ∷ []
-        ≡ n 0 4 ∷ n 4 4 ∷ n 8 4 ∷ n 12 4 ∷ n 16 4 ∷ n 20 4 ∷ n 24 4 ∷ n 28 4 ∷ []) }
-    ensures places64 { HasPlaces
+        (λ h. h.p_type ∷ h.p_offset ∷ h.p_vaddr ∷ h.p_paddr ∷ h.p_filesz ∷ h.p_memsz ∷ h.p_flags ∷ h.p_align ∷ [])
+        ((0, 4) ∷ (4, 4) ∷ (8, 4) ∷ (12, 4) ∷ (16, 4) ∷ (20, 4) ∷ (24, 4) ∷ (28, 4) ∷ []) }
+    ensures places64 { HasFields
         (λ order. ⟦<ProgramHeader as LaidOut<Ctx>>⟧.layout (record { container = class.Big; le = order }))
-        (λ n h. h.p_type ∷ h.p_flags ∷ h.p_offset ∷ h.p_vaddr ∷ h.p_paddr ∷ h.p_filesz ∷ h.p_memsz ∷ h.p_align ∷ []
-        ≡ n 0 4 ∷ n 4 4 ∷ n 8 8 ∷ n 16 8 ∷ n 24 8 ∷ n 32 8 ∷ n 40 8 ∷ n 48 8 ∷ []) }
-    ensures low32 { (order : Endian) (h : ProgramHeader) → let fields : ProgramHeader → List ℕ = λ h.
-        h.p_type ∷ h.p_offset ∷ h.p_vaddr ∷ h.p_paddr ∷ h.p_filesz ∷ h.p_memsz ∷ h.p_flags ∷ h.p_align ∷ [] in
-        fields ((⟦<ProgramHeader as LaidOut<Ctx>>⟧.layout (record { container = class.Little; le = order })).low h)
-        ≡ map (λ n. n % 2 ^ 32) (fields h) }
+        (λ h. h.p_type ∷ h.p_flags ∷ h.p_offset ∷ h.p_vaddr ∷ h.p_paddr ∷ h.p_filesz ∷ h.p_memsz ∷ h.p_align ∷ [])
+        ((0, 4) ∷ (4, 4) ∷ (8, 8) ∷ (16, 8) ∷ (24, 8) ∷ (32, 8) ∷ (40, 8) ∷ (48, 8) ∷ []) }
     ensures loads { (address : ℕ) (s : ProgramHeader) → IsTrue (loads address s)
         ↔ ((s.p_type ≡ 1) × (s.p_vaddr ≤ address) × (address < s.p_vaddr + s.p_filesz)) }
     ensures zeros { (h : ProgramHeader) → ⟦<ProgramHeader as Default>⟧.is_default h

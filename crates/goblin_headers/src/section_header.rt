@@ -1,6 +1,6 @@
 //! Section headers, which describe what a file holds: System V gABI, "Section Header".
-ghost use Rattle.std.specs.Prelude.{◌≡◌, ◌↔◌, ◌&&◌, IsTrue, IfErr, IsNone, IsOk, IfOk, IfSome, List, map, replicate, vec_capacity, slice_index, [], ◌∷◌, ◌%◌, ◌^◌, ◌+◌, ◌<◌, ◌≤◌, ◌⊎◌, ℕ};
-ghost use Rattle.goblin_headers.specs.Common.{IsBitSet, Endian, ComparesAndClones, Gives, HasPlaces, IsSameInEachClass, Refuses, Returns, values_of, span};
+ghost use Rattle.std.specs.Prelude.{◌≡◌, ◌↔◌, ◌&&◌, IsTrue, IfErr, IsNone, IsOk, IfOk, IfSome, List, map, replicate, vec_capacity, slice_index, [], ◌∷◌, ◌^◌, ◌+◌, ◌<◌, ◌≤◌, ◌⊎◌, ℕ};
+ghost use Rattle.goblin_headers.specs.Common.{IsBitSet, ComparesAndClones, Gives, HasFields, IsSameInEachClass, Refuses, Returns, values_of, span};
 ghost use Rattle.goblin_base.specs.declared.container.Container.TheVariants as class;
 ghost use Rattle.goblin_headers.specs.Constants.{section_flag_numbers, section_index_numbers, section_type_numbers};
 ghost use Rattle.goblin_headers.specs.SectionHeader.{as64, has_flag, section_header64, section_header_layout, section_header_of_values, section_header_size, section_header_values};
@@ -315,36 +315,28 @@ impl LaidOut<Ctx> for SectionHeader {
 }
 
 /// Laws: a list of section headers that fit both classes is read back the same in each class and byte order. Where each
-/// field of a section header lies, and of a raw one. The low bits of one that doesn't fit. A flag is a bit of the third
+/// field of a section header lies, and of a raw one, and which low bits of it are kept. A flag is a bit of the third
 /// field. A section passes `check_size` exactly if its type is 8, its size is 0, or it lies in the file and its
 /// addresses end below 2 ^ 64. All fields of the default one are 0. `==` is true exactly if all fields are equal.
 /// `clone` returns the section header, and never fails.
 #[tactic(auto, using(crate::specs::SectionHeaderLaws::same_section_headers))]
 pub fn laws()
     ensures same { IsSameInEachClass section_header_layout }
-    ensures raw32 { HasPlaces ⟦<section_header32::SectionHeader as LaidOut<Endian>>⟧.layout (λ n h.
+    ensures raw32 { HasFields ⟦<section_header32::SectionHeader as LaidOut<Endian>>⟧.layout (λ h.
         h.sh_name ∷ h.sh_type ∷ h.sh_flags ∷ h.sh_addr ∷ h.sh_offset ∷ h.sh_size ∷ h.sh_link ∷ h.sh_info
-        ∷ h.sh_addralign ∷ h.sh_entsize ∷ []
-        ≡ n 0 4 ∷ n 4 4 ∷ n 8 4 ∷ n 12 4 ∷ n 16 4 ∷ n 20 4 ∷ n 24 4 ∷ n 28 4 ∷ n 32 4 ∷ n 36 4 ∷ []) }
-    ensures raw64 { HasPlaces ⟦<section_header64::SectionHeader as LaidOut<Endian>>⟧.layout (λ n h.
+        ∷ h.sh_addralign ∷ h.sh_entsize ∷ [])
+        ((0, 4) ∷ (4, 4) ∷ (8, 4) ∷ (12, 4) ∷ (16, 4) ∷ (20, 4) ∷ (24, 4) ∷ (28, 4) ∷ (32, 4) ∷ (36, 4) ∷ []) }
+    ensures raw64 { HasFields ⟦<section_header64::SectionHeader as LaidOut<Endian>>⟧.layout (λ h.
         h.sh_name ∷ h.sh_type ∷ h.sh_flags ∷ h.sh_addr ∷ h.sh_offset ∷ h.sh_size ∷ h.sh_link ∷ h.sh_info
-        ∷ h.sh_addralign ∷ h.sh_entsize ∷ []
-        ≡ n 0 4 ∷ n 4 4 ∷ n 8 8 ∷ n 16 8 ∷ n 24 8 ∷ n 32 8 ∷ n 40 4 ∷ n 44 4 ∷ n 48 8 ∷ n 56 8 ∷ []) }
+        ∷ h.sh_addralign ∷ h.sh_entsize ∷ [])
+        ((0, 4) ∷ (4, 4) ∷ (8, 8) ∷ (16, 8) ∷ (24, 8) ∷ (32, 8) ∷ (40, 4) ∷ (44, 4) ∷ (48, 8) ∷ (56, 8) ∷ []) }
     ensures places { let fields : SectionHeader → List ℕ = λ h.
         h.sh_name ∷ h.sh_type ∷ h.sh_flags ∷ h.sh_addr ∷ h.sh_offset ∷ h.sh_size ∷ h.sh_link ∷ h.sh_info
         ∷ h.sh_addralign ∷ h.sh_entsize ∷ [] in
-        HasPlaces (λ order. ⟦<SectionHeader as LaidOut<Ctx>>⟧.layout (record { container = class.Little; le = order }))
-        (λ n h. fields h
-        ≡ n 0 4 ∷ n 4 4 ∷ n 8 4 ∷ n 12 4 ∷ n 16 4 ∷ n 20 4 ∷ n 24 4 ∷ n 28 4 ∷ n 32 4 ∷ n 36 4 ∷ [])
-        × HasPlaces (λ order. ⟦<SectionHeader as LaidOut<Ctx>>⟧.layout (record { container = class.Big; le = order }))
-        (λ n h. fields h
-        ≡ n 0 4 ∷ n 4 4 ∷ n 8 8 ∷ n 16 8 ∷ n 24 8 ∷ n 32 8 ∷ n 40 4 ∷ n 44 4 ∷ n 48 8 ∷ n 56 8 ∷ [])
-        × ((order : Endian) (h : SectionHeader) →
-        fields ((⟦<SectionHeader as LaidOut<Ctx>>⟧.layout (record { container = class.Little; le = order })).low h)
-        ≡ map (λ n. n % 2 ^ 32) (fields h)) }
-    ensures low64 { (order : Endian) (h : SectionHeader) →
-        ((⟦<SectionHeader as LaidOut<Ctx>>⟧.layout (record { container = class.Big; le = order })).low h).sh_name
-        ≡ h.sh_name % 2 ^ 32 }
+        HasFields (λ order. ⟦<SectionHeader as LaidOut<Ctx>>⟧.layout (record { container = class.Little; le = order }))
+        fields ((0, 4) ∷ (4, 4) ∷ (8, 4) ∷ (12, 4) ∷ (16, 4) ∷ (20, 4) ∷ (24, 4) ∷ (28, 4) ∷ (32, 4) ∷ (36, 4) ∷ [])
+        × HasFields (λ order. ⟦<SectionHeader as LaidOut<Ctx>>⟧.layout (record { container = class.Big; le = order }))
+        fields ((0, 4) ∷ (4, 4) ∷ (8, 8) ∷ (16, 8) ∷ (24, 8) ∷ (32, 8) ∷ (40, 4) ∷ (44, 4) ∷ (48, 8) ∷ (56, 8) ∷ []) }
     ensures flags { (h : SectionHeader) (bit : ℕ) →
         IsTrue (has_flag h (2 ^ bit)) ↔ IsBitSet (slice_index (section_header_values h) 2) bit }
     ensures checked { (len : ℕ) (s : SectionHeader) → IsOk (size_checked len s) ↔ ((s.sh_type ≡ 8) ⊎ ((s.sh_size ≡ 0)

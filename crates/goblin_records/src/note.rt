@@ -1,6 +1,6 @@
 //! Note headers of both classes, and the types of notes: System V gABI, "Note Section".
 ghost use Rattle.std.specs.Prelude.{◌≡◌, [], ◌∷◌};
-ghost use Rattle.goblin_records.specs.Common.{Clones, HasPlaces, shaped};
+ghost use Rattle.goblin_records.specs.Common.{Clones, HasFields, shaped};
 ghost use Rattle.goblin_records.specs.Nhdr.{nhdr32, nhdr64};
 ghost use Rattle.goblin_records.specs.NhdrLaws.{nhdr32_laws, nhdr64_laws};
 
@@ -84,13 +84,14 @@ impl LaidOut<Endian> for Nhdr64 {
     ghost layout_laws = { nhdr64_laws };
 }
 
-/// Laws of note headers: their sizes, and where each field lies. `clone` returns the header, and never fails.
+/// Laws of note headers: their sizes, where each field lies, and which low bits of it are kept. `clone` returns the
+/// header, and never fails.
 pub fn laws()
     ensures sizes { (SIZEOF_NHDR32 ≡ 12) × (SIZEOF_NHDR64 ≡ 24) }
-    ensures places32 { HasPlaces ⟦<Nhdr32 as LaidOut<Endian>>⟧.layout (λ n h.
-        h.n_namesz ∷ h.n_descsz ∷ h.n_type ∷ [] ≡ n 0 4 ∷ n 4 4 ∷ n 8 4 ∷ []) }
-    ensures places64 { HasPlaces ⟦<Nhdr64 as LaidOut<Endian>>⟧.layout (λ n h.
-        h.n_namesz ∷ h.n_descsz ∷ h.n_type ∷ [] ≡ n 0 8 ∷ n 8 8 ∷ n 16 8 ∷ []) }
+    ensures places32 { HasFields ⟦<Nhdr32 as LaidOut<Endian>>⟧.layout (λ h.
+        h.n_namesz ∷ h.n_descsz ∷ h.n_type ∷ []) ((0, 4) ∷ (4, 4) ∷ (8, 4) ∷ []) }
+    ensures places64 { HasFields ⟦<Nhdr64 as LaidOut<Endian>>⟧.layout (λ h.
+        h.n_namesz ∷ h.n_descsz ∷ h.n_type ∷ []) ((0, 8) ∷ (8, 8) ∷ (16, 8) ∷ []) }
     ensures derived32 { Clones ⟦<Nhdr32 as Clone>⟧ }
     ensures derived64 { Clones ⟦<Nhdr64 as Clone>⟧ }
 {}

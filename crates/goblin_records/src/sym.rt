@@ -1,6 +1,6 @@
 //! Symbols of either class: System V gABI, "Symbol Table".
-ghost use Rattle.std.specs.Prelude.{◌≡◌, ◌<◌, ◌/◌, ◌↔◌, IsTrue, length, codes, IsOk, [], ◌∷◌, ◌%◌, ◌^◌, ℕ};
-ghost use Rattle.goblin_records.specs.Common.{Endian, ComparesAndClones, HasPlaces, IsSameInEachClass, buffer_too_short, Gives, Refuses};
+ghost use Rattle.std.specs.Prelude.{◌≡◌, ◌<◌, ◌/◌, ◌↔◌, IsTrue, length, codes, IsOk, [], ◌∷◌, ◌%◌, ℕ};
+ghost use Rattle.goblin_records.specs.Common.{ComparesAndClones, HasFields, IsSameInEachClass, buffer_too_short, Gives, Refuses};
 ghost use Rattle.goblin_base.specs.declared.container.Container.TheVariants as class;
 ghost use Rattle.goblin_records.specs.Constants.{bind_numbers, type_numbers, visibility_numbers};
 ghost use Rattle.goblin_records.specs.Sym.{is_in_section, sym_layout, sym_size, sym_zero, symbols_from};
@@ -179,29 +179,20 @@ pub fn get_type(info: u8) -> &'static str
     type_to_str(st_type(info))
 }
 
-/// Laws of symbols: a list of symbols that fit both classes is read back the same in each class and
-/// byte order. Where each field lies in each class. The low bits of one that doesn't fit. The visibility has three
-/// bits. All fields of the default symbol are 0. `==` is true exactly if all fields are equal. `clone` returns the
-/// symbol, and never fails.
+/// Laws of symbols: a list of symbols that fit both classes is read back the same in each class and byte order. Where
+/// each field lies in each class, and which low bits of it are kept. The visibility has three bits. All fields of the
+/// default symbol are 0. `==` is true exactly if all fields are equal. `clone` returns the symbol, and never fails.
 #[tactic(auto, using(crate::specs::SymLaws::same_symbols))]
 pub fn laws()
     ensures same { IsSameInEachClass sym_layout }
-    ensures places32 { HasPlaces
+    ensures places32 { HasFields
         (λ order. ⟦<Sym as LaidOut<Ctx>>⟧.layout (record { container = class.Little; le = order }))
-        (λ n s. s.st_name ∷ s.st_value ∷ s.st_size ∷ s.st_info ∷ s.st_other ∷ s.st_shndx ∷ []
-        ≡ n 0 4 ∷ n 4 4 ∷ n 8 4 ∷ n 12 1 ∷ n 13 1 ∷ n 14 2 ∷ []) }
-    ensures places64 { HasPlaces
+        (λ s. s.st_name ∷ s.st_value ∷ s.st_size ∷ s.st_info ∷ s.st_other ∷ s.st_shndx ∷ [])
+        ((0, 4) ∷ (4, 4) ∷ (8, 4) ∷ (12, 1) ∷ (13, 1) ∷ (14, 2) ∷ []) }
+    ensures places64 { HasFields
         (λ order. ⟦<Sym as LaidOut<Ctx>>⟧.layout (record { container = class.Big; le = order }))
-        (λ n s. s.st_name ∷ s.st_info ∷ s.st_other ∷ s.st_shndx ∷ s.st_value ∷ s.st_size ∷ []
-        ≡ n 0 4 ∷ n 4 1 ∷ n 5 1 ∷ n 6 2 ∷ n 8 8 ∷ n 16 8 ∷ []) }
-    ensures low32 { (order : Endian) (s : Sym) →
-        let cut = (⟦<Sym as LaidOut<Ctx>>⟧.layout (record { container = class.Little; le = order })).low s in
-        cut.st_name ∷ cut.st_value ∷ cut.st_size ∷ cut.st_info ∷ cut.st_other ∷ cut.st_shndx ∷ []
-        ≡ s.st_name % 2 ^ 32 ∷ s.st_value % 2 ^ 32 ∷ s.st_size % 2 ^ 32 ∷ s.st_info % 2 ^ 8 ∷ s.st_other % 2 ^ 8
-        ∷ s.st_shndx % 2 ^ 16 ∷ [] }
-    ensures low64 { (order : Endian) (s : Sym) →
-        let cut = (⟦<Sym as LaidOut<Ctx>>⟧.layout (record { container = class.Big; le = order })).low s in
-        (cut.st_name ≡ s.st_name % 2 ^ 32) × (cut.st_shndx ≡ s.st_shndx % 2 ^ 16) }
+        (λ s. s.st_name ∷ s.st_info ∷ s.st_other ∷ s.st_shndx ∷ s.st_value ∷ s.st_size ∷ [])
+        ((0, 4) ∷ (4, 1) ∷ (5, 1) ∷ (6, 2) ∷ (8, 8) ∷ (16, 8) ∷ []) }
     ensures visibility { (other : ℕ) → visibility_of other ≡ other % 8 }
     ensures zeros { (sym : Sym) → ⟦<Sym as Default>⟧.is_default sym → sym ≡ sym_zero }
     ensures derived { ComparesAndClones ⟦<Sym as PartialEq>⟧ ⟦<Sym as Clone>⟧ }

@@ -1,6 +1,6 @@
 //! Symbols of the 32-bit class: System V gABI, "Symbol Table" (`Elf32_Sym`).
 ghost use Rattle.std.specs.Prelude.{◌≡◌, ◌↔◌, IsTrue, [], ◌∷◌};
-ghost use Rattle.goblin_records.specs.Common.{ComparesAndClones, HasPlaces, low_bits, shaped, zero};
+ghost use Rattle.goblin_records.specs.Common.{ComparesAndClones, HasFields, low_bits, shaped, zero};
 ghost use Rattle.goblin_records.specs.Constants.{bind_numbers, type_numbers, visibility_numbers};
 ghost use Rattle.goblin_records.specs.Sym.{sym32, widened32, as32};
 ghost use Rattle.goblin_records.specs.SymParts.{bind_name, bind_of, type_name, type_of, visibility_name, visibility_of, IsGlobalImport, IsImport};
@@ -112,12 +112,12 @@ impl LaidOut<Endian> for Sym {
     ghost layout_laws = { sym32_laws };
 }
 
-/// Laws: where each field lies. All fields of the default symbol are 0. `==` is true exactly if all fields are equal.
-/// `clone` returns the symbol, and never fails.
+/// Laws: where each field lies, and which low bits of it are kept. All fields of the default symbol are 0. `==` is true
+/// exactly if all fields are equal. `clone` returns the symbol, and never fails.
 pub fn laws()
-    ensures places { HasPlaces ⟦<Sym as LaidOut<Endian>>⟧.layout (λ n s.
-        s.st_name ∷ s.st_value ∷ s.st_size ∷ s.st_info ∷ s.st_other ∷ s.st_shndx ∷ []
-        ≡ n 0 4 ∷ n 4 4 ∷ n 8 4 ∷ n 12 1 ∷ n 13 1 ∷ n 14 2 ∷ []) }
+    ensures places { HasFields ⟦<Sym as LaidOut<Endian>>⟧.layout (λ s.
+        s.st_name ∷ s.st_value ∷ s.st_size ∷ s.st_info ∷ s.st_other ∷ s.st_shndx ∷ [])
+        ((0, 4) ∷ (4, 4) ∷ (8, 4) ∷ (12, 1) ∷ (13, 1) ∷ (14, 2) ∷ []) }
     ensures zeros { (sym : Sym) → ⟦<Sym as Default>⟧.is_default sym → sym ≡ zero sym32 }
     ensures derived { ComparesAndClones ⟦<Sym as PartialEq>⟧ ⟦<Sym as Clone>⟧ }
 {}

@@ -11,8 +11,7 @@ ident class order bytes = grind arith
 pub returns : goal.returns
 returns c = record {
   ident = ident;
-  places = (λ order bytes. refl, λ order bytes. refl);
-  low32 = λ order h. refl;
+  places = (λ order. (λ bytes. refl, λ h. refl), λ order. (λ bytes. refl, λ h. refl));
   image = one_image;
   fits = each_fits;
   reads_back = reads_back;

@@ -6,7 +6,7 @@ use Rattle.goblin_headers.proofs.header32.laws.Goals as goal
 pub returns : goal.returns
 returns c = record {
   ident = λ order bytes. refl;
-  places = λ order bytes. refl;
+  places = λ order. (λ bytes. refl, λ h. refl);
   image = one_header_image header32_laws;
   fits = headers_fit header32_laws;
   reads_back = raw_reads_back header32_laws;
