@@ -128,13 +128,13 @@ IsOneImage {R = R} l =
 abbrev pub FitsExactly : {R : Type 0} → Layout R → Type 0
 FitsExactly {R = R} l = (x : R) → l.Fits x ↔ (l.low x ≡ x)
 
--- the low bits of some numbers, as many as each of these places, an offset and a width in bytes, holds
+-- of each number the low bits that its place holds, which is an offset and a width in bytes
 abbrev pub lows_at : List (ℕ × ℕ) → List ℕ → List ℕ
 lows_at (place ∷ places) (value ∷ values) = value % 256 ^ place.1 ∷ lows_at places values
 lows_at _ _ = []
 
--- The fields of a record are the numbers at these places, in either byte order. Of one that doesn't fit, each keeps its
--- low bits.
+-- The fields of a record that was read are the numbers at these places, in either byte order. Of one that doesn't fit,
+-- each field's low bits are kept.
 abbrev pub HasFields : {R : Type 0} → (Endian → Layout R) → (R → List ℕ) → List (ℕ × ℕ) → Type 0
 HasFields {R = R} layout fields places =
     (order : Endian)
