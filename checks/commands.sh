@@ -80,9 +80,16 @@ rule='cpu: ; @echo "CPU=$$CPU"'
 ends_with 0 '*CPU=' env CPU=x86_64 make -s --eval "$rule" cpu
 ends_with 0 '*CPU=x86-64-v2' make -s --eval "$rule" cpu CPU=x86-64-v2
 
-# (the first proof waits while something else has its folder, and is interrupted then, also if this runs in the background)
-said=$(flock crates/goblin_base env --default-signal=INT timeout -s INT 15 sh commands/libraries.sh proof goblin 2>&1 || echo end)
+# (the first proof waits while this shell has its folder, and is interrupted once it says so, also if this runs in the background)
 begun='proof: proving goblin_base (1 of 3 libraries)'
+exec 9< crates/goblin_base
+flock 9
+env --default-signal=INT timeout -s INT 300 sh commands/libraries.sh proof goblin > "$folder/said" 2>&1 9<&- &
+until grep -q waiting "$folder/said" || ! kill -0 $! 2> /dev/null; do sleep 1; done
+kill -INT $! 2> /dev/null || :
+wait $! || :
+exec 9<&-
+said=$(cat "$folder/said"; echo end)
 case $said in "$begun
 "*waiting*"
 $begun
