@@ -1,10 +1,12 @@
 -- One of each struct that calls share with C, with marks by which C can check the place of each field.
 use Rattle.std.specs.Prelude.{ℕ, ◌+◌, ◌-◌, ◌*◌, ◌/◌, ◌^◌, pos, [], ◌∷◌}
+use Rattle.goblin.specs.Header.{header_of_values}
 use Rattle.goblin.specs.ProgramHeader.{program_header_of_values}
 use Rattle.goblin.specs.SectionHeader.{section_header_of_values}
 use Rattle.goblin.specs.Sym.{sym_of_values}
 use Rattle.goblin_c.specs.Common.{GoblinRange}
-use Rattle.goblin_c.specs.Types.{section_converted, segment_converted, symbol_converted}
+use Rattle.goblin_c.specs.Types.{dyn_converted, header_converted, note_converted, section_converted, segment_converted}
+use Rattle.goblin_c.specs.Types.{symbol_converted}
 use Rattle.goblin_c.specs.declared.layout.GoblinLayout.{GoblinLayout}
 
 -- the number of so many bytes, each of which is a mark
@@ -15,7 +17,8 @@ each_byte width mark = mark * ((256 ^ width - 1) / 255)
 abbrev pub range_marked : ℕ → GoblinRange
 range_marked mark = record { offset = each_byte 8 mark; size = each_byte 8 (mark + 1) }
 
--- The sizes, and one of each struct, whose fields have the marks from 1 on, those of a range in it too.
+-- The sizes, and one of each struct, whose fields have the marks from 1 on, those of a range in it too. It is converted
+-- from a record of the library, except those of a refusal, a range and a relocation.
 abbrev pub layout : GoblinLayout
 layout = record {
   size_of_refusal = 48;
@@ -37,26 +40,9 @@ layout = record {
     offset = each_byte 8 7;
   };
   range = range_marked 1;
-  header = record {
-    e_entry = each_byte 8 1;
-    e_phoff = each_byte 8 2;
-    e_shoff = each_byte 8 3;
-    e_version = each_byte 4 4;
-    e_flags = each_byte 4 5;
-    e_type = each_byte 2 6;
-    e_machine = each_byte 2 7;
-    e_ehsize = each_byte 2 8;
-    e_phentsize = each_byte 2 9;
-    e_phnum = each_byte 2 10;
-    e_shentsize = each_byte 2 11;
-    e_shnum = each_byte 2 12;
-    e_shstrndx = each_byte 2 13;
-    ei_class = 14;
-    ei_data = 15;
-    ei_version = 16;
-    ei_osabi = 17;
-    ei_abiversion = 18;
-  };
+  header = header_converted (header_of_values (0 ∷ 0 ∷ 0 ∷ 0 ∷ 14 ∷ 15 ∷ 16 ∷ 17 ∷ 18 ∷ [])
+      (each_byte 2 6 ∷ each_byte 2 7 ∷ each_byte 4 4 ∷ each_byte 8 1 ∷ each_byte 8 2 ∷ each_byte 8 3 ∷ each_byte 4 5
+      ∷ each_byte 2 8 ∷ each_byte 2 9 ∷ each_byte 2 10 ∷ each_byte 2 11 ∷ each_byte 2 12 ∷ each_byte 2 13 ∷ []));
   section = section_converted (section_header_of_values (each_byte 8 3 ∷ each_byte 4 8 ∷ each_byte 8 4 ∷ each_byte 8 5
       ∷ each_byte 8 1 ∷ each_byte 8 2 ∷ each_byte 4 9 ∷ each_byte 4 10 ∷ each_byte 8 6 ∷ each_byte 8 7 ∷ []));
   segment = segment_converted (program_header_of_values (each_byte 4 7 ∷ each_byte 4 8 ∷ each_byte 8 1 ∷ each_byte 8 3
@@ -70,11 +56,13 @@ layout = record {
     r_type = each_byte 4 4;
     has_addend = each_byte 4 5;
   };
-  note = record {
-    name = range_marked 1;
-    desc = range_marked 3;
-    next = each_byte 8 5;
+  note = note_converted 0 (record {
     n_type = each_byte 4 6;
-  };
-  entry = record { d_tag = each_byte 8 1; d_val = each_byte 8 2 };
+    name = each_byte 8 1;
+    name_size = each_byte 8 2;
+    desc = each_byte 8 3;
+    desc_size = each_byte 8 4;
+    next = each_byte 8 5;
+  });
+  entry = dyn_converted (record { d_tag = each_byte 8 1; d_val = each_byte 8 2 });
 }
