@@ -11,6 +11,9 @@ export SHOWN := $(value FILE)
 export MODE
 unexport FILE
 
+# Takes over nothing that an earlier run reached, if ANEW is set.
+ANEWLY = $(if $(ANEW),--anew)
+
 # Ends with a sentence that says what to install, if a command is missing.
 has_rt = @sh commands/has.sh 'make $@' git awk python3 rt
 
@@ -30,13 +33,15 @@ show:
 # that was tested before: its proofs are taken over, and edits are left out.
 test:
 	$(has_rt)
-	@python3 checks/gate.py test $(if $(filter command%,$(origin OVER)),--over '$(OVER)')
+	@python3 checks/gate.py test $(ANEWLY) $(if $(filter command%,$(origin OVER)),--over '$(OVER)')
 
 # Tests all, and proves the tests too: they and must-fail/ are left to the toolchain's own gate, `rt ci`, which proves all from nothing once
 # more. All other edits are tried, and so is the script that tries them. JOBS and UNBUILT are for checks/prove.sh: one process takes least.
+# What an earlier run on this machine reached over the same sources is taken over (checks/kept.py): a release is made from a run with ANEW=1,
+# which takes over nothing: make gate [ANEW=1]. So may be `make test` and `make edits`.
 gate:
 	$(has_rt)
-	@JOBS=1 UNBUILT=1 python3 checks/gate.py gate
+	@JOBS=1 UNBUILT=1 python3 checks/gate.py gate $(ANEWLY)
 
 # Calls the library from C, Rust, JavaScript and Python.
 faces:
@@ -53,7 +58,7 @@ compare:
 # CRATES names crates, and EDIT an edit by its file's name. FROM=/tmp/bugs tries those of another folder, which has a folder for each crate.
 edits:
 	$(has_rt)
-	@python3 checks/gate.py edits $(CRATES) $(if $(FROM),--from '$(FROM)') $(if $(EDIT),--edit '$(EDIT)')
+	@python3 checks/gate.py edits $(ANEWLY) $(CRATES) $(if $(FROM),--from '$(FROM)') $(if $(EDIT),--edit '$(EDIT)')
 
 # Checks each crate with half of the search's limits, and lists the functions that stay open and the ten slowest: make margin
 # [CRATES=goblin_base]

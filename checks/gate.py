@@ -8,14 +8,16 @@
     python3 checks/gate.py edits [CRATE ..] [--edit NAME] [--from FOLDER]     the edits alone, of these crates or of all
     python3 checks/gate.py prove CRATE     in a copy of the repository in which the crates below are proved: a part of each of these
 
-The crates are proved in a copy of the repository, which holds nothing that an earlier run left there; `edits` takes over what checks in
-the crates' folders have cached. About as many parts run side by side as there are processors. Proofs and the calls from other languages begin as
-soon as they can, and what the longest chain waits for gets a processor first. A part that fails is printed whole, and what waits for it is
-left out. What each part prints stands in out/log.
+With --anew nothing is taken over from an earlier run (checks/kept.py, and what `rt ci` keeps).
+
+The crates are proved in a copy of the repository, which holds nothing that an earlier run left there. About as many parts run side by side as
+there are processors. Proofs and the calls from other languages begin as soon as they can, and what the longest chain waits for gets a processor
+first. A part that fails is printed whole, and what waits for it is left out. What each part prints stands in out/log.
 """
 import argparse
 import glob
 import os
+import re
 import shutil
 import subprocess
 import sys
@@ -25,8 +27,11 @@ from dataclasses import dataclass
 
 sys.dont_write_bytecode = True
 from crates import crates_listed, fail, run, tracked
+from kept import alone, keep_proof, take, take_proof
 
 LOGS = 'out/log'
+# What a part says of what it took over from earlier runs.
+KEPT = re.compile(r'\d+ tried, \d+ kept|over what an earlier run kept|done in this run: \d+ of the \d+ proofs')
 PYTHON = sys.executable or 'python3'
 
 
@@ -54,14 +59,6 @@ class Part:
         return [line.rstrip() for line in self.log() if line.startswith(start)]
 
 
-def link(path, to):
-    """Gives a file another name, or where that can't be, as on another disk, copies it."""
-    try:
-        os.link(path, to)
-    except OSError:
-        shutil.copy2(path, to)
-
-
 def copied(folder, cached=None):
     """Copies the repository's files, and what checks have cached of the crates of another copy, if one is given."""
     for path in tracked():
@@ -72,33 +69,20 @@ def copied(folder, cached=None):
     return folder
 
 
-def take(crate, source, to, parts=('incremental', 'rlib')):
-    """Takes what checks of a crate have cached in one copy, and its library, to another one. (No check writes into a file that is there.)"""
-    for part in parts:
-        if os.path.isdir(f'{source}/crates/{crate}/out/{part}'):
-            shutil.copytree(f'{source}/crates/{crate}/out/{part}', f'{to}/crates/{crate}/out/{part}', copy_function=link)
-
-
-def alone(crate, room):
-    """Copies the crates here for one crate, with what its checks have cached and the libraries below it as they were proved, and returns its
-    folder there. The toolchain lets one check at a time into a crate's folder and those below it, so each proof has folders of its own."""
-    shutil.copytree('crates', f'{room}/crates', ignore=shutil.ignore_patterns('target', 'out'), symlinks=True)
-    for name in ('HANDLES', 'crates.txt'):
-        shutil.copy(name, room)
-    for name in crates_listed()[crate]:
-        take(name, '.', room, ['rlib'])
-    take(crate, '.', room)
-    return f'{room}/crates/{crate}'
-
-
-def prove(crate):
-    """Proves a crate over those below it that are proved here."""
+def prove(crate, anew):
+    """Proves a crate over those below it that are proved here, and over what an earlier proof of the same sources cached."""
+    is_from_nothing = not os.path.isdir(f'crates/{crate}/out')
+    is_kept = is_from_nothing and not anew and take_proof(crate)
     with tempfile.TemporaryDirectory(prefix='proof-', dir='..') as room:
         folder = alone(crate, room)
         status = subprocess.run(['sh', os.path.abspath('checks/prove.sh'), crate], cwd=room).returncode
         if not status:
             shutil.rmtree(f'crates/{crate}/out', ignore_errors=True)
             os.rename(f'{folder}/out', f'crates/{crate}/out')
+            if is_kept:
+                print(f'{crate}: proved, over what an earlier run kept')
+            elif is_from_nothing:
+                keep_proof(crate)
     return status
 
 
@@ -109,12 +93,13 @@ LEFT = ('goblin_long_tests', 'goblin_names', 'goblin_refused', 'goblin_show')
 QUICK = {'lint': f'{PYTHON} checks/lint', 'whether edits fit': f'{PYTHON} checks/edits --fits', 'views': 'sh checks/views.sh'}
 
 
-def proofs(crates, copy, after=()):
+def proofs(crates, copy, anew, after=()):
     """The proofs of these crates and of those below them."""
     listed = crates_listed()
     wanted = [crate for crate in listed if any(crate in {one, *listed[one]} for one in crates)]
     waits = lambda crate: (*after, *(f'proof of {name}' for name in listed[crate]))
-    return [Part(f'proof of {crate}', [PYTHON, 'checks/gate.py', 'prove', crate], waits(crate), copy, True) for crate in wanted]
+    command = [PYTHON, 'checks/gate.py', 'prove', *anew]
+    return [Part(f'proof of {crate}', [*command, crate], waits(crate), copy, True) for crate in wanted]
 
 
 def edits(crates, copy, *words, what='edits'):
@@ -129,7 +114,7 @@ def crates_with(kinds, name='', folder=''):
     return [crate for crate in crates_listed() if any(glob.glob(f'{glob.escape(path)}/{name or "*"}.edit') for path in folders(crate))]
 
 
-def test(room, whole, over):
+def test(room, whole, over, anew):
     """The parts of `make test`, or where it is to be whole, of `make gate`, or of a test over the proofs of a folder."""
     copy = copied(f'{room}/proved', over)
     waits = tuple(QUICK)
@@ -142,17 +127,17 @@ def test(room, whole, over):
     # (half of the processors, since it is about half of the work; each of its proofs by one process, which takes least, where the toolchain
     # heeds this)
     half = (len(os.sched_getaffinity(0)) + 1) // 2
-    parts += [Part('rt ci', ['env', f'RT_JOBS={half}', 'rt', 'ci'], waits, built, True, width=half)] if whole else []
+    parts += [Part('rt ci', ['env', f'RT_JOBS={half}', 'rt', 'ci', *anew], waits, built, True, width=half)] if whole else []
     # (a crate whose name ends so holds tests alone)
     proved = [crate for crate in crates_listed() if (not whole if crate in LEFT else not crate.endswith('_tests'))]
-    parts += proofs(proved, copy, waits)
+    parts += proofs(proved, copy, anew, waits)
     has_tests = lambda crate: not subprocess.run(['git', 'grep', '-qF', '#[test]', '--', f'crates/{crate}/src']).returncode
     if not whole:
         parts += [here(f'tests of {crate}', f'sh checks/tests.sh {crate}') for crate in crates_listed() if has_tests(crate) and crate not in LEFT]
     parts += [Part('calls from other languages', ['sh', 'checks/faces.sh'], ('proof of goblin_c',), copy, True, weight=3)]
     # (all kinds together take fewer checks, and each by itself ends sooner)
     for some in [','.join(kinds)] if whole else kinds:
-        parts += edits(crates_with(some.split(',')), copy, '--kinds', some, what='edits' if whole else some)
+        parts += edits(crates_with(some.split(',')), copy, *anew, '--kinds', some, what='edits' if whole else some)
     parts += [here('refused allocations', 'sh checks/refused.sh'),
               ran('the program', f'{PYTHON} checks/program.py', 'proof of goblin_show', 'proof of goblin_uses'),
               ran('hostile files', f'{PYTHON} checks/limits.py', 'proof of goblin_show', 'proof of goblin_refused'),
@@ -239,7 +224,9 @@ class Run:
     def table(self):
         print(f'{"part":<32} {"from":>6} {"to":>6} {"processor minutes":>18}')
         for part in sorted((part for part in self.parts if part.ended), key=lambda part: part.begun):
-            print(f'{part.name:<32} {(part.begun - self.start) / 60:6.1f} {(part.ended - self.start) / 60:6.1f} {part.seconds / 60:18.1f}')
+            kept = KEPT.search('\n'.join(part.printed('')[-3:]))
+            times = f'{(part.begun - self.start) / 60:6.1f} {(part.ended - self.start) / 60:6.1f} {part.seconds / 60:18.1f}'
+            print(f'{part.name:<32} {times}{f"  {kept[0]}" if kept else ""}')
         print(f'{"all":<32} {0:6.1f} {(time.time() - self.start) / 60:6.1f} {sum(part.seconds for part in self.parts) / 60:18.1f}')
         # (which programs the machine lacks, and what is not tested for each)
         print(''.join(dict.fromkeys(f'{line}\n' for part in self.parts if part.ended for line in part.printed('left out: '))), end='')
@@ -249,8 +236,8 @@ def edits_asked_for(options, room):
     """The parts of `make edits`."""
     folder = options.folder and os.path.abspath(options.folder)
     crates = [crate for crate in crates_with(('edits', 'must-fail', 'controls'), options.edit, folder) if crate in (options.crates or [crate])]
-    copy = copied(f'{room}/proved', '.')
-    return [*proofs(crates, copy), *edits(crates, copy, '--edit', options.edit, '--from', folder)]
+    copy = copied(f'{room}/proved')
+    return [*proofs(crates, copy, options.anew), *edits(crates, copy, *options.anew, '--edit', options.edit, '--from', folder)]
 
 
 def main():
@@ -260,15 +247,16 @@ def main():
     parser.add_argument('--edit', default='')
     parser.add_argument('--from', dest='folder', default='')
     parser.add_argument('--over')
+    parser.add_argument('--anew', action='store_const', const=['--anew'], default=[])
     options = parser.parse_args()
     if options.goal == 'prove':
-        return prove(*options.crates)
+        return prove(*options.crates, options.anew)
     if not os.access('.', os.W_OK):
         fail('this folder is read-only, and what the parts print is left in it. Use a copy')
     if options.over is not None and not os.path.isdir(f'{options.over}/crates'):
         fail(f'{options.over} is no checkout of this repository, so its proofs are not taken over')
     with tempfile.TemporaryDirectory(prefix='gate-') as room:
-        parts = edits_asked_for(options, room) if options.goal == 'edits' else test(room, options.goal == 'gate', options.over)
+        parts = edits_asked_for(options, room) if options.goal == 'edits' else test(room, options.goal == 'gate', options.over, options.anew)
         if not parts:
             fail('no edit was found')
         # (`rt ci` counts on the memory that is free)

@@ -5,7 +5,8 @@
     python3 checks/edits --fits     only whether each fits the code, and each of must-fail/ has its control: nothing is proved
 
 `--kinds must-fail,controls` tries those alone, `--edit NAME` the one of that name, and `--from FOLDER` those of FOLDER/CRATE/ in place of
-the crates' own. They are planted in copies. Run from the root of the repository, or of the copy; checks/gate.py proves the crates and runs this.
+the crates' own. A verdict that an earlier run reached is kept (checks/kept.py), and not tried again but with `--anew`. Edits are planted in
+copies. Run from the root of the repository, or of the copy; checks/gate.py proves the crates and runs this.
 """
 import argparse
 import os
@@ -19,7 +20,7 @@ sys.dont_write_bytecode = True
 sys.path[:0] = [HERE, os.path.dirname(HERE)]
 from crates import crates_listed, text_of
 from edit import CONTROLS, EDITS, MUST_FAIL, read_edits
-from gate import alone
+from kept import Verdicts, alone
 from trial import Trial
 from verdict import Said
 
@@ -43,19 +44,25 @@ def fits(options):
 
 
 def try_crate(crate, options):
-    """Tries the edits of a crate, says what came of each, and returns how many are at fault."""
+    """Tries the edits of a crate that no earlier run did, says what came of each, and returns how many are at fault."""
     start, (edits, wrong) = time.time(), read_edits(crate, options)
     if not wrong:
-        said = Said(text_of(f'crates/{crate}/out/said'), crate)
-        # (beside the proved copy, whose files are linked)
-        with tempfile.TemporaryDirectory(prefix='edits-', dir='..') as room:
-            trial = Trial(crate, alone(crate, room), edits, said)
-            trial.run()
+        verdicts = Verdicts(crate, edits)
+        if not verdicts.folder:
+            print('edits: no cache folder can be written, so all are tried')
+        known = {edit: verdict for edit in edits if not options.anew and (verdict := verdicts.of(edit))}
+        trial = Trial(crate, [edit for edit in edits if edit not in known], Said(text_of(f'crates/{crate}/out/said'), crate), verdicts)
+        for edit, verdict in known.items():
+            trial.report(edit, *verdict)
+        if trial.edits:
+            # (beside the proved copy, whose files are linked)
+            with tempfile.TemporaryDirectory(prefix='edits-', dir='..') as room:
+                trial.run(alone(crate, room))
         judged = sum(trial.ways.values()) + len(trial.wrong)
         wrong = trial.wrong + [f'{crate}: {judged} of {len(edits)} edits were tried'] * (judged != len(edits) or not edits)
         ways = ', '.join(f'{count} {way}' for way, count in trial.ways.items())
-        seconds = time.time() - start
-        print(f'{crate}: {len(edits)} edits, of which {len(wrong)} are at fault: {ways}; {trial.checks} checks, {seconds:.0f} seconds')
+        seconds, counts = time.time() - start, f'{len(edits) - len(known)} tried, {len(known)} kept'
+        print(f'{crate}: {len(edits)} edits, of which {len(wrong)} are at fault: {ways}; {counts}; {trial.checks} checks, {seconds:.0f} seconds')
     for line in wrong:
         print(f'edits: {line}')
     return len(wrong)
@@ -68,6 +75,7 @@ def main():
     parser.add_argument('--edit')
     parser.add_argument('--from', dest='folder')
     parser.add_argument('--fits', action='store_true')
+    parser.add_argument('--anew', action='store_true')
     options = parser.parse_args()
     if options.fits:
         return fits(options)

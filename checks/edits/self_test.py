@@ -2,14 +2,21 @@
 """Tests that checks/edits judges edits right: python3 checks/edits/self_test.py
 
 It makes a small crate with edits whose judgement is known, and compares what checks/edits prints of each. So it also shows that the
-prover's words are understood, of each way of refusing.
+prover's words are understood, of each way of refusing. Then it changes what verdicts rest on, part by part: none may be taken over.
 """
+import glob
 import os
+import shutil
 import subprocess
 import sys
 import tempfile
+from types import SimpleNamespace
 
+HERE = os.path.dirname(os.path.abspath(__file__))
 sys.dont_write_bytecode = True
+sys.path[:0] = [HERE, os.path.dirname(HERE)]
+from edit import read_edits
+from kept import SCRIPTS, Verdicts
 from verdict import open_of
 
 CODE = {
@@ -129,13 +136,69 @@ OPEN = {
 
 
 def write(path, text):
-    os.makedirs(os.path.dirname(path), exist_ok=True)
+    os.makedirs(os.path.dirname(path) or '.', exist_ok=True)
     with open(path, 'w', encoding='utf-8') as file:
         file.write(text)
 
 
+# What a verdict rests on: files, with a text of each that is exchanged. (The crate below, the definition, the scripts, and `rt`, which only has
+# a version, are made for this.)
+RESTS_ON = {'crates/planted/src/lib.rt': ('x / 2', 'x / 3'), 'crates/planted/proofs/third/Answers.antt': ('omega', 'grind'),
+            'crates/planted/edits/adds_nothing.edit': ('    x\n', '    0\n'), 'crates/planted/specs/Lib.antt': ('one', 'two'),
+            'crates/low/src/lib.rt': ('one', 'two'), 'crates.txt': ('low:', '#\nlow:'), 'bin/rt': ('logic 1', 'logic 2'),
+            **{f'checks/{name}': ('\n', '\n\n') for name in SCRIPTS}}
+DAMAGES = [lambda path: write(path, '["with values", "ref'), lambda path: write(path, '["with values", "refused", "0"]'),
+           lambda path: (os.unlink(path), os.mkdir(path))]
+
+
+def is_known():
+    """Whether a verdict of an edit is known. If not, it is kept from now on."""
+    edits, _ = read_edits('planted', SimpleNamespace(folder='', kinds='edits', edit='adds_nothing'))
+    verdicts = Verdicts('planted', edits, os.path.abspath('checks'))
+    return bool(verdicts.of(edits[0]) or verdicts.keep(edits[0], 'with values', 'refused'))
+
+
+def taken_over_wrongly():
+    """What is taken over though something that it rests on is changed, or though it is damaged; or not taken over though nothing is. In the
+    folder of the crate `planted`."""
+    for path in ('crates/low/src/lib.rt', 'crates/planted/specs/Lib.antt', 'crates.txt', 'bin/rt'):
+        write(path, {'crates.txt': 'planted: low\nlow:\n', 'bin/rt': '#!/bin/sh\necho kit logic 1\n'}.get(path, 'one'))
+    os.chmod('bin/rt', 0o755)
+    shutil.copytree(os.path.dirname(HERE), 'checks', ignore=shutil.ignore_patterns('files', 'faces', '__pycache__'))
+    os.environ.update(PATH=f'{os.path.abspath("bin")}:{os.environ["PATH"]}', XDG_CACHE_HOME=os.path.abspath('other cache'))
+    faults = ['a verdict that was not kept'] * is_known()
+    for path, (old, new) in RESTS_ON.items():
+        faults += [f'not before a change of {path}'] * (not is_known())
+        with open(path, encoding='utf-8') as file:
+            text = file.read()
+        write(path, text.replace(old, new, 1))
+        faults += [f'a verdict after a change of {path}'] * is_known()
+        write(path, text)
+    for damage in DAMAGES:
+        faults += ['not what is whole'] * (not is_known())
+        for path in glob.glob('other cache/*/*/*/verdicts/*'):
+            damage(path)
+        faults += ['a verdict that is cut, wrong or unreadable'] * is_known()
+    os.environ['XDG_CACHE_HOME'] = os.path.abspath('crates.txt')
+    return faults + ['a verdict without a folder'] * (is_known() or is_known())
+
+
+def runs_wrongly(room, tried):
+    """What runs over kept verdicts print wrong: one after another, one whose check is killed, and two side by side."""
+    write(f'{room}/killed/rt', f'#!/bin/sh\n[ "$1" = check ] && kill -9 $$\nexec {shutil.which("rt")} "$@"\n')
+    os.chmod(f'{room}/killed/rt', 0o755)
+    line, = (line for line in tried.splitlines() if line.startswith('planted/edits/adds_nothing: '))
+    faults = []
+    for cache, path, lines in (('cache', '', [line, '0 tried, 1 kept']), ('empty', f'{room}/killed:', ['NOT REFUSED: the edited code is no valid']),
+                               ('empty', '', [line, '1 tried, 0 kept']), ('empty', '', [line, '0 tried, 1 kept'])):
+        runs = [subprocess.Popen([sys.executable, HERE, 'planted', '--edit', 'adds_nothing'], cwd=room, stdout=subprocess.PIPE, text=True,
+                                 env={**os.environ, 'PATH': path + os.environ['PATH'], 'XDG_CACHE_HOME': f'{room}/{cache}'}) for _ in range(2)]
+        printed = [ran.communicate()[0] for ran in runs]
+        faults += [f'{text}\nself_test: this lacks {lines}' for text in printed if not all(part in text for part in lines)]
+    return faults
+
+
 def main():
-    script = os.path.dirname(os.path.abspath(__file__))
     wanted = {name: said for edits in PLANTED.values() for name, _, _, said in edits}
     wrong = sum(said.startswith('NOT') for said in wanted.values())
     edits = {f'{name}.edit': f'file: {file}\nold: {old}\nnew: {new}\n' for file, edits in PLANTED.items() for name, old, new, _ in edits}
@@ -144,19 +207,24 @@ def main():
         write(f'{room}/crates.txt', 'planted:\n')
         for path, text in {**CODE, **edits}.items():
             write(f'{room}/crates/planted/{path}', text)
+        os.environ['XDG_CACHE_HOME'] = f'{room}/cache'
         run = lambda *command: subprocess.run(command, cwd=room, stdout=subprocess.PIPE, stderr=subprocess.STDOUT, text=True)
-        proved = run('sh', f'{os.path.dirname(script)}/prove.sh', 'planted')
-        tried = run(sys.executable, script, 'planted')
+        proved = run('sh', f'{os.path.dirname(HERE)}/prove.sh', 'planted')
+        tried = run(sys.executable, HERE, 'planted')
+        faults = runs_wrongly(room, tried.stdout)
         for name, (old, new) in MISFITS.items():
             write(f'{room}/crates/planted/{name}.edit', f'file: src/lib.rt\nold: {old}\nnew: {new}\n')
-        fits = run(sys.executable, script, '--fits')
-    faults, count = [], f'planted: {len(wanted)} edits, of which {wrong} are at fault'
+        fits = run(sys.executable, HERE, '--fits')
+        os.chdir(room)
+        faults += [f'self_test: this is taken over: {what}' for what in taken_over_wrongly()]
+        os.chdir(HERE)
+    count = f'planted: {len(wanted)} edits, of which {wrong} are at fault'
     for ran, lines in ((tried, [count, *(f'planted/{name}: {said}' for name, said in wanted.items())]), (fits, MISFIT)):
         lacking = [line for line in lines if f'\n{line}' not in f'\n{ran.stdout}']
         if lacking or ran.returncode != 1:
             faults += [proved.stdout, ran.stdout, f'self_test: {ran.args[1:]} ended with {ran.returncode}, and lacks lines that begin so:', *lacking]
     faults += [f'self_test: this line was read wrong: {line}' for line, said in OPEN.items() if open_of([line]) != said]
-    print(*faults or [f'self_test: checks/edits judged {len(wanted)} edits right, {wrong} of which test nothing'], sep='\n')
+    print(*faults or [f'self_test: checks/edits judged {len(wanted)} edits right, {wrong} of which test nothing, and kept what it may'], sep='\n')
     return 1 if faults else 0
 
 

@@ -23,17 +23,17 @@ KILLED, ACCEPTED = 128, 'accepted'
 
 
 class Trial:
-    """A copy of a crate, with what checks have cached of it and what its proof reported, and its edits."""
+    """Edits of a crate, with what its proof reported, and where verdicts are kept."""
 
-    def __init__(self, crate, folder, edits, before):
-        self.crate, self.folder, self.edits, self.before = crate, folder, edits, before
+    def __init__(self, crate, edits, before, verdicts):
+        self.crate, self.edits, self.before, self.verdicts = crate, edits, before, verdicts
         self.ways, self.wrong, self.checks = Counter(), [], 0
         # what functions were seen to wait for, and the edits that a group did not judge, most of which only waited
         self.waits, self.left = defaultdict(set), set()
-        self.cached, self.proved = f'{folder}/out/incremental', f'{folder}/out/proved'
 
-    def run(self):
-        """Judges every edit. Where the crate itself is not proved, none counts."""
+    def run(self, folder):
+        """Judges every edit in a copy of the crate, which has what checks have cached of it. Where the crate itself is not proved, none counts."""
+        self.folder, self.cached, self.proved = folder, f'{folder}/out/incremental', f'{folder}/out/proved'
         os.rename(self.cached, self.proved)
         # a library whose proof was cached reports nothing about its functions
         before = self.before if self.before.functions else self.check([])
@@ -132,7 +132,7 @@ class Trial:
         """Reports what a check says of an edit's functions, if it judges them."""
         is_right, refused, is_proved = self.verdict(edit, said)
         if is_right:
-            self.report_right(edit, refused)
+            self.report_right(edit, refused, said)
         elif refused or is_proved:
             # alone it shows what the rest of the crate says of it
             self.try_alone(edit)
@@ -151,14 +151,14 @@ class Trial:
         if not said.is_whole:
             self.report_wrong(edit, 'the edited code is no valid Rattle, so no contract was tried')
         elif is_right:
-            self.report_right(edit, refused)
+            self.report_right(edit, refused, said)
         elif edit.kind == CONTROLS:
             self.report_wrong(edit, f'its function is not proved with it\n{said.text[-2000:]}')
         elif said.is_proved:
             self.report_wrong(edit, 'the crate is still proved with it')
         elif all_refused and not edit.has_control and not edit.stands_in(BODY, HEAD, LIST):
             # it changes a definition, a constant or a type: whatever cites it may refuse it
-            self.report_right(edit, dict(list(all_refused.items())[:3]))
+            self.report_right(edit, dict(list(all_refused.items())[:3]), said)
         elif edit.only and not all_refused:
             self.report_wrong(edit, f'nothing is refused of {" and ".join(edit.only)}')
         elif is_proved:
@@ -167,12 +167,19 @@ class Trial:
         else:
             self.report_wrong(edit, 'no goal of its own function is refused, but by names that the edit took away')
 
-    def report_right(self, edit, refused):
-        """Reports an edit that is judged as it should be: which functions are refused, and by what the first is, or none of a control."""
-        by = next(iter(refused.values()), '')
-        self.ways[by or ACCEPTED] += 1
+    def report_right(self, edit, refused, said):
+        """Reports and keeps that an edit is judged as it should be: which functions are refused, by what the first is, and a goal of its, or
+        none of a control."""
+        path, by = next(iter(refused.items()), ('', ''))
+        goal = said.functions[path].goal if path in said.functions else ''
         functions = ' and '.join(refused or sorted(edit.functions))
-        print(f'{self.crate}/{edit.name}: {f"refused {by}" if by else ACCEPTED}: {functions}', flush=True)
+        line = f'{f"refused {by}" if by else ACCEPTED}: {functions}{f" ({goal})" if goal else ""}'
+        self.report(edit, by or ACCEPTED, line)
+        self.verdicts.keep(edit, by or ACCEPTED, line)
+
+    def report(self, edit, way, line):
+        self.ways[way] += 1
+        print(f'{self.crate}/{edit.name}: {line}', flush=True)
 
     def report_wrong(self, edit, why):
         self.wrong.append(f'{self.crate}/{edit.name}: NOT {"ACCEPTED" if edit.kind == CONTROLS else "REFUSED"}: {why}')

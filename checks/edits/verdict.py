@@ -20,8 +20,11 @@ CHECKED = re.compile(r'checked (\S+), \d+ of \d+')
 
 VALUES_WORD, SEARCH_WORD, ANSWER_WORD, STALE_WORD = 'with values', 'by search', 'by an answer', 'by an answer that no longer fits'
 
-# What is said of a function: whether it is proved, how a goal of its own was refused, if one was, what it waits for, and what is open of it.
-Function = namedtuple('Function', 'is_proved refused waits open')
+GOAL = re.compile(r'is not proved that .*?\(`([^`]+)`\)|error: `([^`]+)`: `')
+
+# What is said of a function: whether it is proved, how a goal of its own was refused, if one was, what it waits for, what is open of it, and
+# the first goal that is.
+Function = namedtuple('Function', 'is_proved refused waits open goal')
 
 
 class Said:
@@ -37,12 +40,13 @@ class Said:
             waits = ''.join(WAITS.findall(verdict))
             if kind == 'fn':
                 answered = answers.pop(path, [])
-                open = open_of([*(line for line in lines if not ANSWER.match(line)), *answered])
+                own = [*(line for line in lines if not ANSWER.match(line)), *answered]
+                open, goals = open_of(own), [goal for line in own for goal in GOAL.findall(line)]
                 by = (ANSWER_WORD if open else STALE_WORD) if answered else ''
                 by = VALUES_WORD if open == VALUES_WORD else SEARCH_WORD if SEARCH in verdict else by
                 # (a closure with a condition is `proved where its callers give what it asks`)
                 is_proved, by = verdict.startswith(PROVED), by if verdict.startswith(NOT_PROVED) else ''
-                self.functions[path] = Function(is_proved, by, set(re.findall(r'`([\w:]+)`', waits)), open)
+                self.functions[path] = Function(is_proved, by, set(re.findall(r'`([\w:]+)`', waits)), open, ''.join(goals[0]) if goals else '')
             elif verdict != PROVED and not waits:
                 self.others.append(f'{kind} {path}')
         self.others += answers
