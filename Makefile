@@ -84,7 +84,7 @@ bench-python:
 
 # `make install` installs the library with its header, pkg-config and CMake files, examples, Rust crate and Python package, and the program
 # if it is proved and built. `make dist` puts the same into an archive. What an earlier version installed below PREFIX is removed first;
-# `make uninstall` removes it, and the folders that were made for it. Variables:
+# `make uninstall` removes it, and the folders that were made for it. If this can't be done whole, nothing is changed. Variables:
 #   PREFIX=/usr/local   the folder of the installation
 #   LIBDIR=lib          the folder of the library, below PREFIX
 #   DESTDIR=/tmp/root   a folder that stands for the root, as for a package

@@ -49,6 +49,19 @@ CPU is nope: the toolchain makes no library for it, for the reason above' env CP
 touch faces/web/examples/common.mjs.orig
 quietly env TARGET=wasm64-unknown-unknown LIBRARY=symbols sh faces/install.sh "$folder/installed"
 ends_with 0 '' find "$folder/installed" -name '*.orig'
+# (files of an earlier installation by sudo are root's)
+if restricted true 2> "$folder/output"; then
+    echo 'earlier' > faces/python/goblin_elf/names.py
+    chmod a-w faces/python/goblin_elf/names.py
+    quietly restricted env TARGET=wasm64-unknown-unknown LIBRARY=symbols sh faces/install.sh "$folder/installed"
+    mkdir -p out/library
+    chmod a-w out/library
+    printf '#!/bin/sh\nexit 1\n' > "$folder/rt"
+    chmod +x "$folder/rt"
+    refuses 'out/library is read-only, and the library is made there. Use a copy' \
+        restricted env PATH="$folder:$PATH" sh faces/install.sh "$folder/installed"
+    chmod u+w out/library
+fi
 
 for command in realpath tar; do
     mkdir "$folder/$command"

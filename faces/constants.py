@@ -489,6 +489,9 @@ def write(name, text):
     if os.path.exists(path) and read(name) == text:
         return False
     os.makedirs(os.path.dirname(path), exist_ok=True)
+    # (it may be root's, after an installation by sudo)
+    if os.path.exists(path):
+        os.remove(path)
     with open(path, 'w', encoding='utf-8') as file:
         file.write(text)
     return True

@@ -1,7 +1,7 @@
 #!/bin/sh
 # Installs the library with all that calls it, and the program goblin_show. Run it from the repository's root:
 #   install.sh FOLDER               installs below FOLDER, which can be moved as a whole; what an earlier version installed there is
-#                                   removed first
+#                                   removed first. If not all can be removed or written, or a file there is another's, nothing is changed
 #   install.sh --archive [ARCHIVE]  puts the same into an archive
 #   install.sh --uninstall FOLDER   removes what is installed below FOLDER
 # Variables:
@@ -25,21 +25,23 @@ fail() {
 case ${1-} in --archive | --uninstall) option=$1 && shift ;; *) option= ;; esac
 case ${1-/} in --*) fail "there is no option $1: the first lines of faces/install.sh list them" ;; -*) set -- "./$1" ;; '') set -- / ;; esac
 case $option$# in 1 | --archive[01] | --uninstall1) ;; *) fail 'name one folder or archive: the first lines of faces/install.sh say how' ;; esac
+case ${1-} in '~'*) fail "PREFIX is $1: the shell did not replace ~. Leave out the quotes, or name the folder in full" ;; esac
+case ${ROOT-} in -*) ROOT=./$ROOT ;; esac
 # (what is installed is listed by lines)
 case ${1-} in *"
 "*) fail "PREFIX is $1: its name has a line break" ;; esac
-sh commands/has.sh goblin_c awk python3
+sh commands/has.sh goblin_c awk flock python3
 realpath -m / > /dev/null 2>&1 || fail 'goblin_c: the command realpath takes no option -m. Install GNU coreutils and findutils first'
 if [ "$option" = --archive ] && ! tar --sort=name -cf /dev/null -T /dev/null > /dev/null 2>&1; then
     fail 'goblin_c: the command tar takes no option --sort. Install GNU tar first'
 fi
 version=$(awk -F '"' '/^version = / { print $2; exit }' faces/rust/Cargo.toml)
-target=${TARGET:-x86_64-unknown-linux-gnu}
+target=${TARGET:-x86_64-unknown-linux-gnu} kind=library
 interface=$(awk '$2 == "GOBLIN_VERSION" { print $3 }' faces/c/goblin.h)
 case $target in
 x86_64-unknown-linux-gnu) every=x86-64 ;;
 aarch64-unknown-linux-gnu) every=generic ;;
-wasm64-unknown-unknown) every=lime1 ;;
+wasm64-unknown-unknown) every=lime1 kind=web ;;
 *)
     fail "there is no target $target: TARGET must be x86_64-unknown-linux-gnu, aarch64-unknown-linux-gnu or wasm64-unknown-unknown"
     ;;
@@ -60,21 +62,37 @@ wasm64-unknown-unknown-*) fail "a module for WebAssembly can't be a shared libra
 *) fail "SHARED is $SHARED: it must be 1 for a shared library, else 0" ;;
 esac
 folder=$(realpath "$(mktemp -d)")
-# What is installed is noted in this list before it is written, and from the first file on in the list that stays with the installation. So
-# it can be removed also if the installation fails or is interrupted, or the disk is full.
-files=$folder/files
+# What is to be installed is made in a folder, and listed, before anything is changed elsewhere. The list is installed first. So what is
+# installed can be removed also if the installation fails or is interrupted, or the disk is full.
+files=$folder/files stage=$folder/stage
+: > "$files"
 part=
 trap 'rm -rf "$folder" ${part:+"$part"}' EXIT
 trap 'exit 1' HUP INT TERM
 
-# Fails if a folder can't be written to, or be made, that most files are installed in.
-check_writable() {
-    for below in share include "$libdir"; do
-        there=$1/$below
-        while [ ! -e "$there" ]; do there=$(dirname "$there"); done
-        if ! [ -d "$there" ] || ! [ -w "$there" ]; then fail "PREFIX is $1: $there is no folder that can be written to"; fi
+# Fails if below a folder a file of what is installed there can't be removed, or one of the list can't be written, or something else is in
+# its place: check_below FOLDER KIND ..
+check_below() {
+    below=$(realpath -m "$1")
+    shift
+    : > "$folder/ours"
+    for kind; do
+        list=share/goblin_c/$kind.files
+        [ ! -e "$below/$list" ] || { sed '/^@/d; /\/$/d' "$below/$list" && echo "$list"; } >> "$folder/ours"
     done
+    sort -u "$folder/ours" "$files" | while read -r file; do
+        there=$below/$file
+        if [ -d "$there" ] && ! [ -L "$there" ] || { [ -e "$there" ] || [ -L "$there" ]; } && ! grep -qxF -e "$file" "$folder/ours"; then
+            fail "$there is not of goblin_c, so nothing is changed. Move it, or choose another PREFIX"
+        fi
+        until there=${there%/*} && { [ -e "$there" ] || [ -L "$there" ]; }; do :; done
+        check_folder "$there"
+    done
+    # (Python and cargo make some)
+    find "$below/share/goblin_c" -type d ! -writable 2> /dev/null | while read -r there; do check_folder "$there"; done
 }
+
+check_folder() { { [ -d "$1" ] && [ -w "$1" ] && [ -x "$1" ]; } || fail "PREFIX is $below: $1 is no folder that can be written to"; }
 
 # Fails if the toolchain doesn't compile for the processors CPU, which it says before it reads a crate: with status 2, and not 1 as for a
 # crate without a file.
@@ -91,31 +109,18 @@ if [ "$option" != --uninstall ]; then
     for made in . crates faces/web faces/python/goblin_elf; do
         [ -w "$made" ] || fail "this folder is read-only, and what is installed is made in it. Use a copy"
     done
-    if [ -z "$option" ]; then check_writable "$1"; fi
+    # (what most files need, before the library is made)
+    case $kind in web) first=share/goblin_c/web/goblin.js ;; *) first=share/goblin_c/LICENSE,include/goblin.h,$libdir/libgoblin_c.a ;; esac
+    echo "$first" | tr , '\n' > "$files"
+    [ "$option" ] || check_below "$1" "$kind"
+    : > "$files"
     if [ -n "${CPU:-}" ] && [ -z "${LIBRARY:-}" ] && [ ! -e "out/library/$target-$CPU" ]; then check_cpu; fi
 fi
 
-# Makes a folder below the folder, with those above it, and notes those that were not there in the list of installed files: those above
-# the whole installation as ../, ../../ and so on.
-make_folder() {
-    if [ -d "$to/$1" ]; then return 0; fi
-    case $1 in */*) make_folder "${1%/*}" ;; ?*) make_folder '' ;; esac
-    if [ -z "$1" ]; then
-        above=$(dirname "$to") up=../
-        while [ ! -d "$above" ]; do
-            echo "$up" >> "$files"
-            above=$(dirname "$above") up=../$up
-        done
-    fi
-    echo "$1/" >> "$files"
-    install -d -m 755 "$to/$1"
-}
-
-# Installs a file below the folder, with a mode or 644, and notes it in that list: put FILE NAME [MODE]
+# Puts a file into the folder of what is to be installed, with a mode or 644, and into the list: put FILE NAME [MODE]
 put() {
-    make_folder "$(dirname "$2")"
     echo "$2" >> "$files"
-    install -m "${3:-644}" "$1" "$to/$2"
+    install -D -m "${3:-644}" "$1" "$stage/$2"
 }
 
 # What sed writes for names in the files.
@@ -137,35 +142,50 @@ put_all() {
 
 install_below() {
     to=$1
-    : > "$files"
-    if [ "$target" = wasm64-unknown-unknown ]; then kind=web; else kind=library; fi
-    # (what may fail comes before the earlier installation is removed)
     python3 faces/constants.py --made
     if [ "$kind" = library ]; then link_shared; fi
+    "stage_$kind"
+    [ "$option" ] || lock
+    check_below "$to" "$kind"
     if [ "$kind$shared" = library ] && grep -qs 'libgoblin_c-shared\.so$' "$to/share/goblin_c/library.files"; then
         echo "the shared library of the earlier installation is removed, since SHARED is not 1"
     fi
     remove_from "$to" "$kind"
-    # (what an earlier installation made and something else keeps is still of this one)
-    while read -r made; do if [ -d "$to/$made" ]; then echo "$made" >> "$files"; fi; done < "$folder/made"
-    make_folder share/goblin_c
+    list_folders > "$folder/new"
     # (which is no folder of the list, but says where they were made, if they are to stay there; echo may change a backslash)
-    [ "$option${ROOT:-}" ] || printf '@%s/\n' "$(realpath "$to")" >> "$files"
-    install -m 644 "$files" "$to/share/goblin_c/$kind.files"
-    files=$to/share/goblin_c/$kind.files
-    "install_$kind"
+    [ "$option${ROOT:-}" ] || printf '@%s/\n' "$(realpath -m "$to")" >> "$folder/new"
+    find "$stage" -type d -printf '%P\n' | while read -r made; do mkdir -p "$to/$made"; done
+    cat "$folder/new" "$files" > "$to/share/goblin_c/$kind.files"
+    while read -r file; do cp -P "$stage/$file" "$to/$file"; done < "$files"
 }
 
-install_library() {
+# Waits until no other installation is written or removed. (Of the folders of one, none need be there yet.)
+lock() {
+    exec 9< /
+    flock 9
+}
+
+# Prints the folders that are made for this installation: the folder itself as /, those above it as ../, ../../ and so on.
+list_folders() {
+    # (what an earlier installation made and something else keeps is still of this one)
+    while read -r made; do if [ -d "$to/$made" ]; then echo "$made"; fi; done < "$folder/made"
+    above=$(realpath -m "$to") up=
+    while [ ! -d "$above" ]; do
+        echo "${up:-/}"
+        above=$(dirname "$above") up=../$up
+    done
+    find "$stage" -mindepth 1 -type d -printf '%P/\n' | while read -r made; do [ -d "$to/$made" ] || echo "$made"; done
+}
+
+stage_library() {
     put "$library" "$libdir/libgoblin_c.a"
     put faces/c/goblin.h include/goblin.h
     up=$(echo "$libdir/pkgconfig" | sed 's|[^/][^/]*|..|g')
     # shellcheck disable=SC2016 # (it is pkg-config's)
     prefix='${pcfiledir}'/$up
     # (from where a link to the folder of the libraries leads, no relative name leads back)
-    make_folder "$libdir/pkgconfig"
-    there=$(realpath "$to")
-    if [ -z "${ROOT:-}" ] && [ "$(realpath "$to/$libdir/pkgconfig/$up")" != "$there" ]; then
+    there=$(realpath -m "$to")
+    if [ -z "${ROOT:-}" ] && [ "$(realpath -m "$to/$libdir/pkgconfig/$up")" != "$there" ]; then
         case $there in *[!A-Za-z0-9._+/-]*) ;; *) prefix=$there ;; esac
     fi
     # (by this name pkg-config knows the folders that compilers search anyway; C++ fails if one of them is searched first)
@@ -190,12 +210,12 @@ install_library() {
     # (what compares the crate with its repository stays there)
     put_all faces/rust/tests share/goblin_c/rust/tests -name '*.rs' ! -name repository.rs
     put faces/rust/Cargo.toml share/goblin_c/rust/Cargo.toml
-    install_python
+    stage_python
     if [ "$shared" ]; then
         put "$folder/shared" "$shared"
         # (by this name, because -lgoblin_c would take libgoblin_c.so in place of the static library)
         echo "$libdir/libgoblin_c-shared.so" >> "$files"
-        ln -sf "${shared##*/}" "$to/$libdir/libgoblin_c-shared.so"
+        ln -s "${shared##*/}" "$stage/$libdir/libgoblin_c-shared.so"
         put_flags goblin_c-shared
     fi
     if [ "$program" ]; then
@@ -215,7 +235,7 @@ install_library() {
 put_flags() { put_edited "s|@NAME@|$1|; s|@PREFIX@|$prefix|" faces/goblin_c.pc.in "$libdir/pkgconfig/$1.pc"; }
 
 # The Python package, with a shared library of its own.
-install_python() {
+stage_python() {
     put_all faces/python/goblin_elf share/goblin_c/python/goblin_elf '(' -name '*.py' -o -name py.typed ')'
     put "$folder/shared" "share/goblin_c/python/goblin_elf/libgoblin_c.so.$interface"
     put_edited "s|/usr/local|$at|" faces/python/README.md share/goblin_c/python/README.md
@@ -276,7 +296,7 @@ print_contents() {
 }
 
 # The module, the JavaScript over it, and the page, which holds both.
-install_web() {
+stage_web() {
     put "$library" share/goblin_c/web/goblin_c.wasm
     put LICENSE share/goblin_c/web/LICENSE
     put CHANGELOG.md share/goblin_c/web/CHANGELOG.md
@@ -299,17 +319,16 @@ remove_from() {
     for kind; do
         list=$below/share/goblin_c/$kind.files
         [ -e "$list" ] || continue
-        # (elsewhere, as where an installation was moved to, others may have made such folders as lib)
+        # (elsewhere, as where an installation was moved to, others may have made such folders as lib; lists of version 0.7.0 name none)
         if [ "${ROOT:-}" ] || grep -qxF "@$below/" "$list"; then ours=/; else ours=goblin_c/; fi
-        grep -v '^@' "$list" | grep '/$' | grep -F "$ours" >> "$folder/made" || :
+        { sed -n '/\/$/p' "$list" | grep -v '^@' | grep -F "$ours" || :; sed -n 's|\(.*goblin_c/\)[^/]*$|\1|p' "$list"; } >> "$folder/made"
         sed '/\/$/d' "$list" | while read -r file; do rm -f "$below/$file"; done
         rm "$list"
     done
     # (Python makes it when the package is first imported, and cargo the others where the crate is built)
     for made in python/goblin_elf/__pycache__ rust/target rust/Cargo.lock; do rm -rf "$below/share/goblin_c/$made"; done
-    # (lists of earlier versions name no folders)
-    if [ -d "$below/share/goblin_c" ]; then find "$below/share/goblin_c" -depth -type d -empty -delete; fi
-    sed '/^\.\.\//d' "$folder/made" | sort -r | while read -r made; do remove_empty "$below/$made"; done
+    if [ -d "$below/share/goblin_c" ]; then find "$below/share/goblin_c" -depth -type d -empty -delete || :; fi
+    sed '/^\.\.\//d' "$folder/made" | sort -ru | while read -r made; do remove_empty "$below/$made"; done
     above=$below
     sed -n '/^\.\.\//p' "$folder/made" | sort -u | while read -r made; do
         above=$(dirname "$above")
@@ -317,13 +336,21 @@ remove_from() {
     done
 }
 
-# Removes a folder if nothing is in it.
-remove_empty() { if [ -d "$1" ] && [ -z "$(ls -A "$1")" ]; then rmdir "$1"; fi; }
+is_empty() { [ -d "$1" ] && [ -z "$(ls -A "$1")" ]; }
+
+# Removes a folder if nothing is in it, and it can be removed.
+remove_empty() { if is_empty "$1"; then rmdir "$1" || :; fi; }
 
 if [ "$option" = --uninstall ]; then
     [ -e "$1/share/goblin_c/library.files" ] || [ -e "$1/share/goblin_c/web.files" ] || fail "goblin_c is not installed below $1: nothing is removed"
+    lock
+    check_below "$1" library web
     remove_from "$1" library web
     printf 'goblin_c is removed from %s\n' "$1"
+    # (with the folders above those of its files)
+    awk '{ sub(/[^\/]*$/, ""); while ($0 != "") { print; sub(/[^\/]*\/$/, "") } }' "$folder/ours" | sort -u | while read -r made; do
+        if is_empty "$below/$made"; then printf 'an empty folder stays, which others may have made: %s\n' "$below/${made%/}"; fi
+    done
     exit 0
 fi
 
@@ -345,6 +372,10 @@ verdict() { grep -e '^axioms ' -e '^logic=' "$1" || :; }
 
 # Makes the library for this target and these processors, and prints the verdict.
 make_library() {
+    # (which root's are, after an installation by sudo)
+    for made in crates/*/out out out/library "$cache"; do
+        [ -w "$made" ] || [ ! -e "$made" ] || fail "$made is read-only, and the library is made there. Use a copy"
+    done
     made=crates/goblin_c/out/libgoblin_c.a
     if [ -e "$made" ]; then cp -p "$made" "$folder/before"; fi
     # (which may change meanwhile)

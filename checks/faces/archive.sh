@@ -2,7 +2,7 @@
 # Whether the library can be installed and used without the toolchain: sh checks/faces/archive.sh FOLDER, after webassembly.sh
 # The archive has the same bytes whatever the umask, and all users can read what is installed. Another LIBDIR and a shared library can be
 # used too. A new installation leaves no old file, and an uninstallation neither a file nor a folder that was made. What others
-# made stays.
+# made stays. What can't be whole changes nothing, and of two installations at once one waits.
 . checks/faces/shared.sh
 root=$folder/above/other/root
 export LIBRARY="$folder/libgoblin_c.a" TARGET='' CPU=''
@@ -44,11 +44,13 @@ quietly make uninstall PREFIX="$root" LIBDIR="$root/lib"
 [ ! -e "$folder/above" ] || fail "an uninstallation leaves: $(find "$folder/above")"
 # (so does what an installation left that failed, also if from then on nothing can be written, as on a disk that is full)
 mkdir "$folder/filling" "$folder/stopping"
-printf '#!/bin/sh\n[ ! -e "%s/lib/libgoblin_c.a" ] || exit 1\nexec /usr/bin/install "$@"\n' "$root" > "$folder/filling/install"
-printf '#!/bin/sh\n/usr/bin/ln "$@"\nexit 1\n' > "$folder/stopping/ln"
-chmod 755 "$folder/filling/install" "$folder/stopping/ln"
-for path in "$PATH" "$folder/filling:$PATH" "$folder/stopping:$PATH"; do
-    ends_with 1 '*' env LIBDIR=lib SHARED=1 PROGRAM="$folder" PATH="$path" sh faces/install.sh "$root"
+printf '#!/bin/sh\n[ ! -e "%s/lib/libgoblin_c.a" ] || exit 1\nexec /usr/bin/cp "$@"\n' "$root" > "$folder/filling/cp"
+printf '#!/bin/sh\n/usr/bin/cp "$@"\n[ ! -L "%s/lib/libgoblin_c-shared.so" ] || exit 1\n' "$root" > "$folder/stopping/cp"
+chmod 755 "$folder/filling/cp" "$folder/stopping/cp"
+ends_with 1 '*' env PROGRAM="$folder" sh faces/install.sh "$root"
+[ ! -e "$folder/above" ] || fail "an installation of what can't be read leaves: $(find "$folder/above")"
+for path in "$folder/filling:$PATH" "$folder/stopping:$PATH"; do
+    ends_with 1 '*' env LIBDIR=lib SHARED=1 PROGRAM="$folder/program" PATH="$path" sh faces/install.sh "$root"
     [ -e "$root/lib/libgoblin_c.a" ] || fail "an installation that fails after the library has installed nothing"
     quietly sh faces/install.sh --uninstall "$root"
     [ ! -e "$folder/above" ] || fail "the uninstallation of what was installed in part leaves: $(find "$folder/above")"
@@ -68,6 +70,73 @@ touch "$root/include/own.h"
 quietly sh faces/install.sh --uninstall "$root"
 for own in share/man include/own.h; do [ -e "$root/$own" ] || fail "an uninstallation removes $own, which the installation didn't make"; done
 ends_with 0 '' find "$root" -mindepth 1 ! -path "$root/share" ! -path "$root/share/man" ! -path "$root/include" ! -path "$root/include/own.h"
+# What can't be removed or written whole changes nothing, nor where a file is in the way that another package may have installed.
+whole=$folder/whole
+unchanged() {
+    chmod -R u+w "$whole"
+    quietly diff -r --no-dereference "$folder/earlier" "$whole"
+    rm -rf "$folder/earlier"
+}
+if restricted true 2> "$folder/output"; then
+    quietly env PROGRAM="$folder/program" sh faces/install.sh "$whole"
+    compiled=share/goblin_c/python/goblin_elf/__pycache__
+    mkdir "$whole/$compiled"
+    touch "$whole/$compiled/made"
+    for below in include lib bin share/man/man1 share/goblin_c share/goblin_c/rust/src $compiled; do
+        for option in '' --uninstall; do
+            cp -R "$whole" "$folder/earlier"
+            chmod a-w "$whole/$below"
+            ends_with 2 "PREFIX is *: */$below is no folder that can be written to" \
+                restricted env PROGRAM="$folder/program" sh faces/install.sh ${option:+$option} "$whole"
+            unchanged
+        done
+    done
+    for below in include lib bin share; do
+        rm -rf "$whole"
+        mkdir -p "$whole/include" "$whole/lib" "$whole/bin" "$whole/share"
+        cp -R "$whole" "$folder/earlier"
+        chmod a-w "$whole/$below"
+        ends_with 2 "PREFIX is *: */$below is no folder that can be written to" \
+            restricted env PROGRAM="$folder/program" sh faces/install.sh "$whole"
+        unchanged
+    done
+else
+    left_out 'setpriv is not installed or takes root no rights, so nothing is installed into folders that can not be written to'
+fi
+for other in include/goblin.h bin/goblin_show; do
+    rm -rf "$whole"
+    mkdir -p "$whole/include" "$whole/bin"
+    ln -s nowhere "$whole/$other"
+    cp -R "$whole" "$folder/earlier"
+    ends_with 2 "*/$other is not of goblin_c, so nothing is changed. *" env PROGRAM="$folder/program" sh faces/install.sh "$whole"
+    unchanged
+done
+# Of some at once each is whole.
+rm -rf "$whole"
+quietly sh faces/install.sh "$whole"
+sort "$whole/share/goblin_c/library.files" > "$folder/wanted"
+for turn in 1 2; do
+    [ $turn = 2 ] || rm -rf "$whole"
+    for each in 1 2 3; do { sh faces/install.sh "$whole" && touch "$folder/ended.$turn$each"; } > "$folder/output" 2>&1 & done
+    wait
+    for each in 1 2 3; do [ -e "$folder/ended.$turn$each" ] || fail "one of three installations at once fails"; done
+    sort "$whole/share/goblin_c/library.files" | quietly diff "$folder/wanted" -
+    (cd "$whole" && grep -v '^[@/]' share/goblin_c/library.files | while read -r file; do [ -e "$file" ] || fail "$file is not there"; done)
+done
+# What was moved, or is of a version that listed no folders, leaves such as lib, and says so.
+leaves_folders() {
+    ends_with 0 '*
+an empty folder stays, which others may have made: */include
+*/lib/cmake
+*/lib/pkgconfig
+*' sh faces/install.sh --uninstall "$1"
+    ends_with 0 '' find "$1" -name '*goblin*'
+}
+mv "$whole" "$folder/moved"
+leaves_folders "$folder/moved"
+quietly sh faces/install.sh "$whole"
+sed -i '/[/]$/d' "$whole/share/goblin_c/library.files"
+leaves_folders "$whole"
 # What is unpacked where others have made folders can be removed, too, and theirs stay.
 mkdir -p "$folder/local/bin" "$folder/local/include"
 tar -C "$folder/local" --strip-components=1 -xzf "$folder/goblin_c.022.tar.gz"
@@ -88,6 +157,10 @@ quietly grep -x prefix=/usr "$folder/package/usr/lib/pkgconfig/goblin_c.pc"
 quietly grep -F '"/usr/share/goblin_c/rust"' "$folder/package/usr/share/goblin_c/README.md"
 quietly make uninstall PREFIX=/usr DESTDIR="$folder/package"
 [ ! -e "$folder/package" ] || fail "the uninstallation of a package leaves: $(find "$folder/package")"
+quietly make install PREFIX=/usr DESTDIR=-x
+quietly grep -x prefix=/usr ./-x/usr/lib/pkgconfig/goblin_c.pc
+quietly make uninstall PREFIX=/usr DESTDIR=-x
+[ ! -e ./-x ] || fail "the uninstallation of a package whose folder begins with a hyphen leaves: $(find ./-x)"
 # The folder of the libraries may be a link, from where no relative name leads back. (One with a space is not written.)
 mkdir -p "$folder/elsewhere/libraries" "$folder/linking"
 ln -s "$folder/elsewhere/libraries" "$folder/linking/lib"
@@ -113,6 +186,8 @@ quietly make install PREFIX=-x
 quietly make uninstall PREFIX=-x
 [ ! -e ./-x ] || fail "the uninstallation of a folder whose name begins with a hyphen leaves: $(find ./-x)"
 ends_with 2 '*goblin_c is not installed below /: nothing is removed*' make uninstall PREFIX=
+# (the shell leaves a quoted ~)
+for command in install uninstall; do ends_with 2 '*PREFIX is ~/x: *' make $command PREFIX='~/x'; done
 ends_with 2 "LIBDIR is lib&64: *" env LIBDIR='lib&64' sh faces/install.sh "$root"
 # What is for some processors alone takes no place of what is for all. (The name of their folder is not UTF-8.)
 some=$folder/$(printf 'some\351')

@@ -33,6 +33,12 @@ fail() {
 # Runs a command, and prints its output only if it fails.
 quietly() { "$@" > "$folder/output" 2>&1 || { cat "$folder/output"; fail "failed: $*"; }; }
 
+# Runs a command as a user for whom the modes of files and folders count, as they don't for root.
+restricted() {
+    rights=-dac_override,-dac_read_search
+    if [ "$(id -u)" -ne 0 ]; then "$@"; else setpriv --bounding-set=$rights --inh-caps=$rights "$@"; fi
+}
+
 # Fails unless a command ends with a status and prints a text. Both are patterns of the shell: ends_with STATUS TEXT COMMAND ..
 ends_with() {
     wanted=$1 text=$2 status=0
