@@ -697,7 +697,7 @@ check('Names depend on the machine and the owner, and numbers without a name are
 const READ = ['_ZN5space5ClassILi5ELb1ELm7EEC2ERKS1_', '_ZNKSs4sizeEv',
     '_ZStlsISt11char_traitsIcEERSt13basic_ostreamIcT_ES5_PKc', '_ZTVN1a1bE', '_ZN1aIiEaSEOS0_', '_Z3mapIPFvPKciEET_S3_',
     '_ZThn16_N1a1bEv', '_ZN3fooB5cxx11ILN1k1eE3EJidEE3barEv.part.0', '_ZNO1a1bEVPKi', '_ZN12_GLOBAL__N_11aD1Ev',
-    '_ZNVKSt6atomicIiE4loadESt12memory_order'];
+    '_ZNVKSt6atomicIiE4loadESt12memory_order', '_ZN1aIJEiE1bEv', '_ZGVNK1a1bE'];
 const SHORT_FORMS = Array.from({ length: 8 }, (_, i) => `S_IS${i}_S${i}_E`).join(''),
     VERY_LONG = `_Z1f1aIiiE${SHORT_FORMS}${'S8_'.repeat(250)}`; // (of 1.3 million signs)
 const LEFT_ALONE = [VERY_LONG, `_Z1fv${'.1'.repeat(60)}!`, `_Z1f${'F'.repeat(1019)}`, '_Z1fILi1EEvRAT__c',

@@ -26,14 +26,16 @@ const WORDS = { r: ' restrict', V: ' volatile', K: ' const', R: ' &', O: ' &&' }
     MOST_OF_ALL = 1 << 16;
 
 const words = (signs) => (signs ? signs.split('').map((sign) => WORDS[sign]).join('') : '');
-const listed = (items) => items.map(({ left, right, pack }) => (pack ? listed(pack) : left + right))
-    .filter((text) => text).join(', ');
+// (a comma comes before what has a text, as in c++filt)
+const listed = (items) => items.reduceRight((rest, { left, right, pack }) =>
+    (pack ? listed(pack) : left + right) + (rest && `, ${rest}`), '');
 
 const length_of = ({ left, right, pack }) =>
     (pack ? pack.reduce((all, item) => all + length_of(item) + 2, 0) : left.length + right.length);
 
 // A reader of one name. What it reads is { left, right }, between which a name of that type would be. Of a name it is
-// also the last part, a template's arguments, and the words after the parameters. It is read again from `known`.
+// also the last part (which is empty if no constructor has it), a template's arguments, and the words after the
+// parameters. It is read again from `known`.
 class Reader {
     at = 0; known = []; signs = 0;
     constructor(text) { this.text = text; }
@@ -60,8 +62,11 @@ class Reader {
         return digits ? parseInt(digits, base) + 1 : 0;
     }
     encoding() {
-        const special = SPECIAL.get(this.match(/T[VTIS]|GV/y));
-        if (special) return `${special} ${listed([this.type()])}`;
+        const special = this.match(/T[VTIS]|GV/y);
+        if (special) {
+            const { left, right, after = '' } = special === 'GV' ? this.name() : this.type();
+            return `${SPECIAL.get(special)} ${left}${right}${after}`;
+        }
         const thunk = this.match(/Thn?\d+_|Tvn?\d+_n?\d+_/y);
         if (thunk) return `${thunk[1] === 'h' ? 'non-' : ''}virtual thunk to ${this.encoding()}`;
         const { left: name, after = '', args, is_bare } = this.name();
@@ -87,6 +92,9 @@ class Reader {
         const qualifiers = this.match(/r?V?K?/y).split('').reverse().join(''),
             after = words(qualifiers + this.match(/[RO]?/y));
         let name = this.next === 'S' ? this.known_one() : this.next === 'T' ? this.type() : undefined;
+        if (name ? this.next === 'E' || name.last === undefined : this.is(/[rVK]/y)) this.fail();
+        // (a constructor there has the last name that was read)
+        if (this.text[this.at - 1] === '_') name = { ...name, last: '' };
         while (!this.takes('E')) {
             name = this.next === 'I' ? this.templated(this.need(name)) : this.joined(name, this.part(name?.last));
             if (this.next !== 'E') this.note(name);
@@ -97,9 +105,9 @@ class Reader {
     part(last) {
         this.match(/L(?=\d)/y);
         const [kind] = this.match(/C[1-5]|D[0-25]/y) ?? '';
-        const name = kind ? { left: `${kind === 'D' ? '~' : ''}${this.need(last)}`, last, is_bare: true }
+        const name = kind ? { left: `${kind === 'D' ? '~' : ''}${this.need(last || undefined)}`, last, is_bare: true }
             : this.is(/\d/y) ? this.source()
-            : { left: `operator${this.need(OPERATORS.get(this.match(/[a-z][a-zA-Z]/y)))}` };
+            : { left: `operator${this.need(OPERATORS.get(this.match(/[a-z][a-zA-Z]/y)))}`, last: '' };
         while (this.takes('B')) name.left += `[abi:${this.source().left}]`;
         return { right: '', ...name };
     }
@@ -110,14 +118,15 @@ class Reader {
     }
     known_one() {
         const left = STANDARD[this.match(/S[tabsiod]/y)];
-        if (left) return { left, right: '', last: /\w+/.exec(left.slice(5))?.[0] };
+        if (left) return { left, right: '', last: /\w*/.exec(left.slice(5))[0] };
         return this.need(this.known[this.takes('S') && this.number(36)]);
     }
-    templated({ left, last, is_bare }) {
+    templated({ left, last, is_bare, args: before }) {
+        if (last === undefined || before) this.fail();
         const args = this.takes('I') && this.arguments(), list = listed(args),
             is_empty = args.at(-1)?.pack?.length === 0;
-        const [before, end] = [left.endsWith('<') ? ' ' : '', list.endsWith('>') && !is_empty ? ' ' : ''];
-        return { left: `${left}${before}<${list}${end}>`, right: '', last, is_bare, args };
+        const [start, end] = [left.endsWith('<') ? ' ' : '', list.endsWith('>') && !is_empty ? ' ' : ''];
+        return { left: `${left}${start}<${list}${end}>`, right: '', last, is_bare, args };
     }
     arguments() {
         const items = [];
@@ -151,11 +160,12 @@ class Reader {
         const is_volatile = this.takes('V'), is_const = this.takes('K'),
             qualifiers = words((is_const ? 'K' : '') + (is_volatile ? 'V' : '')), mark = qualifiers || MARKS[this.next];
         if (mark && !qualifiers) this.at++;
+        if (mark && this.is(qualifiers ? /[rVK]/y : /[RO]/y)) this.fail();
         if (mark) return this.marked(mark, this.type());
         if (this.next === 'F' && this.match(/FY?/y)) return this.function();
         const given = this.takes('T') ? this.need(this.args?.[this.number(10)])
             : this.is(/[NS\d]/y) ? this.name() : this.fail();
-        return given.pack ? this.fail() : given;
+        return given.pack || given.after ? this.fail() : given;
     }
     // Returns a type with words or a mark: `*`, `&` or `&&`. A reference to a reference is `&&` only if both are.
     marked(mark, { left, right, form = '' }) {
@@ -170,7 +180,8 @@ class Reader {
         return { left: rest + mark, right, form: is_word ? form : mark };
     }
     function() {
-        const { left, right } = this.type(), list = this.parameters(), on = words(this.need(this.match(/[RO]?(?=E)/y)));
+        const { left, right, form } = this.type(), list = this.parameters(),
+            on = words(this.need(form === 'function' ? undefined : this.match(/[RO]?(?=E)/y)));
         return { left: right ? left : `${left} `,
             right: this.takes('E') && `(${list})${on}${right}`, form: 'function' };
     }
@@ -188,7 +199,7 @@ export function demangled(name) {
         return undefined; // (names of Rust's old form look like ones of C++)
     const reader = new Reader(name.slice(2));
     try {
-        const text = reader.encoding(), rest = reader.match(/(?:\.[a-z\d_]+)*/y);
+        const text = reader.encoding(), rest = reader.match(/(?:\.[a-z\d_]+(?:\.\d+)*)*/y);
         return reader.at < reader.text.length ? undefined
             : text + rest.replace(/\.[a-z\d_]+(?:\.\d+)*/g, ' [clone $&]');
     } catch (error) {
