@@ -510,7 +510,11 @@ check('Notes as bytes have whole names, need not be UTF-8, and must be inside th
         ({ kind, item }) => kind === Kind.NOTE_ALIGN && item === 0);
 });
 
-check('Node.js prints the items of a list, as those of an array', () => {
+check('Node.js prints the items of a list, as those of an array, and the fields of notes', () => {
+    const elf = Elf.parse(noted), [holder] = elf.program_headers();
+    for (const notes of [elf.notes(holder), elf.notes_bytes(holder), elf.iter_note_headers()])
+        assert.equal(inspect(notes), inspect(notes.map((item) => Object.fromEntries(Object.entries(item)))));
+    assert.match(inspect(elf.notes(holder)), /name: 'goblin',/);
     for (const [name, list] of [['List', Elf.parse(own).section_headers()], ['Symtab', Elf.parse(own).syms()]]) {
         const of_array = inspect([...list]);
         assert.ok(list.length > 10 && of_array.includes(' more items') === list.length > 100);
@@ -602,6 +606,15 @@ check('Arguments of other types and ranges are refused', () => {
             ['a program header', () => elf.segment_sections(wrong)],
             ['a symbol', () => elf.syms().name(wrong), () => elf.syms().name_bytes(wrong)]])
             for (const call of calls) assert.throws(call, new TypeError(`${what} is expected, not ${word}`));
+    }
+    const [[rela]] = elf.shdr_relocs(), symtab = elf.section_by_type(goblin.SHT_SYMTAB).section;
+    for (const [put, what] of [[(item) => writer.put_header(item), 'a header'],
+        [(item) => writer.put_section_header(1, item), 'a section header'],
+        [(item) => writer.put_program_header(0, item), 'a program header'],
+        [(item) => writer.put_symbol(symtab, 0, item), 'a symbol'],
+        [(item) => writer.put_reloc(rela, 0, item), 'a relocation']]) {
+        for (const [wrong, word] of [[undefined, 'undefined'], [null, 'null'], [5, 'number'], ['.text', 'string']])
+            assert.throws(() => put(wrong), new TypeError(`${what} is expected, not ${word}`));
     }
     for (const none of [undefined, null]) assert.equal(elf.strtab(none).get(0), undefined);
     for (const [put, what] of [[() => writer.put_section_header(1, { ...text, sh_size: 5 }), 'a bigint as sh_size'],

@@ -423,6 +423,9 @@ function bytes_of(value) {
         `bytes must be an ArrayBuffer or a view of one, such as a Uint8Array, not ${describe(value)}`);
 }
 
+// What structs are called in messages, if not as in `records`.
+const WORDS = { section: 'section header', segment: 'program header', reloc: 'relocation' };
+
 // An instance of the library, whose memory holds a file's bytes.
 class Memory {
     constructor(size) {
@@ -466,6 +469,7 @@ class Memory {
 
     // Writes a struct at an offset, and returns its address.
     pass(offset, kind, item) {
+        if (Object(item) !== item) refuse(`a ${WORDS[kind] ?? kind}`, item);
         write(this.view, this.base + offset, records[kind], item);
         return this.address(offset);
     }
@@ -1136,14 +1140,19 @@ function reloc({ r_offset, r_sym, r_addend, r_type, has_addend }) {
 const ranges_of = ({ name_offset, name_size, desc_offset, desc_size }) =>
     [plain({ offset: name_offset, size: name_size }), plain({ offset: desc_offset, size: desc_size })];
 
+// What Node.js calls to print an object.
+const INSPECT = Symbol.for('nodejs.util.inspect.custom');
+// Prints the fields that are read at each access, too.
+const SHOW_FIELDS = { value() { return { ...this }; } };
+
 // Returns a function that returns a note, whose name is read as a `string` or as `bytes`.
 const note_of = (form) => (memory, fields) => {
     const [name_range, desc_range] = ranges_of(fields), { n_type, next } = fields;
-    return plain({
+    return Object.defineProperty(plain({
         n_type, name_range, desc_range, next,
         get name() { return memory[form](name_range); },
         get desc() { return memory.bytes(desc_range); },
-    });
+    }), INSPECT, SHOW_FIELDS);
 };
 const note = note_of('string'), note_bytes = note_of('bytes');
 
@@ -1195,8 +1204,8 @@ export class Writer {
      * @returns {void}
      */
     put_header(header) {
-        this.#put('goblin_put_header', 0, SIZES.header[Number(header.ei_class === 2)],
-            this.#memory.pass(ITEM, 'header', header));
+        const item = this.#memory.pass(ITEM, 'header', header);
+        this.#put('goblin_put_header', 0, SIZES.header[Number(header.ei_class === 2)], item);
     }
 
     /**
@@ -1254,7 +1263,9 @@ export class Writer {
         if (!holds_relocs(section)) throw GoblinError.of_type(section, 'relocations');
         const is_rela = section.sh_type === SHT_RELA, at = unsigned(index, 64),
             size = this.#size(is_rela ? 'rela' : 'rel');
-        const fields = { ...reloc, r_addend: reloc.r_addend ?? 0n, has_addend: Number(reloc.r_addend !== undefined) };
+        const with_addend = ({ r_addend }) =>
+            ({ ...reloc, r_addend: r_addend ?? 0n, has_addend: Number(r_addend !== undefined) });
+        const fields = Object(reloc) === reloc ? with_addend(reloc) : reloc;
         const item = this.#memory.pass(ITEM, 'reloc', fields),
             table = this.#memory.pass(ARGUMENT, 'range', range_of(section));
         const offset = section.sh_offset + at * BigInt(size);
@@ -1495,7 +1506,7 @@ export class List {
 
     // Returns what Node.js prints: an array with this name, whose first items are there. (An object with a list as its
     // prototype is no list.)
-    [Symbol.for('nodejs.util.inspect.custom')](_, { maxArrayLength }) {
+    [INSPECT](_, { maxArrayLength }) {
         if (!(#memory in this)) return this;
         const { name } = this.constructor, { [name]: Shown } = { [name]: class extends Array {} };
         const shown = Shown.from(this.from(0, maxArrayLength ?? Infinity));
