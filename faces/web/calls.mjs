@@ -9,7 +9,7 @@ import { join, resolve } from 'node:path';
 import { pathToFileURL } from 'node:url';
 import { inspect } from 'node:util';
 import { runInNewContext } from 'node:vm';
-import { dynamic_file, elf_file, longs, note, symbol } from './elves.mjs';
+import { dynamic_file, elf_file, longs, note, noted_file, patched, symbol } from './elves.mjs';
 import { import_goblin } from './tested.mjs';
 
 const [, , web, ...paths] = process.argv;
@@ -241,11 +241,13 @@ function lists_of(whole) {
     add('sections of relocations', pairs, latest(of_sections, ...of_relocs.map(end)), relocs);
     // (the padding of the last descriptor isn't needed)
     const end_of_notes = (notes) => latest(...notes.map(({ desc_range: { offset, size } }) => offset + size));
+    const plain = (items) => JSON.parse(JSON.stringify(items)),
+        as_bytes = (notes) => plain(notes).map(({ name_bytes, ...others }) => ({ ...others, name: name_bytes }));
     const add_notes = (all_of, headers, holders) => {
         const each_one = holders.map((holder) => [holder, whole.notes(holder)]),
-            all = each_one.flatMap(([, notes]) => notes);
+            all = holders.flatMap((holder) => whole.notes_bytes(holder));
         for (const [holder, notes] of each_one) add('notes', (elf) => elf.notes(holder), end_of_notes(notes), notes);
-        add(all_of, (elf) => elf[all_of](), latest(headers, end_of_notes(all)), all);
+        add(all_of, (elf) => as_bytes(elf[all_of]()), latest(headers, end_of_notes(all)), plain(all));
     };
     add_notes('iter_note_sections', of_sections, of_type(goblin.SHT_NOTE));
     add_notes('iter_note_headers', of_segments, segments.filter(({ p_type }) => p_type === goblin.PT_NOTE));
@@ -477,8 +479,8 @@ check('Notes are those of a section and a segment, up to one that is refused', (
             copy[Number(name_range.offset)] = 0xff; // (which is not UTF-8)
             const damaged = Elf.parse(copy), found = damaged.readable_notes(holder);
             assert.deepEqual([texts_of(found.notes), found.refusal.kind], [NOTES.slice(0, before), Kind.BAD_INPUT]);
-            for (const read of [() => damaged.notes(holder), () => damaged[of_all]()])
-                assert.throws(read, is_refusal(Kind.BAD_INPUT));
+            assert.throws(() => damaged.notes(holder), is_refusal(Kind.BAD_INPUT));
+            assert.equal(damaged[of_all]()[before].name, undefined);
         });
     }
     assert.equal(goblin.note_type_to_str({ name: 'GNU', n_type: 99 }), 'NT_UNKNOWN');
@@ -508,6 +510,36 @@ check('Notes as bytes have whole names, need not be UTF-8, and must be inside th
     assert.equal(elf.readable_notes_bytes(section, 1).notes.length, 1);
     assert.throws(() => elf.notes_bytes({ ...section, sh_addralign: 16n }),
         ({ kind, item }) => kind === Kind.NOTE_ALIGN && item === 0);
+});
+
+check('All notes have names of any bytes, and a build ID may be in a section alone', () => {
+    // (as annobin and a program in Go have them: readelf -n names the owners GA*FORTIFY:0xff, \xff, Go and GNU)
+    const any = [note('GA*FORTIFY\0\xff', 0x100, Buffer.from('at')), note('\xff', 3, Buffer.alloc(0))],
+        go = note('Go\0', 4, Buffer.from('of Go')), id = note('GNU', 3, Buffer.from('of ld')),
+        sections = [['.gnu.build.attributes', Buffer.concat(any)], ['.note.go.buildid', go], ['.note', id]]
+            .map(([name, bytes]) => ({ name, type: 7, bytes }));
+    const content = elf_file({ sections, segments: [{ type: 4, bytes: go }] }), elf = Elf.parse(content);
+    const words = (notes) => notes.map((item) => [item.name, Buffer.from(item.name_bytes).toString('latin1'),
+        item.n_type, Buffer.from(item.desc).toString(), goblin.note_type_to_str(item)]);
+    const of_go = ['Go', 'Go\0\0', 4, 'of Go', 'NT_GNU_GOLD_VERSION'];
+    assert.deepEqual(words(elf.iter_note_headers()), [of_go]);
+    assert.deepEqual(words(elf.iter_note_sections()), [
+        [undefined, 'GA*FORTIFY\0\xff\0', 0x100, 'at', 'NT_UNKNOWN'],
+        [undefined, '\xff\0', 3, '', 'NT_GNU_BUILD_ID'], of_go, ['GNU', 'GNU\0', 3, 'of ld', 'NT_GNU_BUILD_ID']]);
+    const build_id = (of) => Buffer.from(of.build_id() ?? []).toString();
+    assert.deepEqual([elf, Elf.parse(noted), Elf.parse(elf_file({ sections: sections.slice(0, 2) }))].map(build_id),
+        ['of ld', 'abcd', '']);
+    // (a name or descriptor past the end of its section is damage, whatever the name)
+    const { sh_offset } = elf.section('.gnu.build.attributes'), size_at = Number(sh_offset) + any[0].length;
+    for (const [at, kind] of [[size_at, Kind.TOO_BIG], [size_at + 4, Kind.BAD_OFFSET]]) {
+        const damaged = Elf.parse(patched(content, [at, 64, 4]));
+        for (const read of [() => damaged.iter_note_sections(), () => damaged.build_id()])
+            assert.throws(read, is_refusal(kind, BigInt(size_at)));
+    }
+    // the ID is known up to 65,536 notes, of which its segment is one, and past them it is not looked for
+    const before = note('ABC', 1, Buffer.alloc(0)), many = (count) =>
+        Elf.parse(noted_file([...Array.from({ length: count }, () => before), id]));
+    assert.deepEqual([65534, 65535].map((count) => build_id(many(count))), ['of ld', '']);
 });
 
 check('Node.js prints the items of a list, as those of an array, and the fields of notes', () => {
@@ -542,7 +574,8 @@ function some_items() {
     const elf = Elf.parse(own), sections = elf.section_headers(), [[, relocs]] = elf.shdr_relocs();
     return {
         Header: elf.header, SectionHeader: sections.at(1), ProgramHeader: elf.program_headers().at(0),
-        Sym: elf.syms().at(-1), Reloc: relocs.at(0), Note: Elf.parse(noted).iter_note_headers()[0],
+        Sym: elf.syms().at(-1), Reloc: relocs.at(0), AnyNote: Elf.parse(noted).iter_note_headers()[0],
+        Note: Elf.parse(noted).notes(Elf.parse(noted).program_header(0))[0],
         NoteBytes: Elf.parse(noted).notes_bytes(Elf.parse(noted).program_header(0))[0],
         Range: elf.range(sections.at(1)), Dyn: elf.dynamic()[0],
     };

@@ -37,9 +37,9 @@
  * ```
  */
 import {
-    ET_DYN, ET_REL, PT_DYNAMIC, PT_GNU_EH_FRAME, PT_GNU_RELRO, PT_GNU_STACK, PT_LOAD, PT_NOTE, PT_PHDR, PT_TLS,
-    SHF_ALLOC, SHF_TLS, SHN_LORESERVE, SHN_UNDEF, SHN_XINDEX, SHT_DYNAMIC, SHT_DYNSYM, SHT_NOBITS, SHT_NOTE, SHT_REL,
-    SHT_RELA, SHT_SYMTAB, STT_FUNC, STT_GNU_IFUNC, STT_NOTYPE, STT_OBJECT,
+    ET_DYN, ET_REL, NT_GNU_BUILD_ID, PT_DYNAMIC, PT_GNU_EH_FRAME, PT_GNU_RELRO, PT_GNU_STACK, PT_LOAD, PT_NOTE, PT_PHDR,
+    PT_TLS, SHF_ALLOC, SHF_TLS, SHN_LORESERVE, SHN_UNDEF, SHN_XINDEX, SHT_DYNAMIC, SHT_DYNSYM, SHT_NOBITS, SHT_NOTE,
+    SHT_REL, SHT_RELA, SHT_SYMTAB, STT_FUNC, STT_GNU_IFUNC, STT_NOTYPE, STT_OBJECT,
     VERSION,
 } from './constants.js';
 
@@ -190,6 +190,19 @@ export const Item = Object.freeze({
  */
 
 /**
+ * A note of all sections or segments. Its name need not be UTF-8.
+ * @typedef {object} AnyNote
+ * @property {number} n_type its type, whose meaning depends on the name: see `note_type_to_str`
+ * @property {Range} name_range the range of its whole name, which ends with a zero byte in most files
+ * @property {Range} desc_range the range of its descriptor
+ * @property {bigint} next the offset to read the next note at
+ * @property {string | undefined} name its name without the zero bytes at its end, decoded at each access, or
+ *   `undefined` if it is not UTF-8
+ * @property {Uint8Array} name_bytes its whole name, copied at each access
+ * @property {Uint8Array} desc its descriptor, copied at each access
+ */
+
+/**
  * An entry of the dynamic section.
  * @typedef {object} Dyn
  * @property {bigint} d_tag what it says, a DT_ number
@@ -312,8 +325,8 @@ const plain = (item) => Object.defineProperty(item, 'toJSON', TO_JSON);
 
 const PAGE = 0x10000;
 
-// How many items are read at once.
-const BATCH = 64;
+// How many items are read at once. And the most segments, and notes, in which a build ID is looked for.
+const BATCH = 64, MOST_SEGMENTS = 1 << 17, MOST_NOTES = 1 << 16;
 
 // The offsets of what this file puts after the library's own data: the header, one that counts what is whole, a
 // refusal, a result, an argument, a second argument, an index, a buffer for items or a text, and the file.
@@ -1072,23 +1085,54 @@ export class Elf {
     }
 
     /**
-     * Returns the notes of all segments of type PT_NOTE. Throws if the program headers are not inside the file, or a
-     * note of any of these segments is damaged.
-     * @returns {Note[]}
+     * Returns the notes of all segments of type PT_NOTE: those that are loaded, and all of a core file. Others are in
+     * sections alone, as the GNU build ID of a program in Go may be. Throws if the program headers are not inside the
+     * file, or a note of any of these segments is damaged.
+     * @returns {AnyNote[]}
      */
-    iter_note_headers() {
-        return this.program_headers().filter(({ p_type }) => p_type === PT_NOTE)
-            .flatMap((segment) => this.notes(segment));
-    }
+    iter_note_headers() { return this.#segments_of_notes().flatMap((segment) => this.#any_notes(segment)); }
 
     /**
-     * Returns the notes of all sections of type SHT_NOTE. Throws if the section headers are not inside the file, or a
-     * note of any of these sections is damaged.
-     * @returns {Note[]}
+     * Returns the notes of all sections of type SHT_NOTE. A file whose section headers are stripped, and a core file,
+     * has none of these. Throws if the section headers are not inside the file, or a note of any of these sections is
+     * damaged.
+     * @returns {AnyNote[]}
      */
-    iter_note_sections() {
-        return this.section_headers().filter(({ sh_type }) => sh_type === SHT_NOTE)
-            .flatMap((section) => this.notes(section));
+    iter_note_sections() { return this.#sections_of_notes().flatMap((section) => this.#any_notes(section)); }
+
+    #any_notes(part) { return all_notes(this.#read_notes(part, Infinity, 'goblin_note_bytes', any_note)); }
+
+    #segments_of_notes() { return this.program_headers().filter(({ p_type }) => p_type === PT_NOTE); }
+
+    #sections_of_notes() { return this.section_headers().filter(({ sh_type }) => sh_type === SHT_NOTE); }
+
+    /**
+     * Returns the build ID: the descriptor of the first note `GNU` of type NT_GNU_BUILD_ID of the segments of notes or,
+     * if they have none, of the sections of notes. Returns `undefined` if there is none. Throws if the headers are not
+     * inside the file, and then at the first damaged note. It is looked for in at most 131,072 segments, and in the
+     * first 65,536 of their notes, these sections and their notes.
+     *
+     * ```js
+     * console.log(Buffer.from(elf.build_id() ?? []).toString('hex'));
+     * ```
+     * @returns {Uint8Array | undefined}
+     */
+    build_id() {
+        if (this.program_headers().length > MOST_SEGMENTS) return undefined;
+        let left = MOST_NOTES;
+        for (const holders of [() => this.#segments_of_notes(), () => this.#sections_of_notes()]) {
+            for (const holder of holders()) {
+                // (a segment or section counts as a note, which comes before its own)
+                if (left-- === 0) return undefined;
+                const { notes, refusal } = this.readable_notes_bytes(holder, left + 1), read = notes.slice(0, left);
+                const found = read.find((item) => item.n_type === NT_GNU_BUILD_ID && item.name_range.size === 4n
+                    && String.fromCharCode(...item.name) === 'GNU\0');
+                if (found || notes.length > left) return found?.desc;
+                if (refusal) throw refusal;
+                left -= notes.length;
+            }
+        }
+        return undefined;
     }
 }
 
@@ -1145,16 +1189,33 @@ const INSPECT = Symbol.for('nodejs.util.inspect.custom');
 // Prints the fields that are read at each access, too.
 const SHOW_FIELDS = { value() { return { ...this }; } };
 
-// Returns a function that returns a note, whose name is read as a `string` or as `bytes`.
-const note_of = (form) => (memory, fields) => {
+// Returns a function that returns a note, whose name is what a function makes of its bytes.
+const note_of = (read) => (memory, fields) => {
     const [name_range, desc_range] = ranges_of(fields), { n_type, next } = fields;
     return Object.defineProperty(plain({
         n_type, name_range, desc_range, next,
-        get name() { return memory[form](name_range); },
+        get name() { return read(memory.bytes(name_range)); },
         get desc() { return memory.bytes(desc_range); },
     }), INSPECT, SHOW_FIELDS);
 };
-const note = note_of('string'), note_bytes = note_of('bytes');
+const note = note_of((bytes) => decoder.decode(bytes)), note_bytes = note_of((bytes) => bytes),
+    note_with_text = note_of(text_of);
+
+function any_note(memory, fields) {
+    const item = note_with_text(memory, fields), get = () => memory.bytes(item.name_range);
+    return Object.defineProperty(item, 'name_bytes', { get, enumerable: true });
+}
+
+// Returns the text of bytes without the zero bytes at their end, or `undefined` if it is not UTF-8.
+function text_of(bytes) {
+    let end = bytes.length;
+    while (end > 0 && bytes[end - 1] === 0) end--;
+    try {
+        return decoder.decode(bytes.subarray(0, end));
+    } catch {
+        return undefined;
+    }
+}
 
 function all_notes({ notes, refusal }) {
     if (refusal) throw refusal;
@@ -1883,12 +1944,12 @@ export const visibility_to_str = (visibility) => name_of('goblin_visibility_to_s
 /**
  * Returns the name of a note's type, such as NT_GNU_BUILD_ID, or NT_UNKNOWN. As in goblin, type 3 is NT_GNU_BUILD_ID
  * for every name but CORE.
- * @param {Pick<Note, 'name' | 'n_type'>} note
+ * @param {Pick<Note, 'name' | 'n_type'> | AnyNote} note
  * @returns {string}
  */
-export function note_type_to_str({ name, n_type }) {
-    const memory = ready(shared);
-    return memory.text('goblin_note_type_to_str', ...memory.pass_bytes(utf8(name)), unsigned(n_type, 32));
+export function note_type_to_str({ name, name_bytes, n_type }) {
+    const memory = ready(shared), bytes = (name === undefined && name_bytes) || utf8(name);
+    return memory.text('goblin_note_type_to_str', ...memory.pass_bytes(bytes), unsigned(n_type, 32));
 }
 
 /** Returns the binding in an `st_info`: its high four bits. @param {number} info @returns {number} */

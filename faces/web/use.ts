@@ -31,7 +31,9 @@ export async function main(bytes: ArrayBuffer, view: Uint16Array): Promise<strin
     for (const symbol of symbols ?? []) lines.push(`${symbols?.name(symbol)} ${symbol.st_value}`);
     for (const [section, relocs] of elf.shdr_relocs())
         lines.push(`${section.sh_info} ${relocs.at(-1)?.r_addend ?? 0n}`);
-    for (const { name, desc } of elf.iter_note_headers()) lines.push(`${name} ${desc.length}`);
+    const id: Uint8Array | undefined = elf.build_id();
+    for (const { name, name_bytes, desc } of elf.iter_note_headers())
+        lines.push(`${name ?? name_bytes} ${desc.length} ${id?.length}`);
     for (const section of sections) lines.push(`${elf.strtab(elf.linked_section(section)).get(1)}`);
     const needed: Dyn[] = elf.dynamic().filter(({ d_tag }) => d_tag === DT_NEEDED),
         soname: bigint | undefined = elf.dynamic_value(DT_SONAME);

@@ -12,7 +12,7 @@ from . import interface, items
 from ._library import FUNCTIONS, HEADER, RANGE, File, call, found, unsigned
 from .constants import (DT_NEEDED, DT_RPATH, DT_RUNPATH, DT_SONAME, ELFCLASS64, ELFDATA2MSB, NT_GNU_BUILD_ID, PT_INTERP, PT_NOTE, SHT_DYNAMIC,
                         SHT_DYNSYM, SHT_NOTE, SHT_SYMTAB)
-from .items import (Dynamic, Fields, Header, Name, Note, Relocations, Section, Sections, Segment, Segments, Symbol,
+from .items import (ESCAPED, Dynamic, Fields, Header, Name, Note, Relocations, Section, Sections, Segment, Segments, Symbol,
                     Symbols, T, Table, named, note_of, read_notes)
 from .names import class_to_str, et_to_str, machine_to_str
 from .refused import Unknown, within
@@ -129,8 +129,9 @@ class Elf:
 
     @property
     def notes(self) -> Iterator[Note]:
-        """The notes of all segments of type PT_NOTE, or if there are none, of all sections of type SHT_NOTE, as they are read. Refused as
-        the headers are, and then at the first damaged note."""
+        """The notes of all segments of type PT_NOTE, or if there are none, of all sections of type SHT_NOTE, as they are read. The segments hold
+        those that are loaded. Others, as the GNU build ID of a program in Go may be, are in sections alone: see `Section.notes`, `build_id`.
+        Refused as the headers are, and then at the first damaged note."""
         segments = (segment for segment in self.segments if segment.p_type == PT_NOTE)
         first = next(segments, None)
         return self._notes(itertools.chain([first], segments) if first else self._note_sections())
@@ -143,7 +144,8 @@ class Elf:
 
     def _notes(self, holders: Iterable[Union[Segment, Section]]) -> Iterator[Note]:
         for holder in holders:
-            yield from (note_of(self, fields) for fields in read_notes(self, 'note', RANGE.pack(holder[:2]), holder[5], holder[0]))
+            fields_of_all = read_notes(self, 'note_bytes', RANGE.pack(holder[:2]), holder[5], holder[0])
+            yield from (note_of(self, fields, ESCAPED) for fields in fields_of_all)
 
     @property
     def build_id(self) -> Optional[memoryview]:

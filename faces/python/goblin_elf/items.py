@@ -79,9 +79,9 @@ class Held(Entry):
 
     @property
     def notes(self: Any) -> 'Notes':
-        """Its notes. Refused at the first damaged note."""
+        """Its notes. Refused at the first damaged note. Their names need not be UTF-8: see `Notes`."""
         offset, size = self._place
-        return Notes(self.table.elf, offset, size, self[5])
+        return Notes(self.table.elf, offset, size, self[5], ESCAPED)
 
     @property
     def strings(self: Any) -> 'Strings':
@@ -218,7 +218,7 @@ class NoteFields(NamedTuple):
     """What a note has."""
 
     n_type: int  # its type, whose meaning depends on the name
-    name: str  # its name, without its last byte, zero in most files
+    name: str  # its name, without the zero bytes at its end
     desc: memoryview  # its descriptor, without a copy
 
 
@@ -444,9 +444,15 @@ class Dynamic(Table[Dyn]):
         return next((self.record.struct.unpack(chunk) for _, chunk in self._chunks(place, place + 1) if chunk), None)
 
 
+# How names of notes are decoded. (In some files one holds numbers: .gnu.build.attributes.)
+ESCAPED = 'surrogateescape'
+
+
 class Notes(Table[Note]):
     """The notes in a range of the file, as a segment or a section of notes has them. Refused at the first damaged note, and if a name is not
-    UTF-8. With other `errors` than 'strict' a name is decoded as they mean instead, and a note must lie in the range whole."""
+    UTF-8, whose last byte is left out. With other `errors` than 'strict' a name is decoded as they mean instead, without all zero bytes at its
+    end, and a note must lie in the range whole. With 'surrogateescape', as in `notes` of a section, a segment and a file, no name is refused, and
+    `name.encode('utf-8', 'surrogateescape')` are its bytes."""
     record, item = RECORDS['note'], Note
 
     def __init__(self, elf: 'Elf', offset: int, size: int, alignment: int, errors: str = 'strict') -> None:

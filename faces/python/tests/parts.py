@@ -42,7 +42,7 @@ class Ours:
 
     def notes(self):
         holders = [s for s in self.elf.segments if s.p_type == 4] + [s for s in self.elf.sections if s.sh_type == SHT_NOTE]
-        # (pyelftools cuts a name at its first zero byte: Go's compiler pads `Go` with two, of which goblin leaves one)
+        # (pyelftools cuts a name at its first zero byte, after which .gnu.build.attributes have numbers)
         return [[(note.n_type, note.name.split('\0')[0], bytes(note.desc)) for note in holder.notes] for holder in holders]
 
     def linking(self):

@@ -141,6 +141,36 @@ class Read(unittest.TestCase):
             changed.segments[1] = changed.segments[1]._replace(p_filesz=0)
             self.assertEqual((list(changed.notes), changed.build_id), ([], made.BUILD_ID))
 
+    def test_notes_of_any_names(self):
+        """Those of annobin and of Go's linker: readelf -n names the owners GA*FORTIFY:0xff, \\xff, Go and GNU."""
+        for file, elf in self.each():
+            note = lambda name, kind, desc: file.pack('III', len(name), len(desc), kind) + b''.join(part + bytes(-len(part) % 4)
+                                                                                                    for part in (name, desc))
+            first, go = note(b'GA*FORTIFY\0\xff\0', 0x100, b'at'), note(b'Go\0\0', 4, b'of Go')
+            content, places = bytearray(elf.bytes), []
+            for notes in (first + note(b'\xff\0', 3, b''), go):
+                content += bytes(-len(content) % 8) + notes
+                places.append((len(content) - len(notes), len(notes)))
+            changed = Elf(content)
+            for index, (offset, size) in zip((4, 5), places):
+                changed.sections[index] = changed.sections[index]._replace(sh_type=7, sh_offset=offset, sh_size=size, sh_addralign=4)
+            changed.segments[1] = changed.segments[1]._replace(p_offset=places[1][0], p_filesz=places[1][1])
+            words = lambda notes: [(note.n_type, note.name, bytes(note.desc)) for note in notes]
+            any_names, of_go = [(0x100, 'GA*FORTIFY\0\udcff', b'at'), (3, '\udcff', b'')], [(4, 'Go', b'of Go')]
+            self.assertEqual(words(changed.sections[4].notes), any_names)
+            self.assertEqual(changed.sections[4].notes[0].name.encode('utf-8', 'surrogateescape'), b'GA*FORTIFY\0\xff')
+            for notes in (changed.notes, changed.segments[1].notes, changed.sections[5].notes):
+                self.assertEqual(words(notes), of_go)
+            self.assertEqual(changed.build_id, made.BUILD_ID)
+            changed.segments[1] = changed.segments[1]._replace(p_type=1)
+            self.assertEqual(words(changed.notes), [*any_names, *of_go, (3, 'GNU', made.BUILD_ID)])
+            # (a name or descriptor past the end of its section is damage, whatever the name)
+            for at, kind in ((0, Kind.TOO_BIG), (4, Kind.BAD_OFFSET)):
+                damaged = Elf(bytearray(content))
+                damaged.put_number(places[0][0] + len(first) + at, 4, 64)
+                for read in (lambda: damaged.sections[4].notes, lambda: list(damaged.notes)):
+                    self.assertEqual(refusal(read).kind, kind)
+
     def test_numbers(self):
         for file, elf in self.each():
             size = file.bits // 8

@@ -3,7 +3,7 @@ use crate::dynamic::Dynamic;
 use crate::error::{Error, Result, RELOCATIONS, SYMBOLS};
 use crate::file::File;
 use crate::header::{Header, ET_DYN};
-use crate::note::{AnyNote, NoteBytes, NoteIterator, Notes};
+use crate::note::{self, AnyNote, NoteBytes, NoteIterator, Notes};
 use crate::part::Part;
 use crate::program_header::{ProgramHeader, ProgramHeaders};
 use crate::reloc::{holds_relocs, RelocSection, RelocSections};
@@ -384,7 +384,7 @@ impl<'a> Elf<'a> {
 
     /// Returns the notes of a section or a segment up to the first damaged one, and the error of that one.
     pub fn readable_notes(&self, part: &impl Part) -> (Notes<'a>, Option<Error>) {
-        Notes::of(self, part.range(), part.alignment())
+        Notes::of(self, part)
     }
 
     /// Returns the notes of a section or a segment as bytes, so that names need not be UTF-8. Each note must be inside
@@ -411,11 +411,12 @@ impl<'a> Elf<'a> {
 
     /// Returns the notes of a section or a segment as bytes up to the first damaged one, and the error of that one.
     pub fn readable_notes_bytes(&self, part: &impl Part) -> (Notes<'a, NoteBytes<'a>>, Option<Error>) {
-        Notes::of(self, part.range(), part.alignment())
+        Notes::of(self, part)
     }
 
-    /// Returns the notes of all segments of type `PT_NOTE`. It reads all of them, and those that several segments have
-    /// once for each.
+    /// Returns the notes of all segments of type `PT_NOTE` as bytes: those that are loaded, and all of a core file.
+    /// Others are in sections alone, as the GNU build ID of a program in Go may be. It reads all of them, and those
+    /// that several segments have once for each.
     ///
     /// # Errors
     /// If the program headers are not inside the file, or a note of any of these segments is damaged.
@@ -423,13 +424,33 @@ impl<'a> Elf<'a> {
         NoteIterator::of_segments(*self)
     }
 
-    /// Returns the notes of all sections of type `SHT_NOTE`. It reads all of them, and those that several sections have
-    /// once for each.
+    /// Returns the notes of all sections of type `SHT_NOTE` as bytes. A file whose section headers are stripped, and a
+    /// core file, has none of these. It reads all of them, and those that several sections have once for each.
     ///
     /// # Errors
     /// If the section headers are not inside the file, or a note of any of these sections is damaged.
     pub fn iter_note_sections(&self) -> Result<NoteIterator<'a>> {
         NoteIterator::of_sections(*self)
+    }
+
+    /// Returns the build ID: the descriptor of the first note `GNU` of type `NT_GNU_BUILD_ID` of the segments of notes
+    /// or, if they have none, of the sections of notes. It is looked for in at most 131,072 segments, and in the first
+    /// 65,536 of their notes, these sections and their notes.
+    ///
+    /// ```
+    /// # fn main() -> Result<(), Box<dyn std::error::Error>> {
+    /// # let bytes = std::fs::read(std::env::current_exe()?)?;
+    /// let elf = goblin_rs::Elf::parse(&bytes)?;
+    /// let hex: String = elf.build_id()?.unwrap_or(&[]).iter().map(|byte| format!("{byte:02x}")).collect();
+    /// # assert!(hex.len() < 129);
+    /// # Ok(())
+    /// # }
+    /// ```
+    ///
+    /// # Errors
+    /// If the headers are not inside the file, and then at the first damaged note.
+    pub fn build_id(&self) -> Result<Option<&'a [u8]>> {
+        note::build_id(self)
     }
 }
 

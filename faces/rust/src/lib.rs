@@ -27,6 +27,11 @@
 //! whose names begin with `readable_` never fail: they return what is left of notes, or of the bytes of a section or a
 //! segment. The example `truncated` shows them.
 //!
+//! # Notes
+//! [`Elf::iter_note_headers`] returns the notes of segments: those that are loaded, and all of a core file. Others are in
+//! sections alone, as the GNU build ID of a program in Go may be: [`Elf::iter_note_sections`] returns them, unless the
+//! section headers are stripped. [`Elf::build_id`] looks in both. Their names are bytes, since some are not UTF-8.
+//!
 //! # Headers that a program makes
 //! A header that a call takes need not be one of the file. [`Elf::strtab`], [`Elf::section_data`], [`Elf::number_in`]
 //! and [`Elf::relocs`] read only `sh_type`, `sh_offset` and `sh_size`. [`Elf::symtab`] also reads `sh_link`, and the
@@ -45,7 +50,7 @@
 //! # fn main() -> Result<(), Box<dyn std::error::Error>> {
 //! # let path = std::env::current_exe()?;
 //! # let bytes = std::fs::read(path)?;
-//! use goblin_rs::note::Note;
+//! use goblin_rs::note::NoteBytes;
 //! use goblin_rs::section_header::{SectionHeader, SHF_ALLOC};
 //! use goblin_rs::{Elf, Kind};
 //!
@@ -91,7 +96,7 @@
 //! }
 //!
 //! // elf.iter_note_headers(&bytes), whose items are results
-//! let _: Vec<Note> = elf.iter_note_headers()?.collect();
+//! let _: Vec<NoteBytes> = elf.iter_note_headers()?.collect();
 //! // elf.iter_note_sections(&bytes, Some(".note.ABI-tag"))
 //! if let Some(section) = elf.section(".note.ABI-tag")? {
 //!     println!("{}", elf.notes(&section)?.len());

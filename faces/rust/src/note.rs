@@ -5,11 +5,13 @@ use crate::error::{Error, Result};
 use crate::file::File;
 use crate::items::{list, made};
 use crate::names::Name;
+use crate::part::Part;
 use crate::program_header::{ProgramHeaders, PT_NOTE};
 use crate::section_header::{SectionHeaders, SHT_NOTE};
 use crate::{raw, sys};
 use std::iter::FusedIterator;
 use std::marker::PhantomData;
+use std::str;
 
 /// A note.
 ///
@@ -53,6 +55,23 @@ pub struct NoteBytes<'a> {
     pub name: &'a [u8],
     /// Its descriptor.
     pub desc: &'a [u8],
+}
+
+impl<'a> NoteBytes<'a> {
+    /// Returns its name without the zero bytes at its end, or `None` if it is not UTF-8.
+    pub fn text(&self) -> Option<&'a str> {
+        str::from_utf8(self.start_of_name()).ok()
+    }
+
+    /// Returns the name of its type, as [`Note::type_to_str`] does.
+    pub fn type_to_str(&self) -> Name {
+        Name::written_by(|text| sys::goblin_note_type_to_str(self.start_of_name(), self.n_type, text))
+    }
+
+    fn start_of_name(&self) -> &'a [u8] {
+        let end = self.name.iter().rposition(|&byte| byte != 0).map_or(0, |last| last + 1);
+        &self.name[..end]
+    }
 }
 
 /// What notes are read as: [`Note`] or [`NoteBytes`].
@@ -130,11 +149,16 @@ pub struct Notes<'a, N = Note<'a>> {
 }
 
 impl<'a, N: AnyNote<'a>> Notes<'a, N> {
-    /// Reads the notes of a range up to the first damaged one, and returns the error of that one.
-    pub(crate) fn of(elf: &Elf<'a>, range: raw::Range, alignment: u64) -> (Self, Option<Error>) {
+    // Returns the notes of a section or a segment, of which none is read.
+    fn unread(elf: &Elf<'a>, part: &impl Part) -> Self {
         let Elf { file, header } = *elf;
-        let mut notes = Notes { file, header, range, alignment, count: 0, read_as: PhantomData };
-        let mut offset = range.offset;
+        Notes { file, header, range: part.range(), alignment: part.alignment(), count: 0, read_as: PhantomData }
+    }
+
+    /// Reads the notes of a section or a segment up to the first damaged one, and returns the error of that one.
+    pub(crate) fn of(elf: &Elf<'a>, part: &impl Part) -> (Self, Option<Error>) {
+        let mut notes = Self::unread(elf, part);
+        let mut offset = notes.range.offset;
         loop {
             match N::read(&notes, offset) {
                 Ok(Some(note)) => offset = note.next,
@@ -208,7 +232,7 @@ enum Holders<'a> {
 /// # let bytes = std::fs::read(std::env::current_exe()?)?;
 /// let elf = goblin_rs::Elf::parse(&bytes)?;
 /// for note in elf.iter_note_headers()? {
-///     println!("{} {}: {} bytes", note.name, note.type_to_str(), note.desc.len());
+///     println!("{:?} {}: {} bytes", note.text(), note.type_to_str(), note.desc.len());
 /// }
 /// # Ok(())
 /// # }
@@ -220,7 +244,7 @@ pub struct NoteIterator<'a> {
     // The index of the next header.
     next: usize,
     // The notes of the last segment or section of notes before it.
-    notes: Option<NoteDataIterator<'a>>,
+    notes: Option<NoteDataIterator<'a, NoteBytes<'a>>>,
     left: usize,
 }
 
@@ -243,12 +267,12 @@ impl<'a> NoteIterator<'a> {
     }
 
     // Returns the notes of the next segment or section of notes.
-    fn next_notes(&mut self) -> Option<Result<Notes<'a>>> {
+    fn next_notes(&mut self) -> Option<Result<Notes<'a, NoteBytes<'a>>>> {
         loop {
             let (elf, index) = (&self.elf, self.next);
             let notes = match &self.holders {
-                Holders::Segments(all) => all.get(index).map(|h| (h.p_type == PT_NOTE).then(|| elf.notes(&h))),
-                Holders::Sections(all) => all.get(index).map(|h| (h.sh_type == SHT_NOTE).then(|| elf.notes(&h))),
+                Holders::Segments(all) => all.get(index).map(|h| (h.p_type == PT_NOTE).then(|| elf.notes_bytes(&h))),
+                Holders::Sections(all) => all.get(index).map(|h| (h.sh_type == SHT_NOTE).then(|| elf.notes_bytes(&h))),
             }?;
             self.next += 1;
             if notes.is_some() {
@@ -259,7 +283,7 @@ impl<'a> NoteIterator<'a> {
 }
 
 impl<'a> Iterator for NoteIterator<'a> {
-    type Item = Note<'a>;
+    type Item = NoteBytes<'a>;
 
     fn next(&mut self) -> Option<Self::Item> {
         loop {
@@ -279,3 +303,44 @@ impl<'a> Iterator for NoteIterator<'a> {
 impl ExactSizeIterator for NoteIterator<'_> {}
 
 impl FusedIterator for NoteIterator<'_> {}
+
+// The most segments, and notes, in which a build ID is looked for.
+const MOST_SEGMENTS: usize = 1 << 17;
+const MOST_NOTES: usize = 1 << 16;
+
+/// Returns the descriptor of the first note that is a build ID, as [`Elf::build_id`] says.
+pub(crate) fn build_id<'a>(elf: &Elf<'a>) -> Result<Option<&'a [u8]>> {
+    let (segments, mut left) = (elf.program_headers()?, MOST_NOTES);
+    if segments.len() > MOST_SEGMENTS {
+        return Ok(None);
+    }
+    let mut of_segments = segments.iter().filter(|h| h.p_type == PT_NOTE);
+    if let Some(found) = of_segments.find_map(|h| build_id_in(elf, &h, &mut left)) {
+        return found;
+    }
+    let mut of_sections = elf.section_headers()?.iter().filter(|h| h.sh_type == SHT_NOTE);
+    of_sections.find_map(|h| build_id_in(elf, &h, &mut left)).unwrap_or(Ok(None))
+}
+
+// Returns what ends the search in a section or a segment: a build ID, an error, or that no more notes are read.
+fn build_id_in<'a>(elf: &Elf<'a>, part: &impl Part, left: &mut usize) -> Option<Result<Option<&'a [u8]>>> {
+    let notes = Notes::<NoteBytes>::unread(elf, part);
+    let mut next = notes.range.offset;
+    // (the section or segment counts as a note, which comes before its own)
+    *left = left.checked_sub(1)?;
+    loop {
+        let note = match NoteBytes::read(&notes, next).transpose()? {
+            Ok(note) => note,
+            Err(e) => return Some(Err(e)),
+        };
+        next = note.next;
+        if *left == 0 {
+            return Some(Ok(None));
+        }
+        *left -= 1;
+        let NoteBytes { n_type, name, desc } = NoteBytes::new(elf.file, note);
+        if n_type == NT_GNU_BUILD_ID && name == b"GNU\0" {
+            return Some(Ok(Some(desc)));
+        }
+    }
+}

@@ -1,6 +1,7 @@
 //! Tests what is read of small files that are made here, of both classes and byte orders, whole and damaged.
 use goblin_rs::dynamic::{DT_NEEDED, DT_NULL, DT_SONAME, DT_STRSZ, DT_STRTAB};
 use goblin_rs::error::Kind;
+use goblin_rs::note::NoteIterator;
 use goblin_rs::program_header::{
     ProgramHeader, PT_DYNAMIC, PT_GNU_EH_FRAME, PT_GNU_RELRO, PT_GNU_STACK, PT_INTERP, PT_LOAD, PT_NOTE, PT_PHDR,
     PT_TLS,
@@ -820,11 +821,92 @@ fn notes() {
         let of_section: Vec<_> = elf.iter_note_sections().unwrap().collect();
         let of_segment: Vec<_> = elf.iter_note_headers().unwrap().collect();
         assert_eq!(of_section, of_segment);
-        assert_eq!(of_section, elf.notes(&section(&elf, SHT_NOTE)).unwrap().iter().collect::<Vec<_>>());
-        let found: Vec<_> = of_section.iter().map(|note| (note.n_type, note.name, note.desc)).collect();
+        assert_eq!(of_section, elf.notes_bytes(&section(&elf, SHT_NOTE)).unwrap().iter().collect::<Vec<_>>());
+        let texts: Vec<_> = elf.notes(&section(&elf, SHT_NOTE)).unwrap().iter().collect();
+        let found: Vec<_> = texts.iter().map(|note| (note.n_type, note.name, note.desc)).collect();
         assert_eq!(found, [(3, "GNU", &b"abcd"[..]), (0x1234, "goblin", &b"hello"[..])]);
-        assert_eq!(of_section[0].type_to_str(), "NT_GNU_BUILD_ID");
-        assert_eq!(of_section[1].type_to_str(), "NT_UNKNOWN");
+        let types: Vec<_> = of_section.iter().map(|note| note.type_to_str()).collect();
+        assert_eq!(types, ["NT_GNU_BUILD_ID", "NT_UNKNOWN"]);
+        assert_eq!(types, texts.iter().map(|note| note.type_to_str()).collect::<Vec<_>>());
+    }
+}
+
+// Returns a note, whose name is whole.
+fn note(form: Form, name: &[u8], n_type: u64, desc: &[u8]) -> Vec<u8> {
+    let mut note = form.numbers(&[(4, name.len() as u64), (4, desc.len() as u64), (4, n_type)]);
+    for part in [name, desc] {
+        note.extend(part);
+        note.resize((note.len() + 3) / 4 * 4, 0);
+    }
+    note
+}
+
+// Returns a file whose sections 1, 4 and 5 are notes, of which its segment of notes holds those of section 4.
+fn noted(form: Form, sections: [Vec<u8>; 3]) -> Vec<u8> {
+    let mut file = made(form, 0);
+    file.resize((file.len() + 7) / 8 * 8, 0);
+    let header = Elf::parse(&file).unwrap().header;
+    for (index, notes) in [1, 4, 5].into_iter().zip(sections) {
+        let (offset, size) = (file.len() as u64, notes.len() as u64);
+        file.extend(notes);
+        file.resize((file.len() + 7) / 8 * 8, 0);
+        let section = SectionHeader { sh_type: SHT_NOTE, sh_offset: offset, sh_size: size, ..Default::default() };
+        assert_eq!(header.put_section_header(&mut file, index, &section), Ok(true));
+        let segment = ProgramHeader { p_type: PT_NOTE, p_offset: offset, p_filesz: size, ..Default::default() };
+        assert!(index != 4 || header.put_program_header(&mut file, 0, &segment) == Ok(true));
+    }
+    file
+}
+
+fn fields(notes: NoteIterator<'_>) -> Vec<(Option<&str>, &[u8], u32, &[u8])> {
+    notes.map(|note| (note.text(), note.name, note.n_type, note.desc)).collect()
+}
+
+#[test]
+fn all_notes_have_any_names_and_a_build_id_may_be_in_a_section_alone() {
+    for form in FORMS {
+        // (as annobin and a program in Go have them: readelf -n names the owners GA*FORTIFY:0xff, \xff, Go and GNU)
+        let fortify = note(form, b"GA*FORTIFY\0\xff\0", 0x100, b"at");
+        let attributes = [&fortify[..], &note(form, b"\xff\0", 3, b"")].concat();
+        let go = note(form, b"Go\0\0", 4, b"of Go");
+        let file = noted(form, [attributes.clone(), go.clone(), note(form, b"GNU\0", 3, b"of ld")]);
+        let elf = Elf::parse(&file).unwrap();
+        let of_go = (Some("Go"), &b"Go\0\0"[..], 4, &b"of Go"[..]);
+        assert_eq!(fields(elf.iter_note_headers().unwrap()), [of_go]);
+        let of_sections = [
+            (None, &b"GA*FORTIFY\0\xff\0"[..], 0x100, &b"at"[..]),
+            (None, b"\xff\0", 3, b""),
+            of_go,
+            (Some("GNU"), b"GNU\0", 3, b"of ld"),
+        ];
+        assert_eq!(fields(elf.iter_note_sections().unwrap()), of_sections);
+        assert_eq!(elf.iter_note_sections().unwrap().nth(1).unwrap().type_to_str(), "NT_GNU_BUILD_ID");
+        assert_eq!(elf.build_id(), Ok(Some(&b"of ld"[..])));
+        assert_eq!(Elf::parse(&made(form, 0)).unwrap().build_id(), Ok(Some(&b"abcd"[..])));
+        let without = noted(form, [attributes, go.clone(), go]);
+        assert_eq!(Elf::parse(&without).unwrap().build_id(), Ok(None));
+        // (a name or a descriptor past the end of its section is damage, whatever the name)
+        let second = elf.section_header(1).unwrap().unwrap().sh_offset as usize + fortify.len();
+        for at in [second, second + 4] {
+            let mut damaged = file.clone();
+            damaged[at..at + 4].copy_from_slice(&form.numbers(&[(4, 64)]));
+            let elf = Elf::parse(&damaged).unwrap();
+            for refused in [elf.iter_note_sections().map(|_| ()), elf.build_id().map(|_| ())] {
+                assert_eq!(refused.map_err(|e| e.offset()), Err(second as u64));
+            }
+        }
+    }
+}
+
+#[test]
+fn a_build_id_is_looked_for_in_so_many_notes() {
+    // (a section or segment counts as a note, too)
+    let form = FORMS[0];
+    let id = note(form, b"GNU\0", 3, b"of ld");
+    for (count, found) in [(65534, Some(&b"of ld"[..])), (65535, None)] {
+        let many = [note(form, b"ABC\0", 1, b"").repeat(count), id.clone()].concat();
+        let file = noted(form, [vec![], many, id.clone()]);
+        assert_eq!(Elf::parse(&file).unwrap().build_id(), Ok(found));
     }
 }
 

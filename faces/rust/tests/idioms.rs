@@ -81,7 +81,7 @@ fn tables_from_both_ends() {
         assert_eq!((segments.get(1).map(|segment| segment.p_type), segments.get(2)), (Some(PT_LOAD), None));
         for mut notes in [elf.iter_note_sections().unwrap(), elf.iter_note_headers().unwrap()] {
             assert_eq!((notes.len(), notes.clone().count()), (2, 2));
-            assert_eq!(notes.by_ref().last().unwrap().name, "goblin");
+            assert_eq!(notes.by_ref().last().unwrap().text(), Some("goblin"));
             assert!(notes.next().is_none() && notes.next().is_none() && notes.len() == 0);
         }
     }
@@ -157,8 +157,9 @@ fn notes_and_names_as_bytes() {
         for notes in [elf.notes(&segment), elf.notes(&section)] {
             assert_eq!(notes.unwrap_err().kind(), Kind::NoteAlign(16));
         }
+        assert_eq!(of_segment.iter().collect::<HashSet<_>>().len(), 2);
         let notes: HashSet<_> = elf.iter_note_headers().unwrap().collect();
-        assert_eq!(notes, of_segment.into_iter().collect());
+        assert_eq!(notes, elf.iter_note_sections().unwrap().collect());
         let symbols = elf.syms().unwrap().unwrap();
         let names: Vec<_> = symbols.iter().map(|symbol| symbols.name_bytes(&symbol).unwrap().unwrap()).collect();
         assert_eq!(names, [&b""[..], b"first", b"second", b"\xc3\xa9t\xc3\xa9", b"\xff"]);

@@ -208,9 +208,9 @@ fn of_relocations_and_notes() -> Tried {
     assert_eq!(named, [Some("first"), Some("second")]);
     let build_id = elf
         .iter_note_headers()?
-        .find(|note| note.n_type == NT_GNU_BUILD_ID && note.name == "GNU")
+        .find(|note| note.n_type == NT_GNU_BUILD_ID && note.text() == Some("GNU"))
         .map(|note| note.desc);
-    assert_eq!(build_id, Some(&b"abcd"[..]));
+    assert_eq!((build_id, elf.build_id()?), (Some(&b"abcd"[..]), build_id));
     let hex: String = build_id.unwrap_or(&[]).iter().map(|byte| format!("{byte:02x}")).collect();
     assert_eq!(hex, "61626364");
     let notes: Vec<Note> = elf.notes(&elf.section(".note")?.ok_or("no .note")?)?.into_iter().collect();
