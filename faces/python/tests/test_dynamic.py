@@ -139,12 +139,62 @@ class Entries(unittest.TestCase):
         self.assertEqual(elf.needed, ['\udcffibfirst.so.1', 'libsecond.so.1'])
 
 
+def library(*names):
+    """Returns a library for x86-64 that has only entries of the dynamic section, which name texts."""
+    strings, entries, start = b'\0', [], 64 + 2 * 56
+    for tag, text in names:
+        entries.append((tag, len(strings)))
+        strings += text.encode() + b'\0'
+    at = start + 16 * (len(entries) + 3)
+    dynamic = b''.join(struct.pack('<QQ', *entry) for entry in [*entries, (DT.DT_STRTAB, at), (DT.DT_STRSZ, len(strings)), (0, 0)])
+    header = struct.pack('<4s12B2HI3QI6H', b'\x7fELF', 2, 1, 1, *bytes(9), 3, 62, 1, 0, 64, 0, 0, 64, 56, 2, 64, 0, 0)
+    segments = [struct.pack('<2I6Q', kind, 4, offset, offset, offset, size, size, 8) for kind, offset, size in
+                [(1, 0, at + len(strings)), (2, start, len(dynamic))]]
+    return header + b''.join(segments) + dynamic + strings
+
+
 class Example(unittest.TestCase):
+    script = os.path.join(FOLDER, '..', 'examples', 'lddtree.py')
+    # (the example must not search the user's folders, but Python itself may need them)
+    code = "import os, runpy, sys; os.environ.pop('LD_LIBRARY_PATH', None); runpy.run_path(sys.argv.pop(1))"
+
+    def test_lddtree_finds_what_ld_so_finds(self):
+        """What ldd finds of libraries that gcc made with these names and paths, and for ld.so.conf, what its manual page says."""
+        needed, soname, rpath, runpath = (lambda text, tag=tag: (tag, text) for tag in (DT_NEEDED, DT_SONAME, DT.DT_RPATH, DT.DT_RUNPATH))
+        files = {
+            # (one is loaded already by its own name, another one for a program above, beside whose DT_RUNPATH its DT_RPATH does not count)
+            'prog': [*map(needed, ('libmid.so', 'libone.so', 'libset.so', 'libmore.so')), rpath('/a')],
+            'a/libmid.so': [*map(needed, ('libleaf.so', 'libdeep2.so', 'libtwo.so')), rpath('/c'), runpath('/b')],
+            'a/libone.so': [soname('libtwo.so')], 'a/libdeep.so': [], 'a/libdeep2.so': [], 'c/libfar.so': [],
+            'b/libleaf.so': [needed('libdeep.so'), needed('libfar.so')],
+            'usr/local/lib/libset.so': [], 'opt/lib/libmore.so': [],
+        }
+        with tempfile.TemporaryDirectory() as root:
+            for name, names in files.items():
+                os.makedirs(os.path.dirname(os.path.join(root, name)), exist_ok=True)
+                with open(os.path.join(root, name), 'wb') as file:
+                    file.write(library(*names))
+            os.makedirs(os.path.join(root, 'etc/conf.d'))
+            for name, text in (('ld.so.conf', 'include conf.d/*.conf # more\n\n/usr/local/lib\n'),
+                               ('conf.d/opt.conf', '/opt/lib\ninclude /etc/ld.so.conf\n')):
+                with open(os.path.join(root, 'etc', name), 'w', encoding='ascii') as file:
+                    file.write(text)
+            said = subprocess.run([sys.executable, '-c', self.code, self.script, f'{root}/prog', root], stdout=subprocess.PIPE, encoding='utf-8',
+                                  timeout=60).stdout.replace(root, '')
+        self.assertEqual(said, """/prog (interpreter => None)
+    libmid.so => /a/libmid.so
+        libleaf.so => /b/libleaf.so
+            libdeep.so => /a/libdeep.so
+            libfar.so => not found
+        libdeep2.so => not found
+        libtwo.so => /a/libone.so
+    libone.so => /a/libone.so
+    libset.so => /usr/local/lib/libset.so
+    libmore.so => /opt/lib/libmore.so
+""")
+
     def test_lddtree(self):
         """A system in a folder, with libraries of two machines."""
-        script = os.path.join(FOLDER, '..', 'examples', 'lddtree.py')
-        # (the example must not search the user's folders, but Python itself may need them)
-        run = "import os, runpy, sys; os.environ.pop('LD_LIBRARY_PATH', None); runpy.run_path(sys.argv.pop(1))"
         with tempfile.TemporaryDirectory() as root:
             for name, source in (('made/runpath/libfirst.so.1', 'branch_targets'), ('lib/libfirst.so.1', 'two_compilers'),
                                  ('made/runpath/libsecond.so.1', 'cut_headers'), ('usr/lib/libsecond.so.1', 'two_compilers')):
@@ -156,12 +206,12 @@ class Example(unittest.TestCase):
                 file.write(content_of(stored('facts/full')).replace(b'libfirst', b'\x1bib\xffirst'))
             # (and at what is no file it does not wait)
             os.mkfifo(os.path.join(root, 'lib/\x1bib\udcffirst.so.1'))
-            said = [subprocess.run([sys.executable, '-c', run, script, *arguments], stdout=subprocess.PIPE, stderr=subprocess.PIPE,
+            said = [subprocess.run([sys.executable, '-c', self.code, self.script, *arguments], stdout=subprocess.PIPE, stderr=subprocess.PIPE,
                                    encoding='utf-8', timeout=60) for arguments in ([stored('facts/full'), root],
                                                                                    [stored('facts/cut_dynamic'), root], [odd, root],
                                                                                    ['\x1babsent'], [], ['/proc/self/mem'])]
             with open('/dev/full', 'w') as full:
-                said.append(subprocess.run([sys.executable, script, odd], stdout=full, stderr=subprocess.PIPE, encoding='utf-8'))
+                said.append(subprocess.run([sys.executable, self.script, odd], stdout=full, stderr=subprocess.PIPE, encoding='utf-8'))
         path = stored('facts/full')
         self.assertEqual(said[0].stdout, f'{path} (interpreter => /lib/ld-made.so.1)\n    libfirst.so.1 => {root}/lib/libfirst.so.1\n'
                                          f'    libsecond.so.1 => {root}/made/runpath/libsecond.so.1\n'
