@@ -99,7 +99,7 @@ class Verdicts:
 
 
 def take_proof(crate):
-    """Takes what an earlier proof of a crate has cached, and returns whether it is kept. (The toolchain reads it as it reads that of any earlier check.)"""
+    """Takes what an earlier proof of a crate has cached, and returns whether it is kept. (The toolchain reads it as that of any check.)"""
     folder = folder_of(crate)
     # (another run may remove it now)
     with contextlib.suppress(OSError):

@@ -28,9 +28,9 @@
 //! segment. The example `truncated` shows them.
 //!
 //! # Notes
-//! [`Elf::iter_note_headers`] returns the notes of segments: those that are loaded, and all of a core file. Others are in
-//! sections alone, as the GNU build ID of a program in Go may be: [`Elf::iter_note_sections`] returns them, unless the
-//! section headers are stripped. [`Elf::build_id`] looks in both. Their names are bytes, since some are not UTF-8.
+//! [`Elf::iter_note_headers`] returns the notes of segments: those that are loaded, and all of a core file. Others are
+//! in sections alone, as the GNU build ID of a program in Go may be: [`Elf::iter_note_sections`] returns them, unless
+//! the section headers are stripped. [`Elf::build_id`] looks in both. Their names are bytes, since some are not UTF-8.
 //!
 //! # Headers that a program makes
 //! A header that a call takes need not be one of the file. [`Elf::strtab`], [`Elf::section_data`], [`Elf::number_in`]
