@@ -18,8 +18,8 @@ from crates import crates_listed, sum_of, text_of
 HERE = os.path.dirname(os.path.abspath(__file__))
 # What reaches a verdict, or a proof.
 SCRIPTS = ['crates.py', 'kept.py', 'prove.sh', 'rattle.py', *(f'edits/{name}.py' for name in ('__main__', 'edit', 'trial', 'verdict'))]
-# How many folders are kept of a crate: those used last.
-MOST = 4
+# Of how many folders of a crate, those used last, the verdicts are kept, and of how many what its proof has cached, some hundred MiB.
+MOST, MOST_PROOFS = 8, 2
 
 
 def link(path, to):
@@ -66,7 +66,8 @@ def folder_of(crate, scripts=HERE):
         # (an unwritable disk)
         with tempfile.TemporaryFile(dir=folder):
             pass
-        for old in sorted(glob.glob(f'{glob.escape(at)}/*'), key=os.path.getmtime)[:-MOST]:
+        used = sorted(glob.glob(f'{glob.escape(at)}/*'), key=os.path.getmtime)
+        for old in used[:-MOST] + [f'{one}/crates' for one in used[:-MOST_PROOFS]]:
             shutil.rmtree(old, ignore_errors=True)
         return folder
     except OSError:
