@@ -130,22 +130,15 @@ for place in installed moved; do
         --manifest-path "$folder/$place/share/goblin_c/rust/Cargo.toml"
 done
 quietly cargo package --offline --allow-dirty --manifest-path $crate
-# Puts into the file lints the flags of the stored lints, those of Rust 1.95, that a program of this version has, too, and that match a
-# pattern: lints PROGRAM PATTERN. They are errors. What else is found is printed.
-lints() {
-    [ -s checks/files/lints ] || fail 'there are no stored lints'
-    "$1" -W help 2> "$folder/output" | awk '{ gsub(/-/, "_", $1); print "-D" $1 }' > "$folder/known"
-    grep -x -F -f "$folder/known" checks/files/lints | grep "$2" > "$folder/lints" \
-        || left_out "$1 lists none of the stored lints, so it is asked for none"
-}
-lints rustdoc rustdoc:
-quietly env RUSTDOCFLAGS="$(xargs < "$folder/lints")" cargo doc --offline --manifest-path $crate
+# The lints of Rust 1.95 and before are errors. What a later one finds is printed. (rustdoc and clippy have rustc's version.)
+deny=
+[ "$(rustc --version | sed 's/^rustc 1[.]\([0-9]*\)[.].*/\1/')" -gt 95 ] || deny=-Dwarnings
+quietly env RUSTDOCFLAGS="$deny" cargo doc --offline --manifest-path $crate
 sed -n '/^warning/,/^$/p' "$folder/output"
 if cargo clippy --version > "$folder/output" 2>&1; then
-    lints clippy-driver ''
-    quietly xargs -a "$folder/lints" cargo clippy --offline --all-targets --manifest-path $crate -- -Wclippy::correctness -Aunknown_lints
+    quietly cargo clippy --offline --all-targets --manifest-path $crate -- -Wclippy::correctness -Wclippy::missing_errors_doc -Aunknown_lints $deny
     sed -n '/^warning/,/^$/p' "$folder/output"
-    echo "rust: clippy reports none of the stored lints"
+    echo "rust: clippy reports no lint"
 else
     left_out "clippy is not installed, so it doesn't read the Rust crate"
 fi

@@ -858,7 +858,10 @@ fn noted(form: Form, sections: [Vec<u8>; 3]) -> Vec<u8> {
     file
 }
 
-fn fields(notes: NoteIterator<'_>) -> Vec<(Option<&str>, &[u8], u32, &[u8])> {
+/// A note's name, as a text and as bytes, its type and its descriptor.
+type Fields<'a> = (Option<&'a str>, &'a [u8], u32, &'a [u8]);
+
+fn fields(notes: NoteIterator<'_>) -> Vec<Fields<'_>> {
     notes.map(|note| (note.text(), note.name, note.n_type, note.desc)).collect()
 }
 
