@@ -14,7 +14,11 @@ file of another one. The rules:
 - interpreter: the string in the first PT_INTERP, unknown if that has no bytes in the file.
 - pie, nx (the stack may not be executed: PT_GNU_STACK is there, and none has PF_X), writable_code (a PT_LOAD has PF_W and PF_X), bind_now
   (DT_BIND_NOW, DF_BIND_NOW or DF_1_NOW) and relro are said of programs and libraries. bind_now is null if no dynamic section has an entry,
-  and of a static program, which is one without PT_INTERP. relro is `no` without PT_GNU_RELRO, else `partial` if bind_now is false, else `full`.
+  and of a static program, which is one without PT_INTERP. relro is `no` without PT_GNU_RELRO, and else `full` if bind_now is not false and
+  the last PT_GNU_RELRO holds each slot that a call goes through and that relocation wrote: those of DT_JMPREL, those of type IRELATIVE of DT_RELA
+  and DT_REL, and if no dynamic section has an entry, those of this type of sections with SHF_ALLOC. Else it is `partial`. It is unknown if no
+  dynamic section has an entry and there is PT_INTERP or no section, and for a machine whose number of IRELATIVE is not known (facts.sh shows
+  by a run what these slots are).
 - canary: a symbol of the first SHT_SYMTAB or SHT_DYNSYM is __stack_chk_fail, __stack_chk_fail_local or __stack_chk_guard, with or without
   a version from an @ on. If none is, it is unknown if one of these can't be read, or if there is no SHT_SYMTAB, unless there is SHT_DYNSYM and
   the file is no static program.
@@ -29,7 +33,8 @@ file of another one. The rules:
 - A core has neither canary, control_flow, stripped nor compilers, and a debug file nothing of what PT_DYNAMIC, PT_INTERP, other segments and
   control_flow and canary say: these are null.
 - What can't be read since the file does not hold it is null, and named in `unknown`, in the order of the facts.
-- So is what needs more than a face reads: 131,072 segments, 1,048,576 sections, 4,096 entries of the dynamic section, 4,095 bytes of a text, 64
+- So is what needs more than a face reads: 131,072 segments, 1,048,576 sections, 4,096 entries of the dynamic section, 4,096 sections of
+  relocations, 4,194,304 relocations, 4,095 bytes of a text, 64
   of a build ID, 65,536 of .comment or of the note of control_flow, 65,536 notes (a segment or section of notes counts as one), and 64 names of
   canaries in the strings of a table.
 """
@@ -72,6 +77,17 @@ def sizes_of(sections):
     return sizes
 
 
+def relro_of(path, segments, dynamic, now):
+    """Returns what is protected of the slots that calls go through, by the addresses of the relocations that write them."""
+    held = [(int(start, 16), int(start, 16) + int(size, 16))
+            for start, size in re.findall(r'^  GNU_RELRO +0x\w+ (0x\w+) 0x\w+ 0x\w+ (0x\w+)', segments, re.M)]
+    tables = re.findall(r"^(?:'(\w+)')?.*elocation section .*\n.*\n((?:[0-9a-f]{8,16} .*\n)*)", printed(path, '-rD' if 'contains' in dynamic else '-r'), re.M)
+    slots = [(int(slot, 16), int(slot, 16) + len(slot) // 2) for name, rows in tables
+             for slot in re.findall(r'^(\w+).*' if name == 'PLT' else r'^(\w+).* R_\w+_IRELATIV', rows, re.M)]
+    is_open = now is False or any(start < held[-1][0] or end > held[-1][1] for start, end in slots)
+    return 'no' if not held else 'partial' if is_open else 'full'
+
+
 def linking(path, segments):
     """Returns what the dynamic section and the segments of a program or a library say."""
     dynamic = printed(path, '-d')
@@ -83,11 +99,10 @@ def linking(path, segments):
     now = None if is_static or 'contains' not in dynamic else is_now
     stacks = re.findall(r'^  GNU_STACK +(?:0x\w+ +){5}([RWE ]{3})', segments, re.M)
     loads = re.findall(r'^  LOAD +(?:0x\w+ +){5}([RWE ]{3})', segments, re.M)
-    relro = 'no' if not re.search(r'^  GNU_RELRO ', segments, re.M) else 'partial' if now is False else 'full'
     return {'kind': 'program' if is_program else 'library', 'interpreter': interpreter, 'soname': first(r'\(SONAME\).*\[(.*)\]', dynamic),
             'rpath': first(r'\(RPATH\).*\[(.*)\]', dynamic), 'runpath': first(r'\(RUNPATH\).*\[(.*)\]', dynamic),
             'needed': re.findall(r'\(NEEDED\).*\[(.*)\]', dynamic), 'pie': 'EXEC' not in segments and is_program,
-            'nx': bool(stacks) and not any('E' in flags for flags in stacks), 'relro': relro, 'bind_now': now,
+            'nx': bool(stacks) and not any('E' in flags for flags in stacks), 'relro': relro_of(path, segments, dynamic, now), 'bind_now': now,
             'writable_code': any('W' in flags and 'E' in flags for flags in loads), 'is_static': is_static}
 
 

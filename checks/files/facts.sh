@@ -24,6 +24,43 @@ void _start(void) { for (;;) called(first(1) + second(2)); }
 void _start(void) { for (;;) called(1); }
 #endif
 C
+# A program that calls through a slot which it writes at its start, as libc does of its indirect functions: then it protects what PT_GNU_RELRO
+# holds, and writes the slot again.
+cat > slots.c << 'C'
+#include <elf.h>
+typedef int function_t(void);
+extern char start[] __asm__("__ehdr_start") __attribute__((visibility("hidden")));
+extern Elf64_Dyn _DYNAMIC[] __attribute__((visibility("hidden")));
+extern Elf64_Rela __rela_iplt_start[];
+static int one(void) { return 1; }
+static function_t *choose(void) { return one; }
+int chosen(void) __attribute__((ifunc("choose")));
+int *const pointer __attribute__((section(".data.rel.ro"), used)) = (int *)start;
+static void call(long number, long first, long second, long third) {
+    __asm__ volatile("syscall" : "+a"(number) : "D"(first), "S"(second), "d"(third) : "rcx", "r11", "memory");
+}
+void _start(void) {
+    Elf64_Ehdr *header = (Elf64_Ehdr *)start;
+    Elf64_Phdr *segment = (Elf64_Phdr *)(start + header->e_phoff), *end = segment + header->e_phnum;
+#ifdef __PIE__
+    char *base = start;
+    Elf64_Dyn *entry = _DYNAMIC;
+    while (entry->d_tag != DT_JMPREL) entry++;
+    Elf64_Rela *slot = (Elf64_Rela *)(base + entry->d_un.d_ptr);
+#else
+    char *base = 0;
+    Elf64_Rela *slot = __rela_iplt_start;
+#endif
+    function_t **place = (function_t **)(base + slot->r_offset);
+    *place = ((function_t * (*)(void))(base + slot->r_addend))();
+    for (; segment < end; segment++) {
+        long from = (long)base + segment->p_vaddr, to = from + segment->p_memsz;
+        if (segment->p_type == PT_GNU_RELRO) call(10, from & -4096, (to & -4096) - (from & -4096), 1);
+    }
+    *place = one;
+    call(60, chosen() - 1, 0, 0);
+}
+C
 echo 'int first(int given) { return given; }' > first.c
 echo 'int second(int given) { return given; } void __stack_chk_fail(void) { for (;;); }' > second.c
 # Compiles and links small files.
@@ -38,6 +75,20 @@ for name in first second; do small -fPIC -shared -Wl,-soname,lib$name.so.1 -o $n
 small -fno-pie -static -no-pie -s -Wl,-z,relro -o static_program code.c
 small -fno-pie -static -no-pie -Wl,-N -Wl,-z,norelro -Wl,-z,execstack -o writable_code code.c
 small -fpie -static-pie -s -Wl,-z,relro -o static_pie code.c
+# With a slot outside of PT_GNU_RELRO and inside. Those of pages of 4,096 bytes, which are too large to be stored, show it: one of them ends
+# by SIGSEGV (139) as it writes its slot again.
+slots() {
+    name=$1 expected=$2 status=0
+    shift 2
+    small "$@" -s -Wl,-z,max-page-size=4096,-z,common-page-size=4096 -o large slots.c
+    ./large || status=$?
+    [ $status -eq "$expected" ] || { echo "$name: the program of large pages ends with $status, and not with $expected"; exit 1; }
+    small "$@" -s -o "$name" slots.c
+}
+slots open_slots 0 -fno-pie -static -no-pie -Wl,-z,relro,-z,lazy
+slots closed_slots 139 -fno-pie -static -no-pie -Wl,-z,relro,-z,now
+slots open_slots_pie 0 -fpie -static-pie -Wl,-z,relro,-z,lazy
+slots closed_slots_pie 139 -fpie -static-pie -Wl,-z,relro,-z,now
 # A program bound at its start, with a canary, marks of control-flow enforcement, a search path and two libraries.
 full() {
     small -DLIBRARIES -fpie -pie -s -fcf-protection=full -fstack-protector-all -Wl,-z,relro,-z,now,--enable-new-dtags,-rpath,/made/runpath \
@@ -142,6 +193,6 @@ heads = struct.pack('>8I', 4, place, 0, 0, len(note), 0, 0, 4) + struct.pack('>8
 put('core', head + heads + note + bytes(16))
 PYTHON
 chmod 644 ./*
-cp static_program writable_code static_pie full two_compilers branch_targets object debug_with_sizes debug cut_debug cut_dynamic cut_headers \
-    long_dynamic no_segments no_strings many_sections core open_names odd_note far_segments far_symbols far_symbols_canary \
-    far_segments_debug "$to/"
+cp static_program writable_code static_pie open_slots closed_slots open_slots_pie closed_slots_pie full two_compilers branch_targets \
+    object debug_with_sizes debug cut_debug cut_dynamic cut_headers long_dynamic no_segments no_strings many_sections core open_names \
+    odd_note far_segments far_symbols far_symbols_canary far_segments_debug "$to/"

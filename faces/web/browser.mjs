@@ -382,7 +382,8 @@ check('The first tab says in words what readelf lists of a program, in the order
         unknown = 'unknown: not in the file, or more than is read';
     assert.deepEqual([cut.libraries, cut['stack canary'], cut.stack], [unknown, unknown, 'not executable, segment 8']);
     for (const [name, , mark] of rows)
-        assert.equal(mark, /^(symbol versions|control-flow marks|debug file)$/.test(name) ? 'not proved' : '', name);
+        assert.equal(mark, /^(symbol versions|control-flow marks|read-only relocations|debug file)$/.test(name)
+            ? 'not proved' : '', name);
     const [[name, { size: largest }]] = Object.entries(sections).sort(([, a], [, b]) => b.size - a.size);
     assert.ok(rows.some(([size, value]) => size.startsWith(`${decimal(largest)} bytes, `) && value === name));
     // (underscores are above the line below a link)

@@ -5,17 +5,24 @@ import * as goblin from './goblin.js';
 import { read_or } from './file.js';
 import { once, text_of, two_digits } from './text.js';
 
-const { DT_BIND_NOW, DT_DEBUG, DT_FLAGS, DT_FLAGS_1, ET_CORE, ET_DYN, ET_EXEC, ET_REL, PF_W, PF_X, PT_INTERP,
-    SHT_NOBITS, SHT_NOTE, SHT_SYMTAB } = goblin;
-// The most that is read: sections, segments, entries, notes, bytes of a text, of a build ID, of .comment or the marks
-// of a note, and of strings, and names of canaries. A fact that needs more is unknown.
+const { DT_BIND_NOW, DT_DEBUG, DT_FLAGS, DT_FLAGS_1, DT_JMPREL, DT_REL, DT_RELA, ET_CORE, ET_DYN, ET_EXEC, ET_REL, PF_W,
+    PF_X, PT_INTERP, SHT_NOBITS, SHT_NOTE, SHT_REL, SHT_RELA, SHT_SYMTAB } = goblin;
+// The most that is read: sections, segments, entries or tables of relocations, notes, bytes of a text, of a build ID,
+// of .comment or the marks of a note, and of strings, names of canaries, and relocations. A fact that needs more is
+// unknown.
 const MOST_SECTIONS = 1 << 20, MOST_SEGMENTS = 1 << 17, MOST_ENTRIES = 4096, MOST_NOTES = 1 << 16, MOST_TEXT = 4095,
-    MOST_ID = 64, MOST_COMMENT = 1 << 16, MOST_STRINGS = 1 << 28, MOST_NAMES = 64;
+    MOST_ID = 64, MOST_COMMENT = 1 << 16, MOST_STRINGS = 1 << 28, MOST_NAMES = 64, MOST_RELOCATIONS = 1 << 22;
 const BUILD_ID = 3, PROPERTY = 5, LINKER = /^(Linker:|LLD|GNU ld|GNU gold|mold)/;
 const CANARY = /__stack_chk_(?:fail_local|fail|guard)(?:@[^\0]{0,255})?/g;
 // The property that marks control-flow enforcement, and the names of its bits.
 const X86 = [0xc0000002n, ['IBT', 'SHSTK']], AARCH64 = [0xc0000000n, ['BTI', 'PAC']];
 const MARKS = { [goblin.EM_386]: X86, [goblin.EM_X86_64]: X86, [goblin.EM_AARCH64]: AARCH64 };
+// By machines the type of a relocation that writes what a function returns, R_.._IRELATIVE of their psABIs, as elf.h of
+// glibc 2.36 has it.
+const IRELATIVE = { [goblin.EM_SPARC]: [249], [goblin.EM_386]: [42], [goblin.EM_SPARC32PLUS]: [249],
+    [goblin.EM_PPC]: [248], [goblin.EM_PPC64]: [248], [goblin.EM_S390]: [61], [goblin.EM_ARM]: [160],
+    [goblin.EM_SPARCV9]: [249], [goblin.EM_X86_64]: [37], [goblin.EM_AARCH64]: [188, 1032], [goblin.EM_RISCV]: [58],
+    [goblin.EM_LOONGARCH]: [12] };
 // What some kinds of files do not have.
 const LOADED = ['interpreter', 'pie', 'nx', 'relro', 'bind_now', 'writable_code'];
 const LACKS = { object: LOADED, other: LOADED, core: [...LOADED, 'canary', 'control_flow', 'compilers', 'stripped'],
@@ -128,9 +135,47 @@ function bind_now(file) {
         || has_flag(all, DT_FLAGS, goblin.DF_BIND_NOW) || has_flag(all, DT_FLAGS_1, goblin.DF_1_NOW));
 }
 
+// Yields the tables of relocations that are loaded, as sections, each with whether calls go through all that it writes.
+function *tables_of(file) {
+    const all = file.entries(), value_of = (tag) => all && values_of(all, tag)[0];
+    for (const [tag, size_tag, sh_type] of [[DT_RELA, goblin.DT_RELASZ, SHT_RELA], [DT_REL, goblin.DT_RELSZ, SHT_REL],
+        [DT_JMPREL, goblin.DT_PLTRELSZ, value_of(goblin.DT_PLTREL) === DT_RELA ? SHT_RELA : SHT_REL]]) {
+        const address = value_of(tag), sh_size = value_of(size_tag);
+        if (address === undefined || !sh_size) continue;
+        const sh_offset = file.elf.address_to_offset(address);
+        if (sh_offset === undefined) throw new Unknown();
+        yield [{ sh_type, sh_offset, sh_size }, tag === DT_JMPREL];
+    }
+    if (all?.length > 0) return;
+    if (!all || of_type(file, PT_INTERP).length > 0 || file.sections().length === 0) throw new Unknown();
+    const loaded = file.sections().slice(1).filter(({ sh_type, sh_flags }) =>
+        [SHT_REL, SHT_RELA].includes(sh_type) && sh_flags & goblin.SHF_ALLOC);
+    for (const section of within(MOST_ENTRIES, loaded)) yield [section, false];
+}
+
+// Reports whether a range holds each slot that calls go through and that relocations write, or nothing for a machine
+// whose numbers are not here.
+function holds_slots(file, start, end) {
+    const types = IRELATIVE[file.elf.header.e_machine], width = file.elf.is_64() ? 8n : 4n;
+    let left = MOST_RELOCATIONS;
+    if (!types) return undefined;
+    for (const [table, is_called] of tables_of(file)) {
+        const relocs = within(left, file.elf.relocs(table));
+        left -= relocs.length;
+        for (const { r_offset, r_type } of relocs) {
+            if ((is_called || types.includes(r_type)) && (r_offset < start || r_offset + width > end)) return false;
+        }
+    }
+    return true;
+}
+
+// (loaders take the last segment of this type)
 function relro(file) {
-    const is_now = of_type(file, goblin.PT_GNU_RELRO).length > 0 ? bind_now(file) : 'no';
-    return is_now === undefined || is_now === 'no' ? is_now : is_now === false ? 'partial' : 'full';
+    const segment = of_type(file, goblin.PT_GNU_RELRO).at(-1), is_now = segment ? bind_now(file) : 'no';
+    if (!segment || is_now === undefined) return is_now;
+    const { p_vaddr, p_memsz } = segment,
+        is_held = is_now !== false && holds_slots(file, p_vaddr, p_vaddr + p_memsz);
+    return is_held === undefined ? undefined : is_held ? 'full' : 'partial';
 }
 
 // Reports whether a symbol of a table is one of a canary, with or without a version, or null if there is no table.

@@ -160,10 +160,11 @@ const changes_code = () => value_of(goblin.DT_TEXTREL) !== undefined
 function what_protects_it() {
     const has_stack = segment_of(goblin.PT_GNU_STACK), { kind } = all_facts();
     const flow = said('control-flow marks', 'control_flow', (names) => names.join(', ') || 'none');
+    const relro = said('read-only relocations', 'relro', (word) => (word === 'no' ? 'no PT_GNU_RELRO' : word),
+        to_segment(goblin.PT_GNU_RELRO));
     const signature = parts().added.find(({ title }) => title === 'module signature');
     return [kind !== 'library' && said('position-independent', 'pie', either('yes')),
-        said('read-only relocations', 'relro', (word) => (word === 'no' ? 'no PT_GNU_RELRO' : word),
-            to_segment(goblin.PT_GNU_RELRO)),
+        relro && { ...relro, mark: 'not proved' },
         said('functions are bound', 'bind_now', either('at the start', 'when they are first called')),
         said('stack', 'nx', either('not executable', has_stack ? 'executable' : 'not said, it has no PT_GNU_STACK'),
             to_segment(goblin.PT_GNU_STACK)),

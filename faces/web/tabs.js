@@ -96,9 +96,9 @@ export async function open_tab(name, of) {
 
 // What the page doesn't name or prove.
 const CLOSING = 'Facts rest on fields that proved calls return. What is below “not proved” rests on symbol versions,'
-    + ' on notes or on texts, which this page reads itself, by numbers, or is a name of C++. Numbers without a name are'
-    + ' the relocations of Alpha and of all machines but x86, ARM, AArch64, MIPS, 64-bit PowerPC, RISC-V and s390, and'
-    + ' SPARC’s symbol type STT_REGISTER.';
+    + ' types of relocations, notes or texts, which this page reads itself, by numbers, or is a name of C++. Numbers'
+    + ' without a name are the relocations of Alpha and of all machines but x86, ARM, AArch64, MIPS, 64-bit PowerPC,'
+    + ' RISC-V and s390, and SPARC’s symbol type STT_REGISTER.';
 // Returns the facts in words. Those that the page reads itself are below a mark.
 async function summary_panel() {
     const line = (fact) => {

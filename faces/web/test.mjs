@@ -9,7 +9,9 @@ import { setFlagsFromString } from 'node:v8';
 import { runInNewContext } from 'node:vm';
 import { csv_line } from './csv.js';
 import { demangled, may_hold } from './demangle.js';
-import { dynamic_file, elf_file, longs, note, noted_file, packed, patched, symbol, symbols_file } from './elves.mjs';
+import {
+    dynamic_file, elf_file, longs, note, noted_file, packed, patched, relocations, symbol, symbols_file,
+} from './elves.mjs';
 import { import_goblin } from './tested.mjs';
 
 const COPIES = 150, FEW = 3, WHOLE = 20, FIRST = 16;
@@ -68,6 +70,7 @@ async function check_facts() {
     const more = 65536 - (bytes.byteOffset + program.length) % 65536 - 4;
     assert.deepEqual(of(Buffer.concat([program, Buffer.alloc(more)])), of(program));
     check_made_facts(of);
+    check_slots(of);
     check_bounds(of);
     await check_versions(Elf);
     await check_registers(Elf);
@@ -87,6 +90,10 @@ function check_bounds(of) {
         ({ text: `x__stack_chk_guard@${i}` })), { text: '__stack_chk_fail' }]));
     const comment = (size) =>
         of(elf_file({ sections: [{ name: '.comment', type: 1, bytes: Buffer.alloc(size, 'a\0') }] }));
+    const held = { type: 2, segments: [{ type: 0x6474e552, bytes: Buffer.alloc(16) }] };
+    const table_of = (count) => ({ name: '.rel', type: 9, flags: 2, bytes: Buffer.alloc(16 * count) });
+    const of_relocations = (count) => of(elf_file({ ...held, sections: [table_of(count)] })),
+        of_tables = (count) => of(elf_file({ ...held, sections: Array(count).fill(table_of(0)) }));
     for (const [fact, read, most, known] of [
         ['interpreter', (size) => of_segments({ type: 3, bytes: Buffer.alloc(size + 1).fill('a', 0, size) }), 4095,
             'a'.repeat(4095)],
@@ -95,6 +102,7 @@ function check_bounds(of) {
         ['control_flow', (size) => of_notes(marks(size)), 65536, ['IBT']],
         ['pie', (count) => of_segments({ type: 2, bytes: repeat(count, longs(21, 1)) }), 4096, true],
         ['compilers', comment, 65536, ['a']], ['canary', canaries, 64, true],
+        ['relro', of_relocations, 1 << 22, 'full'], ['relro', of_tables, 4096, 'full'],
     ]) {
         const [last, past] = [most, most + 1].map(read);
         assert.deepEqual([last[fact], last.unknown.includes(fact)], [known, false], fact);
@@ -142,6 +150,30 @@ async function check_names(Elf) {
     }
     const kept = used() - before;
     assert.ok(kept < 1.4e8, `${kept} bytes are kept`);
+}
+
+// Slots that calls go through and that relocations write are held by PT_GNU_RELRO, or are not known.
+function check_slots(of) {
+    const held = { type: 0x6474e552, vaddr: 0x1000, bytes: Buffer.alloc(16) };
+    const file = ({ machine, type = 37, offset = 0x1008, flags = 2, segments = [], ...given }) =>
+        of(elf_file({ type: 2, machine, segments: [held, ...segments],
+            sections: [{ ...relocations({ offset, type }), flags }], ...given }));
+    const known = (given) => {
+        const { relro, unknown } = file(given);
+        return unknown.includes('relro') ? 'unknown' : relro;
+    };
+    for (const [wanted, given] of [['full', {}], ['full', { offset: 0x1000 }], ['partial', { offset: 0x1009 }],
+        ['partial', { offset: 0xfff }], ['full', { offset: 0, type: 6 }], ['full', { offset: 0, flags: 0 }],
+        ['unknown', { machine: 8 }], ['unknown', { sections: [] }],
+        ['unknown', { segments: [{ type: 3, bytes: Buffer.from('/ld\0') }] }],
+        ['partial', { segments: [{ type: 0x6474e552, bytes: Buffer.alloc(16) }] }]])
+        assert.equal(known(given), wanted, JSON.stringify(given));
+    // (the numbers of the machines' psABIs)
+    for (const [machine, own] of
+        [[3, 42], [21, 248], [22, 61], [40, 160], [43, 249], [183, 1032], [243, 58], [258, 12]]) {
+        const found = [own, own + 1].map((type) => known({ machine, type, offset: 0 }));
+        assert.deepEqual(found, ['partial', 'full'], `${machine}`);
+    }
 }
 
 // What each entry, flag, name and note says alone, by the numbers of the standard.

@@ -7,19 +7,23 @@ from typing import Any, Callable, Dict, Iterator, List, Optional, Tuple
 
 from . import constants as abi
 from .elf import SEGMENTS, Elf
-from .items import Dynamic, Section, Segment, Strings, T, Table
+from .items import Dynamic, Relocations, Section, Segment, Strings, T, Table
 from .marks import compilers, control_flow, has_canary
 from .names import class_to_str, et_to_str, machine_to_str
 from .refused import Refused, Unknown, within
 
-# The most that a fact is made of: entries of a dynamic section, bytes of a text and of a build ID, sections, and characters of all names; and
-# the most sections, segments and symbols in which one is looked for.
-ENTRIES, TEXT, ID, SECTIONS, NAMES, SEARCHED = 4096, 4095, 64, 1 << 20, 1 << 16, 1 << 24
+# The most that a fact is made of: entries of a dynamic section, or tables of relocations, bytes of a text and of a build ID, sections,
+# characters of all names, and relocations; and the most sections, segments and symbols in which one is looked for.
+ENTRIES, TEXT, ID, SECTIONS, NAMES, RELOCATIONS, SEARCHED = 4096, 4095, 64, 1 << 20, 1 << 16, 1 << 22, 1 << 24
 # (an operator on plain numbers is much faster than one on flags)
 ALLOC, EXECINSTR, WRITE = int(abi.SHF_ALLOC), int(abi.SHF_EXECINSTR), int(abi.SHF_WRITE)
 # The tags, each with a flag or 0, of the entries that say that an ET_DYN is a program, and that a file is bound at its start.
 PIE: Dict[int, int] = {abi.DT_DEBUG: 0, abi.DT_FLAGS_1: abi.DF_1_PIE}
 NOW: Dict[int, int] = {abi.DT_BIND_NOW: 0, abi.DT_FLAGS: abi.DF_BIND_NOW, abi.DT_FLAGS_1: abi.DF_1_NOW}
+# By machines the type of a relocation that writes what a function returns, R_.._IRELATIVE of their psABIs, as elf.h of glibc 2.36 has it.
+IRELATIVE: Dict[int, Tuple[int, ...]] = {
+    abi.EM_SPARC: (249,), abi.EM_386: (42,), abi.EM_SPARC32PLUS: (249,), abi.EM_PPC: (248,), abi.EM_PPC64: (248,), abi.EM_S390: (61,),
+    abi.EM_ARM: (160,), abi.EM_SPARCV9: (249,), abi.EM_X86_64: (37,), abi.EM_AARCH64: (188, 1032), abi.EM_RISCV: (58,), abi.EM_LOONGARCH: (12,)}
 
 
 class Parts(Elf):
@@ -67,6 +71,41 @@ class Parts(Elf):
         """Whether the first entry with one of some tags has its flag, if one is given."""
         return any((value := self.entries.value(tag)) is not None and value & flag == flag for tag, flag in marks.items())
 
+    def tables(self) -> Iterator[Tuple[Relocations, bool]]:
+        """Yields the tables of relocations that are loaded, each with whether calls go through all that it writes."""
+        says = self.entries.value
+        for tag, size_tag, is_rela in ((abi.DT_RELA, abi.DT_RELASZ, True), (abi.DT_REL, abi.DT_RELSZ, False),
+                                       (abi.DT_JMPREL, abi.DT_PLTRELSZ, says(abi.DT_PLTREL) == abi.DT_RELA)):
+            address, size = says(tag), says(size_tag)
+            if address is not None and size:
+                offset = self.offset_of(address)
+                if offset is None:
+                    raise Unknown
+                yield Relocations(self, offset, size, is_rela), tag == abi.DT_JMPREL
+        if not self.entries:
+            if self.has_segment(abi.PT_INTERP) or not self.sections:
+                raise Unknown
+            loaded = [section for section in self.own_sections() if section.sh_type in (abi.SHT_RELA, abi.SHT_REL)
+                      and section.sh_flags & ALLOC]
+            yield from ((section.relocations, False) for section in within(ENTRIES, loaded))
+
+    def slots(self) -> Iterator[int]:
+        """Yields the addresses of what relocations write and calls go through. It is unknown for a machine whose numbers are not here."""
+        kinds, left = within(ENTRIES, IRELATIVE.get(self.header.e_machine)), RELOCATIONS
+        for table, is_called in self.tables():
+            left -= len(within(left, table))
+            for _, chunk in table._chunks(0, len(table)):
+                offsets, _, _, types = table._columns(chunk)
+                yield from (offset for offset, kind in zip(offsets, types) if is_called or kind in kinds)
+
+    def relro(self) -> str:
+        """Whether no slot that calls go through can be written after the start: 'full' if the last PT_GNU_RELRO, which loaders take, holds all."""
+        held = [(segment.p_vaddr, segment.p_vaddr + segment.p_memsz) for segment in self.own_segments if segment.p_type == abi.PT_GNU_RELRO]
+        if not held or FACTS['bind_now'](self) is False:
+            return 'partial' if held else 'no'
+        (low, high), size = held[-1], 8 if self.is_64 else 4
+        return 'full' if all(low <= slot and slot + size <= high for slot in self.slots()) else 'partial'
+
     def _names(self, tag: int) -> Iterator[str]:
         left = NAMES
         for entry in (entry for entry in self.entries if entry.tag == tag):
@@ -110,7 +149,7 @@ FACTS: Dict[str, Callable[[Parts], Any]] = {
     'soname': lambda of: of.soname, 'rpath': lambda of: of.rpath, 'runpath': lambda of: of.runpath, 'needed': lambda of: of.needed,
     'pie': lambda of: of.header.e_type == abi.ET_DYN and of.says(PIE),
     'nx': lambda of: of.has_segment(abi.PT_GNU_STACK) and not of.has_segment(abi.PT_GNU_STACK, abi.PF_X),
-    'relro': lambda of: 'no' if not of.has_segment(abi.PT_GNU_RELRO) else 'partial' if FACTS['bind_now'](of) is False else 'full',
+    'relro': Parts.relro,
     'bind_now': lambda of: None if of.is_static() or not of.entries else of.says(NOW),
     'writable_code': lambda of: of.has_segment(abi.PT_LOAD, abi.PF_W | abi.PF_X),
     'canary': lambda of: has_canary(of, of.is_static), 'control_flow': control_flow, 'compilers': compilers,

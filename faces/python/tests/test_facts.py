@@ -10,7 +10,8 @@ import tempfile
 import unittest
 import unittest.mock
 
-from goblin_elf import DT_NEEDED, DT_STRSZ, PT_DYNAMIC, PT_GNU_STACK, PT_INTERP, PT_NOTE, SHT_SYMTAB, Elf
+from goblin_elf import (DT_JMPREL, DT_NEEDED, DT_PLTRELSZ, DT_STRSZ, EM_MIPS, PT_DYNAMIC, PT_GNU_RELRO, PT_GNU_STACK, PT_INTERP, PT_NOTE, SHT_RELA,
+                        SHT_SYMTAB, Elf)
 from goblin_elf import __main__ as program
 from goblin_elf import facts as facts_module
 from goblin_elf import marks, scan
@@ -256,6 +257,61 @@ class Facts(unittest.TestCase):
             self.assertEqual(tuple(facts(elf)[name] for name in ('kind', 'pie', 'bind_now', 'relro')), expected)
         elf.put_header(elf.header._replace(e_type=0xfe00))
         self.assertEqual((facts(elf)['kind'], facts(elf)['nx'], facts(elf)['unknown']), ('other', None, []))
+
+    def test_slots(self):
+        """PT_GNU_RELRO holds a slot exactly if it holds all of its bytes. The table has files whose slots were written at run time."""
+        for name in ('closed_slots', 'closed_slots_pie', 'full'):
+            elf = changed(f'facts/{name}')
+            tables = [section.relocations for section in elf.sections if section.sh_type == SHT_RELA]
+            slots = [slot.r_offset for table in tables for slot in table if slot.r_type in (7, 37)]
+            first, last = min(slots), max(slots)
+            for start, end, expected in ((first, last + 8, 'full'), (first + 1, last + 8, 'partial'), (first, last + 7, 'partial')):
+                replace(elf, PT_GNU_RELRO, p_vaddr=start, p_memsz=end - start)
+                self.assertEqual((facts(elf)['relro'], facts(elf)['bind_now']), (expected, True if name == 'full' else None))
+            # (of two loaders take the last one)
+            held, empty = of_type(elf, PT_GNU_RELRO)._replace(p_memsz=last + 8 - first), of_type(elf, PT_GNU_STACK)._replace(p_type=PT_GNU_RELRO)
+            for earlier, later, expected in ((empty, held, 'full'), (held, empty, 'partial')):
+                elf.segments[empty.index], elf.segments[held.index] = earlier, later
+                self.assertEqual((empty.index < held.index, facts(elf)['relro']), (True, expected))
+
+    def test_slots_that_are_unknown(self):
+        """Without tables that say where they are, with tables that are not in the file, and by a machine without a number."""
+        elf = changed('facts/closed_slots')
+        self.assertEqual((facts(elf)['relro'], facts(elf)['unknown']), ('full', ['canary']))
+        for changes in ({'e_shoff': 0, 'e_shnum': 0, 'e_shstrndx': 0}, {'e_machine': EM_MIPS}):
+            elf.put_header(elf.header._replace(**changes))
+            self.assertIn('relro', facts(elf)['unknown'])
+            elf = changed('facts/closed_slots')
+        replace(elf, PT_GNU_STACK, p_type=PT_INTERP, p_filesz=1)
+        self.assertIn('relro', facts(elf)['unknown'])
+        # (of a section that is not loaded they are no slots, and of one that is not in the file they are unknown)
+        for fields, expected in (({'sh_flags': 0}, 'full'), ({'sh_offset': 1 << 40}, None)):
+            elf = changed('facts/open_slots')
+            section = elf.section_by_type(SHT_RELA)
+            elf.sections[section.index] = section._replace(**fields)
+            self.assertEqual(facts(elf)['relro'], expected)
+        for tag, value in ((DT_JMPREL, 1 << 40), (DT_PLTRELSZ, 1 << 40)):
+            elf = changed('facts/closed_slots_pie')
+            put_value(elf, tag, value)
+            self.assertEqual(facts(elf)['unknown'], ['relro', 'canary'])
+        # (a slot is read of at most so many relocations, and sections of them)
+        for name, most, expected in (('RELOCATIONS', 2, 'full'), ('RELOCATIONS', 1, None)):
+            with unittest.mock.patch.object(facts_module, name, most):
+                self.assertEqual(facts(changed('facts/closed_slots_pie'))['relro'], expected)
+        for most, expected in ((1, 'full'), (0, None)):
+            with unittest.mock.patch.object(facts_module, 'ENTRIES', most):
+                self.assertEqual(facts(changed('facts/closed_slots'))['relro'], expected)
+
+    def test_types_of_slots(self):
+        """They are those whose number a machine's supplement of the gABI has for R_.._IRELATIVE."""
+        for machine, kind in ((62, 37), (183, 1032), (21, 248), (243, 58), (22, 61), (43, 249), (258, 12)):
+            elf = changed('facts/open_slots')
+            section = elf.section_by_type(SHT_RELA)
+            for other, expected in ((kind, 'partial'), (kind + 1, 'full')):
+                relocation = section.relocations[0]
+                section.relocations[0] = relocation._replace(r_type=other)
+                elf.put_header(changed('facts/open_slots').header._replace(e_machine=machine))
+                self.assertEqual(facts(elf)['relro'], expected, machine)
 
     def test_marks(self):
         """The property of a machine may come after others, and end with the note."""
