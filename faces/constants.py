@@ -367,7 +367,11 @@ class Named(enum.IntEnum):
     def __format__(self, form: str) -> str:
         return format(int(self), form) if form else self.name
 """
-    kinds += [('The value of an entry of the dynamic section is the offset of no string: its tag; its value. This kind is the package\'s own.',
+    kinds += [('Strings of a table that are read at once overlap: how many have more bytes than are read; the table\'s size. This kind is the '
+               'package\'s own.', 'OVERLAP', '0xfffffffc'),
+              ('Of strings that are read at once no zero byte of the table closes one: its offset in the table. This kind is the package\'s own.',
+               'OPEN_STRING', '0xfffffffd'),
+              ('The value of an entry of the dynamic section is the offset of no string: its tag; its value. This kind is the package\'s own.',
                'NO_STRING', '0xfffffffe'),
               ('A section was read as symbols or relocations, and has another type: its type. This kind is the package\'s own.', 'SECTION_TYPE',
                '0xffffffff')]

@@ -785,8 +785,11 @@ check('Strings are compared, closed by a zero byte, and found many at once', () 
     assert.ok(near.shdr_strtab().is(sh_name, near.bytes.subarray(Number(at + sh_name)).subarray(0, 5)));
     const closed = [0, 1, 9, 12].map((offset) => names.get_closed_bytes(offset)?.length);
     assert.deepEqual(closed, [0, 4, undefined, undefined]);
-    const offsets = Array.from({ length: 200 }, (_, i) => i % 14);
+    const offsets = Array.from({ length: 200 }, (_, i) => (i % 10 < 9 ? i % 10 : 12));
     assert.deepEqual(names.get_all_bytes(offsets), offsets.map((offset) => names.get_bytes(offset)));
+    const refused = error_of(() => names.get_all_bytes([0, 12, 10]));
+    assert.deepEqual([refused.kind, refused.numbers[0], refused.offset, refused.message],
+        [Kind.OPEN_STRING, 10n, sh_offset + 10n, 'No zero byte closes the string at offset 10 of its table']);
     assert.deepEqual(names.get_all_bytes(new Set([6n])), [Uint8Array.of(0xff, 0xfe)]);
     const past = table(13n);
     for (const read of ['is', 'starts_with', 'get_closed_bytes'])
@@ -866,6 +869,14 @@ check('Errors begin, and their numbers count from, where the comments of `offset
         assert.deepEqual(why(() => elf.notes({ ...section, sh_addralign: alignment })),
             [NOTE_ALIGN, alignment, 0n, first]);
     }
+});
+
+check('Strings that no zero byte closes are not read for each offset', () => {
+    // (a gigabyte a second would take an hour)
+    const size = 1 << 25, elf = Elf.parse(Buffer.concat([own, Buffer.alloc(size, 'a')])),
+        strtab = elf.strtab({ sh_type: 3, sh_offset: BigInt(own.length), sh_size: BigInt(size) });
+    assert.throws(() => strtab.get_all_bytes(Array.from({ length: 100_000 }, (_, i) => i)),
+        is_refusal(Kind.OPEN_STRING, BigInt(own.length)));
 });
 
 check('The example needed.mjs reads strings that no zero byte closes once, and not for each name', () => {

@@ -72,6 +72,8 @@ export * from './constants.js';
  *   `[the byte]`
  * - `INTEGER_FIT`: a number that is written does not fit its field, or a relocation has an addend where its section has
  *   none, or the reverse. `[the number, of a negative one its two's complement]`. `offset` is that of the field.
+ * - `OPEN_STRING`: of strings that are read at once, the table has no zero byte that closes one. `[its offset in the
+ *   table]`. This kind is this file's own.
  * - `SECTION_TYPE`: a section was read as symbols or relocations, and has another type. `[its type]`. This kind is this
  *   file's own.
  *
@@ -81,7 +83,7 @@ export const Kind = Object.freeze({
     BAD_MAGIC: 2, TOO_BIG: 3, BAD_OFFSET: 4, BAD_INPUT: 5, BUFFER_TOO_SHORT: 6, OUT_OF_MEMORY: 7, INVALID_CLASS: 10,
     INVALID_ENDIANNESS: 11, TOO_SMALL: 12, ELF_CLASS: 13, DATA_TYPE: 14, DATA: 15, NOTE_ALIGN: 16, SYMTAB_OFFSET: 17,
     TOO_MANY_SYMBOLS: 18, SYMTAB_PAST: 19, STRTAB_OFFSET: 20, STRTAB_RANGE: 21, SECTION_OFFSET: 22, SECTION_ADDR: 23,
-    INTEGER_FIT: 24, SECTION_TYPE: 0xffffffff,
+    INTEGER_FIT: 24, OPEN_STRING: 0xfffffffd, SECTION_TYPE: 0xffffffff,
 });
 
 /**
@@ -595,6 +597,13 @@ export class GoblinError extends Error {
         const message = `A section of type 0x${sh_type.toString(16)} (${sht_to_str(sh_type)}) holds no ${expected}`;
         const numbers = { first: BigInt(sh_type), second: 0n, third: 0n, fourth: 0n };
         return new GoblinError(message, { kind: Kind.SECTION_TYPE, item: 0, ...numbers, offset: sh_offset });
+    }
+
+    // Returns the refusal of a string that no zero byte of a table closes.
+    static of_open({ offset }, table) {
+        const first = offset - table.offset, message = `No zero byte closes the string at offset ${first} of its table`,
+            others = { second: 0n, third: 0n, fourth: 0n };
+        return new GoblinError(message, { kind: Kind.OPEN_STRING, item: 0, first, ...others, offset });
     }
 }
 
@@ -1848,7 +1857,7 @@ export class Strtab {
     /**
      * Returns the bytes of the strings at many offsets, each as `get_bytes` does. The table is checked once for up to
      * 64 strings, and again after an offset past its end. Throws if there are offsets, and the table is not inside the
-     * file.
+     * file, or no zero byte of it closes one of the strings: each of these would be read up to the table's end.
      * @param {Iterable<number | bigint>} offsets
      * @returns {(Uint8Array | undefined)[]}
      */
@@ -1856,7 +1865,9 @@ export class Strtab {
         const all = Array.from(offsets, (offset) => unsigned(offset, 64)), found = [];
         while (found.length < all.length) {
             const batch = all.slice(found.length, found.length + BATCH);
-            const ranges = this.#memory.strings(this.range, batch);
+            const ranges = this.#memory.strings(this.range, batch), end = this.range.offset + this.range.size,
+                open = ranges.find(({ offset, size }) => offset + size === end);
+            if (open) throw GoblinError.of_open(open, this.range);
             for (const range of ranges) found.push(this.#memory.bytes(range));
             if (ranges.length < batch.length) found.push(undefined);
         }

@@ -51,7 +51,7 @@ function check_kinds() {
     const kinds = numbers_after('GOBLIN_END = 1,\n');
     assert.equal(Object.keys(kinds).length, 21);
     assert.deepEqual({ ...goblin.Item }, numbers_after('0 for refusals that have none. */\n'));
-    assert.deepEqual({ ...goblin.Kind }, { ...kinds, SECTION_TYPE: 2 ** 32 - 1 });
+    assert.deepEqual({ ...goblin.Kind }, { ...kinds, OPEN_STRING: 2 ** 32 - 3, SECTION_TYPE: 2 ** 32 - 1 });
     assert.equal(goblin.VERSION, Number(/GOBLIN_VERSION (\d+)/.exec(header)[1]));
 }
 

@@ -190,9 +190,12 @@ class Elf:
 
     @property
     def needed(self) -> List[str]:
-        """The names of the libraries that the file needs, in its order. Refused as `dynamic` is, or if one is not in its strings. Bytes that
-        are not UTF-8 are decoded with 'surrogateescape', here and below."""
-        return list(self._names(DT_NEEDED))
+        """The names of the libraries that the file needs, in its order. Refused as `dynamic` is, or if one is not in its strings, and as
+        `Strings.get_all` is. Bytes that are not UTF-8 are decoded with 'surrogateescape', here and below."""
+        dynamic = self.dynamic
+        offsets = [entry.d_val for entry in dynamic if entry.d_tag == DT_NEEDED]
+        names = dynamic.strings.get_all(offsets, 'surrogateescape') if offsets else []
+        return [name if name is not None else dynamic._refuse(DT_NEEDED, offset) for name, offset in zip(names, offsets)]
 
     @property
     def soname(self) -> Optional[str]:

@@ -5,7 +5,8 @@ import functools
 import itertools
 import operator
 from array import array
-from typing import TYPE_CHECKING, Any, Dict, Iterable, Iterator, List, NamedTuple, Optional, Sequence, Tuple, Type, TypeVar, Union, overload
+from typing import (TYPE_CHECKING, Any, Dict, Iterable, Iterator, List, NamedTuple, NoReturn, Optional, Sequence, Tuple, Type, TypeVar, Union,
+                    overload)
 
 from ._library import FUNCTIONS, RANGE, RECORDS, REFUSAL, Record, call, found, unsigned
 from .constants import SHT_DYNSYM, SHT_NOBITS, SHT_REL, SHT_RELA, SHT_SYMTAB
@@ -20,7 +21,9 @@ T = TypeVar('T', bound=Tuple[Any, ...])
 Fields = Tuple[int, ...]
 Name = Union[str, bytes]
 # How many items are read by one call. How many names are, at first, how far names are asked for in order, and the most bytes of many names.
-CHUNK, AHEAD, NEAR, TEXTS = 2048, 64, 8, 1 << 24
+# Of a table with a string of more bytes each is read alone, and those that overlap so that they have more than so many times its bytes, which
+# is more than a linker merges, are refused.
+CHUNK, AHEAD, NEAR, TEXTS, LONGEST, OVERLAPS = 2048, 64, 8, 1 << 24, 1 << 14, 4
 
 
 @functools.total_ordering
@@ -208,10 +211,7 @@ class Dyn(Entry, DynFields):
         """The string that its value is the offset of, which need not be UTF-8: it is decoded with 'surrogateescape'. Refused if there is none,
         or as `Dynamic.strings` is."""
         found = self.table.strings.get(self.d_val, 'surrogateescape')
-        if found is None:
-            said = f'An entry of the dynamic section with the tag {self.d_tag:#x} names no string: {self.d_val}'
-            raise Refused(said, Kind.NO_STRING, 0, (self.d_tag, self.d_val), self.table.offset)
-        return found
+        return self.table._refuse(self.d_tag, self.d_val) if found is None else found
 
 
 class NoteFields(NamedTuple):
@@ -341,9 +341,11 @@ class NamedTable(Table[T]):
     _window = range(0)  # the indexes of the items whose names were looked for last
 
     def names(self: Any, errors: str = 'strict') -> List[Optional[str]]:
-        """Returns the names of all items in one pass: see `Strings.get`."""
-        chunks = self._chunks(0, len(self))
-        return [name for _, chunk in chunks for name in self.strings._get_all(self._offsets(chunk), errors)]
+        """Returns the names of all items in one pass: see `Strings.get_all`."""
+        offsets = array('Q')
+        for _, chunk in self._chunks(0, len(self)):
+            offsets += self._offsets(chunk)
+        return list(self.strings._get_all(offsets, errors))
 
     def _offsets(self, chunk: memoryview) -> 'array[int]':
         return array('Q', chunk.cast('Q')[self._field::self.record.size // 8].tobytes())
@@ -435,6 +437,10 @@ class Dynamic(Table[Dyn]):
         """Its strings: an empty table if it does not say where they are. Refused if they are not inside the file."""
         elf = self.elf
         return self._given or Strings(elf, *(found('dynamic_strings', RANGE, elf._file, elf._image, *self._arguments) or (0, 0)))
+
+    def _refuse(self, tag: int, value: int) -> NoReturn:
+        said = f'An entry of the dynamic section with the tag {tag:#x} names no string: {value}'
+        raise Refused(said, Kind.NO_STRING, 0, (tag, value), self.offset)
 
     def value(self, tag: int) -> Optional[int]:
         """Returns the value of the first entry with a tag, or `None`."""
@@ -535,18 +541,54 @@ class Strings:
         return call('string_starts', self._file, self._range, unsigned(offset), *named(start))
 
     def get_all(self, offsets: Iterable[int], errors: str = 'strict') -> List[Optional[str]]:
-        """Returns the strings at many offsets in one pass, each as `get` does."""
+        """Returns the strings at many offsets in one pass, each as `get` does. Refused also if no zero byte of the table closes one, and if those
+        at different offsets overlap so that they have more than 16 MiB and four times the bytes of the table."""
         return self._get_all(array('Q', map(unsigned, offsets)), errors)
 
     def _get_all(self, offsets: 'array[int]', errors: str) -> List[Optional[str]]:
         texts: List[Optional[str]] = []
+        left = most = max(TEXTS, OVERLAPS * self.size)
+        if not self._are_short():
+            return self._get_each_once(offsets, errors, most)
         while len(texts) < len(offsets):
-            texts += self._first(offsets, len(texts), errors)
-            texts += [self.get(offset, errors) for offset in offsets[len(texts):len(texts) + 1]]
+            some = self._first(offsets, len(texts), errors)
+            left -= sum(map(len, some))
+            if left < 0:
+                return self._get_each_once(offsets, errors, most)
+            texts += some
+            texts += [self._closed(offset, errors) for offset in offsets[len(texts):len(texts) + 1]]
         return texts
 
+    def _are_short(self) -> bool:
+        """Whether a zero byte is among any LONGEST bytes of the table that follow one another, and one more."""
+        at, end = self.offset, self.offset + self.size
+        while end - at > LONGEST:
+            place = bytes(self._file.source[at:at + LONGEST + 1]).rfind(b'\0')
+            if place < 0:
+                return False
+            at += place + 1
+        return True
+
+    def _get_each_once(self, offsets: 'array[int]', errors: str, most: int) -> List[Optional[str]]:
+        """Returns the strings at offsets, of which those at the same one are the same object."""
+        known: Dict[int, Optional[str]] = {}
+        for offset in offsets:
+            if offset not in known:
+                known[offset] = text = self._closed(offset, errors)
+                most -= len(text or '')
+                if most < 0:
+                    said = f'Strings at {len(known)} offsets of their table have more than {OVERLAPS} times its bytes: {self.size}'
+                    raise Refused(said, Kind.OVERLAP, 0, (len(known), self.size), self.offset)
+        return [known[offset] for offset in offsets]
+
+    def _closed(self, offset: int, errors: str) -> Optional[str]:
+        """Returns a string as `get` does. Refused also if no zero byte of the table closes it."""
+        if offset < self.size and self.get_closed(offset) is None:
+            raise Refused(f'No zero byte closes the string at offset {offset} of its table', Kind.OPEN_STRING, 0, (offset,), self.offset + offset)
+        return self.get(offset, errors)
+
     def _first(self, offsets: 'array[int]', start: int, errors: str = 'strict') -> List[str]:
-        """Returns some of the strings at offsets, from an index on, up to the first one that is refused or past the end, or sooner."""
+        """Returns some of the strings at offsets, from an index on, up to the first one that is refused, open or past the end, or sooner."""
         texts: List[str] = []
         count, filled = min(len(offsets) - start, CHUNK), ctypes.c_uint64()
         ranges = array('Q', (0, 0)) * count
@@ -555,7 +597,9 @@ class Strings:
         count = filled.value
         while sum(ranges[1:2 * count:2]) > TEXTS:
             count //= 2
-        source = self._file.source
+        source, end = self._file.source, self.offset + self.size
+        if count and self._file.view[end - 1]:
+            count = next((i for i in range(count) if ranges[2 * i] + ranges[2 * i + 1] == end), count)
         # (the library finds strings that are not UTF-8, too: `get` refuses the first one)
         with contextlib.suppress(UnicodeDecodeError):
             texts.extend(str(source[at:at + size], 'utf-8', errors) for at, size in zip(ranges[:2 * count:2], ranges[1::2]))

@@ -2,6 +2,7 @@
 import hashlib
 import os
 import random
+import resource
 
 from goblin_elf import PT_DYNAMIC, SHT_DYNSYM, SHT_NOTE, SHT_REL, SHT_RELA, SHT_SYMTAB, Elf
 from goblin_elf.facts import facts
@@ -100,6 +101,11 @@ def elf_files(folders, count):
                             found.append(path)
     found.sort()
     return [found[index * len(found) // count] for index in range(min(count, len(found)))]
+
+
+def limit_memory():
+    """Lets this process take little memory."""
+    resource.setrlimit(resource.RLIMIT_DATA, (256 << 20, 256 << 20))
 
 
 def stored(name):

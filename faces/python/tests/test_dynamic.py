@@ -12,7 +12,7 @@ import unittest
 from goblin_elf import DT, DT_NEEDED, DT_SONAME, DT_STRSZ, PT_DYNAMIC, PT_INTERP, SHT_DYNAMIC, Dyn, Elf, Kind, Refused
 
 import made
-from parts import changed, content_of, of_type, put_value, replace, stored
+from parts import changed, content_of, limit_memory, of_type, put_value, replace, stored
 
 try:
     import numpy
@@ -137,6 +137,35 @@ class Entries(unittest.TestCase):
         elf = changed('facts/full')
         elf.put_number(bytes(elf.bytes).index(b'libfirst'), 1, 0xff)
         self.assertEqual(elf.needed, ['\udcffibfirst.so.1', 'libsecond.so.1'])
+
+
+HOSTILE = r'''
+import struct
+from goblin_elf import Elf, Refused, Strings, Symbols
+count, size, start = 20000, 2 << 20, 64 + 2 * 56
+for closing, step in ((b'a', 1), (bytes(1), 1), (bytes(1), 0)):
+    strings, offsets = start + 16 * (count + 3), [1 + index * step for index in range(count)]
+    content = struct.pack('<16s2HI3QI6H', b'\x7fELF\2\1\1', 3, 62, 1, 0, 64, 0, 0, 64, 56, 2, 64, 0, 0)
+    content += struct.pack('<2I6Q2I6Q', 1, 4, 0, 0, 0, strings + size, 0, 1, 2, 4, start, start, 0, strings - start, 0, 8)
+    content += b''.join(struct.pack('<QQ', 1, offset) for offset in offsets) + struct.pack('<6Q', 5, strings, 10, size, 0, 0)
+    content += b'a' * (size - 1) + closing + b''.join(struct.pack('<IBBHQQ', offset, 0, 0, 0, 0, 0) for offset in offsets)
+    elf = Elf(content)
+    symbols = Symbols(elf, strings + size, 24 * count, Strings(elf, strings, size))
+    for names in (lambda: elf.needed, symbols.names, lambda: symbols.strings.get_all(offsets)):
+        try:
+            print(len({id(name) for name in names()}), end=' ')
+        except Refused as error:
+            print(error.kind.name, *error.numbers, error.offset - strings, end=' ')
+'''
+
+
+class Hostile(unittest.TestCase):
+    def test_names_that_are_long_or_overlap(self):
+        """Those that nothing closes are refused, and those that overlap, of which 20,000 of 2 MiB would take 40 GB. Those at one offset are one."""
+        found = subprocess.run([sys.executable, '-c', HOSTILE], stdout=subprocess.PIPE, stderr=subprocess.PIPE, timeout=60, encoding='utf-8',
+                               preexec_fn=limit_memory)
+        expected = ['OPEN_STRING', '1', '1'] * 3 + ['OVERLAP', '9', str(2 << 20), '0'] * 3 + ['1'] * 3
+        self.assertEqual((found.stdout.split(), found.stderr), (expected, ''))
 
 
 def library(*names):

@@ -295,6 +295,13 @@ class Refusals(unittest.TestCase):
         for read in (odd.get_all, lambda offsets, errors: odd.get(offsets[1], errors)):
             self.assertEqual(refusal(read, [4, 0], 'surrogatepass').item, Item.INVALID_UTF8)
         self.assertEqual(Strings(Elf(MADE.bytes + b'\xed\xa0\x80'), len(MADE.bytes), 3).get(0, 'surrogatepass'), '\ud800')
+        # (many are refused from the first one on that no zero byte closes)
+        names = Strings(Elf(MADE.bytes + b'a\0end'), len(MADE.bytes), 5)
+        self.assertEqual((names.get(2), names.get_all([0, 5, 1, 0])), ('end', ['a', None, '', 'a']))
+        for errors in ('strict', 'replace'):
+            error = refusal(names.get_all, [0, 5, 3, 2], errors)
+            self.assertEqual((error.kind, error.numbers, error.offset, str(error)),
+                             (Kind.OPEN_STRING, (3,), len(MADE.bytes) + 3, 'No zero byte closes the string at offset 3 of its table'))
 
     def test_of_strings_in_place(self):
         names = Strings(Elf(MADE.bytes + b'caf\xe9\0end'), len(MADE.bytes), 8)
@@ -391,9 +398,9 @@ class Names(unittest.TestCase):
         places = [*range(len(self.STRINGS)), *more]
         return [chance.choice(places) for _ in range(count)]
 
-    def expected(self, offset, errors='strict'):
+    def expected(self, offset, errors='strict', strings=STRINGS):
         """Returns the text at an offset, by Python alone, or `None`. Raises a UnicodeDecodeError."""
-        return self.STRINGS[offset:].split(b'\0')[0].decode('utf-8', errors) if offset < len(self.STRINGS) else None
+        return strings[offset:].split(b'\0')[0].decode('utf-8', errors) if offset < len(strings) else None
 
     def check(self, item):
         try:
@@ -414,9 +421,15 @@ class Names(unittest.TestCase):
                 for item in order:
                     self.check(item)
             self.check(items[-1]._replace(st_name=1))
-            self.assertEqual(table.names('replace'), [self.expected(item.st_name, 'replace') for item in items])
-            self.assertEqual(table.strings.get_all((item.st_name for item in items), 'replace'), table.names('replace'))
-        self.assertEqual(refusal(table.names).kind, Kind.BAD_INPUT)
+            closed = self.table([item.st_name for item in items], self.STRINGS + b'\0')
+            self.assertEqual(closed.names('replace'), [self.expected(item.st_name, 'replace', self.STRINGS + b'\0') for item in items])
+            self.assertEqual(closed.strings.get_all((item.st_name for item in items), 'replace'), closed.names('replace'))
+        self.assertEqual((refusal(closed.names).kind, refusal(table.names, 'replace').kind), (Kind.BAD_INPUT, Kind.OPEN_STRING))
+        # (a table with a long string is read otherwise)
+        for size in (1 << 14, (1 << 14) + 1):
+            strings = b'main\0' + b'a' * size + b'\0'
+            places = [*range(8), size, size + 4, size + 5, size + 6, size + 7, 0, 5]
+            self.assertEqual(self.table(places, strings).names(), [self.expected(place, 'strict', strings) for place in places])
 
     def test_number_of_calls(self):
         offsets, strings = range(0, 6000), b'ab\0' * 2000

@@ -17,9 +17,10 @@ use std::{error, fmt, io, result};
 #[derive(Clone, Copy, PartialEq, Eq, Hash)]
 pub struct Error(raw::Refusal);
 
-// The only kind of error that is this crate's own, with a number that the library doesn't use. `first` is the type of a
-// section, and `item` an index in `HELD`: what was expected of the section.
+// The kinds of errors that are this crate's own, with numbers that the library doesn't use. Of the first one `first` is
+// the type of a section, and `item` an index in `HELD`: what was expected of the section.
 const SECTION_TYPE: u32 = u32::MAX;
+const OPEN_STRING: u32 = u32::MAX - 2;
 const HELD: [&str; 2] = ["symbols", "relocations"];
 pub(crate) const SYMBOLS: u32 = 0;
 pub(crate) const RELOCATIONS: u32 = 1;
@@ -155,6 +156,8 @@ pub enum Kind {
         /// What was expected: "symbols" or "relocations".
         expected: &'static str,
     },
+    /// Of strings that are read at once, the table has no zero byte that closes one: its offset in the table.
+    OpenString(u64),
     /// The number of an error of a later version of the library.
     Other(u32),
 }
@@ -225,6 +228,12 @@ impl Error {
         Error(raw::Refusal { kind: SECTION_TYPE, item: expected, first, offset, ..raw::Refusal::default() })
     }
 
+    /// Returns the error of a string that no zero byte of a table closes.
+    pub(crate) fn open_string(table: &raw::Range, string: &raw::Range) -> Self {
+        let (first, offset) = (string.offset - table.offset, string.offset);
+        Error(raw::Refusal { kind: OPEN_STRING, first, offset, ..raw::Refusal::default() })
+    }
+
     /// Returns the kind of this error.
     pub fn kind(&self) -> Kind {
         let raw::Refusal { kind, item, first, second, third, fourth, .. } = self.0;
@@ -253,16 +262,23 @@ impl Error {
             23 => Kind::SectionAddr { name: first, size: second, addr: third, overflow },
             24 => Kind::IntegerFit(first),
             SECTION_TYPE => Kind::SectionType { sh_type: first as u32, expected: HELD[self.0.item as usize] },
+            OPEN_STRING => Kind::OpenString(first),
             other => Kind::Other(other),
         }
     }
 }
 
-/// Writes the library's text of the error. That of [`Kind::SectionType`] is this crate's own.
+/// Writes the library's text of the error. Those of [`Kind::SectionType`] and [`Kind::OpenString`] are this crate's.
 impl fmt::Display for Error {
     fn fmt(&self, f: &mut fmt::Formatter<'_>) -> fmt::Result {
-        if let Kind::SectionType { sh_type, expected } = self.kind() {
-            return write!(f, "A section of type {:#x} ({}) holds no {}", sh_type, sht_to_str(sh_type), expected);
+        match self.kind() {
+            Kind::SectionType { sh_type, expected } => {
+                return write!(f, "A section of type {:#x} ({}) holds no {}", sh_type, sht_to_str(sh_type), expected);
+            }
+            Kind::OpenString(offset) => {
+                return write!(f, "No zero byte closes the string at offset {offset} of its table");
+            }
+            _ => {}
         }
         let mut text = vec![0; sys::goblin_refusal_to_str(&self.0, &mut [])];
         sys::goblin_refusal_to_str(&self.0, &mut text);

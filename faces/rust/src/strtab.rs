@@ -1,5 +1,5 @@
 //! String tables.
-use crate::error::Result;
+use crate::error::{Error, Result};
 use crate::file::File;
 use crate::{raw, sys};
 use std::ffi::CStr;
@@ -89,7 +89,8 @@ impl<'a> Strtab<'a> {
     /// ```
     ///
     /// # Errors
-    /// If there are offsets, and the table is not inside the file.
+    /// If there are offsets, and the table is not inside the file, or no zero byte of it closes one of the strings.
+    /// Each such string would be read up to the table's end.
     pub fn get_all_bytes(&self, offsets: impl IntoIterator<Item = usize>) -> Result<Vec<Option<&'a [u8]>>> {
         let offsets: Vec<u64> = offsets.into_iter().map(|offset| offset as u64).collect();
         let mut found = Vec::with_capacity(offsets.len());
@@ -97,6 +98,10 @@ impl<'a> Strtab<'a> {
         while found.len() < offsets.len() {
             let batch = &offsets[found.len()..offsets.len().min(found.len() + ranges.len())];
             let filled = sys::goblin_strings(&self.file, &self.range, batch, &mut ranges)?;
+            let end = self.range.offset.saturating_add(self.range.size);
+            if let Some(open) = ranges[..filled].iter().find(|string| string.offset + string.size == end) {
+                return Err(Error::open_string(&self.range, open));
+            }
             found.extend(ranges[..filled].iter().map(|range| Some(self.file.slice(*range))));
             if filled < batch.len() {
                 found.push(None);

@@ -338,6 +338,17 @@ fn compares_strings(names: &Strtab) {
 }
 
 #[test]
+fn reads_no_open_string_for_each_name() {
+    // (a gigabyte a second would take an hour)
+    let (file, size) = (made(FORMS[0], 0), 1 << 25);
+    let start = file.len() as u64;
+    let long = [file, vec![b'a'; size]].concat();
+    let strings = SectionHeader { sh_type: 3, sh_offset: start, sh_size: size as u64, ..SectionHeader::default() };
+    let refused = Elf::parse(&long).unwrap().strtab(&strings).get_all_bytes(0..100_000).unwrap_err();
+    assert_eq!((refused.kind(), refused.offset()), (Kind::OpenString(0), start));
+}
+
+#[test]
 fn refuses_to_compare_strings_past_the_end() {
     for form in FORMS {
         let file = made(form, 0);
@@ -346,6 +357,10 @@ fn refuses_to_compare_strings_past_the_end() {
         // (only "first")
         let open = elf.strtab(&SectionHeader { sh_offset: strings.sh_offset + 1, sh_size: 5, ..strings });
         assert_eq!((open.get_c_str(0), open.is(0, b"first")), (Ok(None), Ok(true)));
+        let refused = open.get_all_bytes([5, 2]).unwrap_err();
+        assert_eq!((refused.kind(), refused.offset()), (Kind::OpenString(2), strings.sh_offset + 3));
+        assert_eq!(refused.to_string(), "No zero byte closes the string at offset 2 of its table");
+        assert_eq!(open.get_all_bytes([5]), Ok(vec![None]));
         let past = elf.strtab(&SectionHeader { sh_offset: file.len() as u64 - 1, sh_size: 2, ..strings });
         let len = file.len() as u64;
         let wanted = Kind::StrtabRange { size: 2, offset: len - 1, len, overflow: false };
