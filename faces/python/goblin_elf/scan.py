@@ -17,6 +17,7 @@ import argparse
 import collections
 import contextlib
 import csv
+import fcntl
 import functools
 import importlib
 import itertools
@@ -48,8 +49,9 @@ COLUMNS = ['file', 'member', 'class', 'order', 'type', 'kind', 'machine', 'build
 # What pyarrow calls the types of those that are no texts, and what stands between the texts of a list.
 TYPES = {**dict.fromkeys([*COUNTS, 'offset'], 'uint64'),
          **dict.fromkeys(['pie', 'nx', 'bind_now', 'writable_code', 'canary', 'stripped', 'cut'], 'bool_')}
-BETWEEN = {'compilers': '; '}
+LISTS, BETWEEN = ('needed', 'control_flow', 'compilers', 'unknown', 'numbers'), {'compilers': '; '}
 MAGIC, AR, THIN = b'\x7fELF', b'!<arch>\n', b'!<thin>\n'
+TAKEN = 'another goblin-scan writes it'
 DAMAGED = 'the archive is damaged or cut: it may have more members'
 # The most bytes of a member that is unpacked into memory, of the data of a package, of a member's name, and of one that is unpacked.
 MEMBER, PACKAGE, NAME, NAME_READ = 64 << 20, 4 << 30, 4096, 1 << 16
@@ -365,9 +367,20 @@ def found_below(folder: str, others: Set[str]) -> Iterator[str]:
             yield path  # (which is then examined, and is a row that says why it can't be read)
 
 
-def is_row(row: Any) -> bool:
-    """Whether what is in a report is a row of it."""
-    return isinstance(row, dict) and list(row) == COLUMNS and isinstance(row['file'], str)
+def is_row(row: Any, has_lists: bool = False) -> bool:
+    """Whether what is in a report is a row of it, and has lists, where it may have none of the texts that older versions wrote."""
+    return isinstance(row, dict) and list(row) == COLUMNS and isinstance(row['file'], str) \
+        and not (has_lists and any(isinstance(row[name], str) for name in LISTS))
+
+
+def lock(file: IO[Any]) -> None:
+    """Locks a file until it is closed. Raises an OSError if another process has locked it. (Some file systems have no locks.)"""
+    try:
+        fcntl.flock(file, fcntl.LOCK_EX | fcntl.LOCK_NB)
+    except BlockingIOError:
+        raise OSError(TAKEN) from None
+    except OSError:
+        pass
 
 
 class Report:
@@ -383,21 +396,40 @@ class Report:
         self.known: Set[str] = set()
         self.held: List[Row] = []  # those of the last file that was there, until it is examined again
         self.count = 0
-        old = self.read() if resume and (os.path.exists(self.lines_path) or os.path.exists(path)) else iter(())
         # (no other file has this name)
         new = os.path.join(os.path.dirname(path), f'goblin-scan-{secrets.token_hex(8)}.new')
-        self.file: TextIO = open(new, 'x', newline='', encoding='utf-8')
-        try:
-            # (only root may give it to another user)
-            with contextlib.suppress(OSError):
-                status = os.stat(path if os.path.exists(path) else self.lines_path)
-                os.fchmod(self.file.fileno(), stat.S_IMODE(status.st_mode))
-                os.fchown(self.file.fileno(), status.st_uid, status.st_gid)
-            self.begin(old)
+        with contextlib.ExitStack() as held:
+            there = held.enter_context(open(self.lines_path, 'rb')) if os.path.exists(self.lines_path) else None
+            if there:
+                lock(there)
+            old = self.read() if resume and (there or os.path.exists(path)) else iter(())
+            self.file: TextIO = open(new, 'x', newline='', encoding='utf-8')
+            try:
+                lock(self.file)
+                # (only root may give it to another user)
+                with contextlib.suppress(OSError):
+                    status = os.stat(path if os.path.exists(path) else self.lines_path)
+                    os.fchmod(self.file.fileno(), stat.S_IMODE(status.st_mode))
+                    os.fchown(self.file.fileno(), status.st_uid, status.st_gid)
+                self.begin(old)
+                self.put_in_place(new, there)
+            except BaseException:
+                self.file.close()
+                os.remove(new)
+                raise
+
+    def put_in_place(self, new: str, there: Optional[IO[bytes]]) -> None:
+        """Gives the new file, which is locked as long as it is written, the report's name, unless another one came there meanwhile."""
+        if there and os.path.exists(self.lines_path) and os.path.samestat(os.fstat(there.fileno()), os.stat(self.lines_path)):
             os.replace(new, self.lines_path)
-        except BaseException:
+            return
+        try:
+            os.link(new, self.lines_path)
             os.remove(new)
-            raise
+        except FileExistsError:
+            raise OSError(TAKEN) from None
+        except OSError:  # (a file system may have no links)
+            os.replace(new, self.lines_path)
 
     def begin(self, old: Iterator[Row]) -> None:
         """Writes what is there of the report."""
@@ -449,7 +481,7 @@ class Report:
         for row in self.held:
             self.write(row)
         self.file.write('' if self.is_csv else '\n]\n' if self.count else '[]\n')
-        self.file.close()
+        self.file.flush()
         if self.is_parquet:
             import pyarrow.parquet
             schema = pyarrow.schema([(name, getattr(pyarrow, TYPES.get(name, 'string'))()) for name in COLUMNS])
@@ -459,6 +491,7 @@ class Report:
                 for some in iter(lambda: list(itertools.islice(rows, GROUP)), []):
                     writer.write_table(pyarrow.Table.from_pylist(some, schema=schema))
             os.remove(self.lines_path)
+        self.file.close()
 
 
 def lost(path: str) -> Result:

@@ -490,6 +490,46 @@ class Scan(Folder):
         report.file.close()
         self.assertEqual((os.stat(report.lines_path).st_mode, os.stat(report.lines_path).st_uid), (before.st_mode, before.st_uid))
 
+    def test_two_scans_into_one_report(self):
+        """The second one is refused, also if it comes between the moments at which the first one looks for a report and makes it."""
+        self.put_many(1200)
+        scan(self.files, '-o', self.out('one.csv'), '--workers', '0')
+        taken = f'goblin-scan: {self.out("many.csv")} can not be read or written: another goblin-scan writes it\n'
+        command = [*SCAN, self.files, '-o', self.out('many.csv'), '--workers', '1', '--batch', '8']
+        for more in ([], ['--resume']):
+            with subprocess.Popen(command, stderr=subprocess.DEVNULL) as running:
+                while not os.path.exists(self.out('many.csv')) or os.path.getsize(self.out('many.csv')) == 0:
+                    self.assertIsNone(running.poll())
+                second = subprocess.run([*command, *more], stderr=subprocess.PIPE, universal_newlines=True)
+            self.assertEqual((second.returncode, second.stderr, running.returncode), (2, taken, 0))
+            self.assertEqual(read(self.out('many.csv')), read(self.out('one.csv')))
+            os.remove(self.out('many.csv'))
+
+        def came(*_):
+            with open(self.out('many.csv'), 'x', encoding='utf-8') as file:
+                file.write('another')
+
+        with unittest.mock.patch.object(module.Report, 'begin', came), contextlib.redirect_stderr(io.StringIO()) as said:
+            self.assertEqual(module.main([self.files, '-o', self.out('many.csv'), '--workers', '0']), 2)
+        self.assertEqual((said.getvalue(), read(self.out('many.csv'))), (taken, b'another'))
+        self.assertEqual(sorted(os.listdir(self.folder)), ['files', 'many.csv', 'one.csv'])
+
+    def test_a_parquet_that_is_made(self):
+        """Until all of its rows are in it, no other scan may write it."""
+        self.put('a.o', made.ALL[0].bytes)
+        with unittest.mock.patch.dict(sys.modules, StandInForPyarrow().modules()) as modules, contextlib.redirect_stderr(io.StringIO()) as said:
+            writer, statuses = modules['pyarrow.parquet'].ParquetWriter, []
+
+            def late(*arguments):
+                if not statuses:
+                    statuses.append(module.main([self.files, '-o', self.out('r.parquet'), '--workers', '0']))
+                return writer(*arguments)
+
+            modules['pyarrow.parquet'].ParquetWriter = late
+            statuses.append(module.main([self.files, '-o', self.out('r.parquet'), '--workers', '0']))
+        self.assertEqual((statuses, 'another goblin-scan writes it' in said.getvalue()), ([2, 0], True))
+        self.assertEqual([row['file'] for row in json.loads(read(self.out('r.parquet')))], [self.out('files/a.o')])
+
     def test_parquet(self):
         self.put_many(40)
         file = made.ALL[2]
