@@ -8,7 +8,7 @@ import os
 import sys
 
 from goblin_elf import Elf, Refused
-from goblin_elf.arguments import put
+from goblin_elf.arguments import opened, put
 from goblin_elf.scan import escaped
 
 sys.stdout.reconfigure(errors='replace')  # (it need not take each sign)
@@ -102,7 +102,7 @@ if not sys.argv[1:]:
     sys.exit('usage: lddtree.py FILE [ROOT]')
 try:
     DEFAULT = [*configured(ROOT + '/etc/ld.so.conf', set()), *folders(SYSTEM)]
-    interpreter = Elf.open(sys.argv[1]).interpreter
+    interpreter = opened(sys.argv[1]).interpreter
     print(escaped(f'{sys.argv[1]} (interpreter => {interpreter})'))
     program = Loaded(sys.argv[1])
     load(program, interpreter)

@@ -1,17 +1,16 @@
 """Prints what a person wants to know first of ELF files: python -m goblin_elf [--json] FILE..
 
-What a file does not hold is unknown. The exit status is 0, or 1 if a file can't be read, or it or a part of it is refused, or 2 if the output
-can't be written. What is printed is not proved, but tested.
+Those of each file are printed once it is read. What it does not hold is unknown. The exit status is 0, or 1 if a file can't be read, or it or a
+part of it is refused, or 2 if the output can't be written. What is printed is not proved, but tested.
 """
 import contextlib
 import io
 import json
 import signal
 import sys
-from typing import Any, Dict, Iterator, List, Optional
+from typing import Any, Dict, Iterator, List, Optional, Set
 
-from .arguments import Parser, put
-from .elf import Elf
+from .arguments import Parser, opened, put
 from .facts import facts, refusal
 from .refused import Refused
 
@@ -19,7 +18,7 @@ from .refused import Refused
 def described(path: str) -> Dict[str, Any]:
     """Returns the facts of a file, or why there are none."""
     try:
-        return {'file': path, **facts(Elf.open(path))}
+        return {'file': path, **facts(opened(path))}
     except Refused as error:
         return {'file': path, **refusal(error)}
     except OSError as error:
@@ -42,10 +41,20 @@ def lines(found: Dict[str, Any]) -> Iterator[str]:
             yield ''.join(sign if sign.isprintable() else '\N{REPLACEMENT CHARACTER}' for sign in line)
 
 
-def as_json(all_found: List[Dict[str, Any]]) -> str:
-    """Returns the facts of files as JSON. A byte that is not UTF-8 is U+FFFD: strict readers refuse the surrogate that it is decoded as."""
-    text = json.dumps(all_found, ensure_ascii=False).encode('utf-8', 'surrogateescape').decode('utf-8', 'replace')
-    return json.dumps(json.loads(text), indent=1)
+def as_json(found: Dict[str, Any]) -> str:
+    """Returns the facts of a file as JSON. A byte that is not UTF-8 is U+FFFD: strict readers refuse the surrogate that it is decoded as."""
+    text = json.dumps([found], ensure_ascii=False).encode('utf-8', 'surrogateescape').decode('utf-8', 'replace')
+    return json.dumps(json.loads(text), indent=1)[2:-2]
+
+
+def texts_of(paths: List[str], is_json: bool, statuses: Set[int]) -> Iterator[str]:
+    """Yields what is printed of each file as it is read, and adds its status."""
+    start = '[\n'
+    for found in map(described, paths):
+        statuses.add(int('refused' in found or 'error' in found))
+        yield start + as_json(found) if is_json else ''.join(f'{line}\n' for line in lines(found))
+        start = ',\n'
+    yield '\n]\n' * is_json
 
 
 def main(arguments: Optional[List[str]] = None) -> int:
@@ -53,17 +62,18 @@ def main(arguments: Optional[List[str]] = None) -> int:
     parser.add_argument('--json', action='store_true', help='print a list of objects, one for each file')
     parser.add_argument('files', nargs='+', metavar='FILE')
     options = parser.parse_args(arguments)
-    all_found = [described(path) for path in options.files]
+    statuses: Set[int] = set()
     try:
         if sys.stdout is None:
             raise OSError(0, 'it is closed')
-        print(as_json(all_found) if options.json else '\n'.join(line for found in all_found for line in lines(found)), flush=True)
+        for text in texts_of(options.files, options.json, statuses):
+            print(text, end='', flush=True)
     except OSError as error:
         put(f'{parser.prog}: the output can not be written: {error.strerror}\n', sys.stderr)
         with contextlib.suppress(AttributeError, OSError):
             sys.stdout.close()  # (Python would write it again at its end)
         return 2
-    return int(any('refused' in found or 'error' in found for found in all_found))
+    return max(statuses)
 
 
 if __name__ == '__main__':

@@ -1,8 +1,12 @@
 """The arguments of commands, and what these say to a person."""
 import argparse
 import contextlib
+import os
+import stat
 import sys
 from typing import Any
+
+from .elf import Elf
 
 
 def put(text: str, stream: Any) -> None:
@@ -14,6 +18,15 @@ def put(text: str, stream: Any) -> None:
     except (AttributeError, OSError, ValueError):
         with contextlib.suppress(AttributeError, OSError):
             stream.close()
+
+
+def opened(path: str) -> Elf:
+    """Opens a file that a person names. Raises an OSError also if it is no ordinary file, as one that has no end or waits for another program."""
+    status = os.stat(path)
+    if not stat.S_ISREG(status.st_mode) and not stat.S_ISDIR(status.st_mode):
+        raise OSError(0, 'it is no ordinary file', path)
+    # (of the kernel's files, which have no size, some wait)
+    return Elf.open(path) if status.st_size else Elf(b'')
 
 
 class Parser(argparse.ArgumentParser):

@@ -235,10 +235,12 @@ class Example(unittest.TestCase):
                 file.write(content_of(stored('facts/full')).replace(b'libfirst', b'\x1bib\xffirst'))
             # (and at what is no file it does not wait)
             os.mkfifo(os.path.join(root, 'lib/\x1bib\udcffirst.so.1'))
+            fifo = os.path.join(root, 'fifo')
+            os.mkfifo(fifo)
             said = [subprocess.run([sys.executable, '-c', self.code, self.script, *arguments], stdout=subprocess.PIPE, stderr=subprocess.PIPE,
-                                   encoding='utf-8', timeout=60) for arguments in ([stored('facts/full'), root],
-                                                                                   [stored('facts/cut_dynamic'), root], [odd, root],
-                                                                                   ['\x1babsent'], [], ['/proc/self/mem'])]
+                                   encoding='utf-8', timeout=60, preexec_fn=limit_memory)
+                    for arguments in ([stored('facts/full'), root], [stored('facts/cut_dynamic'), root], [odd, root], ['\x1babsent'], [],
+                                      ['/proc/self/mem'], ['/dev/zero'], [fifo])]
             with open('/dev/full', 'w') as full:
                 said.append(subprocess.run([sys.executable, self.script, odd], stdout=full, stderr=subprocess.PIPE, encoding='utf-8'))
         path = stored('facts/full')
@@ -249,8 +251,8 @@ class Example(unittest.TestCase):
         self.assertEqual(said[2].stdout.split('\n')[1], '    \\x1bib\\xffirst.so.1 => not found')
         self.assertEqual([(one.returncode, one.stderr) for one in said],
                          [(0, ''), (1, 'refused: type is too big (384) for 40\n'), (0, ''), (1, '\\x1babsent: No such file or directory\n'),
-                          (1, 'usage: lddtree.py FILE [ROOT]\n'), (1, '/proc/self/mem: Input/output error\n'),
-                          (1, f'{odd}: No space left on device\n')])
+                          (1, 'usage: lddtree.py FILE [ROOT]\n'), (1, 'refused: Malformed entity: Too small\n'),
+                          *((1, f'{path}: it is no ordinary file\n') for path in ('/dev/zero', fifo)), (1, f'{odd}: No space left on device\n')])
 
 
 if __name__ == '__main__':

@@ -28,6 +28,7 @@ from goblin_elf import __main__ as program
 from goblin_elf import _library, constants
 
 import made
+from parts import limit_memory
 
 try:
     import numpy
@@ -794,13 +795,12 @@ class Program(unittest.TestCase):
             leaves = f'{sys.executable} -m goblin_elf {" ".join(["made.o"] * 2000)} | head -n 1'
             found = subprocess.run(leaves, shell=True, cwd=folder, stdout=subprocess.PIPE, stderr=subprocess.PIPE, universal_newlines=True)
             self.assertEqual((found.stdout, found.stderr), ('made.o\n', ''))
-            # (whoever waits for a file may end it by Ctrl-C, which a test in the background ignores)
-            os.mkfifo(os.path.join(folder, 'fifo'))
-            running = subprocess.Popen([sys.executable, '-m', 'goblin_elf', 'fifo'], cwd=folder, stderr=subprocess.PIPE,
-                                       preexec_fn=lambda: signal.signal(signal.SIGINT, signal.SIG_DFL))
-            with open(os.path.join(folder, 'fifo'), 'wb'):
-                running.send_signal(signal.SIGINT)
-                self.assertEqual((running.communicate(timeout=60)[1], running.returncode), (b'', -signal.SIGINT))
+            # (whoever waits for it may end it by Ctrl-C, which a test in the background ignores: it has printed the first of many files)
+            running = subprocess.Popen([sys.executable, '-m', 'goblin_elf', *['made.o'] * 2000], cwd=folder, stdout=subprocess.PIPE,
+                                       stderr=subprocess.PIPE, preexec_fn=lambda: signal.signal(signal.SIGINT, signal.SIG_DFL))
+            self.assertEqual(running.stdout.readline(), b'made.o\n')
+            running.send_signal(signal.SIGINT)
+            self.assertEqual((running.communicate(timeout=60)[1], running.returncode), (b'', -signal.SIGINT))
             # (a stream that does not take each sign gets others)
             found = subprocess.run([sys.executable, '-m', 'goblin_elf', 'made.o', 'odd\n', b'\xc3\xa9'], cwd=folder, stdout=subprocess.PIPE,
                                    stderr=subprocess.PIPE, env={**os.environ, 'PYTHONIOENCODING': 'ascii'})
@@ -823,6 +823,22 @@ class Program(unittest.TestCase):
             # (strict readers refuse a surrogate without its pair, as that by which Python decodes a byte that is not UTF-8)
             status, said = self.run_it('--json', b'caf\xe9 \xf0\x9f\x92\x80')
             self.assertEqual((status, json.loads(said)[0]['file']), (1, 'caf\ufffd \U0001f480'))
+
+    def test_what_is_no_ordinary_file(self):
+        """One that has no end, or that waits, is said, and those before and after it are printed. Each is printed as it is read."""
+        with tempfile.TemporaryDirectory() as folder:
+            paths = [os.path.join(folder, name) for name in ('made.o', 'fifo')]
+            with open(paths[0], 'wb') as file:
+                file.write(MADE.bytes)
+            os.mkfifo(paths[1])
+            paths += ['/dev/zero', folder, '/proc/kmsg', paths[0]]
+            for more in ([], ['--json']):
+                found = subprocess.run([sys.executable, '-m', 'goblin_elf', *more, *paths], stdout=subprocess.PIPE, encoding='utf-8', timeout=60,
+                                       preexec_fn=limit_memory)
+                self.assertEqual(found.returncode, 1)
+            self.assertEqual([(row['file'], row.get('kind'), row.get('error') or row.get('refused')) for row in json.loads(found.stdout)],
+                             [(paths[0], 'object', None), *((path, None, 'it is no ordinary file') for path in paths[1:3]),
+                              (folder, None, 'Is a directory'), ('/proc/kmsg', None, 'TOO_SMALL'), (paths[0], 'object', None)])
 
     def test_arguments_that_are_wrong(self):
         """The exit status is the same if nobody can read why."""
