@@ -42,11 +42,12 @@ from .refused import Refused
 Row = Dict[str, Any]
 Part = Tuple[str, Row]  # of a file in a package: what comes after its name in the row, if it is a static library, and the row
 Result = List[Tuple[str, List[Row], float]]  # of each file of a batch its path, its rows, and the seconds that it took
-COUNTS = ['sections', 'segments', 'symbols', 'dynamic_symbols', 'code', 'data', 'read_only', 'zeros', 'not_loaded']
+SIZES = ['code', 'data', 'read_only', 'zeros', 'not_loaded']
+COUNTS = ['sections', 'segments', 'symbols', 'dynamic_symbols', *SIZES]
 COLUMNS = ['file', 'member', 'class', 'order', 'type', 'kind', 'machine', 'build_id', 'interpreter', 'soname', 'rpath', 'runpath', 'needed', 'pie',
            'nx', 'relro', 'bind_now', 'writable_code', 'canary', 'control_flow', 'compilers', 'stripped', 'cut', *COUNTS, 'unknown', 'refused',
            'numbers', 'offset', 'text']
-# What pyarrow calls the types of those that are no texts, and what stands between the texts of a list.
+# What pyarrow calls the types of those that are no texts. Which are lists in a .json, and what stands between their texts elsewhere.
 TYPES = {**dict.fromkeys([*COUNTS, 'offset'], 'uint64'),
          **dict.fromkeys(['pie', 'nx', 'bind_now', 'writable_code', 'canary', 'stripped', 'cut'], 'bool_')}
 LISTS, BETWEEN = ('needed', 'control_flow', 'compilers', 'unknown', 'numbers'), {'compilers': '; '}
@@ -70,16 +71,17 @@ def row_of(path: str, member: Optional[str], elf_of: Callable[[], Elf]) -> Row:
     try:
         found = facts(elf_of())
         found.update(found['sizes'] or {})
+        found['unknown'] = [name for fact in found['unknown'] for name in (SIZES if fact == 'sizes' else [fact])]
     except Refused as error:
         found = refusal(error)
-    texts = {name: BETWEEN.get(name, ' ').join(map(str, value)) if isinstance(value, list) else value for name, value in found.items()}
-    return row_with(path, member, **{column: value for column, value in texts.items() if column in COLUMNS})
+    return row_with(path, member, **{column: value for column, value in found.items() if column in COLUMNS})
 
 
 def row_with(path: str, member: Optional[str], **columns: Any) -> Row:
     """Returns a row with some columns."""
     cells = {**dict.fromkeys(COLUMNS), **columns}
-    row = {column: escaped(value) if isinstance(value, str) else value for column, value in cells.items()}
+    row = {column: escaped(value) if isinstance(value, str) else [escaped(text) if isinstance(text, str) else text for text in value]
+           if isinstance(value, list) else value for column, value in cells.items()}
     return {**row, 'file': named(path), 'member': member and named(member[:NAME])}
 
 
@@ -103,6 +105,11 @@ def escaped(text: str) -> str:
 def shown(sign: str) -> str:
     """Returns a character, or its bytes if it does not print."""
     return sign if sign.isprintable() and sign != '\\' else ''.join(f'\\x{byte:02x}' for byte in sign.encode('utf-8', 'surrogateescape'))
+
+
+def joined(row: Row) -> Row:
+    """Returns a row with texts in place of lists."""
+    return {name: BETWEEN.get(name, ' ').join(map(str, value)) if isinstance(value, list) else value for name, value in row.items()}
 
 
 def guarded(cell: Any) -> Any:
@@ -458,7 +465,7 @@ class Report:
                 # (what is no row is left out)
                 with contextlib.suppress(ValueError, RecursionError, csv.Error):
                     row = self.row(line)
-                    if is_row(row):
+                    if is_row(row, not self.is_csv and not self.is_parquet):
                         yield row
 
     def row(self, line: str) -> Any:
@@ -472,7 +479,7 @@ class Report:
         if self.held and row['file'] == self.held[0]['file']:
             self.held = []
         if self.is_csv:
-            csv.writer(self.file, lineterminator='\n').writerow([guarded(row[column]) for column in COLUMNS])
+            csv.writer(self.file, lineterminator='\n').writerow(map(guarded, joined(row).values()))
         else:
             self.file.write((',\n' if self.count else '[\n') + json.dumps(row))
         self.count += 1
@@ -486,7 +493,8 @@ class Report:
             import pyarrow.parquet
             schema = pyarrow.schema([(name, getattr(pyarrow, TYPES.get(name, 'string'))()) for name in COLUMNS])
             # (a sum of sizes may pass 64 bits, if a file is damaged)
-            rows = ({name: min(value, (1 << 64) - 1) if type(value) is int else value for name, value in row.items()} for row in self.read())
+            most = (1 << 64) - 1
+            rows = ({name: min(value, most) if type(value) is int else value for name, value in joined(row).items()} for row in self.read())
             with pyarrow.parquet.ParquetWriter(self.path, schema) as writer:
                 for some in iter(lambda: list(itertools.islice(rows, GROUP)), []):
                     writer.write_table(pyarrow.Table.from_pylist(some, schema=schema))
@@ -523,8 +531,7 @@ def report_on(results: workers.Results, report: Report) -> None:
         report.file.flush()
         files += len(batch)
         if is_shown():
-            bar = '=' * (files // 1000 % 40)
-            print(f'\r{files} files, {files / (time.perf_counter() - start):.0f} a second {bar:40}', end='', file=sys.stderr, flush=True)
+            print(f'\r{files} files, {files / (time.perf_counter() - start):.0f} a second    ', end='', file=sys.stderr, flush=True)
     report.end()
     seconds = time.perf_counter() - start
     say(f'{files} files, {sum(refused.values())} refused, {seconds:.1f} seconds, {files / seconds:.0f} files a second',
@@ -576,8 +583,13 @@ def options_of(arguments: Optional[List[str]]) -> argparse.Namespace:
             import pyarrow.parquet  # noqa: F401
         except ImportError:
             parser.error('pyarrow is not installed, which writes a .parquet')
-    for folder in itertools.filterfalse(os.path.exists, options.folders):
-        parser.error(f'{folder} is not there')
+    for folder in options.folders:
+        try:
+            os.stat(folder)
+        except FileNotFoundError:
+            parser.error(f'{folder} is not there')
+        except (OSError, ValueError) as error:
+            parser.error(f'{folder} can not be read: {getattr(error, "strerror", error)}')
     try:
         os.chdir(os.getcwd())
     except OSError as error:
@@ -589,11 +601,12 @@ def options_of(arguments: Optional[List[str]]) -> argparse.Namespace:
 
 
 def main(arguments: Optional[List[str]] = None) -> int:
-    options = options_of(arguments)
+    options, begun = options_of(arguments), ''
     try:
         run = runner_of(options)
         folders, others = apart(options.folders)
         report = Report(options.output, options.resume)
+        begun = options.output
         found = ([folder] if os.path.isfile(folder) else found_below(folder, others) for folder in folders)
         paths = (path for path in itertools.chain.from_iterable(found) if named(path) not in report.known)
         # (the first batches are small, so that a few files, such as large packages, are for all processors)
@@ -601,9 +614,9 @@ def main(arguments: Optional[List[str]] = None) -> int:
         with report.file, contextlib.closing(run(iter(lambda: list(itertools.islice(paths, next(sizes))), []))) as results:
             report_on(results, report)
     except KeyboardInterrupt:
-        return stopped('interrupted', options.output, 130)
+        return stopped('interrupted', begun, 130)
     except workers.Stopped as error:
-        return stopped(str(error), options.output, 2)
+        return stopped(str(error), begun, 2)
     except OSError as error:
         return stopped(f'{options.output} can not be read or written: {error.strerror or error}', '', 2)
     return 0

@@ -191,8 +191,11 @@ class Scheduled:
         import concurrent.futures
         try:
             import distributed
-        except ImportError:
-            raise Stopped('distributed is not installed, which --scheduler needs') from None
+        except ModuleNotFoundError as error:
+            # (it needs others)
+            raise Stopped(f'{error.name} is not installed, which --scheduler needs') from None
+        except ImportError as error:
+            raise Stopped(f'distributed can not be imported, which --scheduler needs: {error}') from None
         logging.disable()  # (what it logs of a lost connection is said here in a sentence)
         self.function, self.address, self.killed = function, address, distributed.KilledWorker
         self.late = asyncio.TimeoutError, TimeoutError

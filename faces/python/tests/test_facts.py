@@ -66,16 +66,28 @@ class Table(unittest.TestCase):
 
     def test_report(self):
         with tempfile.TemporaryDirectory() as folder, contextlib.redirect_stderr(io.StringIO()):
-            path = os.path.join(folder, 'r.csv')
-            self.assertEqual(scan.main([*map(stored, self.rows), '-o', path, '--workers', '0']), 0)
-            with open(path, newline='', encoding='utf-8') as file:
+            for name in ('r.csv', 'r.json'):
+                self.assertEqual(scan.main([*map(stored, self.rows), '-o', os.path.join(folder, name), '--workers', '0']), 0)
+            with open(os.path.join(folder, 'r.csv'), newline='', encoding='utf-8') as file:
                 found = list(csv.DictReader(file))
+            with open(os.path.join(folder, 'r.json'), encoding='utf-8') as file:
+                objects = json.load(file)
         self.assertEqual([row['file'] for row in found], [stored(name) for name in self.rows])
-        for line, row in zip(found, self.rows.values()):
-            expected = {**row, **(row['sizes'] or {})}
+        for line, one, row in zip(found, objects, self.rows.values()):
+            expected = {**dict.fromkeys(('code', 'data', 'read_only', 'zeros', 'not_loaded')), **row, **(row['sizes'] or {})}
+            del expected['sizes']
+            # (each cell that is empty since it is unknown is named)
+            unknown = ' '.join(row['unknown']).replace('sizes', 'code data read_only zeros not_loaded')
+            expected['unknown'] = unknown.split()
+            self.assertEqual([line[name] for name in expected['unknown']], [''] * len(expected['unknown']))
             texts = {fact: {'compilers': '; '}.get(fact, ' ').join(value) if isinstance(value, list) else '' if value is None else str(value)
-                     for fact, value in expected.items() if fact != 'sizes'}
+                     for fact, value in expected.items()}
             self.assertEqual({fact: line[fact] for fact in texts}, texts)
+            # (JSON has what the command for some files prints)
+            self.assertEqual({fact: one[fact] for fact in expected}, expected)
+            described = program.described(one['file'])
+            self.assertEqual({fact: described[fact] for fact in one if fact in described and fact != 'unknown'},
+                             {fact: value for fact, value in one.items() if fact in described and fact != 'unknown'})
 
 
 class Facts(unittest.TestCase):

@@ -109,6 +109,11 @@ def linked(needed, soname, interpreter):
     return bytes(content)
 
 
+def texts(row):
+    """Returns a row of a .json with texts in place of lists, as other reports have them."""
+    return {name: {'compilers': '; '}.get(name, ' ').join(map(str, value)) if isinstance(value, list) else value for name, value in row.items()}
+
+
 class StandInForPyarrow(types.ModuleType):
     """What the scan uses of pyarrow, which Debian does not have: it writes a table as JSON, and takes the values alone that pyarrow takes
     for the types of the columns. It can't show that pyarrow itself takes them."""
@@ -551,7 +556,7 @@ class Scan(Folder):
                 rows = json.loads(read(self.out('r.parquet')))
                 self.assertEqual((rows[-1]['file'], rows[-1]['zeros']), (os.path.join(self.files, 'huge'), (1 << 64) - 1))
                 expected = json.loads(read(self.out('r.json')))
-                self.assertEqual((rows[:-1], expected[-1]['zeros']), (expected[:-1], 2 * ((1 << 64) - 1)))
+                self.assertEqual((rows[:-1], expected[-1]['zeros']), ([texts(row) for row in expected[:-1]], 2 * ((1 << 64) - 1)))
             # (files of a report with other columns, as of an older version, are examined again)
             with open(self.out('r.parquet'), 'w', encoding='utf-8') as file:
                 json.dump([{name: value for name, value in row.items() if name != 'unknown'} for row in rows], file)
@@ -596,6 +601,53 @@ class Scan(Folder):
                                   (['b', '../files/'], ['b', '../files/a.o', '../files/sub/c.o'])):
             scan(*folders, '-o', self.out('r.csv'), '--workers', '0')
             self.assertEqual([row['file'].replace(self.files, 'F') for row in self.rows('r.csv')], expected)
+
+    def test_lists(self):
+        """In a .json they are lists. Those of an older version, which are texts, are examined again."""
+        self.put('a', linked(needed=[b'a b', b'\1'], soname=b'', interpreter=b''))
+        self.put('b', b'\x7fELF')
+        scan(self.files, '-o', self.out('r.json'), '--workers', '0')
+        rows = json.loads(read(self.out('r.json')))
+        self.assertEqual([(row['needed'], row['numbers'], row['compilers']) for row in rows], [(['a b', '\\x01'], None, []), (None, [], None)])
+        with open(self.out('r.json'), 'w', encoding='utf-8') as file:
+            file.write('[\n' + json.dumps({**rows[0], 'needed': 'a b \\x01'}) + ',\n' + json.dumps(rows[1]) + '\n]\n')
+        scan(self.files, '-o', self.out('r.json'), '--workers', '0', '--resume')
+        self.assertEqual(sorted(json.loads(read(self.out('r.json'))), key=lambda row: row['file']), rows)
+
+    def test_folders_that_may_not_be_entered(self):
+        os.symlink('loop', self.out('loop'))
+        self.addCleanup(os.seteuid, os.geteuid())
+        os.chmod(self.folder, 0o700)
+        with contextlib.suppress(PermissionError):  # (a test need not be root's, and then the folder below is one that is closed)
+            os.seteuid(65534)
+        if os.geteuid() != 65534:
+            os.chmod(self.folder, 0)
+            self.addCleanup(os.chmod, self.folder, 0o700)
+        with contextlib.redirect_stderr(io.StringIO()) as said:
+            self.assertRaises(SystemExit, module.main, [self.files, '-o', '/tmp/r.csv'])
+        self.assertIn(f'{self.files} can not be read: {os.strerror(errno.EACCES)}\n', said.getvalue())
+        os.seteuid(os.getuid())
+        os.chmod(self.folder, 0o700)
+        with contextlib.redirect_stderr(io.StringIO()) as said:
+            self.assertRaises(SystemExit, module.main, [self.out('loop'), '-o', self.out('r.csv')])
+        self.assertIn(f'{self.out("loop")} can not be read: {os.strerror(errno.ELOOP)}\n', said.getvalue())
+
+    def test_a_missing_package(self):
+        """It is the one that is missing, which Dask may need, and there is no report to go on with."""
+        os.makedirs(self.out('path/distributed'))
+        with open(self.out('path/distributed/__init__.py'), 'w', encoding='utf-8') as file:
+            file.write('import missing_one')
+        found = subprocess.run([*SCAN, self.files, '-o', self.out('r.csv'), '--scheduler', 'x:1'], stderr=subprocess.PIPE, universal_newlines=True,
+                               env={**os.environ, 'PYTHONPATH': os.pathsep.join([self.out('path'), *filter(None, sys.path)])})
+        self.assertEqual((found.returncode, found.stderr), (2, 'goblin-scan: missing_one is not installed, which --scheduler needs\n'))
+
+    def test_progress(self):
+        """On a terminal the number of files is shown from the first batch on."""
+        with contextlib.redirect_stderr(io.StringIO()) as said, unittest.mock.patch.object(module, 'is_shown', return_value=True):
+            module.report_on(iter([([str(index)] * count, [('a', [], 0.5)] * count) for index, count in enumerate((3, 2997, 38000))]),
+                             module.Report(self.out('r.csv'), False))
+        rates = ''.join(rf'\r{count} files, \d+ a second *' for count in (3, 3000, 41000))
+        self.assertRegex(said.getvalue(), rf'^{rates}\n41000 files, 0 refused')
 
     def test_what_is_not_there(self):
         with contextlib.redirect_stderr(io.StringIO()) as said:
@@ -668,7 +720,7 @@ class Scan(Folder):
                     file.write(whole[:size])
                 scan(self.files, '-o', self.out(name), '--workers', '0', '--resume')
                 self.assertEqual(read(self.out(name)), whole)
-            rows = {row['file'][len(self.files) + 1:]: row for row in (self.rows(name) if name == 'r.csv' else json.loads(whole))}
+            rows = {row['file'][len(self.files) + 1:]: row for row in (self.rows(name) if name == 'r.csv' else map(texts, json.loads(whole)))}
             row = rows['\\xe9']
             self.assertEqual((row['needed'], row['soname'], row['interpreter']),
                              ('caf\\xe9.so \\xe2\\x80\\xae\\x1b[1m\\x5c \u00e9\\xc2\\x85', 'lib\\xff\\x0a', '/ld\\xe9'))
