@@ -142,6 +142,19 @@ for command in 'commands/libraries.sh proof goblin_show' 'commands/show.sh show'
 done
 for crate in goblin goblin_c goblin_show; do quietly grep -xF "$PWD/crates/$crate" "$folder/places"; done
 ends_with 1 '' grep -F "$folder/other/" "$folder/places"
+# (a toolchain that runs fewer tests than there are, and a subject of a test whose shell is killed)
+tests=$(grep -rF '#[test]' crates/goblin_text_tests/src | wc -l)
+for count in 1 "$tests"; do
+    printf '#!/bin/sh\necho "test result: ok. %s passed; 0 failed; 0 ignored; 0 filtered out"\n' "$count" > "$folder/lists/rt"
+    case $count in 1) wanted="1-*not all $tests tests of *" ;; *) wanted="0-*$tests tests pass" ;; esac
+    ends_with "${wanted%%-*}" "${wanted#*-}" env PATH="$folder/lists:$PATH" sh checks/prove.sh goblin_text_tests
+done
+mkdir -p checks/faces
+# shellcheck disable=SC2016 # (it is of the script that is written)
+echo 'kill -KILL $PPID' > checks/faces/killed.sh
+echo : > checks/faces/whole.sh
+ends_with 0 '' try lists/whole
+ends_with 1 '*killed FAILED' try lists/killed
 echo '//' >> commands/try.main
 refuses "*make try: the program was not compiled; the toolchain's messages are above" env PATH="$PWD:$PATH" XDG_CACHE_HOME="$folder" SHOWN=symbols \
     sh commands/show.sh try

@@ -6,21 +6,6 @@
 python3 faces/constants.py --check
 echo "the constants in C are the library's, and those in Rust, JavaScript and Python are made of it"
 
-# Runs the scripts of some subjects side by side, each in a folder of its own, which begins as a copy of another one: try FROM/SUBJECT ..
-try() {
-    for each; do
-        subject=${each#*/}
-        cp -R "$folder/${each%/*}" "$folder/$subject"
-        { sh "checks/faces/$subject.sh" "$folder/$subject" > "$folder/$subject.said" 2>&1 || touch "$folder/$subject.failed"; } &
-    done
-    wait
-    for each; do
-        subject=${each#*/}
-        cat "$folder/$subject.said"
-        [ ! -e "$folder/$subject.failed" ] || fail "faces: $subject FAILED"
-    done
-}
-
 sh commands/libraries.sh faces goblin_c
 echo "faces: making the library, which takes some minutes if its calls are not proved yet"
 mkdir "$folder/library"

@@ -1,7 +1,7 @@
 #!/bin/sh
 # Proves a crate over those below it, and builds it: sh checks/prove.sh CRATE. A program is built by both compilers of the toolchain, and each
 # build must write for the crate's file stdin what its file stdout has; with UNBUILT set this is left to `rt ci`, which does the same. A crate
-# whose name ends with _tests holds tests, which are run.
+# whose name ends with _tests holds tests, which all run.
 # (Other crates wait for a library, so its proof uses half of the processors, or JOBS: with more, the work grows faster than the time falls.)
 # What the toolchain reports is left in the crate's out/said, and the program of the second compiler beside the first, as CRATE.by-rattle.
 # Run from the root of the repository, or of a copy.
@@ -23,8 +23,8 @@ elif [ -e src/main.rt ]; then
     done
 elif [ "${1%_tests}" != "$1" ]; then
     rt test --jobs 1 > out/said 2>&1 || fail "the tests of $1 are not proved, or do not pass"
-    passed=$(sed -n 's/^test result: ok[.] \([1-9][0-9]*\) passed; 0 failed;.*/\1/p' out/said)
-    [ "$passed" ] || fail "no test of $1 ran"
+    passed=$(grep -rF '#[test]' src | wc -l)
+    grep -q "^test result: ok[.] $passed passed; 0 failed; 0 ignored" out/said || fail "not all $passed tests of $1 ran"
 else
     rt lib --jobs "${JOBS:-$((($(nproc) + 1) / 2))}" > out/said 2>&1 || fail "$1 is not proved"
 fi

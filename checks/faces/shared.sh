@@ -72,6 +72,23 @@ try_examples() {
     done
 }
 
+# Runs the scripts of some subjects of checks/faces side by side, each in a folder of its own, which begins as a copy of another one:
+# try FROM/SUBJECT ..
+try() {
+    for each; do
+        subject=${each#*/}
+        cp -R "$folder/${each%/*}" "$folder/$subject"
+        # (a shell that is killed leaves no file)
+        { sh "checks/faces/$subject.sh" "$folder/$subject" > "$folder/$subject.said" 2>&1 && touch "$folder/$subject.passed"; } &
+    done
+    wait
+    for each; do
+        subject=${each#*/}
+        cat "$folder/$subject.said"
+        [ -e "$folder/$subject.passed" ] || fail "faces: $subject FAILED"
+    done
+}
+
 # Runs a compiler. The warnings of gcc 12, clang 14 and those before them are errors, and so are those without a name. Others are printed.
 strictly() {
     quietly "$@" -Wall -Wextra -pedantic -O2
