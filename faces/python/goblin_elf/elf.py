@@ -6,7 +6,7 @@ import mmap
 import os
 import stat
 import sys
-from typing import IO, Any, Iterable, Iterator, List, Optional, Tuple, Union
+from typing import IO, Any, Callable, Iterable, Iterator, List, Optional, Tuple, Union
 
 from . import interface, items
 from ._library import FUNCTIONS, HEADER, RANGE, File, call, found, unsigned
@@ -34,6 +34,12 @@ def content_of(file: IO[bytes], copy: bool = False) -> Any:
         with contextlib.suppress(ValueError):  # (it may be emptied meanwhile)
             return mmap.mmap(file.fileno(), 0, access=mmap.ACCESS_READ)
     return file.read()
+
+
+def name_of(to_str: Callable[[int], str], number: int) -> str:
+    """Returns the name of a number, after which the number stands if it has none."""
+    name = to_str(number)
+    return f'{name} ({number})' if 'UNKNOWN' in name else name
 
 
 class Elf:
@@ -76,6 +82,14 @@ class Elf:
     def header(self) -> Header:
         """The header that all is read by. `put_header` writes another one, and `Elf(elf.bytes, header)` reads by another one."""
         return self._header
+
+    @property
+    def _type(self) -> str:
+        return name_of(et_to_str, self.header.e_type)
+
+    @property
+    def _machine(self) -> str:
+        return name_of(machine_to_str, self.header.e_machine)
 
     @property
     def bytes(self) -> memoryview:
@@ -264,7 +278,7 @@ class Elf:
         return call(name, self._file, *arguments)
 
     def __repr__(self) -> str:
-        names = class_to_str(self.header.ei_class), et_to_str(self.header.e_type), machine_to_str(self.header.e_machine)
+        names = class_to_str(self.header.ei_class), self._type, self._machine
         return f'<Elf: {" ".join(names)}, {self._file.length} bytes>'
 
 

@@ -9,7 +9,7 @@ from . import constants as abi
 from .elf import SEGMENTS, Elf
 from .items import Dynamic, Relocations, Section, Segment, Strings, T, Table
 from .marks import compilers, control_flow, has_canary
-from .names import class_to_str, et_to_str, machine_to_str
+from .names import class_to_str
 from .refused import Refused, Unknown, within
 
 # The most that a fact is made of: entries of a dynamic section, or tables of relocations, bytes of a text and of a build ID, sections,
@@ -141,8 +141,8 @@ LACKS = {'object': LOADED, 'other': LOADED, 'core': (*LOADED, 'canary', 'control
          'debug file': (*LOADED, 'soname', 'rpath', 'runpath', 'needed', 'canary', 'control_flow')}
 # The facts, each with what reads it: it is refused, or raises `Unknown`, if it can't be read.
 FACTS: Dict[str, Callable[[Parts], Any]] = {
-    'kind': lambda of: of.kind, 'type': lambda of: et_to_str(of.header.e_type), 'class': lambda of: class_to_str(of.header.ei_class),
-    'order': lambda of: 'little' if of.little_endian else 'big', 'machine': lambda of: machine_to_str(of.header.e_machine),
+    'kind': lambda of: of.kind, 'type': lambda of: of._type, 'class': lambda of: class_to_str(of.header.ei_class),
+    'order': lambda of: 'little' if of.little_endian else 'big', 'machine': lambda of: of._machine,
     'entry': lambda of: of.header.e_entry,
     'build_id': lambda of: None if (found := of._note(abi.NT_GNU_BUILD_ID)) is None else within(ID, found).hex(),
     'interpreter': lambda of: next((within(TEXT, text(path.strings, 0)) for path in of.own_segments if path.p_type == abi.PT_INTERP), None),

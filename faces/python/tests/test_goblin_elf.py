@@ -840,6 +840,15 @@ class Program(unittest.TestCase):
                              [(paths[0], 'object', None), *((path, None, 'it is no ordinary file') for path in paths[1:3]),
                               (folder, None, 'Is a directory'), ('/proc/kmsg', None, 'TOO_SMALL'), (paths[0], 'object', None)])
 
+    def test_numbers_without_a_name(self):
+        """They stand after the word for it."""
+        for e_type, e_machine, expected in ((0xfe00, 36902, 'UNKNOWN_ET (65024) EM_UNKNOWN (36902)'), (1, 62, 'REL X86_64')):
+            elf = Elf(bytearray(made.ALL[2].bytes))
+            elf.put_header(elf.header._replace(e_type=e_type, e_machine=e_machine))
+            found = program.facts(elf)
+            self.assertEqual(f'{found["type"]} {found["machine"]}', expected)
+            self.assertIn(expected, repr(elf))
+
     def test_arguments_that_are_wrong(self):
         """The exit status is the same if nobody can read why."""
         for module in ('goblin_elf', 'goblin_elf.scan'):
