@@ -34,10 +34,13 @@ class Record:
         return [structs.cast(code)[first::step].tolist() for code, first, step in self.places]
 
     def pack(self, values: Tuple[Any, ...]) -> bytes:
-        """Returns the bytes of the struct. Raises a ValueError if a number does not fit its field."""
+        """Returns the bytes of the struct. Raises a ValueError if a number does not fit its field, and a TypeError if a field is no integer."""
         try:
             return self.struct.pack(*values)
         except struct.error as error:
+            for field, value in zip(self.fields, values):
+                if not hasattr(value, '__index__'):
+                    raise TypeError(f'{field} is a {type(value).__name__}, and must be an integer') from None
             raise ValueError(f'a field does not fit its number of bits: {error}') from None
 
     def dtype(self) -> Any:

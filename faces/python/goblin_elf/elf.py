@@ -42,6 +42,13 @@ def name_of(to_str: Callable[[int], str], number: int) -> str:
     return f'{name} ({number})' if 'UNKNOWN' in name else name
 
 
+def packed(header: Header) -> bytes:
+    """Returns the bytes of a header. Raises a TypeError if it is none."""
+    if not isinstance(header, Header):
+        raise TypeError(f'a header is a Header, such as elf.header._replace(e_entry=0), and no {type(header).__name__}')
+    return HEADER.pack(header)
+
+
 class Elf:
     """An ELF file in memory, with its header. Everything else is read on demand.
 
@@ -58,8 +65,8 @@ class Elf:
         self._use(header)
 
     def _use(self, header: Optional[Header]) -> None:
-        self._header = header or Header(*found('header', HEADER, self._file) or ())
-        self._image = HEADER.pack(self._header)
+        self._header = Header(*found('header', HEADER, self._file) or ()) if header is None else header
+        self._image = packed(self._header)
 
     @classmethod
     def open(cls, path: Path, *, copy: bool = False) -> 'Elf':
@@ -248,7 +255,7 @@ class Elf:
     def put_header(self, header: Header) -> None:
         """Writes a header at the start of the file, in the class and byte order that it names, and reads by it from now on. Refused if its
         class or byte order is invalid, if the file is too short for it, or if a number does not fit its class."""
-        self._write('put_header', HEADER.pack(header))
+        self._write('put_header', packed(header))
         self._use(None)
 
     def put_number(self, offset: int, width: int, value: int) -> None:

@@ -110,8 +110,8 @@ class Fuzz(unittest.TestCase):
         for _ in range(COUNT // 3):
             header = Header(*(chance.choice((0, 1, 2, 64, (1 << bits) - 1, chance.getrandbits(bits))) & (1 << bits) - 1 for bits in widths))
             Reader(chance, Elf(chance.choice(made.ALL).bytes, header)).all()
-        for number in (-1, 1 << 64, 'text'):
-            self.assertRaises(ValueError, Elf, made.ALL[0].bytes, header._replace(e_shoff=number))
+        for error, number in ((ValueError, -1), (ValueError, 1 << 64), (TypeError, 'text')):
+            self.assertRaises(error, Elf, made.ALL[0].bytes, header._replace(e_shoff=number))
 
     def test_what_is_written_stays_in_its_record(self):
         chance = random.Random(4)

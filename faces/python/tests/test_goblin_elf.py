@@ -494,8 +494,11 @@ class Written(unittest.TestCase):
         self.assertEqual((error.kind, error.numbers, error.offset), (Kind.INTEGER_FIT, (1 << 32,), place))
         relocations = Elf(changed).section('.rel.text').relocations
         self.assertEqual(refusal(relocations.__setitem__, 0, relocations[0]._replace(r_addend=1)).kind, Kind.INTEGER_FIT)
-        for value in (1 << 64, -1, 'text'):
+        for value in (1 << 64, -1):
             self.assertRaises(ValueError, symbols.__setitem__, 1, symbols[1]._replace(st_value=value))
+        for value, name in ((5.0, 'float'), ('text', 'str'), (None, 'NoneType')):
+            with self.assertRaisesRegex(TypeError, f'^st_value is a {name}, and must be an integer$'):
+                symbols[1] = symbols[1]._replace(st_value=value)
         self.assertRaises(IndexError, symbols.__setitem__, 7, symbols[1])
         self.assertRaises(TypeError, symbols.__setitem__, 1, relocations[1])
         self.assertRaises(TypeError, symbols.__setitem__, slice(1, 2), symbols[1])
@@ -516,6 +519,9 @@ class Written(unittest.TestCase):
             self.assertEqual(refusal(elf.put_header, elf.header._replace(ei_class=3)).kind, Kind.INVALID_CLASS)
             self.assertEqual(refusal(elf.put_header, elf.header._replace(ei_data=0)).kind, Kind.DATA)
             self.assertRaises(ValueError, elf.put_number, 24, 3, 1)
+            for call in (elf.put_header, lambda wrong: Elf(changed, wrong)):
+                for wrong in (tuple(elf.header), 7, *([None] if call == elf.put_header else [])):
+                    self.assertRaisesRegex(TypeError, f'^a header is a Header, .* and no {type(wrong).__name__}$', call, wrong)
             text = elf.section('.text')
             before = text.number(2, 2)
             text.put_number(2, 2, before ^ 0x1234)
