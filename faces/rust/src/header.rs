@@ -1,7 +1,8 @@
 //! The header of a file, its constants, and the names of its numbers.
 pub use crate::constants::header::*;
+use crate::constants::names::{CLASS, ET, MACHINE};
 use crate::error::{Error, Result, RELOCATIONS, SYMBOLS};
-use crate::names::Name;
+use crate::names::name_of;
 use crate::part::Part;
 use crate::program_header::ProgramHeader;
 pub use crate::raw::Header;
@@ -129,16 +130,26 @@ impl Header {
 }
 
 /// Returns the name of a class, [`Header::ei_class`]: `ELF32`, `ELF64`, `NONE` or `UNKNOWN_CLASS`.
-pub fn class_to_str(ei_class: u8) -> Name {
-    Name::written_by(|text| sys::goblin_class_to_str(ei_class, text))
+pub fn class_to_str(ei_class: u8) -> &'static str {
+    name_of(CLASS, ei_class.into())
 }
 
 /// Returns the name of a file's type, [`Header::e_type`], such as `DYN`, or `UNKNOWN_ET`.
-pub fn et_to_str(e_type: u16) -> Name {
-    Name::written_by(|text| sys::goblin_et_to_str(e_type, text))
+pub fn et_to_str(e_type: u16) -> &'static str {
+    name_of(ET, e_type.into())
 }
 
 /// Returns the name of a machine, [`Header::e_machine`], such as `X86_64`, or `EM_UNKNOWN`.
-pub fn machine_to_str(e_machine: u16) -> Name {
-    Name::written_by(|text| sys::goblin_machine_to_str(e_machine, text))
+///
+/// ```
+/// use goblin_rs::header::{machine_to_str, EM_X86_64};
+///
+/// let bits = match machine_to_str(EM_X86_64) {
+///     "X86_64" | "AARCH64" => 64,
+///     _ => 32,
+/// };
+/// assert_eq!(bits, 64);
+/// ```
+pub fn machine_to_str(e_machine: u16) -> &'static str {
+    name_of(MACHINE, e_machine.into())
 }

@@ -1,10 +1,11 @@
 //! Notes, their constants, and the names of their types.
+use crate::constants::names::{NOTE_TYPE_CORE, NOTE_TYPE_GNU};
 pub use crate::constants::note::*;
 use crate::elf::Elf;
 use crate::error::{Error, Result};
 use crate::file::File;
 use crate::items::{list, made};
-use crate::names::Name;
+use crate::names::name_of;
 use crate::program_header::{ProgramHeaders, PT_NOTE};
 use crate::section_header::{SectionHeaders, SHT_NOTE};
 use crate::{raw, sys};
@@ -32,8 +33,8 @@ pub struct Note<'a> {
 impl Note<'_> {
     /// Returns the name of its type, such as `NT_GNU_BUILD_ID`, or `NT_UNKNOWN`. Type 3 is `NT_GNU_BUILD_ID` for every
     /// name but `CORE`, as in goblin.
-    pub fn type_to_str(&self) -> Name {
-        Name::written_by(|text| sys::goblin_note_type_to_str(self.name.as_bytes(), self.n_type, text))
+    pub fn type_to_str(&self) -> &'static str {
+        name_of(if self.name == "CORE" { NOTE_TYPE_CORE } else { NOTE_TYPE_GNU }, self.n_type)
     }
 }
 

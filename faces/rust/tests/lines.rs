@@ -100,13 +100,13 @@ fn of_sections() -> Tried {
     assert!(total > 0);
     let by_name: HashMap<&str, SectionHeader> = named.iter().copied().zip(elf.section_headers()?).collect();
     assert_eq!(by_name[".strtab"], strings);
-    assert_eq!(section_header::sht_to_str(strings.sh_type).to_string(), "SHT_STRTAB");
+    assert_eq!(section_header::sht_to_str(strings.sh_type), "SHT_STRTAB");
     assert_eq!(
         elf.section_headers()?
             .iter()
             .step_by(2)
             .map(|s| section_header::shf_to_str(s.sh_flags & SHF_ALLOC))
-            .filter(|name| name == "SHF_ALLOC")
+            .filter(|name| *name == "SHF_ALLOC")
             .count(),
         3
     );
@@ -171,7 +171,7 @@ fn of_symbols() -> Tried {
     let by_address: BTreeMap<u64, Sym> = symbols.iter().map(|s| (s.st_value, s)).collect();
     assert_eq!(by_address.range(..=0x2fff).next_back().map(|(value, _)| *value), Some(0x2030));
     assert_eq!((symbols.len(), symbols.is_empty(), symbols.get(symbols.len())), (5, false, None));
-    assert_eq!(sym::type_to_str(functions[0].st_type()).as_ref() as &str, "FUNC");
+    assert_eq!(sym::type_to_str(functions[0].st_type()), "FUNC");
     assert_eq!(symbols.iter().zip(1..).last().map(|(_, number)| number), Some(5));
     let strings: Strtab = symbols.strtab();
     assert_eq!(strings.get(1)?, Some("first"));
@@ -216,7 +216,7 @@ fn of_relocations_and_notes() -> Tried {
     let notes: Vec<Note> = elf.notes(&elf.section(".note")?.ok_or("no .note")?)?.into_iter().collect();
     assert_eq!(notes.last().map(|note| note.desc), Some(&b"hello"[..]));
     assert_eq!(
-        elf.iter_note_sections()?.map(|note| note.type_to_str().to_string()).collect::<Vec<_>>(),
+        elf.iter_note_sections()?.map(|note| note.type_to_str()).collect::<Vec<_>>(),
         ["NT_GNU_BUILD_ID", "NT_UNKNOWN"]
     );
     assert_eq!(elf.number(18, 2)?, Some(u64::from(EM_X86_64)));
