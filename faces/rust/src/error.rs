@@ -18,9 +18,8 @@ use std::{error, fmt, io, result};
 pub struct Error(raw::Refusal);
 
 // The only kind of error that is this crate's own, with a number that the library doesn't use. `first` is the type of a
-// section, and `item` an index in `HELD`: what was expected of the section.
+// section, and `item` is what was expected of the section.
 const SECTION_TYPE: u32 = u32::MAX;
-const HELD: [&str; 2] = ["symbols", "relocations"];
 pub(crate) const SYMBOLS: u32 = 0;
 pub(crate) const RELOCATIONS: u32 = 1;
 
@@ -63,11 +62,9 @@ pub enum Kind {
     BadInput {
         /// How many bytes there are from its offset to the end of what is read.
         size: u64,
-        /// What is wrong with it: "invalid utf8".
-        msg: &'static str,
     },
-    /// There are more items than the file could hold: their number, and "section headers" or "program headers".
-    BufferTooShort(u64, &'static str),
+    /// There are more headers than the file could hold: their number. [`Error::item`] returns which headers.
+    BufferTooShort(u64),
     /// Out of memory. The library never returns this, since it does not allocate.
     OutOfMemory,
     /// The class byte is neither 1 nor 2, of a header that is queried or written.
@@ -148,13 +145,9 @@ pub enum Kind {
     /// A number that is to be written does not fit its field, or a relocation has an addend where its section has none,
     /// or the reverse: the number, of a negative one its two's complement. [`Error::offset`] is that of the field.
     IntegerFit(u64),
-    /// A section was read as symbols or relocations, and has another type.
-    SectionType {
-        /// Its type, an `SHT_` number.
-        sh_type: u32,
-        /// What was expected: "symbols" or "relocations".
-        expected: &'static str,
-    },
+    /// A section was read as symbols or relocations, and has another type: its type, an `SHT_` number. [`Error::item`]
+    /// returns what it was read as.
+    SectionType(u32),
     /// The number of an error of a later version of the library.
     Other(u32),
 }
@@ -190,13 +183,18 @@ pub enum Item {
     NoteName,
     /// The descriptor of a note, for notes that are read as bytes.
     NoteDesc,
+    /// Symbols, which a section was read as.
+    Symbols,
+    /// Relocations, which a section was read as.
+    Relocations,
 }
 
 impl Error {
     /// Returns what the error is about, if its kind alone does not say it.
     pub fn item(&self) -> Option<Item> {
         match self.0 {
-            raw::Refusal { kind: SECTION_TYPE, .. } => None,
+            raw::Refusal { kind: SECTION_TYPE, item: SYMBOLS, .. } => Some(Item::Symbols),
+            raw::Refusal { kind: SECTION_TYPE, .. } => Some(Item::Relocations),
             raw::Refusal { item: 1, .. } => Some(Item::InvalidUtf8),
             raw::Refusal { item: 2, .. } => Some(Item::SectionHeaders),
             raw::Refusal { item: 3, .. } => Some(Item::ProgramHeaders),
@@ -227,15 +225,14 @@ impl Error {
 
     /// Returns the kind of this error.
     pub fn kind(&self) -> Kind {
-        let raw::Refusal { kind, item, first, second, third, fourth, .. } = self.0;
+        let raw::Refusal { kind, first, second, third, fourth, .. } = self.0;
         let (byte, overflow) = (first as u8, fourth != 0);
-        let item = ["", "invalid utf8", "section headers", "program headers"].get(item as usize).copied().unwrap_or("");
         match kind {
             2 => Kind::BadMagic(first),
             3 => Kind::TooBig { size: first, len: second },
             4 => Kind::BadOffset(first),
-            5 => Kind::BadInput { size: first, msg: item },
-            6 => Kind::BufferTooShort(first, item),
+            5 => Kind::BadInput { size: first },
+            6 => Kind::BufferTooShort(first),
             7 => Kind::OutOfMemory,
             10 => Kind::InvalidClass(byte),
             11 => Kind::InvalidEndianness(byte),
@@ -252,7 +249,7 @@ impl Error {
             22 => Kind::SectionOffset { name: first, size: second, offset: third, overflow },
             23 => Kind::SectionAddr { name: first, size: second, addr: third, overflow },
             24 => Kind::IntegerFit(first),
-            SECTION_TYPE => Kind::SectionType { sh_type: first as u32, expected: HELD[self.0.item as usize] },
+            SECTION_TYPE => Kind::SectionType(first as u32),
             other => Kind::Other(other),
         }
     }
@@ -261,8 +258,9 @@ impl Error {
 /// Writes the library's text of the error. That of [`Kind::SectionType`] is this crate's own.
 impl fmt::Display for Error {
     fn fmt(&self, f: &mut fmt::Formatter<'_>) -> fmt::Result {
-        if let Kind::SectionType { sh_type, expected } = self.kind() {
-            return write!(f, "A section of type {:#x} ({}) holds no {}", sh_type, sht_to_str(sh_type), expected);
+        if let Kind::SectionType(sh_type) = self.kind() {
+            let held = if self.0.item == SYMBOLS { "symbols" } else { "relocations" };
+            return write!(f, "A section of type {:#x} ({}) holds no {}", sh_type, sht_to_str(sh_type), held);
         }
         let mut text = vec![0; sys::goblin_refusal_to_str(&self.0, &mut [])];
         sys::goblin_refusal_to_str(&self.0, &mut text);
@@ -350,11 +348,7 @@ pub(crate) mod tests {
         for (_, name, item) in items {
             let of_kind = |kind| Error::new(raw::Refusal { kind, item, ..raw::Refusal::default() });
             assert_eq!(of_kind(3).item().map(|item| format!("{item:?}")), Some(camel(&name)));
-            assert_eq!(of_kind(SECTION_TYPE - 1).item(), of_kind(3).item());
-            // (the parts of a note have no words)
-            let name = if name.starts_with("NOTE_") { String::new() } else { name.replace('_', " ").to_lowercase() };
-            assert_eq!(format!("{:?}", of_kind(5).kind()), format!("BadInput {{ size: 0, msg: {name:?} }}"));
-            assert_eq!(format!("{:?}", of_kind(6).kind()), format!("BufferTooShort(0, {name:?})"));
+            assert_eq!(of_kind(100).item(), of_kind(3).item());
         }
         for item in [0, 7] {
             assert_eq!(Error::new(raw::Refusal { kind: 3, item, ..raw::Refusal::default() }).item(), None);
@@ -405,11 +399,12 @@ pub(crate) mod tests {
     fn texts_of_section_types() {
         let of_type = |sh_type| SectionHeader { sh_type, sh_offset: 0x40, ..SectionHeader::default() };
         let strings = Error::section_type(&of_type(3), SYMBOLS);
-        assert_eq!(strings.kind(), Kind::SectionType { sh_type: 3, expected: "symbols" });
+        assert_eq!(strings.kind(), Kind::SectionType(3));
         assert_eq!(strings.to_string(), "A section of type 0x3 (SHT_STRTAB) holds no symbols");
-        assert_eq!((strings.offset(), strings.item()), (0x40, None));
+        assert_eq!((strings.offset(), strings.item()), (0x40, Some(Item::Symbols)));
         let other = Error::section_type(&of_type(0x40), RELOCATIONS);
         assert_eq!(format!("{other:?}"), "A section of type 0x40 (UNKNOWN_SHT) holds no relocations");
+        assert_eq!(other.item(), Some(Item::Relocations));
     }
 
     #[test]

@@ -201,7 +201,7 @@ fn sections_and_their_names() {
 
 /// The refusal of the name that is not UTF-8. From its offset to the end of the strings there are two bytes: it and a
 /// zero byte.
-const NOT_UTF_8: Kind = Kind::BadInput { size: 2, msg: "invalid utf8" };
+const NOT_UTF_8: Kind = Kind::BadInput { size: 2 };
 
 #[test]
 fn symbols() {
@@ -279,9 +279,8 @@ fn sections_without_bytes_hold_nothing() {
             section.sh_type = SHT_NOBITS;
             assert_eq!(elf.strtab(&section).get(0), Ok(None));
             assert!(elf.notes(&section).unwrap().is_empty());
-            let holds_no = |expected| Kind::SectionType { sh_type: SHT_NOBITS, expected };
-            assert_eq!(elf.symtab(&section).unwrap_err().kind(), holds_no("symbols"));
-            assert_eq!(elf.relocs(&section).unwrap_err().kind(), holds_no("relocations"));
+            assert_eq!(elf.symtab(&section).unwrap_err().kind(), Kind::SectionType(SHT_NOBITS));
+            assert_eq!(elf.relocs(&section).unwrap_err().kind(), Kind::SectionType(SHT_NOBITS));
         }
     }
 }
@@ -462,8 +461,8 @@ fn symbols_relocations_and_numbers_are_written() {
         assert_eq!(header.put_number_in(&mut file, &rel, 2, 3, 0), Ok(false));
         let of_type = (header.put_symbol(&mut file, &rel, 0, &symbol), header.put_reloc(&mut file, &table, 0, &reloc));
         let refused = (
-            Kind::SectionType { sh_type: SHT_REL, expected: "symbols" },
-            Kind::SectionType { sh_type: SHT_SYMTAB, expected: "relocations" },
+            Kind::SectionType(SHT_REL),
+            Kind::SectionType(SHT_SYMTAB),
         );
         assert_eq!((of_type.0.unwrap_err().kind(), of_type.1.unwrap_err().kind()), refused);
         assert_eq!(changed(&before, &file), None);
@@ -491,7 +490,7 @@ fn the_first_section_header_has_the_number_of_segments() {
         let without = header::Header { e_shoff: 0, ..count };
         without.put(&mut file).unwrap();
         let elf = Elf::parse(&file).unwrap();
-        assert_eq!(elf.program_headers().unwrap_err().kind(), Kind::BufferTooShort(0xffff, "program headers"));
+        assert_eq!(elf.program_headers().unwrap_err().kind(), Kind::BufferTooShort(0xffff));
         assert_eq!(elf.whole().program_headers().unwrap().len(), 2);
     }
 }

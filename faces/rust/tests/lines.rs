@@ -180,7 +180,7 @@ fn of_symbols() -> Tried {
     let section = elf.section(".strtab")?.ok_or("no .strtab")?;
     assert!(matches!(
         elf.symtab(&section),
-        Err(e) if e.kind() == Kind::SectionType { sh_type: SHT_STRTAB, expected: "symbols" }
+        Err(e) if e.kind() == Kind::SectionType(SHT_STRTAB)
     ));
     Ok(())
 }
