@@ -17,9 +17,11 @@ use std::{error, fmt, io, result};
 #[derive(Clone, Copy, PartialEq, Eq, Hash)]
 pub struct Error(raw::Refusal);
 
-// The only kind of error that is this crate's own, with a number that the library doesn't use. `first` is the type of a
-// section, and `item` is what was expected of the section.
+// The kinds of errors that are this crate's own, with numbers that the library doesn't use. Of SECTION_TYPE `first` is
+// the type of a section, and `item` is what was expected of the section.
 const SECTION_TYPE: u32 = u32::MAX;
+const NO_ITEM: u32 = u32::MAX - 2;
+const NUMBER_WIDTH: u32 = u32::MAX - 3;
 pub(crate) const SYMBOLS: u32 = 0;
 pub(crate) const RELOCATIONS: u32 = 1;
 
@@ -148,6 +150,11 @@ pub enum Kind {
     /// A section was read as symbols or relocations, and has another type: its type, an `SHT_` number. [`Error::item`]
     /// returns what it was read as.
     SectionType(u32),
+    /// An item was to be written at an index that is past the end of its list: the index. [`Error::offset`] is the
+    /// list's.
+    NoItem(u64),
+    /// A number was to be written in so many bytes, which are not 1, 2, 4 or 8. [`Error::offset`] is where.
+    NumberWidth(u64),
     /// The number of an error of a later version of the library.
     Other(u32),
 }
@@ -223,6 +230,16 @@ impl Error {
         Error(raw::Refusal { kind: SECTION_TYPE, item: expected, first, offset, ..raw::Refusal::default() })
     }
 
+    /// Returns the error of an item that was to be written past the end of the list at an offset.
+    pub(crate) fn no_item(index: usize, offset: u64) -> Self {
+        Error(raw::Refusal { kind: NO_ITEM, first: index as u64, offset, ..raw::Refusal::default() })
+    }
+
+    /// Returns the error of a number that was to be written at an offset in a width that no number has.
+    pub(crate) fn number_width(width: usize, offset: u64) -> Self {
+        Error(raw::Refusal { kind: NUMBER_WIDTH, first: width as u64, offset, ..raw::Refusal::default() })
+    }
+
     /// Returns the kind of this error.
     pub fn kind(&self) -> Kind {
         let raw::Refusal { kind, first, second, third, fourth, .. } = self.0;
@@ -250,17 +267,24 @@ impl Error {
             23 => Kind::SectionAddr { name: first, size: second, addr: third, overflow },
             24 => Kind::IntegerFit(first),
             SECTION_TYPE => Kind::SectionType(first as u32),
+            NO_ITEM => Kind::NoItem(first),
+            NUMBER_WIDTH => Kind::NumberWidth(first),
             other => Kind::Other(other),
         }
     }
 }
 
-/// Writes the library's text of the error. That of [`Kind::SectionType`] is this crate's own.
+/// Writes the library's text of the error, or this crate's own of [`Kind::SectionType`] and what follows it.
 impl fmt::Display for Error {
     fn fmt(&self, f: &mut fmt::Formatter<'_>) -> fmt::Result {
-        if let Kind::SectionType(sh_type) = self.kind() {
-            let held = if self.0.item == SYMBOLS { "symbols" } else { "relocations" };
-            return write!(f, "A section of type {:#x} ({}) holds no {}", sh_type, sht_to_str(sh_type), held);
+        match self.kind() {
+            Kind::SectionType(sh_type) => {
+                let held = if self.0.item == SYMBOLS { "symbols" } else { "relocations" };
+                return write!(f, "A section of type {:#x} ({}) holds no {}", sh_type, sht_to_str(sh_type), held);
+            }
+            Kind::NoItem(index) => return write!(f, "There is no item {} to write", index),
+            Kind::NumberWidth(width) => return write!(f, "A number has 1, 2, 4 or 8 bytes, and not {}", width),
+            _ => {}
         }
         let mut text = vec![0; sys::goblin_refusal_to_str(&self.0, &mut [])];
         sys::goblin_refusal_to_str(&self.0, &mut text);
@@ -396,7 +420,7 @@ pub(crate) mod tests {
     }
 
     #[test]
-    fn texts_of_section_types() {
+    fn texts_of_the_crate_s_own() {
         let of_type = |sh_type| SectionHeader { sh_type, sh_offset: 0x40, ..SectionHeader::default() };
         let strings = Error::section_type(&of_type(3), SYMBOLS);
         assert_eq!(strings.kind(), Kind::SectionType(3));
@@ -405,6 +429,10 @@ pub(crate) mod tests {
         let other = Error::section_type(&of_type(0x40), RELOCATIONS);
         assert_eq!(format!("{other:?}"), "A section of type 0x40 (UNKNOWN_SHT) holds no relocations");
         assert_eq!(other.item(), Some(Item::Relocations));
+        let (past, wide) = (Error::no_item(9999, 0x40), Error::number_width(3, 0x41));
+        assert_eq!((past.kind(), wide.kind(), past.item()), (Kind::NoItem(9999), Kind::NumberWidth(3), None));
+        assert_eq!(past.to_string(), "There is no item 9999 to write");
+        assert_eq!(wide.to_string(), "A number has 1, 2, 4 or 8 bytes, and not 3");
     }
 
     #[test]

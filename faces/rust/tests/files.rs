@@ -362,10 +362,10 @@ fn changed(before: &[u8], after: &[u8]) -> Option<std::ops::Range<usize>> {
 }
 
 /// Asserts that a call has changed bytes of a record alone, and brings back the file.
-fn has_written(file: &mut [u8], before: &[u8], place: (u64, usize), written: Result<bool>) {
+fn has_written(file: &mut [u8], before: &[u8], place: (u64, usize), written: Result<()>) {
     let range = changed(before, file).unwrap();
     assert!(range.start as u64 >= place.0 && range.end as u64 <= place.0 + place.1 as u64, "{range:?} {place:?}");
-    assert_eq!(written, Ok(true));
+    assert_eq!(written, Ok(()));
     file.copy_from_slice(before);
 }
 
@@ -380,7 +380,7 @@ fn headers_are_written() {
         header.put(&mut file).unwrap();
         let written =
             (header.put_section_header(&mut file, 3, &found.0), header.put_program_header(&mut file, 1, &found.1));
-        assert_eq!((written, changed(&before, &file)), ((Ok(true), Ok(true)), None));
+        assert_eq!((written, changed(&before, &file)), ((Ok(()), Ok(())), None));
         let (section, segment) = (
             SectionHeader { sh_info: 5, sh_type: 0x1234, ..found.0 },
             ProgramHeader { p_flags: 7, p_align: 2, ..found.1 },
@@ -392,12 +392,13 @@ fn headers_are_written() {
         assert_eq!(Elf::parse(&file).unwrap().program_header(1), Ok(Some(segment)));
         has_written(&mut file, &before, (header.e_phoff + of_segment as u64, of_segment), written);
         let other = header::Header { e_entry: 0x4321, e_shstrndx: 3, ei_osabi: 9, ..header };
-        let written = other.put(&mut file).map(|_| true);
+        let written = other.put(&mut file);
         assert_eq!(Elf::parse(&file).unwrap().header, other);
         has_written(&mut file, &before, (0, form.header_size()), written);
-        let past =
-            (header.put_section_header(&mut file, 7, &section), header.put_program_header(&mut file, 2, &segment));
-        assert_eq!(past, (Ok(false), Ok(false)));
+        // what is not written is an error, which `?` passes on
+        assert_eq!(why(header.put_section_header(&mut file, 7, &section)), (Kind::NoItem(7), header.e_shoff));
+        assert_eq!(why(header.put_section_header(&mut file, 9999, &section)), (Kind::NoItem(9999), header.e_shoff));
+        assert_eq!(why(header.put_program_header(&mut file, 2, &segment)), (Kind::NoItem(2), header.e_phoff));
         assert_eq!(
             why(header.put_section_header(&mut file[..200], 0, &section)),
             (Kind::BadOffset(header.e_shoff), header.e_shoff)
@@ -423,7 +424,7 @@ fn symbols_relocations_and_numbers_are_written() {
         let (table, rela, rel) = (at(2), at(4), at(5));
         let (symbol, reloc) = (elf.symtab(&table).unwrap().get(2).unwrap(), elf.relocs(&rela).unwrap().get(1).unwrap());
         let written = (header.put_symbol(&mut file, &table, 2, &symbol), header.put_reloc(&mut file, &rela, 1, &reloc));
-        assert_eq!((written, changed(&before, &file)), ((Ok(true), Ok(true)), None));
+        assert_eq!((written, changed(&before, &file)), ((Ok(()), Ok(())), None));
         let hidden = Sym { st_other: 2, st_size: 9, st_shndx: 0xfffe, ..symbol };
         let written = header.put_symbol(&mut file, &table, 2, &hidden);
         assert_eq!(Elf::parse(&file).unwrap().symtab(&table).unwrap().get(2), Some(hidden));
@@ -443,8 +444,9 @@ fn symbols_relocations_and_numbers_are_written() {
         assert_eq!(Elf::parse(&file).unwrap().number_in(&rel, 2, 2), Ok(Some(0x1234)));
         has_written(&mut file, &before, (rel.sh_offset + 2, 2), written);
         // none of these is written
-        let past = (header.put_symbol(&mut file, &table, 5, &symbol), header.put_reloc(&mut file, &rel, 1, &without));
-        assert_eq!((past, header.put_number(&mut file, 0, 3, 0)), ((Ok(false), Ok(false)), Ok(false)));
+        assert_eq!(why(header.put_symbol(&mut file, &table, 5, &symbol)), (Kind::NoItem(5), table.sh_offset));
+        assert_eq!(why(header.put_reloc(&mut file, &rel, 1, &without)), (Kind::NoItem(1), rel.sh_offset));
+        assert_eq!(why(header.put_number(&mut file, 5, 3, 0)), (Kind::NumberWidth(3), 5));
         let addend = 2 * form.wide() as u64;
         let moves = why(header.put_reloc(&mut file, &rel, 0, &moved));
         assert_eq!(moves, (Kind::IntegerFit(-9_i64 as u64), rel.sh_offset + addend));
@@ -458,7 +460,7 @@ fn symbols_relocations_and_numbers_are_written() {
         assert_eq!(byte, (Kind::IntegerFit(0x100), rel.sh_offset + 2));
         let end = rel.sh_offset + rel.sh_size;
         assert_eq!(why(header.put_number_in(&mut file, &rel, rel.sh_size, 1, 0)), (Kind::BadOffset(rel.sh_size), end));
-        assert_eq!(header.put_number_in(&mut file, &rel, 2, 3, 0), Ok(false));
+        assert_eq!(why(header.put_number_in(&mut file, &rel, 2, 3, 0)), (Kind::NumberWidth(3), rel.sh_offset + 2));
         let of_type = (header.put_symbol(&mut file, &rel, 0, &symbol), header.put_reloc(&mut file, &table, 0, &reloc));
         let refused = (
             Kind::SectionType(SHT_REL),
@@ -616,7 +618,7 @@ fn offsets_of_addresses() {
         assert_eq!(cut.address_to_offset(0).map_err(|e| e.kind()), Err(Kind::BadOffset(elf.header.e_phoff)));
         // with another p_offset the file has 2 bytes of the segment
         let (len, header) = (file.len() as u64, elf.header);
-        assert_eq!(header.put_program_header(&mut file, 1, &ProgramHeader { p_offset: len - 2, ..load }), Ok(true));
+        assert_eq!(header.put_program_header(&mut file, 1, &ProgramHeader { p_offset: len - 2, ..load }), Ok(()));
         let elf = Elf::parse(&file).unwrap();
         assert_eq!(elf.address_to_offset(0x4001), Ok(Some(len - 1)));
         assert_eq!(elf.address_to_offset(0x4002).map_err(|e| e.kind()), Err(Kind::BadOffset(len)));
@@ -689,7 +691,7 @@ fn symbols_by_a_map_of_their_addresses() {
         let mut file = made(form, more);
         let header = Elf::parse(&file).unwrap().header;
         let notes = SectionHeader { sh_flags: SHF_ALLOC, sh_size: 0x1000, ..Default::default() };
-        assert_eq!(header.put_section_header(&mut file, 1, &notes), Ok(true));
+        assert_eq!(header.put_section_header(&mut file, 1, &notes), Ok(()));
         let symbols = Elf::parse(&file).unwrap().syms().unwrap().unwrap();
         let map = symbols.address_map();
         // symbol 1 has the value 0x1020 and the size 0x30, and each symbol from 5 on the number before which it was
@@ -761,7 +763,7 @@ fn maps_of_nested_symbols() {
             let sh_addr = if any(4) == 0 { most - any(30) } else { any(20) };
             let (sh_size, sh_flags) = (if any(9) == 0 { most } else { any(24) }, [2, 2, 6, 5][any(4) as usize]);
             let holder = SectionHeader { sh_addr, sh_size, sh_flags, ..section };
-            assert_eq!(header.put_section_header(&mut file, index, &holder), Ok(true));
+            assert_eq!(header.put_section_header(&mut file, index, &holder), Ok(()));
         }
         header::Header { e_type: any(4) as u16, ..header }.put(&mut file).unwrap();
         let elf = Elf::parse(&file).unwrap();
