@@ -75,6 +75,11 @@ impl<'a> Dynamic<'a> {
         made(sys::goblin_dynamic_value(&self.elf.file, &self.elf.header, &self.range, tag))
     }
 
+    // Returns the value of the last entry with a tag. Of several it is the one that goblin and the loader of glibc take.
+    pub(crate) fn last(&self, tag: u64) -> Option<u64> {
+        self.values(tag).last()
+    }
+
     /// Returns an iterator over the values of the entries with a tag.
     pub fn values(&self, tag: u64) -> impl Iterator<Item = u64> + 'a {
         self.entries().filter(move |entry| entry.d_tag == tag).map(|entry| entry.d_val)

@@ -1,8 +1,8 @@
 //! A file as a whole.
-use crate::dynamic::Dynamic;
+use crate::dynamic::{Dynamic, DF_1_PIE, DT_FLAGS_1};
 use crate::error::{Error, Result, RELOCATIONS, SYMBOLS};
 use crate::file::File;
-use crate::header::{Header, ET_DYN};
+use crate::header::{Header, ET_DYN, ET_REL};
 use crate::note::{AnyNote, NoteBytes, NoteIterator, Notes};
 use crate::part::Part;
 use crate::program_header::{ProgramHeader, ProgramHeaders};
@@ -97,9 +97,22 @@ impl<'a> Elf<'a> {
         self.header.e_entry
     }
 
-    /// Reports whether the file's type is `ET_DYN`, which shared libraries and position-independent programs have.
-    pub fn is_lib(&self) -> bool {
-        self.header.e_type == ET_DYN
+    /// Reports whether the file's type is `ET_REL`.
+    pub fn is_object_file(&self) -> bool {
+        self.header.e_type == ET_REL
+    }
+
+    /// Reports whether the file is a shared library: its type is `ET_DYN`, and it is no position-independent program,
+    /// which linkers mark by `DF_1_PIE` in the value of `DT_FLAGS_1`.
+    ///
+    /// # Errors
+    /// If the type is `ET_DYN`, and the program headers or the dynamic section are not inside the file.
+    pub fn is_lib(&self) -> Result<bool> {
+        if self.header.e_type != ET_DYN {
+            return Ok(false);
+        }
+        let flags = self.dynamic()?.and_then(|dynamic| dynamic.last(DT_FLAGS_1)).unwrap_or(0);
+        Ok(flags & DF_1_PIE == 0)
     }
 
     /// Returns the program header at an index, or `None` past the end.

@@ -52,7 +52,7 @@
 //! // match Object::parse(&bytes)? { Object::Elf(elf) => .. }
 //! let elf = Elf::parse(&bytes)?;
 //! // elf.is_64, elf.little_endian, elf.is_lib, elf.entry
-//! let _ = (elf.is_64(), elf.little_endian(), elf.is_lib(), elf.entry());
+//! let _ = (elf.is_64(), elf.little_endian(), elf.is_lib()?, elf.entry());
 //! // elf.header.e_ident[EI_OSABI]
 //! let _ = elf.header.ei_osabi;
 //!

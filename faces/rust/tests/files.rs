@@ -1,5 +1,5 @@
 //! Tests what is read of small files that are made here, of both classes and byte orders, whole and damaged.
-use goblin_rs::dynamic::{DT_NEEDED, DT_NULL, DT_SONAME, DT_STRSZ, DT_STRTAB};
+use goblin_rs::dynamic::{DF_1_PIE, DT_FLAGS_1, DT_NEEDED, DT_NULL, DT_SONAME, DT_STRSZ, DT_STRTAB};
 use goblin_rs::error::Kind;
 use goblin_rs::program_header::{
     ProgramHeader, PT_DYNAMIC, PT_GNU_EH_FRAME, PT_GNU_RELRO, PT_GNU_STACK, PT_INTERP, PT_LOAD, PT_NOTE, PT_PHDR,
@@ -179,10 +179,12 @@ fn sections_and_their_names() {
     for form in FORMS {
         let file = made(form, 0);
         let elf = Elf::parse(&file).unwrap();
-        assert_eq!((elf.entry(), elf.is_lib()), (0x1234, true));
+        assert_eq!((elf.entry(), elf.is_lib()), (0x1234, Ok(true)));
         let mut program = elf;
         (program.header.e_type, program.header.e_entry) = (header::ET_EXEC, 5);
-        assert_eq!((program.entry(), program.is_lib()), (5, false));
+        assert_eq!((program.entry(), program.is_lib(), program.is_object_file()), (5, Ok(false), false));
+        program.header.e_type = header::ET_REL;
+        assert_eq!((program.is_lib(), program.is_object_file()), (Ok(false), true));
         for (index, name) in ["", ".note", ".symtab", ".strtab", ".rela", ".rel", ".names"].iter().enumerate() {
             let section = elf.section(name).unwrap().unwrap();
             assert_eq!(elf.section_header(index), Ok(Some(section)));
@@ -963,6 +965,25 @@ fn dynamic_sections() {
             assert_eq!((dynamic.value(DT_NULL), dynamic.value(DT_SONAME)), (None, None));
             let strings = dynamic.strings().unwrap().unwrap();
             assert_eq!([1, 6, 11].map(|at| strings.get(at)), [Ok(Some("liba")), Ok(Some("libb")), Ok(None)]);
+        }
+    }
+}
+
+#[test]
+fn a_position_independent_program_is_no_library() {
+    for form in FORMS {
+        // (of two values the last one counts)
+        for (values, is_lib) in [(&[1][..], true), (&[DF_1_PIE, 1], true), (&[1 << 27], false), (&[0, 0x800_0001], false)] {
+            let entries: Vec<_> = values.iter().map(|value| (DT_FLAGS_1, *value)).collect();
+            let (file, header) = with_dynamic(form, &entries);
+            let mut elf = Elf::parse(&file).unwrap();
+            elf.header = header;
+            assert_eq!(elf.is_lib(), Ok(is_lib), "{values:?}");
+            // (the third program header begins where the file ends)
+            elf.header.e_phnum = 3;
+            assert_eq!(why(elf.is_lib()), (Kind::BadOffset(file.len() as u64), header.e_phoff));
+            elf.header.e_type = header::ET_EXEC;
+            assert_eq!(elf.is_lib(), Ok(false));
         }
     }
 }

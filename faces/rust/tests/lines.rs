@@ -26,7 +26,7 @@ fn of_the_file() -> Tried {
     assert_eq!(elf.header, Elf::try_from(&bytes[..])?.header);
     let same: Elf = bytes.as_slice().try_into()?;
     assert_eq!(same.entry(), 0x1234);
-    assert!(elf.is_64() && elf.little_endian() && elf.is_lib());
+    assert!(elf.is_64() && elf.little_endian() && elf.is_lib()? && !elf.is_object_file());
     assert!(elf.header.e_type == ET_DYN && elf.header.e_type != ET_EXEC);
     assert_eq!(elf.header.e_machine, EM_X86_64);
     assert_eq!(header::machine_to_str(elf.header.e_machine), "X86_64");
