@@ -1,9 +1,10 @@
 //! The dynamic section, and the constants of its entries.
 pub use crate::constants::dynamic::*;
 use crate::elf::Elf;
-use crate::error::Result;
+use crate::error::{Error, Result};
 use crate::items::made;
 pub use crate::raw::Dyn;
+use crate::reloc::RelocSection;
 use crate::strtab::Strtab;
 use crate::{raw, sys};
 use std::iter;
@@ -95,5 +96,62 @@ impl<'a> Dynamic<'a> {
         let Elf { file, header } = self.elf;
         let range = sys::goblin_dynamic_strings(&file, &header, &self.range)?;
         Ok(range.map(|range| Strtab { file, range }))
+    }
+}
+
+/// What the dynamic section says, which needs no section headers. Of several entries with one tag the last one counts.
+impl<'a> Elf<'a> {
+    /// Returns the relocations with addends, by `DT_RELA` and `DT_RELASZ`. There are none without these entries.
+    ///
+    /// # Errors
+    /// If the program headers, the dynamic section or the relocations are not inside the file, or no segment loads the
+    /// relocations.
+    pub fn dynrelas(&self) -> Result<RelocSection<'a>> {
+        self.dynamic_relocs(DT_RELA, DT_RELASZ)
+    }
+
+    /// Returns the relocations without addends, by `DT_REL` and `DT_RELSZ`. There are none without these entries.
+    ///
+    /// # Errors
+    /// As of [`Elf::dynrelas`].
+    pub fn dynrels(&self) -> Result<RelocSection<'a>> {
+        self.dynamic_relocs(DT_REL, DT_RELSZ)
+    }
+
+    /// Returns the relocations of the procedure linkage table, by `DT_JMPREL` and `DT_PLTRELSZ`. There are none without
+    /// these entries. They have addends if the value of `DT_PLTREL` is `DT_RELA`.
+    ///
+    /// ```
+    /// # fn main() -> Result<(), Box<dyn std::error::Error>> {
+    /// # let bytes = std::fs::read(std::env::current_exe()?)?;
+    /// let elf = goblin_rs::Elf::parse(&bytes)?;
+    /// let symbols = elf.dynsyms()?.unwrap_or_default();
+    /// for reloc in elf.pltrelocs()? {
+    ///     assert!(symbols.get(reloc.r_sym).is_some());
+    /// }
+    /// # Ok(())
+    /// # }
+    /// ```
+    ///
+    /// # Errors
+    /// As of [`Elf::dynrelas`].
+    pub fn pltrelocs(&self) -> Result<RelocSection<'a>> {
+        self.dynamic_relocs(DT_JMPREL, DT_PLTRELSZ)
+    }
+
+    // Returns the relocations whose address and size are the values of two tags.
+    fn dynamic_relocs(&self, address: u64, size: u64) -> Result<RelocSection<'a>> {
+        let dynamic = match self.dynamic()? {
+            Some(dynamic) => dynamic,
+            None => return Ok(RelocSection::default()),
+        };
+        let is_rela = address == DT_RELA || (address == DT_JMPREL && dynamic.last(DT_PLTREL) == Some(DT_RELA));
+        let (address, size) = match (dynamic.last(address), dynamic.last(size)) {
+            (Some(address), Some(size)) if size > 0 => (address, size),
+            _ => return Ok(RelocSection::default()),
+        };
+        let offset = self.address_to_offset(address)?;
+        let offset = offset.ok_or_else(|| Error::not_loaded(address, dynamic.range.offset))?;
+        RelocSection::of(self, raw::Range { offset, size }, is_rela)
     }
 }

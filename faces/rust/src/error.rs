@@ -22,6 +22,7 @@ pub struct Error(raw::Refusal);
 const SECTION_TYPE: u32 = u32::MAX;
 const NO_ITEM: u32 = u32::MAX - 2;
 const NUMBER_WIDTH: u32 = u32::MAX - 3;
+const NOT_LOADED: u32 = u32::MAX - 4;
 pub(crate) const SYMBOLS: u32 = 0;
 pub(crate) const RELOCATIONS: u32 = 1;
 
@@ -155,6 +156,9 @@ pub enum Kind {
     NoItem(u64),
     /// A number was to be written in so many bytes, which are not 1, 2, 4 or 8. [`Error::offset`] is where.
     NumberWidth(u64),
+    /// An entry of the dynamic section has an address that no segment loads from the file: the address.
+    /// [`Error::offset`] is that of the dynamic section.
+    NotLoaded(u64),
     /// The number of an error of a later version of the library.
     Other(u32),
 }
@@ -232,12 +236,21 @@ impl Error {
 
     /// Returns the error of an item that was to be written past the end of the list at an offset.
     pub(crate) fn no_item(index: usize, offset: u64) -> Self {
-        Error(raw::Refusal { kind: NO_ITEM, first: index as u64, offset, ..raw::Refusal::default() })
+        Error::own(NO_ITEM, index as u64, 0, offset)
     }
 
     /// Returns the error of a number that was to be written at an offset in a width that no number has.
     pub(crate) fn number_width(width: usize, offset: u64) -> Self {
-        Error(raw::Refusal { kind: NUMBER_WIDTH, first: width as u64, offset, ..raw::Refusal::default() })
+        Error::own(NUMBER_WIDTH, width as u64, 0, offset)
+    }
+
+    /// Returns the error of an address in the dynamic section at an offset that no segment loads.
+    pub(crate) fn not_loaded(address: u64, offset: u64) -> Self {
+        Error::own(NOT_LOADED, address, 0, offset)
+    }
+
+    fn own(kind: u32, first: u64, second: u64, offset: u64) -> Self {
+        Error(raw::Refusal { kind, first, second, offset, ..raw::Refusal::default() })
     }
 
     /// Returns the kind of this error.
@@ -269,6 +282,7 @@ impl Error {
             SECTION_TYPE => Kind::SectionType(first as u32),
             NO_ITEM => Kind::NoItem(first),
             NUMBER_WIDTH => Kind::NumberWidth(first),
+            NOT_LOADED => Kind::NotLoaded(first),
             other => Kind::Other(other),
         }
     }
@@ -284,6 +298,7 @@ impl fmt::Display for Error {
             }
             Kind::NoItem(index) => return write!(f, "There is no item {} to write", index),
             Kind::NumberWidth(width) => return write!(f, "A number has 1, 2, 4 or 8 bytes, and not {}", width),
+            Kind::NotLoaded(address) => return write!(f, "No segment loads the address {:#x} from the file", address),
             _ => {}
         }
         let mut text = vec![0; sys::goblin_refusal_to_str(&self.0, &mut [])];
@@ -433,6 +448,9 @@ pub(crate) mod tests {
         assert_eq!((past.kind(), wide.kind(), past.item()), (Kind::NoItem(9999), Kind::NumberWidth(3), None));
         assert_eq!(past.to_string(), "There is no item 9999 to write");
         assert_eq!(wide.to_string(), "A number has 1, 2, 4 or 8 bytes, and not 3");
+        let far = Error::not_loaded(0x1234, 0x42);
+        assert_eq!((far.kind(), far.offset()), (Kind::NotLoaded(0x1234), 0x42));
+        assert_eq!(far.to_string(), "No segment loads the address 0x1234 from the file");
     }
 
     #[test]

@@ -85,10 +85,8 @@
 //! for (section, relocs) in elf.shdr_relocs()? {
 //!     println!("{} of section {}", relocs.len(), section.sh_info);
 //! }
-//! // elf.pltrelocs, elf.dynrelas
-//! if let Some(section) = elf.section(".rela.plt")? {
-//!     println!("{}", elf.relocs(&section)?.len());
-//! }
+//! // elf.pltrelocs, elf.dynrelas, elf.dynrels
+//! println!("{} {} {}", elf.pltrelocs()?.len(), elf.dynrelas()?.len(), elf.dynrels()?.len());
 //!
 //! // elf.iter_note_headers(&bytes), whose items are results
 //! let _: Vec<Note> = elf.iter_note_headers()?.collect();

@@ -81,7 +81,7 @@ pub fn get_type(info: u8) -> &'static str {
 /// # Ok(())
 /// # }
 /// ```
-#[derive(Clone, Copy, Debug)]
+#[derive(Clone, Copy, Debug, Default)]
 pub struct Symtab<'a> {
     file: File<'a>,
     pub(crate) header: raw::Header,

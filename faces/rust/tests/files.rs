@@ -1,5 +1,8 @@
 //! Tests what is read of small files that are made here, of both classes and byte orders, whole and damaged.
-use goblin_rs::dynamic::{DF_1_PIE, DT_FLAGS_1, DT_NEEDED, DT_NULL, DT_SONAME, DT_STRSZ, DT_STRTAB};
+use goblin_rs::dynamic::{
+    DF_1_PIE, DT_FLAGS_1, DT_JMPREL, DT_NEEDED, DT_NULL, DT_PLTREL, DT_PLTRELSZ, DT_REL, DT_RELA, DT_RELASZ, DT_RELSZ,
+    DT_SONAME, DT_STRSZ, DT_STRTAB,
+};
 use goblin_rs::error::Kind;
 use goblin_rs::program_header::{
     ProgramHeader, PT_DYNAMIC, PT_GNU_EH_FRAME, PT_GNU_RELRO, PT_GNU_STACK, PT_INTERP, PT_LOAD, PT_NOTE, PT_PHDR,
@@ -966,6 +969,37 @@ fn dynamic_sections() {
             let strings = dynamic.strings().unwrap().unwrap();
             assert_eq!([1, 6, 11].map(|at| strings.get(at)), [Ok(Some("liba")), Ok(Some("libb")), Ok(None)]);
         }
+    }
+}
+
+#[test]
+fn relocations_of_the_dynamic_section() {
+    for form in FORMS {
+        let of_tags = |entries: &[(u64, u64)]| {
+            let (file, header) = with_dynamic(form, entries);
+            let mut elf = Elf::parse(&file).unwrap();
+            elf.header = header;
+            let kinds = [elf.dynrelas(), elf.dynrels(), elf.pltrelocs()].map(|relocs| {
+                let first = |relocs: goblin_rs::reloc::RelocSection| relocs.get(0).map(|r| r.r_addend.is_some());
+                relocs.map(|relocs| (relocs.len(), first(relocs))).map_err(|e| e.kind())
+            });
+            kinds
+        };
+        let (none, wide) = (Ok((0, None)), form.wide() as u64);
+        // (at 0x4000 are 11 bytes of strings, and after them the file goes on: only the address counts)
+        let (one, two) = (3 * wide, 4 * wide);
+        assert_eq!(of_tags(&[(DT_RELA, 0x4000), (DT_RELASZ, one)]), [Ok((1, Some(true))), none, none]);
+        assert_eq!(of_tags(&[(DT_REL, 0x4001), (DT_RELSZ, two)]), [none, Ok((2, Some(false))), none]);
+        let plt = [(DT_JMPREL, 0x4000), (DT_PLTRELSZ, 6 * wide), (DT_PLTREL, DT_RELA)];
+        assert_eq!(of_tags(&plt), [none, none, Ok((2, Some(true)))]);
+        assert_eq!(of_tags(&[plt[0], plt[1], (DT_PLTREL, DT_REL)]), [none, none, Ok((3, Some(false)))]);
+        // without an address, a size or entries there are none
+        assert_eq!(of_tags(&[(DT_RELA, 0x4000), (DT_RELSZ, two), (DT_REL, 0x4000), (DT_RELSZ, 0)]), [none; 3]);
+        // the last value counts
+        assert_eq!(of_tags(&[(DT_REL, 7), (DT_RELSZ, 1), (DT_REL, 0x4000), (DT_RELSZ, two)])[1], Ok((2, Some(false))));
+        assert_eq!(of_tags(&[(DT_REL, 0x3fff), (DT_RELSZ, two)])[1], Err(Kind::NotLoaded(0x3fff)));
+        let far = of_tags(&[(DT_RELA, 0x4000), (DT_RELASZ, 0x1000_0000)])[0].unwrap_err();
+        assert!(matches!(far, Kind::TooBig { size: 0x1000_0000, .. }), "{far:?}");
     }
 }
 
