@@ -76,6 +76,12 @@ impl<'a> Dynamic<'a> {
         made(sys::goblin_dynamic_value(&self.elf.file, &self.elf.header, &self.range, tag))
     }
 
+    // Fails if there are symbols, whose number the section does not have.
+    pub(crate) fn has_no_symbols(&self) -> Result<()> {
+        let address = self.last(DT_SYMTAB);
+        address.map_or(Ok(()), |address| Err(Error::not_counted(address, self.range.offset)))
+    }
+
     // Returns the value of the last entry with a tag. Of several it is the one that goblin and the loader of glibc take.
     pub(crate) fn last(&self, tag: u64) -> Option<u64> {
         self.values(tag).last()

@@ -23,6 +23,7 @@ const SECTION_TYPE: u32 = u32::MAX;
 const NO_ITEM: u32 = u32::MAX - 2;
 const NUMBER_WIDTH: u32 = u32::MAX - 3;
 const NOT_LOADED: u32 = u32::MAX - 4;
+const NOT_COUNTED: u32 = u32::MAX - 5;
 pub(crate) const SYMBOLS: u32 = 0;
 pub(crate) const RELOCATIONS: u32 = 1;
 
@@ -159,6 +160,9 @@ pub enum Kind {
     /// An entry of the dynamic section has an address that no segment loads from the file: the address.
     /// [`Error::offset`] is that of the dynamic section.
     NotLoaded(u64),
+    /// The dynamic section has the address of symbols, but no section of type `SHT_DYNSYM` has their number: the
+    /// address. [`Error::offset`] is that of the dynamic section.
+    NotCounted(u64),
     /// The number of an error of a later version of the library.
     Other(u32),
 }
@@ -249,6 +253,11 @@ impl Error {
         Error::own(NOT_LOADED, address, 0, offset)
     }
 
+    /// Returns the error of symbols at an address in the dynamic section at an offset, whose number no section has.
+    pub(crate) fn not_counted(address: u64, offset: u64) -> Self {
+        Error::own(NOT_COUNTED, address, 0, offset)
+    }
+
     fn own(kind: u32, first: u64, second: u64, offset: u64) -> Self {
         Error(raw::Refusal { kind, first, second, offset, ..raw::Refusal::default() })
     }
@@ -283,6 +292,7 @@ impl Error {
             NO_ITEM => Kind::NoItem(first),
             NUMBER_WIDTH => Kind::NumberWidth(first),
             NOT_LOADED => Kind::NotLoaded(first),
+            NOT_COUNTED => Kind::NotCounted(first),
             other => Kind::Other(other),
         }
     }
@@ -299,6 +309,7 @@ impl fmt::Display for Error {
             Kind::NoItem(index) => return write!(f, "There is no item {} to write", index),
             Kind::NumberWidth(width) => return write!(f, "A number has 1, 2, 4 or 8 bytes, and not {}", width),
             Kind::NotLoaded(address) => return write!(f, "No segment loads the address {:#x} from the file", address),
+            Kind::NotCounted(address) => return write!(f, "No section has the number of symbols at {:#x}", address),
             _ => {}
         }
         let mut text = vec![0; sys::goblin_refusal_to_str(&self.0, &mut [])];
@@ -451,6 +462,9 @@ pub(crate) mod tests {
         let far = Error::not_loaded(0x1234, 0x42);
         assert_eq!((far.kind(), far.offset()), (Kind::NotLoaded(0x1234), 0x42));
         assert_eq!(far.to_string(), "No segment loads the address 0x1234 from the file");
+        let symbols = Error::not_counted(0x1234, 0x43);
+        assert_eq!((symbols.kind(), symbols.offset()), (Kind::NotCounted(0x1234), 0x43));
+        assert_eq!(symbols.to_string(), "No section has the number of symbols at 0x1234");
     }
 
     #[test]

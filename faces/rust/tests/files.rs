@@ -1,7 +1,7 @@
 //! Tests what is read of small files that are made here, of both classes and byte orders, whole and damaged.
 use goblin_rs::dynamic::{
     DF_1_PIE, DT_FLAGS_1, DT_JMPREL, DT_NEEDED, DT_NULL, DT_PLTREL, DT_PLTRELSZ, DT_REL, DT_RELA, DT_RELASZ, DT_RELSZ,
-    DT_SONAME, DT_STRSZ, DT_STRTAB,
+    DT_SONAME, DT_STRSZ, DT_STRTAB, DT_SYMTAB,
 };
 use goblin_rs::error::Kind;
 use goblin_rs::program_header::{
@@ -188,8 +188,10 @@ fn sections_and_their_names() {
         assert_eq!((program.entry(), program.is_lib(), program.is_object_file()), (5, Ok(false), false));
         program.header.e_type = header::ET_REL;
         assert_eq!((program.is_lib(), program.is_object_file()), (Ok(false), true));
+        // (section 0 means no section)
+        assert_eq!(elf.section(""), Ok(None));
         for (index, name) in ["", ".note", ".symtab", ".strtab", ".rela", ".rel", ".names"].iter().enumerate() {
-            let section = elf.section(name).unwrap().unwrap();
+            let section = elf.section_by_name(name, 0).unwrap().unwrap().1;
             assert_eq!(elf.section_header(index), Ok(Some(section)));
             assert_eq!(elf.section_name(&section), Ok(Some(*name)));
         }
@@ -969,6 +971,50 @@ fn dynamic_sections() {
             let strings = dynamic.strings().unwrap().unwrap();
             assert_eq!([1, 6, 11].map(|at| strings.get(at)), [Ok(Some("liba")), Ok(Some("libb")), Ok(None)]);
         }
+    }
+}
+
+#[test]
+fn the_last_symbol_table_counts() {
+    for form in FORMS {
+        fn count(file: &[u8]) -> Option<usize> {
+            Elf::parse(file).unwrap().syms().unwrap().map(|symbols| symbols.len())
+        }
+        let mut file = made(form, 0);
+        let elf = Elf::parse(&file).unwrap();
+        let (header, table) = (elf.header, elf.section_header(2).unwrap().unwrap());
+        // (the fourth section then has the first two symbols)
+        let size = if form.is_64 { 48 } else { 32 };
+        header.put_section_header(&mut file, 4, &SectionHeader { sh_size: size, ..table }).unwrap();
+        assert_eq!(count(&file), Some(2));
+        header.put_section_header(&mut file, 4, &SectionHeader { sh_type: SHT_STRTAB, ..table }).unwrap();
+        assert_eq!(count(&file), Some(5));
+        header.put_section_header(&mut file, 2, &SectionHeader { sh_type: SHT_NOTE, ..table }).unwrap();
+        assert_eq!(count(&file), None);
+    }
+}
+
+#[test]
+fn symbols_that_no_section_counts_are_refused() {
+    for form in FORMS {
+        let (file, header) = with_dynamic(form, &[(DT_STRTAB, 0x4000), (DT_SYMTAB, 0x4001), (DT_SYMTAB, 0x4002)]);
+        let mut elf = Elf::parse(&file).unwrap();
+        elf.header = header;
+        let dynamic = header.e_phoff - 5 * 2 * form.wide() as u64;
+        assert_eq!(why(elf.dynsyms()), (Kind::NotCounted(0x4002), dynamic));
+        elf.header.e_shnum = 0;
+        elf.header.e_shoff = 0;
+        assert_eq!(why(elf.dynsyms()), (Kind::NotCounted(0x4002), dynamic));
+        assert_eq!(why(elf.whole().dynsyms()), (Kind::NotCounted(0x4002), dynamic));
+        let mut cut = Elf::parse(&file[..dynamic as usize + 1]).unwrap();
+        cut.header = elf.header;
+        assert_eq!(why(cut.dynsyms()), (Kind::BadOffset(header.e_phoff), header.e_phoff));
+        // without that entry, or a dynamic section, there are none
+        let (file, header) = with_dynamic(form, &[(DT_STRTAB, 0x4000)]);
+        let mut elf = Elf::parse(&file).unwrap();
+        assert_eq!(elf.dynsyms(), Ok(None));
+        elf.header = header;
+        assert_eq!(elf.dynsyms(), Ok(None));
     }
 }
 
