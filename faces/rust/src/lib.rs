@@ -82,8 +82,8 @@
 //! }
 //!
 //! // for (index, relocs) in &elf.shdr_relocs
-//! for (section, relocs) in elf.shdr_relocs()? {
-//!     println!("{} of section {}", relocs.len(), section.sh_info);
+//! for (index, relocs) in elf.shdr_relocs()? {
+//!     println!("{} in section {index}", relocs.len());
 //! }
 //! // elf.pltrelocs, elf.dynrelas, elf.dynrels
 //! println!("{} {} {}", elf.pltrelocs()?.len(), elf.dynrelas()?.len(), elf.dynrels()?.len());

@@ -343,7 +343,7 @@ fn sections_of_relocations_are_refused_or_all_there() {
         let elf = Elf::parse(&file).unwrap();
         let sections = elf.section_headers().unwrap();
         let wanted: Vec<_> =
-            [4, 5].iter().map(|index| sections.get(*index).unwrap()).map(|h| (h, elf.relocs(&h).unwrap())).collect();
+            [4, 5].map(|index| (index, elf.relocs(&sections.get(index).unwrap()).unwrap())).to_vec();
         has_each(elf.shdr_relocs().unwrap(), wanted);
         for (index, len) in [(4, 6 * form.wide()), (5, 2 * form.wide())] {
             // `sh_offset` of this section is that of the file's last byte

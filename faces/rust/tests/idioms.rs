@@ -69,7 +69,8 @@ fn tables_from_both_ends() {
         has_items(sections.iter(), |section| section.sh_type, &[0, 7, 2, 3, 4, 9, 3]);
         has_items(segments.iter(), |segment| segment.p_type, &[4, 1]);
         let relocs = elf.shdr_relocs().unwrap();
-        assert_eq!(relocs.iter().map(|(section, _)| section.sh_type).collect::<Vec<_>>(), [SHT_RELA, SHT_REL]);
+        assert_eq!(relocs.iter().map(|(index, _)| index).collect::<Vec<_>>(), [4, 5]);
+        assert_eq!(relocs.iter().rev().map(|(index, _)| index).collect::<Vec<_>>(), [5, 4]);
         let mut from_the_end = relocs.iter();
         let (_, last) = from_the_end.next_back().unwrap();
         assert_eq!((from_the_end.len(), from_the_end.size_hint(), relocs.len()), (1, (1, Some(1)), 2));

@@ -189,7 +189,8 @@ fn of_symbols() -> Tried {
 fn of_relocations_and_notes() -> Tried {
     let bytes = made(FORMS[0], 0);
     let elf = Elf::parse(&bytes)?;
-    for (section, relocs) in elf.shdr_relocs()? {
+    for (index, relocs) in elf.shdr_relocs()? {
+        let section = elf.section_header(index)?.ok_or("no section")?;
         assert_eq!(elf.section_name(&section)?.map(|name| name.starts_with(".rel")), Some(true));
         assert!(!relocs.is_empty() && relocs.iter().all(|r| r.r_sym != 0));
     }
