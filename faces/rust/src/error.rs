@@ -20,6 +20,7 @@ pub struct Error(raw::Refusal);
 // The kinds of errors that are this crate's own, with numbers that the library doesn't use. Of SECTION_TYPE `first` is
 // the type of a section, and `item` is what was expected of the section.
 const SECTION_TYPE: u32 = u32::MAX;
+const NO_STRING: u32 = u32::MAX - 1;
 const NO_ITEM: u32 = u32::MAX - 2;
 const NUMBER_WIDTH: u32 = u32::MAX - 3;
 const NOT_LOADED: u32 = u32::MAX - 4;
@@ -163,6 +164,14 @@ pub enum Kind {
     /// The dynamic section has the address of symbols, but no section of type `SHT_DYNSYM` has their number: the
     /// address. [`Error::offset`] is that of the dynamic section.
     NotCounted(u64),
+    /// The value of an entry of the dynamic section is the offset of no string. [`Error::offset`] is that of the dynamic
+    /// section.
+    NoString {
+        /// Its tag, a `DT_` number.
+        tag: u64,
+        /// Its value.
+        value: u64,
+    },
     /// The number of an error of a later version of the library.
     Other(u32),
 }
@@ -258,6 +267,11 @@ impl Error {
         Error::own(NOT_COUNTED, address, 0, offset)
     }
 
+    /// Returns the error of an entry of the dynamic section at an offset, whose value is the offset of no string.
+    pub(crate) fn no_string(tag: u64, value: u64, offset: u64) -> Self {
+        Error::own(NO_STRING, tag, value, offset)
+    }
+
     fn own(kind: u32, first: u64, second: u64, offset: u64) -> Self {
         Error(raw::Refusal { kind, first, second, offset, ..raw::Refusal::default() })
     }
@@ -293,6 +307,7 @@ impl Error {
             NUMBER_WIDTH => Kind::NumberWidth(first),
             NOT_LOADED => Kind::NotLoaded(first),
             NOT_COUNTED => Kind::NotCounted(first),
+            NO_STRING => Kind::NoString { tag: first, value: second },
             other => Kind::Other(other),
         }
     }
@@ -310,6 +325,7 @@ impl fmt::Display for Error {
             Kind::NumberWidth(width) => return write!(f, "A number has 1, 2, 4 or 8 bytes, and not {}", width),
             Kind::NotLoaded(address) => return write!(f, "No segment loads the address {:#x} from the file", address),
             Kind::NotCounted(address) => return write!(f, "No section has the number of symbols at {:#x}", address),
+            Kind::NoString { tag, value } => return write!(f, "The value {:#x} of tag {:#x} has no string", value, tag),
             _ => {}
         }
         let mut text = vec![0; sys::goblin_refusal_to_str(&self.0, &mut [])];
@@ -465,6 +481,9 @@ pub(crate) mod tests {
         let symbols = Error::not_counted(0x1234, 0x43);
         assert_eq!((symbols.kind(), symbols.offset()), (Kind::NotCounted(0x1234), 0x43));
         assert_eq!(symbols.to_string(), "No section has the number of symbols at 0x1234");
+        let name = Error::no_string(1, 0x1234, 0x44);
+        assert_eq!((name.kind(), name.offset()), (Kind::NoString { tag: 1, value: 0x1234 }, 0x44));
+        assert_eq!(name.to_string(), "The value 0x1234 of tag 0x1 has no string");
     }
 
     #[test]

@@ -104,7 +104,7 @@
 //! # }
 //! ```
 //!
-//! The example `needed` has what `elf.libraries`, `elf.soname`, `elf.rpaths`, `elf.runpaths` and `elf.interpreter` are.
+//! `elf.libraries`, `elf.rpaths`, `elf.runpaths`, `elf.soname` and `elf.interpreter` are calls.
 #![deny(missing_docs, unsafe_code)]
 
 mod address_map;

@@ -1,7 +1,7 @@
 //! Tests what is read of small files that are made here, of both classes and byte orders, whole and damaged.
 use goblin_rs::dynamic::{
     DF_1_PIE, DT_FLAGS_1, DT_JMPREL, DT_NEEDED, DT_NULL, DT_PLTREL, DT_PLTRELSZ, DT_REL, DT_RELA, DT_RELASZ, DT_RELSZ,
-    DT_SONAME, DT_STRSZ, DT_STRTAB, DT_SYMTAB,
+    DT_RPATH, DT_RUNPATH, DT_SONAME, DT_STRSZ, DT_STRTAB, DT_SYMTAB,
 };
 use goblin_rs::error::Kind;
 use goblin_rs::program_header::{
@@ -1065,6 +1065,91 @@ fn a_position_independent_program_is_no_library() {
             elf.header.e_type = header::ET_EXEC;
             assert_eq!(elf.is_lib(), Ok(false));
         }
+    }
+}
+
+#[test]
+fn names_of_the_dynamic_section() {
+    let strings = [(DT_STRTAB, 0x4000), (DT_STRSZ, 11)];
+    for form in FORMS {
+        let read = |entries: &[(u64, u64)]| {
+            let (file, header) = with_dynamic(form, &[&strings, entries].concat());
+            let mut elf = Elf::parse(&file).unwrap();
+            elf.header = header;
+            let owned = |texts: Vec<&str>| texts.join(" ");
+            let lists = [elf.libraries(), elf.rpaths(), elf.runpaths()].map(|texts| texts.map(owned));
+            (lists.map(|texts| texts.map_err(why_of)), elf.soname().map(|name| name.map(str::to_string)).map_err(why_of))
+        };
+        let none = || Ok(String::new());
+        let entries =
+            [(DT_NEEDED, 6), (DT_RUNPATH, 8), (DT_NEEDED, 1), (DT_SONAME, 2), (DT_NEEDED, 3), (DT_NEEDED, 1), (DT_RPATH, 6)];
+        let wanted = ["libb liba ba liba", "libb", "bb"].map(|texts| Ok(texts.to_string()));
+        assert_eq!(read(&entries), (wanted, Ok(Some("iba".to_string()))));
+        // (5 and 10 are the zero bytes after the names)
+        assert_eq!(read(&[(DT_NEEDED, 10), (DT_NEEDED, 5), (DT_NEEDED, 1)]).0, [Ok("  liba".to_string()), none(), none()]);
+        assert_eq!(read(&[(DT_SONAME, 1), (DT_SONAME, 0)]), ([none(), none(), none()], Ok(None)));
+        for tag in [DT_NEEDED, DT_RPATH, DT_RUNPATH, DT_SONAME] {
+            let refused = read(&[(tag, 1), (tag, 11)]);
+            let all = [refused.0[0].is_err(), refused.0[1].is_err(), refused.0[2].is_err(), refused.1.is_err()];
+            assert_eq!(all, [DT_NEEDED, DT_RPATH, DT_RUNPATH, DT_SONAME].map(|of| of == tag));
+            let why = refused.0.into_iter().find_map(|texts| texts.err()).or(refused.1.err());
+            assert_eq!(why, Some(Kind::NoString { tag, value: 11 }));
+        }
+        let elf_without = made(form, 0);
+        let without = Elf::parse(&elf_without).unwrap();
+        assert_eq!((without.libraries(), without.soname(), without.interpreter()), (Ok(vec![]), Ok(None), Ok(None)));
+        assert_eq!(without.dynstrtab().and_then(|strings| strings.get(0)), Ok(None));
+    }
+}
+
+fn why_of(e: goblin_rs::Error) -> Kind {
+    e.kind()
+}
+
+#[test]
+fn many_names_that_end_together_are_read_once() {
+    let (form, size) = (FORMS[0], 4_000_000_u64);
+    let mut file = made(form, 0);
+    let (strings, count) = (file.len() as u64, 20_000);
+    file.extend(std::iter::repeat(b'a').take(size as usize - 3).chain(*b"\xc3\xa9\0"));
+    let dynamic = file.len() as u64;
+    let entries = [(DT_STRTAB, 0x4000), (DT_STRSZ, size)].into_iter().chain((0..count).map(|i| (DT_NEEDED, i)));
+    file.extend(entries.chain([(DT_NULL, 0)]).flat_map(|(tag, value)| form.numbers(&[(8, tag), (8, value)])));
+    let e_phoff = file.len() as u64;
+    file.extend(form.segment(PT_LOAD.into(), 4, strings, size));
+    file.extend(form.segment(PT_DYNAMIC.into(), 4, dynamic, e_phoff - dynamic));
+    let mut elf = Elf::parse(&file).unwrap();
+    (elf.header.e_phoff, elf.header.e_phnum) = (e_phoff, 2);
+    // (each read to its end, they take a minute)
+    let start = std::time::Instant::now();
+    let names = elf.libraries().unwrap();
+    assert!(start.elapsed().as_secs() < 5);
+    assert!(names.iter().zip(0..).all(|(name, index)| name.len() as u64 == size - 1 - index));
+    assert!(names[0].ends_with("a\u{e9}"));
+}
+
+#[test]
+fn the_last_interpreter_counts() {
+    for form in FORMS {
+        let mut file = made(form, 0);
+        let strings = file.len() as u64;
+        file.extend(b"/first\0/second\0\0\xff\0");
+        let segments = file.len() as u64;
+        for (offset, size) in [(strings, 7), (strings + 7, 9), (strings, 0)] {
+            file.extend(form.segment(PT_INTERP.into(), 4, offset, size));
+        }
+        let mut elf = Elf::parse(&file).unwrap();
+        (elf.header.e_phoff, elf.header.e_phnum) = (segments, 1);
+        assert_eq!(elf.interpreter(), Ok(Some("/first")));
+        // (what follows the first zero byte is no part of it, and an empty one is none)
+        elf.header.e_phnum = 3;
+        assert_eq!(elf.interpreter(), Ok(Some("/second")));
+        file.extend(form.segment(PT_INTERP.into(), 4, strings + 16, 1));
+        let mut elf = Elf::parse(&file).unwrap();
+        (elf.header.e_phoff, elf.header.e_phnum) = (segments, 4);
+        assert_eq!(why(elf.interpreter()), (Kind::BadInput { size: 1 }, strings + 16));
+        elf.header.e_phnum = 5;
+        assert_eq!(why(elf.interpreter()).1, segments);
     }
 }
 
