@@ -4,6 +4,7 @@
 // (`faces/constants.py` of the repository makes these files.)
 pub mod dynamic;
 pub mod header;
+#[rustfmt::skip]
 pub mod names;
 pub mod note;
 pub mod other;

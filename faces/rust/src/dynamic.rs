@@ -74,7 +74,7 @@ impl<'a> Dynamic<'a> {
         address.map_or(Ok(()), |address| Err(Error::not_counted(address, self.range.offset)))
     }
 
-    // Returns the value of the last entry with a tag. Of several it is the one that goblin and the loader of glibc take.
+    // Returns the value of the last entry with a tag. Of several, goblin and the loader of glibc take that one.
     pub(crate) fn last(&self, tag: u64) -> Option<u64> {
         self.values(tag).last()
     }
@@ -127,8 +127,7 @@ impl Iterator for DynIterator<'_> {
     fn next(&mut self) -> Option<Dyn> {
         if self.left.is_empty() {
             let (Elf { file, header }, first) = (self.dynamic.elf, self.next?);
-            let filled =
-                sys::goblin_dynamic_entries(&file, &header, &self.dynamic.range, first, &mut self.batch);
+            let filled = sys::goblin_dynamic_entries(&file, &header, &self.dynamic.range, first, &mut self.batch);
             self.left = 0..made(filled).unwrap_or(0) as usize;
             // (what follows the end must not be read)
             self.next = Some(first + BATCH as u64).filter(|_| self.left.end == BATCH);
@@ -237,8 +236,8 @@ impl<'a> Elf<'a> {
         self.dynamic_texts(DT_NEEDED)
     }
 
-    /// Returns the search paths of the libraries in older files (`DT_RPATH`). Each may hold several folders, with colons
-    /// between them.
+    /// Returns the search paths of the libraries in older files (`DT_RPATH`). Each may hold several folders, with
+    /// colons between them.
     ///
     /// # Errors
     /// As of [`Elf::libraries`].
@@ -246,8 +245,7 @@ impl<'a> Elf<'a> {
         self.dynamic_texts(DT_RPATH)
     }
 
-    /// Returns the search paths of the libraries (`DT_RUNPATH`). Each may hold several folders, with colons between
-    /// them.
+    /// Returns the search paths of the libraries (`DT_RUNPATH`). Each may hold several folders, separated by colons.
     ///
     /// # Errors
     /// As of [`Elf::libraries`].

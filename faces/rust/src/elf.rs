@@ -379,8 +379,8 @@ impl<'a> Elf<'a> {
         RelocSection::of(self, section.range(), section.sh_type == SHT_RELA)
     }
 
-    /// Returns all relocation sections, each with the index of its section. If one is damaged, [`Elf::relocs`] reads the
-    /// others.
+    /// Returns all relocation sections, each with the index of its section. If one is damaged, [`Elf::relocs`] reads
+    /// the others.
     ///
     /// # Errors
     /// If the section headers or the relocations of any section are not inside the file.

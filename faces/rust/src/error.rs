@@ -164,8 +164,8 @@ pub enum Kind {
     /// The dynamic section has the address of symbols, but no section of type `SHT_DYNSYM` has their number: the
     /// address. [`Error::offset`] is that of the dynamic section.
     NotCounted(u64),
-    /// The value of an entry of the dynamic section is the offset of no string. [`Error::offset`] is that of the dynamic
-    /// section.
+    /// The value of an entry of the dynamic section is the offset of no string. [`Error::offset`] is that of the
+    /// dynamic section.
     NoString {
         /// Its tag, a `DT_` number.
         tag: u64,
@@ -325,7 +325,9 @@ impl fmt::Display for Error {
             Kind::NumberWidth(width) => return write!(f, "A number has 1, 2, 4 or 8 bytes, and not {}", width),
             Kind::NotLoaded(address) => return write!(f, "No segment loads the address {:#x} from the file", address),
             Kind::NotCounted(address) => return write!(f, "No section has the number of symbols at {:#x}", address),
-            Kind::NoString { tag, value } => return write!(f, "The value {:#x} of tag {:#x} has no string", value, tag),
+            Kind::NoString { tag, value } => {
+                return write!(f, "The value {:#x} of tag {:#x} has no string", value, tag)
+            }
             _ => {}
         }
         let mut text = vec![0; sys::goblin_refusal_to_str(&self.0, &mut [])];

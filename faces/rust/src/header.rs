@@ -96,8 +96,7 @@ impl Header {
             return Err(Error::section_type(section, RELOCATIONS));
         }
         let is_rela = section.sh_type == SHT_RELA;
-        let written =
-            sys::goblin_put_reloc(bytes, self, &section.range(), is_rela, index as u64, &(*reloc).into())?;
+        let written = sys::goblin_put_reloc(bytes, self, &section.range(), is_rela, index as u64, &(*reloc).into())?;
         written.then_some(()).ok_or_else(|| Error::no_item(index, section.sh_offset))
     }
 

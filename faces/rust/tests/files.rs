@@ -469,10 +469,7 @@ fn symbols_relocations_and_numbers_are_written() {
         assert_eq!(why(header.put_number_in(&mut file, &rel, rel.sh_size, 1, 0)), (Kind::BadOffset(rel.sh_size), end));
         assert_eq!(why(header.put_number_in(&mut file, &rel, 2, 3, 0)), (Kind::NumberWidth(3), rel.sh_offset + 2));
         let of_type = (header.put_symbol(&mut file, &rel, 0, &symbol), header.put_reloc(&mut file, &table, 0, &reloc));
-        let refused = (
-            Kind::SectionType(SHT_REL),
-            Kind::SectionType(SHT_SYMTAB),
-        );
+        let refused = (Kind::SectionType(SHT_REL), Kind::SectionType(SHT_SYMTAB));
         assert_eq!((of_type.0.unwrap_err().kind(), of_type.1.unwrap_err().kind()), refused);
         assert_eq!(changed(&before, &file), None);
     }
@@ -597,10 +594,9 @@ fn offsets_of_errors_count_from_the_start_of_their_whole() {
         for alignment in 0..=9 {
             let section = SectionHeader { sh_addralign: alignment, ..section };
             match alignment {
-                0..=4 => assert_eq!(
-                    (elf.notes(&section).unwrap().len(), elf.notes_bytes(&section).unwrap().len()),
-                    (2, 2)
-                ),
+                0..=4 => {
+                    assert_eq!((elf.notes(&section).unwrap().len(), elf.notes_bytes(&section).unwrap().len()), (2, 2))
+                }
                 8 => {}
                 _ => assert_eq!(why(elf.notes(&section)), (Kind::NoteAlign(alignment), first)),
             }
@@ -728,8 +724,7 @@ fn expected_at(elf: &Elf<'_>, symbols: &[Sym], address: u64) -> Option<usize> {
             && start(&section) <= address
             && (is_relocatable || section.sh_flags & 2 != 0)
     };
-    let is_held =
-        |s: &Sym| s.st_shndx < 0xff00 && elf.section_header(s.st_shndx).unwrap().map_or(false, holds);
+    let is_held = |s: &Sym| s.st_shndx < 0xff00 && elf.section_header(s.st_shndx).unwrap().map_or(false, holds);
     let below = || symbols.iter().enumerate().filter(|(_, s)| counts(s) && s.st_value <= address);
     let containing = || below().filter(|(_, s)| address - s.st_value < s.st_size);
     let near = || below().filter(|(_, s)| is_held(s));
@@ -1053,7 +1048,9 @@ fn relocations_of_the_dynamic_section() {
 fn a_position_independent_program_is_no_library() {
     for form in FORMS {
         // (of two values the last one counts)
-        for (values, is_lib) in [(&[1][..], true), (&[DF_1_PIE, 1], true), (&[1 << 27], false), (&[0, 0x800_0001], false)] {
+        for (values, is_lib) in
+            [(&[1][..], true), (&[DF_1_PIE, 1], true), (&[1 << 27], false), (&[0, 0x800_0001], false)]
+        {
             let entries: Vec<_> = values.iter().map(|value| (DT_FLAGS_1, *value)).collect();
             let (file, header) = with_dynamic(form, &entries);
             let mut elf = Elf::parse(&file).unwrap();
@@ -1078,15 +1075,28 @@ fn names_of_the_dynamic_section() {
             elf.header = header;
             let owned = |texts: Vec<&str>| texts.join(" ");
             let lists = [elf.libraries(), elf.rpaths(), elf.runpaths()].map(|texts| texts.map(owned));
-            (lists.map(|texts| texts.map_err(why_of)), elf.soname().map(|name| name.map(str::to_string)).map_err(why_of))
+            (
+                lists.map(|texts| texts.map_err(why_of)),
+                elf.soname().map(|name| name.map(str::to_string)).map_err(why_of),
+            )
         };
         let none = || Ok(String::new());
-        let entries =
-            [(DT_NEEDED, 6), (DT_RUNPATH, 8), (DT_NEEDED, 1), (DT_SONAME, 2), (DT_NEEDED, 3), (DT_NEEDED, 1), (DT_RPATH, 6)];
+        let entries = [
+            (DT_NEEDED, 6),
+            (DT_RUNPATH, 8),
+            (DT_NEEDED, 1),
+            (DT_SONAME, 2),
+            (DT_NEEDED, 3),
+            (DT_NEEDED, 1),
+            (DT_RPATH, 6),
+        ];
         let wanted = ["libb liba ba liba", "libb", "bb"].map(|texts| Ok(texts.to_string()));
         assert_eq!(read(&entries), (wanted, Ok(Some("iba".to_string()))));
         // (5 and 10 are the zero bytes after the names)
-        assert_eq!(read(&[(DT_NEEDED, 10), (DT_NEEDED, 5), (DT_NEEDED, 1)]).0, [Ok("  liba".to_string()), none(), none()]);
+        assert_eq!(
+            read(&[(DT_NEEDED, 10), (DT_NEEDED, 5), (DT_NEEDED, 1)]).0,
+            [Ok("  liba".to_string()), none(), none()]
+        );
         assert_eq!(read(&[(DT_SONAME, 1), (DT_SONAME, 0)]), ([none(), none(), none()], Ok(None)));
         for tag in [DT_NEEDED, DT_RPATH, DT_RUNPATH, DT_SONAME] {
             let refused = read(&[(tag, 1), (tag, 11)]);
