@@ -154,6 +154,20 @@ def rust_files():
             constants = constants_of_class(record, crate, bits)
             text += rust_module(record, bits, constants) if constants else ''
         yield f'faces/rust/src/constants/{record}.rs', text
+    yield 'faces/rust/src/constants/names.rs', rust_names()
+
+
+def rust_names():
+    """The names of numbers, as crates/goblin_names prints them: each from a number on, up to that of the next line."""
+    text = f'//! The names of numbers: each is that of its number and of those up to the next one.\n// {MADE}\n'
+    lines = re.findall(r'^(\w+_to_str|note of "(?:GNU|CORE)") (\d+) (\w+)$', read('crates/goblin_names/stdout'), re.M)
+    for table in dict.fromkeys(table for table, _, _ in lines):
+        # (notes of any other name have those of GNU)
+        constant = re.sub(r'note of "(\w+)"', r'note_type_\1', table).replace('_to_str', '').upper()
+        # (no name has a space)
+        pairs = textwrap.fill(' '.join(f'({number},_"{name}"),' for of, number, name in lines if of == table), WIDTH - 4).replace(',_', ', ')
+        text += f'\npub static {constant}: &[(u32, &str)] = &[\n{textwrap.indent(pairs, "    ")}\n];\n'
+    return text
 
 
 # ---- JavaScript ----

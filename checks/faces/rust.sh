@@ -86,15 +86,14 @@ if has objcopy 'no library of another interface is linked'; then
     quietly cc -c -o "$folder/other/version.o" "$folder/other/version.c"
     quietly ar q "$folder/other/libgoblin_c.a" "$folder/other/version.o"
     cat > "$folder/copied/examples/other.rs" << 'END'
-use goblin_rs::{header::Header, reloc::RelocSection, strtab::Strtab, sym, Elf};
+use goblin_rs::{header::Header, reloc::RelocSection, strtab::Strtab, Elf};
 
 fn main() {
-    let calls: [fn(); 5] = [
+    let calls: [fn(); 4] = [
         || _ = Elf::parse(&[]),
         || _ = Header::default().put(&mut []),
         || _ = RelocSection::default().get(0),
         || _ = Strtab::default().get(0),
-        || _ = sym::get_type(0),
     ];
     for (index, call) in calls.iter().enumerate() {
         assert!(std::panic::catch_unwind(call).is_err(), "call {index} does not panic");
@@ -102,7 +101,7 @@ fn main() {
 }
 END
     quietly env GOBLIN_C_LIB="$folder/other" cargo run --offline --example other --manifest-path "$folder/copied/Cargo.toml"
-    [ "$(grep -c 'has another interface' "$folder/output")" -eq 5 ] || fail "another interface is not reported: $(cat "$folder/output")"
+    [ "$(grep -c 'has another interface' "$folder/output")" -eq 4 ] || fail "another interface is not reported: $(cat "$folder/output")"
 fi
 # It finds the library of its own version alone by pkg-config, in any folder, and is then compiled once.
 if has pkg-config 'no library is looked for by it'; then

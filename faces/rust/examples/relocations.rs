@@ -50,7 +50,8 @@ fn list(elf: &Elf, _: &[u8]) -> common::Result {
     let sections = elf.section_headers()?;
     let of_indices = sections.iter().filter(|section| section.sh_type == SHT_SYMTAB_SHNDX);
     let indices: Indices = of_indices.map(|section| (section.sh_link, section)).collect();
-    for (section, relocs) in elf.shdr_relocs()? {
+    for (index, relocs) in elf.shdr_relocs()? {
+        let section = sections.get(index).unwrap_or_default();
         writeln!(out, "{}:", elf.section_name(&section)?.unwrap_or(""))?;
         let linked = elf.section_header(section.sh_link as usize)?.filter(|_| section.sh_link != 0);
         let symbols = linked.map(|linked| elf.symtab(&linked)).transpose()?;

@@ -1,8 +1,8 @@
 //! A file as a whole.
-use crate::dynamic::Dynamic;
+use crate::dynamic::{Dynamic, DF_1_PIE, DT_FLAGS_1};
 use crate::error::{Error, Result, RELOCATIONS, SYMBOLS};
 use crate::file::File;
-use crate::header::{Header, ET_DYN};
+use crate::header::{Header, ET_DYN, ET_REL};
 use crate::note::{self, AnyNote, NoteBytes, NoteIterator, Notes};
 use crate::part::Part;
 use crate::program_header::{ProgramHeader, ProgramHeaders};
@@ -97,9 +97,22 @@ impl<'a> Elf<'a> {
         self.header.e_entry
     }
 
-    /// Reports whether the file's type is `ET_DYN`, which shared libraries and position-independent programs have.
-    pub fn is_lib(&self) -> bool {
-        self.header.e_type == ET_DYN
+    /// Reports whether the file's type is `ET_REL`.
+    pub fn is_object_file(&self) -> bool {
+        self.header.e_type == ET_REL
+    }
+
+    /// Reports whether the file is a shared library: its type is `ET_DYN`, and it is no position-independent program,
+    /// which linkers mark by `DF_1_PIE` in the value of `DT_FLAGS_1`.
+    ///
+    /// # Errors
+    /// If the type is `ET_DYN`, and the program headers or the dynamic section are not inside the file.
+    pub fn is_lib(&self) -> Result<bool> {
+        if self.header.e_type != ET_DYN {
+            return Ok(false);
+        }
+        let flags = self.dynamic()?.and_then(|dynamic| dynamic.last(DT_FLAGS_1)).unwrap_or(0);
+        Ok(flags & DF_1_PIE == 0)
     }
 
     /// Returns the program header at an index, or `None` past the end.
@@ -135,12 +148,12 @@ impl<'a> Elf<'a> {
         SectionHeaders::of(*self)
     }
 
-    /// Returns the first section with a name.
+    /// Returns the first section with a name. The section header at index 0, which means no section, is left out.
     ///
     /// # Errors
     /// If the section headers or their names are not inside the file.
     pub fn section(&self, name: &str) -> Result<Option<SectionHeader>> {
-        Ok(self.section_by_name(name, 0)?.map(|(_, section)| section))
+        Ok(self.section_by_name(name, 1)?.map(|(_, section)| section))
     }
 
     /// Returns the index and the header of the first section with a name, from an index on.
@@ -333,24 +346,26 @@ impl<'a> Elf<'a> {
         Symtab::of(self, section.range(), self.strtab(&names))
     }
 
-    /// Returns the first symbol table (`SHT_SYMTAB`), if there is one.
+    /// Returns the last symbol table (`SHT_SYMTAB`), if there is one. Few files have several.
     ///
     /// # Errors
     /// If the section headers or the symbols are not inside the file.
     pub fn syms(&self) -> Result<Option<Symtab<'a>>> {
-        self.first_symtab(SHT_SYMTAB)
+        let section = self.section_headers()?.iter().rfind(|section| section.sh_type == SHT_SYMTAB);
+        section.map(|section| self.symtab(&section)).transpose()
     }
 
     /// Returns the first symbol table for dynamic linking (`SHT_DYNSYM`), if there is one.
     ///
     /// # Errors
-    /// If the section headers or the symbols are not inside the file.
+    /// If the section headers or the symbols are not inside the file. If there is no such section, but the dynamic
+    /// section has the address of symbols (`DT_SYMTAB`) or is not inside the file: only section headers have their
+    /// number, and many stripped files have none.
     pub fn dynsyms(&self) -> Result<Option<Symtab<'a>>> {
-        self.first_symtab(SHT_DYNSYM)
-    }
-
-    fn first_symtab(&self, sh_type: u32) -> Result<Option<Symtab<'a>>> {
-        self.section_by_type(sh_type, 0)?.map(|(_, section)| self.symtab(&section)).transpose()
+        if let Some((_, section)) = self.section_by_type(SHT_DYNSYM, 0)? {
+            return self.symtab(&section).map(Some);
+        }
+        self.dynamic()?.map_or(Ok(None), |dynamic| dynamic.has_no_symbols().map(|()| None))
     }
 
     /// Returns the relocations of a section of type `SHT_RELA` or `SHT_REL`.
@@ -364,7 +379,8 @@ impl<'a> Elf<'a> {
         RelocSection::of(self, section.range(), section.sh_type == SHT_RELA)
     }
 
-    /// Returns all relocation sections, each with its header. If one is damaged, [`Elf::relocs`] reads the others.
+    /// Returns all relocation sections, each with the index of its section. If one is damaged, [`Elf::relocs`] reads
+    /// the others.
     ///
     /// # Errors
     /// If the section headers or the relocations of any section are not inside the file.

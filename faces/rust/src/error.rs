@@ -17,11 +17,15 @@ use std::{error, fmt, io, result};
 #[derive(Clone, Copy, PartialEq, Eq, Hash)]
 pub struct Error(raw::Refusal);
 
-// The kinds of errors that are this crate's own, with numbers that the library doesn't use. Of the first one `first` is
-// the type of a section, and `item` an index in `HELD`: what was expected of the section.
+// The kinds of errors that are this crate's own, with numbers that the library doesn't use. Of SECTION_TYPE `first` is
+// the type of a section, and `item` is what was expected of the section.
 const SECTION_TYPE: u32 = u32::MAX;
-const OPEN_STRING: u32 = u32::MAX - 2;
-const HELD: [&str; 2] = ["symbols", "relocations"];
+const NO_STRING: u32 = u32::MAX - 1;
+const NO_ITEM: u32 = u32::MAX - 2;
+const NUMBER_WIDTH: u32 = u32::MAX - 3;
+const NOT_LOADED: u32 = u32::MAX - 4;
+const NOT_COUNTED: u32 = u32::MAX - 5;
+const OPEN_STRING: u32 = u32::MAX - 6;
 pub(crate) const SYMBOLS: u32 = 0;
 pub(crate) const RELOCATIONS: u32 = 1;
 
@@ -64,11 +68,9 @@ pub enum Kind {
     BadInput {
         /// How many bytes there are from its offset to the end of what is read.
         size: u64,
-        /// What is wrong with it: "invalid utf8".
-        msg: &'static str,
     },
-    /// There are more items than the file could hold: their number, and "section headers" or "program headers".
-    BufferTooShort(u64, &'static str),
+    /// There are more headers than the file could hold: their number. [`Error::item`] returns which headers.
+    BufferTooShort(u64),
     /// Out of memory. The library never returns this, since it does not allocate.
     OutOfMemory,
     /// The class byte is neither 1 nor 2, of a header that is queried or written.
@@ -149,12 +151,27 @@ pub enum Kind {
     /// A number that is to be written does not fit its field, or a relocation has an addend where its section has none,
     /// or the reverse: the number, of a negative one its two's complement. [`Error::offset`] is that of the field.
     IntegerFit(u64),
-    /// A section was read as symbols or relocations, and has another type.
-    SectionType {
-        /// Its type, an `SHT_` number.
-        sh_type: u32,
-        /// What was expected: "symbols" or "relocations".
-        expected: &'static str,
+    /// A section was read as symbols or relocations, and has another type: its type, an `SHT_` number. [`Error::item`]
+    /// returns what it was read as.
+    SectionType(u32),
+    /// An item was to be written at an index that is past the end of its list: the index. [`Error::offset`] is the
+    /// list's.
+    NoItem(u64),
+    /// A number was to be written in so many bytes, which are not 1, 2, 4 or 8. [`Error::offset`] is where.
+    NumberWidth(u64),
+    /// An entry of the dynamic section has an address that no segment loads from the file: the address.
+    /// [`Error::offset`] is that of the dynamic section.
+    NotLoaded(u64),
+    /// The dynamic section has the address of symbols, but no section of type `SHT_DYNSYM` has their number: the
+    /// address. [`Error::offset`] is that of the dynamic section.
+    NotCounted(u64),
+    /// The value of an entry of the dynamic section is the offset of no string. [`Error::offset`] is that of the
+    /// dynamic section.
+    NoString {
+        /// Its tag, a `DT_` number.
+        tag: u64,
+        /// Its value.
+        value: u64,
     },
     /// Of strings that are read at once, the table has no zero byte that closes one: its offset in the table.
     OpenString(u64),
@@ -193,13 +210,18 @@ pub enum Item {
     NoteName,
     /// The descriptor of a note, for notes that are read as bytes.
     NoteDesc,
+    /// Symbols, which a section was read as.
+    Symbols,
+    /// Relocations, which a section was read as.
+    Relocations,
 }
 
 impl Error {
     /// Returns what the error is about, if its kind alone does not say it.
     pub fn item(&self) -> Option<Item> {
         match self.0 {
-            raw::Refusal { kind: SECTION_TYPE, .. } => None,
+            raw::Refusal { kind: SECTION_TYPE, item: SYMBOLS, .. } => Some(Item::Symbols),
+            raw::Refusal { kind: SECTION_TYPE, .. } => Some(Item::Relocations),
             raw::Refusal { item: 1, .. } => Some(Item::InvalidUtf8),
             raw::Refusal { item: 2, .. } => Some(Item::SectionHeaders),
             raw::Refusal { item: 3, .. } => Some(Item::ProgramHeaders),
@@ -230,21 +252,48 @@ impl Error {
 
     /// Returns the error of a string that no zero byte of a table closes.
     pub(crate) fn open_string(table: &raw::Range, string: &raw::Range) -> Self {
-        let (first, offset) = (string.offset - table.offset, string.offset);
-        Error(raw::Refusal { kind: OPEN_STRING, first, offset, ..raw::Refusal::default() })
+        Error::own(OPEN_STRING, string.offset - table.offset, 0, string.offset)
+    }
+
+    /// Returns the error of an item that was to be written past the end of the list at an offset.
+    pub(crate) fn no_item(index: usize, offset: u64) -> Self {
+        Error::own(NO_ITEM, index as u64, 0, offset)
+    }
+
+    /// Returns the error of a number that was to be written at an offset in a width that no number has.
+    pub(crate) fn number_width(width: usize, offset: u64) -> Self {
+        Error::own(NUMBER_WIDTH, width as u64, 0, offset)
+    }
+
+    /// Returns the error of an address in the dynamic section at an offset that no segment loads.
+    pub(crate) fn not_loaded(address: u64, offset: u64) -> Self {
+        Error::own(NOT_LOADED, address, 0, offset)
+    }
+
+    /// Returns the error of symbols at an address in the dynamic section at an offset, whose number no section has.
+    pub(crate) fn not_counted(address: u64, offset: u64) -> Self {
+        Error::own(NOT_COUNTED, address, 0, offset)
+    }
+
+    /// Returns the error of an entry of the dynamic section at an offset, whose value is the offset of no string.
+    pub(crate) fn no_string(tag: u64, value: u64, offset: u64) -> Self {
+        Error::own(NO_STRING, tag, value, offset)
+    }
+
+    fn own(kind: u32, first: u64, second: u64, offset: u64) -> Self {
+        Error(raw::Refusal { kind, first, second, offset, ..raw::Refusal::default() })
     }
 
     /// Returns the kind of this error.
     pub fn kind(&self) -> Kind {
-        let raw::Refusal { kind, item, first, second, third, fourth, .. } = self.0;
+        let raw::Refusal { kind, first, second, third, fourth, .. } = self.0;
         let (byte, overflow) = (first as u8, fourth != 0);
-        let item = ["", "invalid utf8", "section headers", "program headers"].get(item as usize).copied().unwrap_or("");
         match kind {
             2 => Kind::BadMagic(first),
             3 => Kind::TooBig { size: first, len: second },
             4 => Kind::BadOffset(first),
-            5 => Kind::BadInput { size: first, msg: item },
-            6 => Kind::BufferTooShort(first, item),
+            5 => Kind::BadInput { size: first },
+            6 => Kind::BufferTooShort(first),
             7 => Kind::OutOfMemory,
             10 => Kind::InvalidClass(byte),
             11 => Kind::InvalidEndianness(byte),
@@ -261,22 +310,35 @@ impl Error {
             22 => Kind::SectionOffset { name: first, size: second, offset: third, overflow },
             23 => Kind::SectionAddr { name: first, size: second, addr: third, overflow },
             24 => Kind::IntegerFit(first),
-            SECTION_TYPE => Kind::SectionType { sh_type: first as u32, expected: HELD[self.0.item as usize] },
+            SECTION_TYPE => Kind::SectionType(first as u32),
+            NO_ITEM => Kind::NoItem(first),
+            NUMBER_WIDTH => Kind::NumberWidth(first),
+            NOT_LOADED => Kind::NotLoaded(first),
+            NOT_COUNTED => Kind::NotCounted(first),
+            NO_STRING => Kind::NoString { tag: first, value: second },
             OPEN_STRING => Kind::OpenString(first),
             other => Kind::Other(other),
         }
     }
 }
 
-/// Writes the library's text of the error. Those of [`Kind::SectionType`] and [`Kind::OpenString`] are this crate's.
+/// Writes the library's text of the error, or this crate's own of [`Kind::SectionType`] and what follows it.
 impl fmt::Display for Error {
     fn fmt(&self, f: &mut fmt::Formatter<'_>) -> fmt::Result {
         match self.kind() {
-            Kind::SectionType { sh_type, expected } => {
-                return write!(f, "A section of type {:#x} ({}) holds no {}", sh_type, sht_to_str(sh_type), expected);
+            Kind::SectionType(sh_type) => {
+                let held = if self.0.item == SYMBOLS { "symbols" } else { "relocations" };
+                return write!(f, "A section of type {:#x} ({}) holds no {}", sh_type, sht_to_str(sh_type), held);
+            }
+            Kind::NoItem(index) => return write!(f, "There is no item {} to write", index),
+            Kind::NumberWidth(width) => return write!(f, "A number has 1, 2, 4 or 8 bytes, and not {}", width),
+            Kind::NotLoaded(address) => return write!(f, "No segment loads the address {:#x} from the file", address),
+            Kind::NotCounted(address) => return write!(f, "No section has the number of symbols at {:#x}", address),
+            Kind::NoString { tag, value } => {
+                return write!(f, "The value {:#x} of tag {:#x} has no string", value, tag)
             }
             Kind::OpenString(offset) => {
-                return write!(f, "No zero byte closes the string at offset {offset} of its table");
+                return write!(f, "No zero byte closes the string at offset {} of its table", offset)
             }
             _ => {}
         }
@@ -366,11 +428,7 @@ pub(crate) mod tests {
         for (_, name, item) in items {
             let of_kind = |kind| Error::new(raw::Refusal { kind, item, ..raw::Refusal::default() });
             assert_eq!(of_kind(3).item().map(|item| format!("{item:?}")), Some(camel(&name)));
-            assert_eq!(of_kind(SECTION_TYPE - 1).item(), of_kind(3).item());
-            // (the parts of a note have no words)
-            let name = if name.starts_with("NOTE_") { String::new() } else { name.replace('_', " ").to_lowercase() };
-            assert_eq!(format!("{:?}", of_kind(5).kind()), format!("BadInput {{ size: 0, msg: {name:?} }}"));
-            assert_eq!(format!("{:?}", of_kind(6).kind()), format!("BufferTooShort(0, {name:?})"));
+            assert_eq!(of_kind(100).item(), of_kind(3).item());
         }
         for item in [0, 7] {
             assert_eq!(Error::new(raw::Refusal { kind: 3, item, ..raw::Refusal::default() }).item(), None);
@@ -418,14 +476,28 @@ pub(crate) mod tests {
     }
 
     #[test]
-    fn texts_of_section_types() {
+    fn texts_of_the_crate_s_own() {
         let of_type = |sh_type| SectionHeader { sh_type, sh_offset: 0x40, ..SectionHeader::default() };
         let strings = Error::section_type(&of_type(3), SYMBOLS);
-        assert_eq!(strings.kind(), Kind::SectionType { sh_type: 3, expected: "symbols" });
+        assert_eq!(strings.kind(), Kind::SectionType(3));
         assert_eq!(strings.to_string(), "A section of type 0x3 (SHT_STRTAB) holds no symbols");
-        assert_eq!((strings.offset(), strings.item()), (0x40, None));
+        assert_eq!((strings.offset(), strings.item()), (0x40, Some(Item::Symbols)));
         let other = Error::section_type(&of_type(0x40), RELOCATIONS);
         assert_eq!(format!("{other:?}"), "A section of type 0x40 (UNKNOWN_SHT) holds no relocations");
+        assert_eq!(other.item(), Some(Item::Relocations));
+        let (past, wide) = (Error::no_item(9999, 0x40), Error::number_width(3, 0x41));
+        assert_eq!((past.kind(), wide.kind(), past.item()), (Kind::NoItem(9999), Kind::NumberWidth(3), None));
+        assert_eq!(past.to_string(), "There is no item 9999 to write");
+        assert_eq!(wide.to_string(), "A number has 1, 2, 4 or 8 bytes, and not 3");
+        let far = Error::not_loaded(0x1234, 0x42);
+        assert_eq!((far.kind(), far.offset()), (Kind::NotLoaded(0x1234), 0x42));
+        assert_eq!(far.to_string(), "No segment loads the address 0x1234 from the file");
+        let symbols = Error::not_counted(0x1234, 0x43);
+        assert_eq!((symbols.kind(), symbols.offset()), (Kind::NotCounted(0x1234), 0x43));
+        assert_eq!(symbols.to_string(), "No section has the number of symbols at 0x1234");
+        let name = Error::no_string(1, 0x1234, 0x44);
+        assert_eq!((name.kind(), name.offset()), (Kind::NoString { tag: 1, value: 0x1234 }, 0x44));
+        assert_eq!(name.to_string(), "The value 0x1234 of tag 0x1 has no string");
     }
 
     #[test]

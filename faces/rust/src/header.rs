@@ -1,7 +1,8 @@
 //! The header of a file, its constants, and the names of its numbers.
 pub use crate::constants::header::*;
+use crate::constants::names::{CLASS, ET, MACHINE};
 use crate::error::{Error, Result, RELOCATIONS, SYMBOLS};
-use crate::names::Name;
+use crate::names::name_of;
 use crate::part::Part;
 use crate::program_header::ProgramHeader;
 pub use crate::raw::Header;
@@ -23,8 +24,9 @@ impl Header {
 }
 
 /// The calls that write. Each changes the bytes of its record in a file's bytes, in the class and byte order of this
-/// header, and no others. What is written is read again as the same record, unless section 0 has the number of headers
-/// and the call changes it. Each panics if the library that is linked has another interface than this crate.
+/// header, and no others. If it fails, it changes nothing. What is written is read again as the same record, unless
+/// section 0 has the number of headers and the call changes it. Each panics if the library that is linked has another
+/// interface than this crate.
 ///
 /// ```
 /// use goblin_rs::section_header::SHF_WRITE;
@@ -52,70 +54,68 @@ impl Header {
         sys::goblin_put_header(bytes, self).map(|_| ())
     }
 
-    /// Writes the section header at an index. Returns `false`, and writes nothing, past the end.
+    /// Writes the section header at an index.
     ///
     /// # Errors
-    /// If the section headers are not inside the bytes, or if a number does not fit the class.
-    pub fn put_section_header(&self, bytes: &mut [u8], index: usize, section: &SectionHeader) -> Result<bool> {
-        sys::goblin_put_section(bytes, self, index as u64, section)
+    /// If there is none, if the section headers are not inside the bytes, or if a number does not fit the class.
+    pub fn put_section_header(&self, bytes: &mut [u8], index: usize, section: &SectionHeader) -> Result<()> {
+        let written = sys::goblin_put_section(bytes, self, index as u64, section)?;
+        written.then_some(()).ok_or_else(|| Error::no_item(index, self.e_shoff))
     }
 
-    /// Writes the program header at an index. Returns `false`, and writes nothing, past the end.
+    /// Writes the program header at an index.
     ///
     /// # Errors
-    /// If the program headers are not inside the bytes, or if a number does not fit the class.
-    pub fn put_program_header(&self, bytes: &mut [u8], index: usize, segment: &ProgramHeader) -> Result<bool> {
-        sys::goblin_put_segment(bytes, self, index as u64, segment)
+    /// If there is none, if the program headers are not inside the bytes, or if a number does not fit the class.
+    pub fn put_program_header(&self, bytes: &mut [u8], index: usize, segment: &ProgramHeader) -> Result<()> {
+        let written = sys::goblin_put_segment(bytes, self, index as u64, segment)?;
+        written.then_some(()).ok_or_else(|| Error::no_item(index, self.e_phoff))
     }
 
-    /// Writes the symbol at an index of a section of type `SHT_SYMTAB` or `SHT_DYNSYM`. Returns `false`, and writes
-    /// nothing, past the end.
+    /// Writes the symbol at an index of a section of type `SHT_SYMTAB` or `SHT_DYNSYM`.
     ///
     /// # Errors
-    /// If the section has another type, if the symbols are not inside the bytes, or if a number does not fit the class.
-    pub fn put_symbol(&self, bytes: &mut [u8], section: &SectionHeader, index: usize, symbol: &Sym) -> Result<bool> {
+    /// If the section has another type, if there is no such symbol, if the symbols are not inside the bytes, or if a
+    /// number does not fit the class.
+    pub fn put_symbol(&self, bytes: &mut [u8], section: &SectionHeader, index: usize, symbol: &Sym) -> Result<()> {
         if ![SHT_SYMTAB, SHT_DYNSYM].contains(&section.sh_type) {
             return Err(Error::section_type(section, SYMBOLS));
         }
-        sys::goblin_put_symbol(bytes, self, &section.range(), index as u64, symbol)
+        let written = sys::goblin_put_symbol(bytes, self, &section.range(), index as u64, symbol)?;
+        written.then_some(()).ok_or_else(|| Error::no_item(index, section.sh_offset))
     }
 
-    /// Writes the relocation at an index of a section of type `SHT_RELA` or `SHT_REL`. Returns `false`, and writes
-    /// nothing, past the end.
+    /// Writes the relocation at an index of a section of type `SHT_RELA` or `SHT_REL`.
     ///
     /// # Errors
-    /// If the section has another type, if the relocations are not inside the bytes, if a number does not fit the
-    /// class, or if the relocation has an addend and those of the section have none, or the reverse.
-    pub fn put_reloc(&self, bytes: &mut [u8], section: &SectionHeader, index: usize, reloc: &Reloc) -> Result<bool> {
+    /// If the section has another type, if there is no such relocation, if the relocations are not inside the bytes, if
+    /// a number does not fit the class, or if the relocation has an addend and those of the section have none, or the
+    /// reverse.
+    pub fn put_reloc(&self, bytes: &mut [u8], section: &SectionHeader, index: usize, reloc: &Reloc) -> Result<()> {
         if !holds_relocs(section) {
             return Err(Error::section_type(section, RELOCATIONS));
         }
-        sys::goblin_put_reloc(
-            bytes,
-            self,
-            &section.range(),
-            section.sh_type == SHT_RELA,
-            index as u64,
-            &(*reloc).into(),
-        )
+        let is_rela = section.sh_type == SHT_RELA;
+        let written = sys::goblin_put_reloc(bytes, self, &section.range(), is_rela, index as u64, &(*reloc).into())?;
+        written.then_some(()).ok_or_else(|| Error::no_item(index, section.sh_offset))
     }
 
-    /// Writes a number of `width` bytes at an offset, in the file's byte order. Returns `false`, and writes nothing, if
-    /// the width is not 1, 2, 4 or 8.
+    /// Writes a number of `width` bytes at an offset, in the file's byte order.
     ///
     /// # Errors
-    /// If the bytes at the offset are not inside the file, or if the number does not fit.
-    pub fn put_number(&self, bytes: &mut [u8], offset: u64, width: usize, value: u64) -> Result<bool> {
-        sys::goblin_put_number(bytes, self, offset, width as u64, value)
+    /// If the width is not 1, 2, 4 or 8, if the bytes at the offset are not inside the file, or if the number does not
+    /// fit.
+    pub fn put_number(&self, bytes: &mut [u8], offset: u64, width: usize, value: u64) -> Result<()> {
+        let written = sys::goblin_put_number(bytes, self, offset, width as u64, value)?;
+        written.then_some(()).ok_or_else(|| Error::number_width(width, offset))
     }
 
     /// Writes a number of `width` bytes at an offset of a section or of a segment's bytes in the file, as
-    /// [`Elf::number_in`](crate::Elf::number_in) reads it. Returns `false`, and writes nothing, if the width is not 1,
-    /// 2, 4 or 8.
+    /// [`Elf::number_in`](crate::Elf::number_in) reads it.
     ///
     /// # Errors
-    /// If the section's or the segment's bytes are not inside the file, if the number is not inside them, or if it does
-    /// not fit.
+    /// If the width is not 1, 2, 4 or 8, if the section's or the segment's bytes are not inside the file, if the number
+    /// is not inside them, or if it does not fit.
     pub fn put_number_in(
         &self,
         bytes: &mut [u8],
@@ -123,22 +123,34 @@ impl Header {
         offset: u64,
         width: usize,
         value: u64,
-    ) -> Result<bool> {
-        sys::goblin_put_number_in(bytes, self, &part.range(), offset, width as u64, value)
+    ) -> Result<()> {
+        let range = part.range();
+        let written = sys::goblin_put_number_in(bytes, self, &range, offset, width as u64, value)?;
+        written.then_some(()).ok_or_else(|| Error::number_width(width, range.offset.saturating_add(offset)))
     }
 }
 
 /// Returns the name of a class, [`Header::ei_class`]: `ELF32`, `ELF64`, `NONE` or `UNKNOWN_CLASS`.
-pub fn class_to_str(ei_class: u8) -> Name {
-    Name::written_by(|text| sys::goblin_class_to_str(ei_class, text))
+pub fn class_to_str(ei_class: u8) -> &'static str {
+    name_of(CLASS, ei_class.into())
 }
 
 /// Returns the name of a file's type, [`Header::e_type`], such as `DYN`, or `UNKNOWN_ET`.
-pub fn et_to_str(e_type: u16) -> Name {
-    Name::written_by(|text| sys::goblin_et_to_str(e_type, text))
+pub fn et_to_str(e_type: u16) -> &'static str {
+    name_of(ET, e_type.into())
 }
 
 /// Returns the name of a machine, [`Header::e_machine`], such as `X86_64`, or `EM_UNKNOWN`.
-pub fn machine_to_str(e_machine: u16) -> Name {
-    Name::written_by(|text| sys::goblin_machine_to_str(e_machine, text))
+///
+/// ```
+/// use goblin_rs::header::{machine_to_str, EM_X86_64};
+///
+/// let bits = match machine_to_str(EM_X86_64) {
+///     "X86_64" | "AARCH64" => 64,
+///     _ => 32,
+/// };
+/// assert_eq!(bits, 64);
+/// ```
+pub fn machine_to_str(e_machine: u16) -> &'static str {
+    name_of(MACHINE, e_machine.into())
 }

@@ -57,7 +57,7 @@
 //! // match Object::parse(&bytes)? { Object::Elf(elf) => .. }
 //! let elf = Elf::parse(&bytes)?;
 //! // elf.is_64, elf.little_endian, elf.is_lib, elf.entry
-//! let _ = (elf.is_64(), elf.little_endian(), elf.is_lib(), elf.entry());
+//! let _ = (elf.is_64(), elf.little_endian(), elf.is_lib()?, elf.entry());
 //! // elf.header.e_ident[EI_OSABI]
 //! let _ = elf.header.ei_osabi;
 //!
@@ -87,13 +87,11 @@
 //! }
 //!
 //! // for (index, relocs) in &elf.shdr_relocs
-//! for (section, relocs) in elf.shdr_relocs()? {
-//!     println!("{} of section {}", relocs.len(), section.sh_info);
+//! for (index, relocs) in elf.shdr_relocs()? {
+//!     println!("{} in section {index}", relocs.len());
 //! }
-//! // elf.pltrelocs, elf.dynrelas
-//! if let Some(section) = elf.section(".rela.plt")? {
-//!     println!("{}", elf.relocs(&section)?.len());
-//! }
+//! // elf.pltrelocs, elf.dynrelas, elf.dynrels
+//! println!("{} {} {}", elf.pltrelocs()?.len(), elf.dynrelas()?.len(), elf.dynrels()?.len());
 //!
 //! // elf.iter_note_headers(&bytes), whose items are results
 //! let _: Vec<NoteBytes> = elf.iter_note_headers()?.collect();
@@ -111,7 +109,7 @@
 //! # }
 //! ```
 //!
-//! The example `needed` has what `elf.libraries`, `elf.soname`, `elf.rpaths`, `elf.runpaths` and `elf.interpreter` are.
+//! `elf.libraries`, `elf.rpaths`, `elf.runpaths`, `elf.soname` and `elf.interpreter` are calls.
 #![deny(missing_docs, unsafe_code)]
 
 mod address_map;
@@ -122,7 +120,7 @@ pub mod error;
 mod file;
 pub mod header;
 pub mod items;
-pub mod names;
+mod names;
 pub mod note;
 mod part;
 pub mod program_header;
@@ -137,5 +135,4 @@ mod sys;
 pub use constants::other;
 pub use elf::Elf;
 pub use error::{Error, Kind, Result};
-pub use names::Name;
 pub use part::Part;

@@ -1,10 +1,11 @@
 //! Notes, their constants, and the names of their types.
+use crate::constants::names::{NOTE_TYPE_CORE, NOTE_TYPE_GNU};
 pub use crate::constants::note::*;
 use crate::elf::Elf;
 use crate::error::{Error, Result};
 use crate::file::File;
 use crate::items::{list, made};
-use crate::names::Name;
+use crate::names::name_of;
 use crate::part::Part;
 use crate::program_header::{ProgramHeaders, PT_NOTE};
 use crate::section_header::{SectionHeaders, SHT_NOTE};
@@ -34,9 +35,13 @@ pub struct Note<'a> {
 impl Note<'_> {
     /// Returns the name of its type, such as `NT_GNU_BUILD_ID`, or `NT_UNKNOWN`. Type 3 is `NT_GNU_BUILD_ID` for every
     /// name but `CORE`, as in goblin.
-    pub fn type_to_str(&self) -> Name {
-        Name::written_by(|text| sys::goblin_note_type_to_str(self.name.as_bytes(), self.n_type, text))
+    pub fn type_to_str(&self) -> &'static str {
+        type_to_str(self.name.as_bytes(), self.n_type)
     }
+}
+
+fn type_to_str(name: &[u8], n_type: u32) -> &'static str {
+    name_of(if name == b"CORE" { NOTE_TYPE_CORE } else { NOTE_TYPE_GNU }, n_type)
 }
 
 /// A note as bytes. Its name need not be UTF-8.
@@ -64,8 +69,8 @@ impl<'a> NoteBytes<'a> {
     }
 
     /// Returns the name of its type, as [`Note::type_to_str`] does.
-    pub fn type_to_str(&self) -> Name {
-        Name::written_by(|text| sys::goblin_note_type_to_str(self.start_of_name(), self.n_type, text))
+    pub fn type_to_str(&self) -> &'static str {
+        type_to_str(self.start_of_name(), self.n_type)
     }
 
     fn start_of_name(&self) -> &'a [u8] {

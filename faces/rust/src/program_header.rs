@@ -1,9 +1,10 @@
 //! Program headers, their constants, and the names of their numbers.
+use crate::constants::names::PT;
 pub use crate::constants::program_header::*;
 use crate::elf::Elf;
 use crate::error::Result;
 use crate::items::{table, Items, List};
-use crate::names::Name;
+use crate::names::name_of;
 pub use crate::raw::ProgramHeader;
 use crate::section_header::{SectionHeader, SHF_TLS, SHT_NOBITS};
 use crate::{raw, sys};
@@ -135,6 +136,6 @@ impl List for ProgramHeaders<'_> {
 }
 
 /// Returns the name of a segment's type, such as `PT_LOAD`, or `UNKNOWN_PT`.
-pub fn pt_to_str(p_type: u32) -> Name {
-    Name::written_by(|text| sys::goblin_pt_to_str(p_type, text))
+pub fn pt_to_str(p_type: u32) -> &'static str {
+    name_of(PT, p_type)
 }

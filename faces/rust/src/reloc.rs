@@ -6,7 +6,7 @@ use crate::file::File;
 use crate::items::{list, made, table, Items, List};
 use crate::section_header::{SectionHeader, SectionHeaderIterator, SectionHeaders, SHT_REL, SHT_RELA};
 use crate::{raw, sys};
-use std::iter::FusedIterator;
+use std::iter::{Enumerate, FusedIterator};
 
 /// A relocation.
 ///
@@ -117,13 +117,15 @@ impl List for RelocSection<'_> {
     }
 }
 
-/// The relocation sections of a file, each with its header. Each is inside the file.
+/// The relocation sections of a file, each with the index of its section. Each is inside the file.
 ///
 /// ```
 /// # fn main() -> Result<(), Box<dyn std::error::Error>> {
 /// # let bytes = std::fs::read(std::env::current_exe()?)?;
 /// let elf = goblin_rs::Elf::parse(&bytes)?;
-/// for (section, relocs) in elf.shdr_relocs()? {
+/// let sections = elf.section_headers()?;
+/// for (index, relocs) in elf.shdr_relocs()? {
+///     let section = sections.get(index).unwrap_or_default();
 ///     println!("{}: {} relocations", elf.section_name(&section)?.unwrap_or(""), relocs.len());
 /// }
 /// # Ok(())
@@ -148,14 +150,14 @@ impl<'a> RelocSections<'a> {
     }
 }
 
-list!(RelocSections of (SectionHeader, RelocSection<'a>), by RelocSectionIterator<'a>,
+list!(RelocSections of (usize, RelocSection<'a>), by RelocSectionIterator<'a>,
     "relocation section", "relocation sections");
 
 pub(crate) fn holds_relocs(header: &SectionHeader) -> bool {
     header.sh_type == SHT_RELA || header.sh_type == SHT_REL
 }
 
-/// An iterator over the relocation sections of a file, each with its header, from both ends.
+/// An iterator over the relocation sections of a file, each with the index of its section, from both ends.
 ///
 /// ```
 /// # fn main() -> Result<(), Box<dyn std::error::Error>> {
@@ -170,29 +172,29 @@ pub(crate) fn holds_relocs(header: &SectionHeader) -> bool {
 #[derive(Clone, Debug)]
 pub struct RelocSectionIterator<'a> {
     elf: Elf<'a>,
-    headers: SectionHeaderIterator<'a>,
+    headers: Enumerate<SectionHeaderIterator<'a>>,
     left: usize,
 }
 
 impl<'a> RelocSectionIterator<'a> {
     fn new(list: RelocSections<'a>) -> Self {
-        RelocSectionIterator { elf: list.elf, headers: list.headers.iter(), left: list.count }
+        RelocSectionIterator { elf: list.elf, headers: list.headers.iter().enumerate(), left: list.count }
     }
 
-    // Returns the relocations of a section header, if one was found.
-    fn take(&mut self, header: Option<SectionHeader>) -> Option<(SectionHeader, RelocSection<'a>)> {
-        let header = header?;
+    // Returns the relocations of a section header, if one was found, with its index.
+    fn take(&mut self, found: Option<(usize, SectionHeader)>) -> Option<(usize, RelocSection<'a>)> {
+        let (index, header) = found?;
         self.left -= 1;
-        Some((header, made(self.elf.relocs(&header))))
+        Some((index, made(self.elf.relocs(&header))))
     }
 }
 
 impl<'a> Iterator for RelocSectionIterator<'a> {
-    type Item = (SectionHeader, RelocSection<'a>);
+    type Item = (usize, RelocSection<'a>);
 
     fn next(&mut self) -> Option<Self::Item> {
-        let header = self.headers.find(holds_relocs);
-        self.take(header)
+        let found = self.headers.find(|(_, header)| holds_relocs(header));
+        self.take(found)
     }
 
     fn size_hint(&self) -> (usize, Option<usize>) {
@@ -202,8 +204,8 @@ impl<'a> Iterator for RelocSectionIterator<'a> {
 
 impl DoubleEndedIterator for RelocSectionIterator<'_> {
     fn next_back(&mut self) -> Option<Self::Item> {
-        let header = self.headers.rfind(holds_relocs);
-        self.take(header)
+        let found = self.headers.rfind(|(_, header)| holds_relocs(header));
+        self.take(found)
     }
 }
 

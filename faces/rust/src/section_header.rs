@@ -1,9 +1,10 @@
 //! Section headers, their constants, and the names of their numbers.
+use crate::constants::names::{SHF, SHT};
 pub use crate::constants::section_header::*;
 use crate::elf::Elf;
 use crate::error::Result;
 use crate::items::{table, Items, List};
-use crate::names::Name;
+use crate::names::name_of;
 pub use crate::raw::SectionHeader;
 use crate::{raw, sys};
 use std::ops::Range;
@@ -110,13 +111,12 @@ impl List for SectionHeaders<'_> {
 
 /// Returns the name of a section's type, such as `SHT_PROGBITS`, or `UNKNOWN_SHT`. As in goblin, 19 is `SHT_NUM`, which
 /// newer tools print as `RELR`, and 0x70000001 is `SHT_X86_64_UNWIND` for every machine.
-pub fn sht_to_str(sh_type: u32) -> Name {
-    Name::written_by(|text| sys::goblin_sht_to_str(sh_type, text))
+pub fn sht_to_str(sh_type: u32) -> &'static str {
+    name_of(SHT, sh_type)
 }
 
 /// Returns the name of one flag of a section, such as `SHF_WRITE`, or `SHF_UNKNOWN`.
-pub fn shf_to_str(flag: u64) -> Name {
+pub fn shf_to_str(flag: u64) -> &'static str {
     // (no flag above 32 bits has a name, and neither has 0)
-    let flag = u32::try_from(flag).unwrap_or(0);
-    Name::written_by(|text| sys::goblin_shf_to_str(flag, text))
+    name_of(SHF, u32::try_from(flag).unwrap_or(0))
 }

@@ -1,11 +1,12 @@
 //! Symbols, their constants, and the names of their numbers.
 pub use crate::address_map::AddressMap;
+use crate::constants::names::{BIND, TYPE, VISIBILITY};
 pub use crate::constants::sym::*;
 use crate::elf::Elf;
 use crate::error::Result;
 use crate::file::File;
 use crate::items::{made, table, Items, List};
-use crate::names::Name;
+use crate::names::name_of;
 pub use crate::raw::Sym;
 use crate::section_header::SectionHeader;
 use crate::strtab::Strtab;
@@ -60,7 +61,7 @@ pub fn is_import(info: u8, value: u64) -> bool {
 }
 
 /// Returns the name of the type in an `st_info`.
-pub fn get_type(info: u8) -> Name {
+pub fn get_type(info: u8) -> &'static str {
     type_to_str(st_type(info))
 }
 
@@ -80,7 +81,7 @@ pub fn get_type(info: u8) -> Name {
 /// # Ok(())
 /// # }
 /// ```
-#[derive(Clone, Copy, Debug)]
+#[derive(Clone, Copy, Debug, Default)]
 pub struct Symtab<'a> {
     file: File<'a>,
     pub(crate) header: raw::Header,
@@ -211,16 +212,16 @@ impl List for Symtab<'_> {
 }
 
 /// Returns the name of a binding, such as `GLOBAL`, or `UNKNOWN_STB`.
-pub fn bind_to_str(binding: u8) -> Name {
-    Name::written_by(|text| sys::goblin_bind_to_str(binding, text))
+pub fn bind_to_str(binding: u8) -> &'static str {
+    name_of(BIND, binding.into())
 }
 
 /// Returns the name of a symbol's type, such as `FUNC`, or `UNKNOWN_STT`.
-pub fn type_to_str(type_: u8) -> Name {
-    Name::written_by(|text| sys::goblin_type_to_str(type_, text))
+pub fn type_to_str(type_: u8) -> &'static str {
+    name_of(TYPE, type_.into())
 }
 
 /// Returns the name of a visibility, such as `HIDDEN`, or `UNKNOWN_STV`.
-pub fn visibility_to_str(visibility: u8) -> Name {
-    Name::written_by(|text| sys::goblin_visibility_to_str(visibility, text))
+pub fn visibility_to_str(visibility: u8) -> &'static str {
+    name_of(VISIBILITY, visibility.into())
 }

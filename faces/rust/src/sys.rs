@@ -226,6 +226,8 @@ macro_rules! texts {
     )*};
 }
 
+// (with these the tests compare the names of numbers, which are stored)
+#[cfg(test)]
 texts! {
     fn goblin_class_to_str(ei_class: u8);
     fn goblin_et_to_str(e_type: u16);
@@ -237,6 +239,9 @@ texts! {
     fn goblin_type_to_str(type_: u8);
     fn goblin_visibility_to_str(visibility: u8);
     fn goblin_note_type_to_str(n_type: u32, by name);
+}
+
+texts! {
     fn goblin_refusal_to_str(why: &Refusal);
 }
 

@@ -7,8 +7,8 @@ use goblin_rs::program_header::{program_header32, program_header64, *};
 use goblin_rs::reloc::{reloc32, reloc64};
 use goblin_rs::section_header::{section_header32, section_header64, *};
 use goblin_rs::sym::{self, sym32, sym64, *};
-use goblin_rs::{Elf, Error, Name};
-use std::collections::{HashMap, HashSet};
+use goblin_rs::{Elf, Error};
+use std::collections::HashSet;
 use std::fmt::Debug;
 
 mod made;
@@ -69,7 +69,8 @@ fn tables_from_both_ends() {
         has_items(sections.iter(), |section| section.sh_type, &[0, 7, 2, 3, 4, 9, 3]);
         has_items(segments.iter(), |segment| segment.p_type, &[4, 1]);
         let relocs = elf.shdr_relocs().unwrap();
-        assert_eq!(relocs.iter().map(|(section, _)| section.sh_type).collect::<Vec<_>>(), [SHT_RELA, SHT_REL]);
+        assert_eq!(relocs.iter().map(|(index, _)| index).collect::<Vec<_>>(), [4, 5]);
+        assert_eq!(relocs.iter().rev().map(|(index, _)| index).collect::<Vec<_>>(), [5, 4]);
         let mut from_the_end = relocs.iter();
         let (_, last) = from_the_end.next_back().unwrap();
         assert_eq!((from_the_end.len(), from_the_end.size_hint(), relocs.len()), (1, (1, Some(1)), 2));
@@ -167,21 +168,15 @@ fn notes_and_names_as_bytes() {
 }
 
 #[test]
-fn names_are_values() {
-    fn is_one_to_use<T: AsRef<str> + Copy + Debug + Eq + std::hash::Hash + Into<String> + Ord + Send + Sync>(_: T) {}
-    let name: Name = machine_to_str(EM_X86_64);
-    is_one_to_use(name);
-    assert_eq!(name, "X86_64");
-    assert_eq!("X86_64", name);
-    assert!(*name == *"X86_64" && name.starts_with("X86") && name != machine_to_str(EM_386));
-    assert_eq!(
-        (format!("{name:>8}"), format!("{name:?}"), String::from(name)),
-        ("  X86_64".into(), "\"X86_64\"".into(), "X86_64".into())
-    );
-    let of_machines: HashMap<_, _> =
-        [EM_386, EM_X86_64, EM_AARCH64].map(|machine| (machine_to_str(machine), machine)).into();
-    assert_eq!(of_machines.get("AARCH64"), Some(&183));
-    assert!(machine_to_str(EM_386) < name);
+fn names_are_static_texts() {
+    let name: &'static str = machine_to_str(EM_X86_64);
+    assert!(matches!((name, et_to_str(ET_DYN), class_to_str(2)), ("X86_64", "DYN", "ELF64")));
+    let of_symbols = [bind_to_str(1), type_to_str(2), visibility_to_str(3), get_type(0x1a)];
+    assert_eq!(of_symbols, ["GLOBAL", "FUNC", "PROTECTED", "GNU_IFUNC"]);
+    assert_eq!([pt_to_str(PT_NOTE), pt_to_str(9), sht_to_str(11)], ["PT_NOTE", "UNKNOWN_PT", "SHT_DYNSYM"]);
+    assert_eq!([shf_to_str(SHF_TLS), shf_to_str(0), shf_to_str(1 << 32)], ["SHF_TLS", "SHF_UNKNOWN", "SHF_UNKNOWN"]);
+    let notes = ["GNU", "CORE"].map(|name| Note { n_type: 3, name, desc: b"" }.type_to_str());
+    assert_eq!(notes, ["NT_GNU_BUILD_ID", "NT_PRPSINFO"]);
     let refusals: HashSet<Error> =
         [0, 3, 15, 16].iter().filter_map(|len| Elf::parse(&made(FORMS[0], 0)[..*len]).err()).collect();
     assert_eq!(refusals.len(), 2);

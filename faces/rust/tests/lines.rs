@@ -26,7 +26,7 @@ fn of_the_file() -> Tried {
     assert_eq!(elf.header, Elf::try_from(&bytes[..])?.header);
     let same: Elf = bytes.as_slice().try_into()?;
     assert_eq!(same.entry(), 0x1234);
-    assert!(elf.is_64() && elf.little_endian() && elf.is_lib());
+    assert!(elf.is_64() && elf.little_endian() && elf.is_lib()? && !elf.is_object_file());
     assert!(elf.header.e_type == ET_DYN && elf.header.e_type != ET_EXEC);
     assert_eq!(elf.header.e_machine, EM_X86_64);
     assert_eq!(header::machine_to_str(elf.header.e_machine), "X86_64");
@@ -100,13 +100,13 @@ fn of_sections() -> Tried {
     assert!(total > 0);
     let by_name: HashMap<&str, SectionHeader> = named.iter().copied().zip(elf.section_headers()?).collect();
     assert_eq!(by_name[".strtab"], strings);
-    assert_eq!(section_header::sht_to_str(strings.sh_type).to_string(), "SHT_STRTAB");
+    assert_eq!(section_header::sht_to_str(strings.sh_type), "SHT_STRTAB");
     assert_eq!(
         elf.section_headers()?
             .iter()
             .step_by(2)
             .map(|s| section_header::shf_to_str(s.sh_flags & SHF_ALLOC))
-            .filter(|name| name == "SHF_ALLOC")
+            .filter(|name| *name == "SHF_ALLOC")
             .count(),
         3
     );
@@ -171,7 +171,7 @@ fn of_symbols() -> Tried {
     let by_address: BTreeMap<u64, Sym> = symbols.iter().map(|s| (s.st_value, s)).collect();
     assert_eq!(by_address.range(..=0x2fff).next_back().map(|(value, _)| *value), Some(0x2030));
     assert_eq!((symbols.len(), symbols.is_empty(), symbols.get(symbols.len())), (5, false, None));
-    assert_eq!(sym::type_to_str(functions[0].st_type()).as_ref() as &str, "FUNC");
+    assert_eq!(sym::type_to_str(functions[0].st_type()), "FUNC");
     assert_eq!(symbols.iter().zip(1..).last().map(|(_, number)| number), Some(5));
     let strings: Strtab = symbols.strtab();
     assert_eq!(strings.get(1)?, Some("first"));
@@ -180,7 +180,7 @@ fn of_symbols() -> Tried {
     let section = elf.section(".strtab")?.ok_or("no .strtab")?;
     assert!(matches!(
         elf.symtab(&section),
-        Err(e) if e.kind() == Kind::SectionType { sh_type: SHT_STRTAB, expected: "symbols" }
+        Err(e) if e.kind() == Kind::SectionType(SHT_STRTAB)
     ));
     Ok(())
 }
@@ -189,7 +189,8 @@ fn of_symbols() -> Tried {
 fn of_relocations_and_notes() -> Tried {
     let bytes = made(FORMS[0], 0);
     let elf = Elf::parse(&bytes)?;
-    for (section, relocs) in elf.shdr_relocs()? {
+    for (index, relocs) in elf.shdr_relocs()? {
+        let section = elf.section_header(index)?.ok_or("no section")?;
         assert_eq!(elf.section_name(&section)?.map(|name| name.starts_with(".rel")), Some(true));
         assert!(!relocs.is_empty() && relocs.iter().all(|r| r.r_sym != 0));
     }
@@ -216,7 +217,7 @@ fn of_relocations_and_notes() -> Tried {
     let notes: Vec<Note> = elf.notes(&elf.section(".note")?.ok_or("no .note")?)?.into_iter().collect();
     assert_eq!(notes.last().map(|note| note.desc), Some(&b"hello"[..]));
     assert_eq!(
-        elf.iter_note_sections()?.map(|note| note.type_to_str().to_string()).collect::<Vec<_>>(),
+        elf.iter_note_sections()?.map(|note| note.type_to_str()).collect::<Vec<_>>(),
         ["NT_GNU_BUILD_ID", "NT_UNKNOWN"]
     );
     assert_eq!(elf.number(18, 2)?, Some(u64::from(EM_X86_64)));

@@ -1,7 +1,68 @@
-//! Tests this crate's source, and what it has in common with the rest of the repository. This file is not installed,
-//! since it needs the repository.
+//! Tests this crate's source, what it has in common with the rest of the repository, and what it reads of the stored
+//! files. This file is not installed, since it needs the repository.
+use goblin_rs::reloc::RelocSection;
+use goblin_rs::{Elf, Result};
 use std::path::Path;
 use std::{fs, mem};
+
+/// Returns a value as the stored lines have it: `-` for none, and `!` if it is refused.
+fn shown<T>(value: Result<T>, show: impl Fn(T) -> String) -> String {
+    value.map_or_else(|_| "!".to_string(), show)
+}
+
+fn sums(relocs: RelocSection<'_>) -> String {
+    let symbols: usize = relocs.iter().map(|reloc| reloc.r_sym).sum();
+    let offsets: u64 = relocs.iter().map(|reloc| reloc.r_offset).sum();
+    format!("{}/{offsets:x}/{symbols}", relocs.len())
+}
+
+/// Returns goblin's field of a file, as the stored lines have it.
+fn field(elf: &Elf<'_>, name: &str) -> String {
+    let count =
+        |symbols: Option<goblin_rs::sym::Symtab<'_>>| symbols.map_or("-".into(), |symbols| symbols.len().to_string());
+    let counts = |relocs: (usize, RelocSection<'_>)| format!("{}:{}", relocs.0, relocs.1.len());
+    match name {
+        "class" => if elf.is_64() { "64" } else { "32" }.to_string(),
+        "order" => if elf.little_endian() { "little" } else { "big" }.to_string(),
+        "object" => u8::from(elf.is_object_file()).to_string(),
+        "lib" => shown(elf.is_lib(), |is_lib| u8::from(is_lib).to_string()),
+        "entry" => format!("{:x}", elf.entry()),
+        "segments" => shown(elf.program_headers(), |all| all.len().to_string()),
+        "sections" => shown(elf.section_headers(), |all| all.len().to_string()),
+        "syms" => shown(elf.syms(), count),
+        "dynsyms" => shown(elf.dynsyms(), count),
+        "dynrelas" => shown(elf.dynrelas(), sums),
+        "dynrels" => shown(elf.dynrels(), sums),
+        "plt" => shown(elf.pltrelocs(), sums),
+        "shdr" => shown(elf.shdr_relocs(), |all| all.iter().map(counts).collect::<Vec<_>>().join(",")),
+        "libraries" => shown(elf.libraries(), |names| names.join(",")),
+        "rpaths" => shown(elf.rpaths(), |names| names.join(",")),
+        "runpaths" => shown(elf.runpaths(), |names| names.join(",")),
+        "soname" => shown(elf.soname(), |name| name.unwrap_or("").to_string()),
+        "interpreter" => shown(elf.interpreter(), |path| path.unwrap_or("").to_string()),
+        _ => panic!("no field {name}"),
+    }
+}
+
+#[test]
+fn fields_are_goblin_s() {
+    let folder = Path::new(env!("CARGO_MANIFEST_DIR")).join("../../checks/files");
+    let (mut found, mut wrong) = (0, Vec::new());
+    for line in fs::read_to_string(folder.join("goblin")).unwrap().lines() {
+        let mut words = line.split(' ');
+        let path = words.next().unwrap();
+        let bytes = fs::read(folder.join(path)).unwrap();
+        let elf = Elf::parse(&bytes).unwrap();
+        for (name, value) in words.map(|word| word.split_once('=').unwrap()) {
+            found += 1;
+            if field(&elf, name) != value {
+                wrong.push(format!("{path}: {name} is {value}, and read as {}", field(&elf, name)));
+            }
+        }
+    }
+    assert!(wrong.is_empty(), "{wrong:#?}");
+    assert!(found > 500, "{found} fields");
+}
 
 /// Returns the name and the text of each source in a folder of the repository, without its subfolders.
 fn sources(folder: &str) -> Vec<(String, String)> {
@@ -39,7 +100,11 @@ fn constants_of(source: &str) -> Vec<String> {
 fn with_type_of_field(constant: &str) -> String {
     let (of_flags, of_indices) = (constant.contains("pub const SHF_"), constant.contains("pub const SHN_"));
     let wide = if of_flags { "u64" } else { "usize" };
-    if of_flags || of_indices { constant.replacen("u32", wide, 1) } else { constant.to_string() }
+    if of_flags || of_indices {
+        constant.replacen("u32", wide, 1)
+    } else {
+        constant.to_string()
+    }
 }
 
 /// What to do if the library's constants have changed since the crate's were made.
