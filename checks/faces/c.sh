@@ -193,6 +193,15 @@ check_indices() {
     "$folder/nm" "$folder/indices" > "$folder/listed"
     grep -qx '0*7654321 [?] 65535 absolute' "$folder/listed" || fail "nm.c gives a letter to an unknown binding: $(cat "$folder/listed")"
     [ "$(grep -c -e ' V 2 weak_data$' -e ' absolute$' "$folder/listed")" -eq 2 ] || fail "nm.c lists another table: $(cat "$folder/listed")"
+    # (in an object file the address of a section counts; only of .gdb_index the whole name does)
+    put $((table - 64 * 9 + 16)) '\0000\0020'
+    for name in .gdb_index2 .gdb_index; do
+        put "$(grep -abo -e '\.debug_info' -e '\.gdb_index2' "$folder/indices" | head -n 1 | cut -d : -f 1)" "$name\\0000"
+        "$folder/nm" "$folder/indices" > "$folder/listed"
+        case $name in *2) letter=n ;; *) letter=N ;; esac
+        grep -qx "0*1012 T 1 function" "$folder/listed" || fail "nm.c does not add the address of a section: $(cat "$folder/listed")"
+        grep -qx "0* $letter 5 $name" "$folder/listed" || fail "nm.c does not know a section by its name: $(cat "$folder/listed")"
+    done
     # (the first byte of été, so that the name is not UTF-8: nm prints it as it stands)
     put $((0x10ac)) '\0377'
     "$folder/nm" "$folder/indices" > "$folder/listed"

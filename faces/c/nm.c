@@ -28,12 +28,14 @@ static bool starts(const goblin_section_t *section, const char *with) {
 
 static int section_letter(const goblin_section_t *section) {
     static const char *const debugging[] = {".debug", ".zdebug", ".gnu.debuglto_.debug_", ".line",
-                                            ".stab", ".gdb_index", ".gnu.linkonce.wi."};
+                                            ".stab", ".gnu.linkonce.wi."};
     if (section->sh_flags & GOBLIN_SHF_EXECINSTR) return 't';
     if (section->sh_type == GOBLIN_SHT_NOBITS) return 'b';
     if (section->sh_flags & GOBLIN_SHF_ALLOC) return section->sh_flags & GOBLIN_SHF_WRITE ? 'd' : 'r';
     for (size_t i = 0; i < sizeof debugging / sizeof *debugging; i++)
         if (starts(section, debugging[i])) return 'N';
+    if (goblin_string_is(bytes, len, &names_of_sections.file, section->sh_name, ".gdb_index", 10, &why) == GOBLIN_OK)
+        return 'N';
     return section->sh_flags & GOBLIN_SHF_WRITE ? '?' : 'n';
 }
 
@@ -85,7 +87,10 @@ static int list(uint64_t index_of_table, const goblin_section_t *table) {
         if (name.size == 0 && has_section && (symbol.st_info & 15) == GOBLIN_STT_SECTION)
             name = string(&names_of_sections, section.sh_name);
         uint64_t value = is_common(&symbol) ? symbol.st_size : symbol.st_value;
-        printf("%0*" PRIx64 " %c %" PRIu64 " ", header.ei_class == GOBLIN_ELFCLASS64 ? 16 : 8, value,
+        bool is_64 = header.ei_class == GOBLIN_ELFCLASS64;
+        /* (in an object file a value is an offset in its section, which may have an address) */
+        if (has_section && header.e_type == GOBLIN_ET_REL) value += section.sh_addr;
+        printf("%0*" PRIx64 " %c %" PRIu64 " ", is_64 ? 16 : 8, is_64 ? value : value & UINT32_MAX,
                letter(&symbol, has_section ? &section : NULL), index);
         fwrite(bytes + name.offset, 1, (size_t)name.size, stdout);
         putchar('\n');

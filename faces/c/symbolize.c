@@ -1,8 +1,8 @@
-/* Prints the function at each address, as `addr2line -fs` does for a file without line numbers: symbolize
-   FILE ADDRESS..
-   For each address there is a line with the symbol's name, or ?? if there is none, and a line ??:0. It reads and sorts
-   the symbols once, and finds for each address the symbol that goblin_symbol_by_address finds. With the first argument
-   -1 it calls that for each address, which reads all symbols each time. */
+/* Prints the symbol that goblin_symbol_by_address finds for each address: symbolize [-1] FILE ADDRESS..
+   For each address there is a line with the symbol's name, or ?? if there is none, and a line ??:0. Of a file without
+   debug information `addr2line -fs` prints the same, but also names a function at addresses past its end.
+   It reads and sorts the symbols once. With -1 it calls goblin_symbol_by_address for each address, which reads all
+   symbols each time. */
 #include "goblin.h"
 #include "example.h"
 
