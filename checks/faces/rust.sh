@@ -82,9 +82,6 @@ awk '/looked for in/ { wrong++ } /no folder beside this crate was looked in: it 
 if has objcopy 'no library of another interface is linked'; then
     mkdir "$folder/other"
     objcopy --redefine-sym goblin_version=own_version "$folder/libgoblin_c.a" "$folder/other/libgoblin_c.a"
-    echo 'unsigned goblin_version(void) { return 1; }' > "$folder/other/version.c"
-    quietly cc -c -o "$folder/other/version.o" "$folder/other/version.c"
-    quietly ar q "$folder/other/libgoblin_c.a" "$folder/other/version.o"
     cat > "$folder/copied/examples/other.rs" << 'END'
 use goblin_rs::{header::Header, reloc::RelocSection, strtab::Strtab, Elf};
 
@@ -100,8 +97,14 @@ fn main() {
     }
 }
 END
-    quietly env GOBLIN_C_LIB="$folder/other" cargo run --offline --example other --manifest-path "$folder/copied/Cargo.toml"
-    [ "$(grep -c 'has another interface' "$folder/output")" -eq 4 ] || fail "another interface is not reported: $(cat "$folder/output")"
+    interface=$(awk '$2 == "GOBLIN_VERSION" { print $3 }' faces/c/goblin.h)
+    for other in $((interface - 1)) $((interface + 1)); do
+        echo "unsigned goblin_version(void) { return $other; }" > "$folder/other/version.c"
+        quietly cc -c -o "$folder/other/version.o" "$folder/other/version.c"
+        quietly ar r "$folder/other/libgoblin_c.a" "$folder/other/version.o"
+        quietly env GOBLIN_C_LIB="$folder/other" cargo run --offline --example other --manifest-path "$folder/copied/Cargo.toml"
+        [ "$(grep -c 'has another interface' "$folder/output")" -eq 4 ] || fail "interface $other is not reported: $(cat "$folder/output")"
+    done
 fi
 # It finds the library of its own version alone by pkg-config, in any folder, and is then compiled once.
 if has pkg-config 'no library is looked for by it'; then
@@ -119,16 +122,18 @@ if has pkg-config 'no library is looked for by it'; then
     quietly env -u GOBLIN_C_LIB PKG_CONFIG_LIBDIR="$folder/a folder" cargo build --offline --manifest-path "$folder/copied/Cargo.toml"
     ! grep -q Compiling "$folder/output" || fail "the crate is compiled again: $(cat "$folder/output")"
 fi
-# It finds the library that it is installed with, also after both were moved.
+# It finds the library that it is installed with, also after both were moved, and by a symbolic link.
 mkdir -p "$folder/installed/lib" "$folder/installed/share/goblin_c"
 cp "$folder/libgoblin_c.a" "$folder/installed/lib/"
 cp -R faces/rust "$folder/installed/share/goblin_c/rust"
-for place in installed moved; do
-    [ -e "$folder/$place" ] || mv "$folder/installed" "$folder/$place"
+for place in installed/share/goblin_c/rust moved/share/goblin_c/rust linked; do
+    case $place in moved*) mv "$folder/installed" "$folder/moved" ;; linked) ln -s moved/share/goblin_c/rust "$folder/linked" ;; esac
     quietly env -u GOBLIN_C_LIB -u CARGO_TARGET_DIR PKG_CONFIG_LIBDIR="$folder" cargo build --offline --example symbols \
-        --manifest-path "$folder/$place/share/goblin_c/rust/Cargo.toml"
+        --manifest-path "$folder/$place/Cargo.toml"
 done
+# It passes its own tests where goblin.h is not beside it, as in a package.
 quietly cargo package --offline --allow-dirty --manifest-path $crate
+quietly cargo test --offline --tests --manifest-path "$folder/target/package/goblin_rs-$version/Cargo.toml"
 # The lints of Rust 1.95 and before are errors. What a later one finds is printed. (rustdoc and clippy have rustc's version.)
 deny=
 [ "$(rustc --version | sed 's/^rustc 1[.]\([0-9]*\)[.].*/\1/')" -gt 95 ] || deny=-Dwarnings

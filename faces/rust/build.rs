@@ -73,8 +73,10 @@ fn folders() -> Vec<PathBuf> {
     beside(here).into_iter().chain(from_pkg_config()).collect()
 }
 
-/// Returns the library's folder, if this crate is where it is installed with the library, or in the repository.
+/// Returns the library's folder, if this crate is where it is installed with the library, or in the repository. (Its
+/// name may be a symbolic link.)
 fn beside(here: &Path) -> Option<PathBuf> {
+    let here = fs::canonicalize(here).ok()?;
     let above = |levels| here.ancestors().nth(levels);
     let installed = above(3).filter(|_| here.ends_with("share/goblin_c/rust")).map(|folder| folder.join("lib"));
     let sources = above(2).map(|folder| folder.join("crates/goblin_c")).filter(|folder| folder.is_dir());

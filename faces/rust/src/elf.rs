@@ -239,7 +239,8 @@ impl<'a> Elf<'a> {
     }
 
     /// Returns the sections of a segment, in the sense of [`ProgramHeader::holds`]. The section header at index 0,
-    /// which means no section, is left out.
+    /// which means no section, is left out. Each call reads all section headers. For many segments collect these once,
+    /// and call `holds` of each segment.
     ///
     /// # Errors
     /// If the section headers are not inside the file.

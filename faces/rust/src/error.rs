@@ -368,17 +368,17 @@ impl From<Error> for io::Error {
 pub(crate) mod tests {
     use super::*;
 
-    // Returns the text of `goblin.h`, from the repository or from where it is installed with this crate.
-    pub(crate) fn goblin_h() -> String {
-        let here = std::path::Path::new(env!("CARGO_MANIFEST_DIR"));
-        let paths = ["../c/goblin.h", "../../../include/goblin.h"].map(|path| here.join(path));
-        let found = paths.iter().find_map(|path| std::fs::read_to_string(path).ok());
-        found.unwrap_or_else(|| panic!("goblin.h is missing: looked for {paths:?}"))
+    // Returns the text of `goblin.h`, from the repository or from where it is installed with this crate. It is not
+    // beside a copy of this crate elsewhere, such as a vendored one.
+    pub(crate) fn goblin_h() -> Option<String> {
+        let here = std::fs::canonicalize(env!("CARGO_MANIFEST_DIR")).unwrap();
+        let path = ["faces/rust", "share/goblin_c/rust"].iter().position(|place| here.ends_with(place))?;
+        let path = here.join(["../c/goblin.h", "../../../include/goblin.h"][path]);
+        Some(std::fs::read_to_string(&path).unwrap_or_else(|e| panic!("{path:?}: {e}")))
     }
 
     // Returns the constants of `goblin.h` after a line: the comment, the name and the number of each.
-    fn constants_after(line: &str) -> Vec<(String, String, u32)> {
-        let header = goblin_h();
+    fn constants_after(header: &str, line: &str) -> Vec<(String, String, u32)> {
         let body = header.split(line).nth(1).unwrap().split("};").next().unwrap();
         let (mut all, mut comment) = (Vec::new(), String::new());
         for line in body.lines().map(str::trim) {
@@ -406,7 +406,11 @@ pub(crate) mod tests {
 
     #[test]
     fn kinds_are_those_of_goblin_h() {
-        let refusals = constants_after("GOBLIN_END = 1,\n");
+        let header = match goblin_h() {
+            Some(header) => header,
+            None => return,
+        };
+        let refusals = constants_after(&header, "GOBLIN_END = 1,\n");
         assert_eq!(refusals.len(), 21);
         for (comment, name, number) in refusals {
             let why = raw::Refusal {
@@ -423,7 +427,7 @@ pub(crate) mod tests {
             let found: Vec<_> = words.iter().filter(|word| word.parse::<u64>().is_ok()).collect();
             assert_eq!(found, [&"101", &"102", &"103", &"1"][..numbers(&comment)], "{comment}");
         }
-        let items = constants_after("0 for refusals that have none. */\n");
+        let items = constants_after(&header, "0 for refusals that have none. */\n");
         assert_eq!(items.len(), 6);
         for (_, name, item) in items {
             let of_kind = |kind| Error::new(raw::Refusal { kind, item, ..raw::Refusal::default() });
@@ -469,10 +473,12 @@ pub(crate) mod tests {
             let why = raw::Refusal { kind, item, first: 31, second: 5, third: 6, fourth: 1, offset: 7 };
             assert_eq!(Error::new(why).to_string(), text, "{kind}");
         }
-        let kinds: Vec<_> = constants_after("GOBLIN_END = 1,\n").iter().map(|(_, _, number)| *number).collect();
-        let mut tried = TEXTS.map(|(kind, _, _)| kind).to_vec();
-        tried.dedup();
-        assert_eq!(tried, kinds);
+        if let Some(header) = goblin_h() {
+            let kinds = constants_after(&header, "GOBLIN_END = 1,\n").into_iter().map(|(_, _, number)| number);
+            let mut tried = TEXTS.map(|(kind, _, _)| kind).to_vec();
+            tried.dedup();
+            assert!(kinds.eq(tried));
+        }
     }
 
     #[test]

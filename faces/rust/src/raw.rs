@@ -220,9 +220,10 @@ pub mod tests {
     #[test]
     fn fields_have_the_offsets_of_the_library() {
         let layout = sys::layout();
-        let goblin_h = crate::error::tests::goblin_h();
-        let interface = goblin_h.split("#define GOBLIN_VERSION ").nth(1).and_then(|line| line.lines().next());
-        assert_eq!(interface, Some(sys::VERSION.to_string().as_str()));
+        if let Some(header) = crate::error::tests::goblin_h() {
+            let interface = header.split("#define GOBLIN_VERSION ").nth(1).and_then(|line| line.lines().next());
+            assert_eq!(interface, Some(sys::VERSION.to_string().as_str()));
+        }
         assert_filled(&layout.refusal, layout.size_of_refusal, 7);
         assert_filled(&layout.range, layout.size_of_range, 2);
         assert_filled(&layout.header, layout.size_of_header, 18);

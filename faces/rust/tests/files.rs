@@ -189,6 +189,8 @@ fn sections_and_their_names() {
         assert_eq!((program.entry(), program.is_lib(), program.is_object_file()), (5, Ok(false), false));
         program.header.e_type = header::ET_REL;
         assert_eq!((program.is_lib(), program.is_object_file()), (Ok(false), true));
+        program.header.e_type = header::ET_CORE;
+        assert_eq!(program.is_lib(), Ok(false));
         // (section 0 means no section)
         assert_eq!(elf.section(""), Ok(None));
         for (index, name) in ["", ".note", ".symtab", ".strtab", ".rela", ".rel", ".names"].iter().enumerate() {
@@ -337,9 +339,11 @@ fn compares_strings(names: &Strtab) {
     let closed = |offset| names.get_c_str(offset).map(|name| name.map(|name| name.to_bytes()));
     assert_eq!((closed(7), closed(20)), (Ok(Some(&b"second"[..])), Ok(Some(&b"\xff"[..]))));
     assert_eq!(closed(STRINGS.len()), Ok(None));
-    let offsets = (0..200).map(|index| index % (STRINGS.len() + 1));
-    let wanted: Vec<_> = offsets.clone().map(|offset| names.get_bytes(offset).unwrap()).collect();
-    assert_eq!(names.get_all_bytes(offsets), Ok(wanted));
+    // (with offsets past the end, and without, so that all are read of each 64)
+    for offsets in [STRINGS.len() + 1, STRINGS.len()].map(|count| (0..200).map(move |index| index % count)) {
+        let wanted: Vec<_> = offsets.clone().map(|offset| names.get_bytes(offset).unwrap()).collect();
+        assert_eq!(names.get_all_bytes(offsets), Ok(wanted));
+    }
     assert_eq!(names.get_all_bytes([]), Ok(vec![]));
 }
 
@@ -1025,14 +1029,17 @@ fn damaged() {
     }
 }
 
+/// How many entries follow the one that ends a dynamic section: more than are read at a time.
+const PAST: usize = 64;
+
 /// Returns a file with a dynamic section and its strings, each with a segment, and the header that has these segments.
-/// The section has these entries, one that ends them, and another one.
+/// The section has these entries, one that ends them, and others.
 fn with_dynamic(form: Form, entries: &[(u64, u64)]) -> (Vec<u8>, header::Header) {
     let mut file = made(form, 0);
     let strings = file.len() as u64;
     file.extend(b"\0liba\0libb\0");
     let dynamic = file.len() as u64;
-    for (tag, value) in entries.iter().chain(&[(DT_NULL, 0), (DT_SONAME, 1)]) {
+    for (tag, value) in entries.iter().chain(&[(DT_NULL, 0)]).chain(&[(DT_SONAME, 1); PAST]) {
         file.extend(form.numbers(&[(form.wide(), *tag), (form.wide(), *value)]));
     }
     let segments = file.len() as u64;
@@ -1095,7 +1102,7 @@ fn symbols_that_no_section_counts_are_refused() {
         let (file, header) = with_dynamic(form, &[(DT_STRTAB, 0x4000), (DT_SYMTAB, 0x4001), (DT_SYMTAB, 0x4002)]);
         let mut elf = Elf::parse(&file).unwrap();
         elf.header = header;
-        let dynamic = header.e_phoff - 5 * 2 * form.wide() as u64;
+        let dynamic = header.e_phoff - ((4 + PAST) * 2 * form.wide()) as u64;
         assert_eq!(why(elf.dynsyms()), (Kind::NotCounted(0x4002), dynamic));
         elf.header.e_shnum = 0;
         elf.header.e_shoff = 0;
@@ -1280,8 +1287,8 @@ fn damaged_dynamic_sections() {
         file[at..at + form.wide()].copy_from_slice(&form.numbers(&[(form.wide(), 0x7fff_0000)]));
         let mut elf = Elf::parse(&file).unwrap();
         elf.header = header;
-        // (the section has the two entries, the one that ends them, and another one)
-        let dynamic = header.e_phoff - 4 * 2 * form.wide() as u64;
+        // (the section has the two entries, the one that ends them, and others)
+        let dynamic = header.e_phoff - ((3 + PAST) * 2 * form.wide()) as u64;
         let too_big = Kind::TooBig { size: 0x7fff_0000, len: file.len() as u64 - dynamic };
         assert_eq!(why(elf.dynamic()), (too_big, dynamic));
     }
