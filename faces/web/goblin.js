@@ -461,7 +461,11 @@ class Memory {
         return memory;
     }
 
-    get whole() { return this.part(FILE, this.end - FILE); }
+    // (an array that is made for each use takes longer than most calls)
+    get whole() {
+        if (this.file_bytes?.buffer !== this.calls.memory.buffer) this.file_bytes = this.part(FILE, this.end - FILE);
+        return this.file_bytes;
+    }
 
     // Returns the same memory with another header.
     with_header(offset) { return Object.create(this, { header: { value: this.address(offset) } }); }
@@ -626,7 +630,7 @@ const made = new WeakMap();
  * @returns {Uint8Array}
  */
 export function array_for(size) {
-    const memory = new Memory(unsigned(size, 53)), bytes = memory.whole;
+    const memory = new Memory(unsigned(size, 53)), bytes = memory.part(FILE, memory.end - FILE);
     made.set(bytes, memory);
     return bytes;
 }

@@ -33,12 +33,14 @@ const has_sections = once(() => sections().some(({ sh_type }) => sh_type !== gob
 // Collects pieces, which are cut at the file's end: apart those that are, and those that begin past it.
 function collector() {
     const found = [], cut = [], past = [];
-    const add = (offset, size, given) => {
+    // (there may be millions: of objects that are spread each access takes ten times as long)
+    const add = (offset, size, { section, title, kind, is_rest, to }) => {
         const start = Number(offset), whole_end = start + Number(size), end = Math.min(whole_end, file.content.length),
             is_cut = end < whole_end;
         // (a small size does not change a large number)
         const list = start >= end ? past : is_cut ? cut : found;
-        if (size > 0) list.push({ ...given, offset, start, end, whole_end, size, is_cut });
+        if (size > 0)
+            list.push({ section, title, kind, is_rest, to, offset, start, end, whole_end, size, is_cut });
     };
     return { found, cut, past, add };
 }
@@ -140,7 +142,7 @@ export const parts = once(() => {
     const added = past.length + of_cut.length > 0 ? [] : appended(last), first = [...of_sections.found, ...added];
     const second = [...of_sections.cut, ...of_segments.found, ...of_segments.cut];
     const ends = new Set([0, size, ...ends_of(first)]);
-    const cuts = [...new Set([...ends, ...ends_of(second)])].sort((a, b) => a - b);
+    const cuts = Float64Array.from(new Set([...ends, ...ends_of(second)])).sort();
     const over = new Cover(first), under = new Cover(second), starts = [], tops = [], depths = [];
     for (const cut of cuts.slice(0, -1)) {
         const { top, depth } = over.go_to(cut), below = under.go_to(cut).top, drawn = top ?? below;

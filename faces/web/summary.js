@@ -31,7 +31,9 @@ const to_segment = (type) => {
 // Returns the first items of a list, and what a function returns for the number of others, if there are any.
 const shortened = (items, most, rest) =>
     (items.length <= most ? items : [...items.slice(0, most), rest(count(items.length - most))]);
-const first_of = (links, to) => shortened(links, MOST_PLACES, (others) => ({ text: `and ${others} more`, to }));
+// (of a damaged file there may be millions, so links are made only of those that are shown)
+const first_of = (items, to, link = (item) => item) => shortened(items.slice(0, MOST_PLACES + 1).map(link), MOST_PLACES,
+    () => ({ text: `and ${count(items.length - MOST_PLACES)} more`, to }));
 // Returns names as a text, which says how many are left out. (In a damaged file each may be very long.)
 function listed(names, between) {
     let left = MOST_SIGNS;
@@ -74,18 +76,17 @@ function damage() {
     const { elf, content } = file, { header } = elf, { past, cut, over } = parts(), end = hex(content.length);
     const { length, 0: first } = sections(), is_far = header.e_shstrndx === 0xffff,
         names = is_far ? first?.sh_link : header.e_shstrndx;
-    const line = (words, links, to) => links.length > 0 && row('', words, ...first_of(links, to));
-    const links_to = (pieces) =>
-        pieces.map((piece) => ({ text: titled({ ...piece, is_cut: false }).title, to: piece.to }));
+    const line = (words, links, to, link) => links.length > 0 && row('', words, ...first_of(links, to, link));
+    const link_to = (piece) => ({ text: titled({ ...piece, is_cut: false }).title, to: piece.to });
     const wrong = (name, right, words) => (right ? undefined
         : { text: `${name} is ${header[name]}${words}`, to: `header/${name}` });
     const odd = (name, kind) => wrong(name, header[name] === size_of(kind), `, not ${size_of(kind)}`);
     const fields = [odd('e_ehsize', 'header'), header.e_phoff && odd('e_phentsize', 'segment'),
         header.e_shoff && odd('e_shentsize', 'section'), length && wrong('e_shstrndx', names < length,
             `${is_far ? `, sh_link of section 0 is ${names}` : ''} of ${count(length)} sections`)];
-    const lines = [line(`past the file’s end at ${end}:`, links_to(past), 'sections'),
-        line(`cut at the file’s end at ${end}:`, links_to(cut), 'sections'),
-        line('overlapping:', links_to(over), 'layout'),
+    const lines = [line(`past the file’s end at ${end}:`, past, 'sections', link_to),
+        line(`cut at the file’s end at ${end}:`, cut, 'sections', link_to),
+        line('overlapping:', over, 'layout', link_to),
         line('wrong in the header:', fields.filter(Boolean), 'header')].filter(Boolean);
     // (their number may be refused, which no field of the header has)
     const refused = [['sections', 'section_headers'], ['segments', 'program_headers']]
