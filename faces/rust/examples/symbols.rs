@@ -1,4 +1,4 @@
-//! Lists the value and the name of each symbol of an ELF file.
+//! Lists the value and the name of each symbol of an ELF file, first of those for dynamic linking.
 use goblin_rs::Elf;
 use std::io::{self, Write};
 use std::process::ExitCode;
@@ -7,8 +7,8 @@ use std::{env, error, ffi, fs};
 fn list(path: &ffi::OsStr) -> Result<(), Box<dyn error::Error>> {
     let bytes = fs::read(path)?;
     let elf = Elf::parse(&bytes)?;
-    if let Some(symbols) = elf.syms()? {
-        for symbol in &symbols {
+    for symbols in [elf.dynsyms()?, elf.syms()?].iter().flatten() {
+        for symbol in symbols {
             writeln!(io::stdout(), "{:x} {}", symbol.st_value, symbols.name(&symbol)?.unwrap_or(""))?;
         }
     }
