@@ -13,6 +13,10 @@ if ! cargo --version > "$folder/output" 2>&1 || ! rustc --version > "$folder/out
 fi
 quietly cargo test --offline --manifest-path $crate
 awk '/^test result: ok\. / { tests += $4 } END { print "the Rust crate passes " tests + 0 " tests"; exit tests < 60 }' "$folder/output"
+# Names that nothing closes take little memory, whatever their number.
+tests=$(find "$folder/target/debug/deps" -name 'files-*[!.]?')
+quietly sh -c 'ulimit -v 262144 && exec "$@"' sh "$tests" reads_no_open_string_for_each_name
+grep -q ' 1 passed' "$folder/output" || fail "the Rust crate has no test of such names: $(cat "$folder/output")"
 # (cargo has built the examples with the tests)
 for file in "$files"/* checks/files/made/x86_64_library; do
     "$folder/values" "$file" > "$folder/wanted"

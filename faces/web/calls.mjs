@@ -872,10 +872,10 @@ check('Errors begin, and their numbers count from, where the comments of `offset
 });
 
 check('Strings that no zero byte closes are not read for each offset', () => {
-    // (a gigabyte a second would take an hour)
-    const size = 1 << 25, elf = Elf.parse(Buffer.concat([own, Buffer.alloc(size, 'a')])),
+    // (of each all 2 MiB would be read, which is 4 GB)
+    const size = 2 << 20, elf = Elf.parse(Buffer.concat([own, Buffer.alloc(size, 'a')])),
         strtab = elf.strtab({ sh_type: 3, sh_offset: BigInt(own.length), sh_size: BigInt(size) });
-    assert.throws(() => strtab.get_all_bytes(Array.from({ length: 100_000 }, (_, i) => i)),
+    assert.throws(() => strtab.get_all_bytes(Array.from({ length: 2000 }, (_, i) => i)),
         is_refusal(Kind.OPEN_STRING, BigInt(own.length)));
 });
 

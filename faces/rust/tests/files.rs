@@ -349,12 +349,12 @@ fn compares_strings(names: &Strtab) {
 
 #[test]
 fn reads_no_open_string_for_each_name() {
-    // (a gigabyte a second would take an hour)
-    let (file, size) = (made(FORMS[0], 0), 1 << 25);
+    // (of each all 2 MiB would be read, which is 40 GB)
+    let (file, size) = (made(FORMS[0], 0), 2 << 20);
     let start = file.len() as u64;
     let long = [file, vec![b'a'; size]].concat();
     let strings = SectionHeader { sh_type: 3, sh_offset: start, sh_size: size as u64, ..SectionHeader::default() };
-    let refused = Elf::parse(&long).unwrap().strtab(&strings).get_all_bytes(0..100_000).unwrap_err();
+    let refused = Elf::parse(&long).unwrap().strtab(&strings).get_all_bytes(0..20_000).unwrap_err();
     assert_eq!((refused.kind(), refused.offset()), (Kind::OpenString(0), start));
 }
 
