@@ -75,12 +75,14 @@ impl<'a> AddressMap<'a> {
     }
 
     /// Returns the index of the symbol that contains an address, as [`Symtab::at`] does.
+    #[must_use]
     pub fn at(&self, address: u64) -> Option<usize> {
         let after = self.pieces.partition_point(|piece| piece.0 <= address);
         self.pieces[..after].last()?.1
     }
 
     /// Returns the symbol that contains an address, whose index [`AddressMap::at`] returns.
+    #[must_use]
     pub fn symbol(&self, address: u64) -> Option<Sym> {
         self.symbols.get(self.at(address)?)
     }

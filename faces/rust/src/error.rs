@@ -215,6 +215,7 @@ pub enum Item {
 
 impl Error {
     /// Returns what the error is about, if its kind alone does not say it.
+    #[must_use]
     pub fn item(&self) -> Option<Item> {
         match self.0 {
             raw::Refusal { kind: SECTION_TYPE, item: SYMBOLS, .. } => Some(Item::Symbols),
@@ -232,6 +233,7 @@ impl Error {
     /// Returns where in the file the thing begins that is refused: 0 for the header, the offset of a list of headers,
     /// of a table or of a string table, or that of the string, the note, the bytes, or the field of a number that does
     /// not fit. For a header that is read of a list it is the list's offset.
+    #[must_use]
     pub fn offset(&self) -> u64 {
         self.0.offset
     }
@@ -277,6 +279,7 @@ impl Error {
     }
 
     /// Returns the kind of this error.
+    #[must_use]
     pub fn kind(&self) -> Kind {
         let raw::Refusal { kind, first, second, third, fourth, .. } = self.0;
         let (byte, overflow) = (first as u8, fourth != 0);

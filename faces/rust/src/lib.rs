@@ -33,6 +33,12 @@
 //! calls for notes `sh_addralign`. So a string table can be read at any offset: `elf.strtab(&SectionHeader { sh_offset,
 //! sh_size, ..section })`.
 //!
+//! # What may change
+//! [`header::Header`], [`section_header::SectionHeader`], [`program_header::ProgramHeader`], [`sym::Sym`],
+//! [`reloc::Reloc`], [`dynamic::Dyn`], [`note::Note`] and [`note::NoteBytes`] have the standard's fields, all public. A
+//! program makes them by a literal, or by some fields and `..Default::default()`. They get no further fields in a
+//! compatible version. Enumerations may get further variants, and traits further methods: no other crate has them.
+//!
 //! # Writing
 //! The calls of [`header::Header`] whose names begin with `put` change a record in a `&mut [u8]`. What they write reads
 //! as the same record, and no other byte changes, which is proved.

@@ -20,7 +20,7 @@ use std::marker::PhantomData;
 /// let note = Note { n_type: 3, name: "GNU", desc: b"\x01\x02" };
 /// assert_eq!(note.type_to_str(), "NT_GNU_BUILD_ID");
 /// ```
-#[derive(Clone, Copy, Debug, PartialEq, Eq, Hash)]
+#[derive(Clone, Copy, Debug, Default, PartialEq, Eq, Hash)]
 pub struct Note<'a> {
     /// Its type, whose meaning depends on the name.
     pub n_type: u32,
@@ -33,6 +33,7 @@ pub struct Note<'a> {
 impl Note<'_> {
     /// Returns the name of its type, such as `NT_GNU_BUILD_ID`, or `NT_UNKNOWN`. Type 3 is `NT_GNU_BUILD_ID` for every
     /// name but `CORE`, as in goblin.
+    #[must_use]
     pub fn type_to_str(&self) -> &'static str {
         name_of(if self.name == "CORE" { NOTE_TYPE_CORE } else { NOTE_TYPE_GNU }, self.n_type)
     }
@@ -46,7 +47,7 @@ impl Note<'_> {
 /// let note = NoteBytes { n_type: 3, name: b"GNU\0", desc: b"\x01\x02" };
 /// assert_eq!(note.name.strip_suffix(b"\0"), Some(&b"GNU"[..]));
 /// ```
-#[derive(Clone, Copy, Debug, PartialEq, Eq, Hash)]
+#[derive(Clone, Copy, Debug, Default, PartialEq, Eq, Hash)]
 pub struct NoteBytes<'a> {
     /// Its type, whose meaning depends on the name.
     pub n_type: u32,
@@ -56,7 +57,7 @@ pub struct NoteBytes<'a> {
     pub desc: &'a [u8],
 }
 
-/// What notes are read as: [`Note`] or [`NoteBytes`].
+/// What notes are read as: [`Note`] or [`NoteBytes`]. Only these two have it.
 ///
 /// ```
 /// use goblin_rs::note::{AnyNote, Notes};
@@ -75,17 +76,29 @@ pub struct NoteBytes<'a> {
 /// # Ok(())
 /// # }
 /// ```
-pub trait AnyNote<'a>: Copy {
-    /// Reads the note at an offset.
-    #[doc(hidden)]
-    fn read(notes: &Notes<'a, Self>, offset: u64) -> Result<Option<raw::Note>>;
+pub trait AnyNote<'a>: Copy + sealed::AnyNote<'a> {}
 
-    /// Returns a note that was read.
-    #[doc(hidden)]
-    fn new(file: File<'a>, note: raw::Note) -> Self;
+// How notes are read. No other crate can name this trait, so it can get more methods.
+mod sealed {
+    use super::Notes;
+    use crate::error::Result;
+    use crate::file::File;
+    use crate::raw;
+
+    pub trait AnyNote<'a>: Sized {
+        /// Reads the note at an offset.
+        fn read(notes: &Notes<'a, Self>, offset: u64) -> Result<Option<raw::Note>>;
+
+        /// Returns a note that was read.
+        fn new(file: File<'a>, note: raw::Note) -> Self;
+    }
 }
 
-impl<'a> AnyNote<'a> for Note<'a> {
+impl<'a> AnyNote<'a> for Note<'a> {}
+
+impl<'a> AnyNote<'a> for NoteBytes<'a> {}
+
+impl<'a> sealed::AnyNote<'a> for Note<'a> {
     fn read(notes: &Notes<'a, Self>, offset: u64) -> Result<Option<raw::Note>> {
         sys::goblin_note(&notes.file, &notes.header, &notes.range, notes.alignment, offset)
     }
@@ -95,7 +108,7 @@ impl<'a> AnyNote<'a> for Note<'a> {
     }
 }
 
-impl<'a> AnyNote<'a> for NoteBytes<'a> {
+impl<'a> sealed::AnyNote<'a> for NoteBytes<'a> {
     fn read(notes: &Notes<'a, Self>, offset: u64) -> Result<Option<raw::Note>> {
         sys::goblin_note_bytes(&notes.file, &notes.header, &notes.range, notes.alignment, offset)
     }
@@ -163,6 +176,7 @@ list!(Notes<N: AnyNote> of N, by NoteDataIterator<'a, N>, "note", "notes");
 /// # }
 /// ```
 #[derive(Clone, Debug)]
+#[must_use = "iterators are lazy and do nothing unless consumed"]
 pub struct NoteDataIterator<'a, N = Note<'a>> {
     notes: Notes<'a, N>,
     // The offset to read the next note at.
@@ -215,6 +229,7 @@ enum Holders<'a> {
 /// # }
 /// ```
 #[derive(Clone, Debug)]
+#[must_use = "iterators are lazy and do nothing unless consumed"]
 pub struct NoteIterator<'a> {
     elf: Elf<'a>,
     holders: Holders<'a>,
