@@ -2,7 +2,8 @@
 use crate::header::ET_REL;
 use crate::section_header::{SectionHeader, SHN_LORESERVE, SHN_UNDEF, SHN_XINDEX};
 use crate::sym::{Sym, Symtab, STT_FUNC, STT_GNU_IFUNC, STT_NOTYPE, STT_OBJECT};
-use std::collections::BinaryHeap;
+use alloc::collections::BinaryHeap;
+use alloc::vec::Vec;
 
 /// A sorted map of the addresses of a symbol table, for many searches. It finds what [`Symtab::at`] finds in a time
 /// that grows with the logarithm of the number of symbols. It is sorted by Rust's own sort, and is not part of the

@@ -8,8 +8,9 @@ pub use crate::raw::Dyn;
 use crate::reloc::RelocSection;
 use crate::strtab::Strtab;
 use crate::{raw, sys};
-use std::iter::FusedIterator;
-use std::ops::Range;
+use alloc::{vec, vec::Vec};
+use core::iter::FusedIterator;
+use core::ops::Range;
 
 // The number of entries that are read at a time.
 const BATCH: usize = 32;

@@ -1,7 +1,10 @@
 //! Why a file is refused.
 use crate::section_header::{sht_to_str, SectionHeader};
 use crate::{raw, sys};
-use std::{error, fmt, io, result};
+use alloc::{string::String, vec};
+use core::{fmt, result};
+#[cfg(feature = "std")]
+use std::{error, io};
 
 /// Why a file or a section of it is refused.
 ///
@@ -346,9 +349,11 @@ impl fmt::Debug for Error {
     }
 }
 
+#[cfg(feature = "std")]
 impl error::Error for Error {}
 
 /// Returns an error of the kind `InvalidData` with the same text.
+#[cfg(feature = "std")]
 impl From<Error> for io::Error {
     fn from(e: Error) -> io::Error {
         io::Error::new(io::ErrorKind::InvalidData, e)
@@ -358,6 +363,8 @@ impl From<Error> for io::Error {
 #[cfg(test)]
 pub(crate) mod tests {
     use super::*;
+    use std::prelude::v1::*;
+    use std::{format, panic};
 
     // Returns the text of `goblin.h`, from the repository or from where it is installed with this crate.
     pub(crate) fn goblin_h() -> String {
@@ -491,6 +498,7 @@ pub(crate) mod tests {
         assert_eq!(name.to_string(), "The value 0x1234 of tag 0x1 has no string");
     }
 
+    #[cfg(feature = "std")]
     #[test]
     fn an_error_of_input_has_the_same_text() {
         let refused = Error::new(raw::Refusal { kind: 12, ..raw::Refusal::default() });

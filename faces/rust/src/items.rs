@@ -16,9 +16,9 @@
 //! # }
 //! ```
 use crate::error::{Error, Result};
-use std::iter::FusedIterator;
-use std::ops::Range;
-use std::{fmt, mem};
+use core::iter::FusedIterator;
+use core::ops::Range;
+use core::{fmt, mem};
 
 // The number of items at the end of a batch that are for the back of the list. The others are for the front.
 const BACK: u64 = 16;

@@ -43,6 +43,12 @@
 //! The calls of [`header::Header`] whose names begin with `put` change a record in a `&mut [u8]`. What they write reads
 //! as the same record, and no other byte changes, which is proved.
 //!
+//! # Platforms
+//! The library is made for Linux (and Android) on x86-64 and AArch64, and this crate needs a host of 64 bits. The files
+//! that it reads may be of any machine. It needs Rust 1.63. Without the feature `std`, which is on by default, it needs
+//! only `core` and `alloc`: [`Error`] is then no error of std, and [`strtab::Strtab::get_c_str`] is missing. All types
+//! may be shared and sent between threads, since the library has no state.
+//!
 //! # Coming from goblin
 //! Here each part of the file is read on demand, which can fail, and a list is not a slice. So some lines that work
 //! with goblin don't compile. They are the comments below, each before what to write instead:
@@ -111,7 +117,12 @@
 //! ```
 //!
 //! `elf.libraries`, `elf.rpaths`, `elf.runpaths`, `elf.soname` and `elf.interpreter` are calls.
+#![no_std]
 #![deny(missing_docs, unsafe_code)]
+
+extern crate alloc;
+#[cfg(any(feature = "std", test))]
+extern crate std;
 
 mod address_map;
 mod constants;
@@ -131,6 +142,7 @@ pub mod section_header;
 pub mod strtab;
 pub mod sym;
 #[allow(unsafe_code)]
+#[cfg_attr(not(feature = "std"), allow(dead_code))]
 mod sys;
 
 pub use constants::other;

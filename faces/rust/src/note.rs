@@ -9,8 +9,8 @@ use crate::names::name_of;
 use crate::program_header::{ProgramHeaders, PT_NOTE};
 use crate::section_header::{SectionHeaders, SHT_NOTE};
 use crate::{raw, sys};
-use std::iter::FusedIterator;
-use std::marker::PhantomData;
+use core::iter::FusedIterator;
+use core::marker::PhantomData;
 
 /// A note.
 ///

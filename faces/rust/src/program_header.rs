@@ -8,8 +8,8 @@ use crate::names::name_of;
 pub use crate::raw::ProgramHeader;
 use crate::section_header::{SectionHeader, SectionHeaderIterator, SectionHeaders, SHF_TLS, SHT_NOBITS};
 use crate::{raw, sys};
-use std::iter::FusedIterator;
-use std::ops::Range;
+use core::iter::FusedIterator;
+use core::ops::Range;
 
 impl ProgramHeader {
     /// Returns the segment's range in the file, inside the file or not. Its end is at most `u64::MAX`.

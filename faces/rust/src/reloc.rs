@@ -6,7 +6,7 @@ use crate::file::File;
 use crate::items::{list, made, table, Batches, Items, List};
 use crate::section_header::{SectionHeader, SectionHeaderIterator, SectionHeaders, SHT_REL, SHT_RELA};
 use crate::{raw, sys};
-use std::iter::{Enumerate, FusedIterator};
+use core::iter::{Enumerate, FusedIterator};
 
 /// A relocation.
 ///

@@ -7,7 +7,7 @@ use crate::items::{table, Batches, Items, List};
 use crate::names::name_of;
 pub use crate::raw::SectionHeader;
 use crate::{raw, sys};
-use std::ops::Range;
+use core::ops::Range;
 
 impl SectionHeader {
     /// Returns the section's range in the file, inside the file or not, or `None` if its type is `SHT_NOBITS`. For any
