@@ -118,6 +118,12 @@ macro_rules! list {
                 self.count == 0
             }
 
+            #[doc = concat!("Returns the ", $more, " as a vector.")]
+            #[must_use]
+            pub fn to_vec(&self) -> alloc::vec::Vec<$item> {
+                self.iter().collect()
+            }
+
             #[doc = concat!("Returns an iterator over the ", $more, " in order.")]
             pub fn iter(&self) -> $iterator {
                 <$iterator>::new(*self)
