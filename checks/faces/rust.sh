@@ -82,6 +82,32 @@ cp -R faces/rust "$folder/copied"
 quietly env -u GOBLIN_C_LIB PKG_CONFIG_LIBDIR="$folder" cargo check --offline --manifest-path "$folder/copied/Cargo.toml"
 awk '/looked for in/ { wrong++ } /no folder beside this crate was looked in: it is a copy/ { said++ } END { exit wrong || !said }' "$folder/output" \
     || fail "a copied crate should say that it looks in no folder beside it, and prints: $(cat "$folder/output")"
+# Without the feature std a program without an operating system links it, which then has its own allocator, and its own end of a panic.
+mkdir -p "$folder/bare/src"
+printf '[package]\nname = "bare"\nversion = "1.0.0"\nedition = "2021"\n[lib]\ncrate-type = ["staticlib"]\n[profile.dev]\npanic = "abort"\n' \
+    > "$folder/bare/Cargo.toml"
+printf '[dependencies]\ngoblin_rs = { path = "../copied", default-features = false }\n' >> "$folder/bare/Cargo.toml"
+cat > "$folder/bare/src/lib.rs" << 'END'
+#![no_std]
+use core::alloc::{GlobalAlloc, Layout};
+
+struct Empty;
+
+unsafe impl GlobalAlloc for Empty {
+    unsafe fn alloc(&self, _: Layout) -> *mut u8 { core::ptr::null_mut() }
+    unsafe fn dealloc(&self, _: *mut u8, _: Layout) {}
+}
+
+#[global_allocator]
+static EMPTY: Empty = Empty;
+
+#[panic_handler]
+fn end(_: &core::panic::PanicInfo<'_>) -> ! { loop {} }
+
+#[no_mangle]
+pub extern "C" fn is_program() -> bool { goblin_rs::Elf::parse(b"\x7fELF").and_then(|elf| elf.is_lib()) == Ok(false) }
+END
+quietly cargo build --offline --manifest-path "$folder/bare/Cargo.toml"
 # It compares the interface of the library before each first call.
 if has objcopy 'no library of another interface is linked'; then
     mkdir "$folder/other"

@@ -1,9 +1,9 @@
 //! A sorted map of the addresses of symbols.
 use crate::header::ET_REL;
-use crate::section_header::{SHN_LORESERVE, SHN_UNDEF, SHN_XINDEX};
+use crate::section_header::{SectionHeader, SHN_LORESERVE, SHN_UNDEF, SHN_XINDEX};
 use crate::sym::{Sym, Symtab, STT_FUNC, STT_GNU_IFUNC, STT_NOTYPE, STT_OBJECT};
-use std::cmp::Reverse;
-use std::collections::BinaryHeap;
+use alloc::collections::BinaryHeap;
+use alloc::vec::Vec;
 
 /// A sorted map of the addresses of a symbol table, for many searches. It finds what [`Symtab::at`] finds in a time
 /// that grows with the logarithm of the number of symbols. It is sorted by Rust's own sort, and is not part of the
@@ -34,79 +34,156 @@ pub struct AddressMap<'a> {
 
 impl<'a> AddressMap<'a> {
     pub(crate) fn of(symbols: Symtab<'a>) -> Self {
-        let counted = symbols.iter().enumerate().filter(|(_, symbol)| may_contain(symbol));
-        // the symbols with a size that count, by their first address and then by their index, with their last address,
-        // and those whose section holds addresses from theirs on, by the first of these
-        let (mut sized, mut held) = (Vec::new(), Vec::new());
-        for (index, symbol) in counted {
-            if let Some(more) = symbol.st_size.checked_sub(1) {
-                sized.push((symbol.st_value, index, symbol.st_value.saturating_add(more)));
-            }
-            held.extend(Held::of(&symbols, index, &symbol));
+        let holders = Holders::of(&symbols);
+        // the symbols that count, each with its size and its section, and those of them whose section begins after
+        // their value, by its first address
+        let (mut counted, mut early) = (Vec::new(), Vec::new());
+        for (index, symbol) in symbols.iter().enumerate().filter(|(_, symbol)| may_contain(symbol)) {
+            let rank = Rank::of(index, &symbol);
+            counted.push((rank, symbol.st_size, symbol.st_shndx));
+            let held = holders.range(symbol.st_value, symbol.st_shndx).filter(|(first, _)| *first > rank.value);
+            early.extend(held.map(|(first, last)| (first, rank, last)));
         }
-        sized.sort_unstable();
-        held.sort_unstable_by_key(|place| place.first);
-        let ends = sized.iter().map(|place| place.2).chain(held.iter().map(|place| place.last));
-        let firsts = sized.iter().map(|place| place.0).chain(held.iter().map(|place| place.first));
-        let mut starts: Vec<_> = firsts.chain(ends.filter_map(|end| end.checked_add(1))).collect();
-        starts.sort_unstable();
-        starts.dedup();
-        // The symbols that contain an address are on a stack, below others that have ended. The topmost one has the
-        // highest value, and is the first of those with the same one. Those whose section holds the address are in a
-        // heap, by their rank.
-        let (mut open, mut near, mut sized, mut held) = (Vec::new(), BinaryHeap::new(), &sized[..], &held[..]);
-        let pieces = starts.into_iter().map(|start| {
-            let (here, others) = sized.split_at(sized.partition_point(|place| place.0 <= start));
-            sized = others;
-            open.extend(here.iter().rev().map(|place| (place.2, place.1)));
-            while open.last().map_or(false, |(last, _)| *last < start) {
-                open.pop();
+        counted.sort_unstable_by_key(|(rank, _, _)| *rank);
+        early.sort_unstable();
+        let mut sweep = Sweep { pieces: Vec::with_capacity(2 * counted.len()), ..Sweep::default() };
+        let (mut counted, mut early) = (counted.into_iter().peekable(), early.into_iter().peekable());
+        let mut next = counted.peek().map(|(rank, _, _)| rank.value);
+        while let Some(start) = next {
+            while let Some((rank, size, section)) = counted.next_if(|(rank, _, _)| rank.value == start) {
+                sweep.begin(rank, size, holders.range(start, section));
             }
-            let (here, others) = held.split_at(held.partition_point(|place| place.first <= start));
-            held = others;
-            near.extend(here.iter().map(|place| (place.rank(), place.last)));
-            while near.peek().map_or(false, |(_, last)| *last < start) {
-                near.pop();
+            while let Some((_, rank, last)) = early.next_if(|(first, _, _)| *first == start) {
+                sweep.early.push((rank, last));
             }
-            let label = near.peek().filter(|((_, is_label, _), _)| *is_label).map(|((_, _, index), _)| index.0);
-            (start, open.last().map(|(_, index)| *index).or(label))
-        });
-        AddressMap { symbols, pieces: pieces.collect() }
+            let (of_counted, of_early) =
+                (counted.peek().map(|(rank, _, _)| rank.value), early.peek().map(|place| place.0));
+            next = of_counted.into_iter().chain(of_early).min();
+            sweep.note(start, next);
+        }
+        AddressMap { symbols, pieces: sweep.pieces }
     }
 
     /// Returns the index of the symbol that contains an address, as [`Symtab::at`] does.
+    #[must_use]
     pub fn at(&self, address: u64) -> Option<usize> {
         let after = self.pieces.partition_point(|piece| piece.0 <= address);
         self.pieces[..after].last()?.1
     }
 
     /// Returns the symbol that contains an address, whose index [`AddressMap::at`] returns.
+    #[must_use]
     pub fn symbol(&self, address: u64) -> Option<Sym> {
         self.symbols.get(self.at(address)?)
     }
 }
 
-// A symbol whose section holds addresses from its own on: the first and the last of these.
-struct Held {
-    first: u64,
-    last: u64,
+// What decides between two symbols whose section holds an address: the higher value, then the size 0, and then the lower
+// index. The last two are one number, whose highest bit is set for the size 0.
+#[derive(Clone, Copy, PartialEq, Eq, PartialOrd, Ord)]
+struct Rank {
     value: u64,
-    index: usize,
-    is_label: bool,
+    order: u64,
 }
 
-impl Held {
-    fn of(symbols: &Symtab<'_>, index: usize, symbol: &Sym) -> Option<Self> {
-        let section = symbols.section(symbol.st_shndx).filter(|_| symbol.st_shndx < SHN_LORESERVE)?;
-        let start = if symbols.header.e_type == ET_REL { 0 } else { section.is_alloc().then_some(section.sh_addr)? };
-        let (first, last) = (start.max(symbol.st_value), start.saturating_add(section.sh_size.checked_sub(1)?));
-        let (value, is_label) = (symbol.st_value, symbol.st_size == 0);
-        Some(Held { first, last, value, index, is_label }).filter(|place| place.first <= place.last)
+const LABEL: u64 = 1 << 63;
+
+impl Rank {
+    fn of(index: usize, symbol: &Sym) -> Self {
+        let order = LABEL - 1 - index as u64;
+        Rank { value: symbol.st_value, order: if symbol.st_size == 0 { LABEL | order } else { order } }
     }
 
-    // Returns what decides between two symbols: the higher value, then the size 0, and then the lower index.
-    fn rank(&self) -> (u64, bool, Reverse<usize>) {
-        (self.value, self.is_label, Reverse(self.index))
+    fn is_label(self) -> bool {
+        self.order & LABEL != 0
+    }
+
+    fn index(self) -> usize {
+        (LABEL - 1 - (self.order & !LABEL)) as usize
+    }
+}
+
+// The first and the last address that each section holds, if it holds some.
+struct Holders(Vec<Option<(u64, u64)>>);
+
+impl Holders {
+    fn of(symbols: &Symtab<'_>) -> Self {
+        let is_object = symbols.header.e_type == ET_REL;
+        let range = |section: SectionHeader| {
+            let start = if is_object { 0 } else { section.is_alloc().then_some(section.sh_addr)? };
+            Some((start, start.saturating_add(section.sh_size.checked_sub(1)?)))
+        };
+        Holders((0..SHN_LORESERVE).map_while(|index| symbols.section(index)).map(range).collect())
+    }
+
+    // Returns the first and the last address from a symbol's own on that its section holds.
+    fn range(&self, value: u64, section: usize) -> Option<(u64, u64)> {
+        let (first, last) = self.0.get(section).copied().flatten()?;
+        Some((first.max(value), last)).filter(|(first, last)| first <= last)
+    }
+}
+
+// What is known of the symbols at an address, while all addresses are passed in order.
+#[derive(Default)]
+struct Sweep {
+    // The symbols that contain the address, each with its last address. The topmost one has the highest value, and is
+    // the first of those with the same one. Those below end later, or have ended.
+    sized: Vec<(u64, usize)>,
+    // Those whose section holds the address, each with the last one that it holds, in the same way by their rank.
+    held: Vec<(u64, Rank)>,
+    // Those of these whose section begins after their value: their rank may be below that of the topmost one.
+    early: BinaryHeap<(Rank, u64)>,
+    pieces: Vec<(u64, Option<usize>)>,
+}
+
+impl Sweep {
+    // Adds a symbol at its value. It has a higher rank than those that were added before.
+    fn begin(&mut self, rank: Rank, size: u64, held: Option<(u64, u64)>) {
+        if size > 0 {
+            let last = rank.value.saturating_add(size - 1);
+            while self.sized.last().map_or(false, |below| below.0 <= last) {
+                self.sized.pop();
+            }
+            self.sized.push((last, rank.index()));
+        }
+        if let Some((_, last)) = held.filter(|(first, _)| *first == rank.value) {
+            while self.held.last().map_or(false, |below| below.0 <= last) {
+                self.held.pop();
+            }
+            self.held.push((last, rank));
+        }
+    }
+
+    // Notes which symbol is at each address from one on, up to another one that is left out, or to the last address.
+    fn note(&mut self, mut from: u64, end: Option<u64>) {
+        loop {
+            let (index, last) = self.at(from);
+            if self.pieces.last().map_or(index.is_some(), |piece| piece.1 != index) {
+                self.pieces.push((from, index));
+            }
+            from = match last.and_then(|last| last.checked_add(1)) {
+                Some(next) if end.map_or(true, |end| next < end) => next,
+                _ => return,
+            };
+        }
+    }
+
+    // Returns the index of the symbol at an address, and the last address at which what decides on it is the same.
+    fn at(&mut self, address: u64) -> (Option<usize>, Option<u64>) {
+        while self.sized.last().map_or(false, |(last, _)| *last < address) {
+            self.sized.pop();
+        }
+        while self.held.last().map_or(false, |(last, _)| *last < address) {
+            self.held.pop();
+        }
+        while self.early.peek().map_or(false, |(_, last)| *last < address) {
+            self.early.pop();
+        }
+        if let Some((last, index)) = self.sized.last() {
+            return (Some(*index), Some(*last));
+        }
+        let held = self.held.last().map(|(last, rank)| (*rank, *last)).max(self.early.peek().copied());
+        held.map_or((None, None), |(rank, last)| (rank.is_label().then(|| rank.index()), Some(last)))
     }
 }
 

@@ -8,8 +8,9 @@ pub use crate::raw::Dyn;
 use crate::reloc::RelocSection;
 use crate::strtab::Strtab;
 use crate::{raw, sys};
-use std::iter::FusedIterator;
-use std::ops::Range;
+use alloc::{vec, vec::Vec};
+use core::iter::FusedIterator;
+use core::ops::Range;
 
 // The number of entries that are read at a time.
 const BATCH: usize = 32;
@@ -59,6 +60,7 @@ impl<'a> Dynamic<'a> {
     }
 
     /// Returns the value of the first entry with a tag, a `DT_` number, or `None` if there is none.
+    #[must_use]
     pub fn value(&self, tag: u64) -> Option<u64> {
         made(sys::goblin_dynamic_value(&self.elf.file, &self.elf.header, &self.range, tag))
     }
@@ -112,6 +114,7 @@ impl<'a> Dynamic<'a> {
 /// # }
 /// ```
 #[derive(Clone, Debug)]
+#[must_use = "iterators are lazy and do nothing unless consumed"]
 pub struct DynIterator<'a> {
     dynamic: Dynamic<'a>,
     // Entries that were read, and the indices of those of them that are left.
@@ -153,6 +156,7 @@ impl FusedIterator for DynIterator<'_> {}
 /// # }
 /// ```
 #[derive(Clone, Debug)]
+#[must_use = "iterators are lazy and do nothing unless consumed"]
 pub struct DynValues<'a> {
     entries: DynIterator<'a>,
     tag: u64,

@@ -5,7 +5,7 @@ use crate::file::File;
 use crate::header::{Header, ET_DYN, ET_REL};
 use crate::note::{self, AnyNote, NoteBytes, NoteIterator, Notes};
 use crate::part::Part;
-use crate::program_header::{ProgramHeader, ProgramHeaders};
+use crate::program_header::{ProgramHeader, ProgramHeaders, SegmentSections};
 use crate::reloc::{holds_relocs, RelocSection, RelocSections};
 use crate::section_header::{SectionHeader, SectionHeaders, SHT_DYNSYM, SHT_RELA, SHT_SYMTAB};
 use crate::strtab::Strtab;
@@ -78,26 +78,37 @@ impl<'a> Elf<'a> {
     /// # Ok(())
     /// # }
     /// ```
+    #[must_use]
     pub fn whole(&self) -> Self {
         Elf { file: self.file, header: sys::goblin_whole_header(&self.file, &self.header) }
     }
 
+    /// Returns the file's bytes, which [`Elf::parse`] was given.
+    #[must_use]
+    pub fn bytes(&self) -> &'a [u8] {
+        self.file.0
+    }
+
     /// Reports whether the file is of the 64-bit class.
+    #[must_use]
     pub fn is_64(&self) -> bool {
         self.header.is_64()
     }
 
     /// Reports whether the file is little endian.
+    #[must_use]
     pub fn little_endian(&self) -> bool {
         self.header.little_endian()
     }
 
     /// Returns the address at which the program starts, or 0.
+    #[must_use]
     pub fn entry(&self) -> u64 {
         self.header.e_entry
     }
 
     /// Reports whether the file's type is `ET_REL`.
+    #[must_use]
     pub fn is_object_file(&self) -> bool {
         self.header.e_type == ET_REL
     }
@@ -244,9 +255,8 @@ impl<'a> Elf<'a> {
     ///
     /// # Errors
     /// If the section headers are not inside the file.
-    pub fn segment_sections(&self, segment: &ProgramHeader) -> Result<impl Iterator<Item = SectionHeader> + 'a> {
-        let segment = *segment;
-        Ok(self.section_headers()?.iter().skip(1).filter(move |section| segment.holds(section)))
+    pub fn segment_sections(&self, segment: &ProgramHeader) -> Result<SegmentSections<'a>> {
+        Ok(SegmentSections::of(*segment, self.section_headers()?))
     }
 
     /// Returns the number in `width` bytes at an offset of the file, in the file's byte order. Returns `None` if the

@@ -1,7 +1,10 @@
 //! Why a file is refused.
 use crate::section_header::{sht_to_str, SectionHeader};
 use crate::{raw, sys};
-use std::{error, fmt, io, result};
+use alloc::{string::String, vec};
+use core::{fmt, result};
+#[cfg(feature = "std")]
+use std::{error, io};
 
 /// Why a file or a section of it is refused.
 ///
@@ -218,6 +221,7 @@ pub enum Item {
 
 impl Error {
     /// Returns what the error is about, if its kind alone does not say it.
+    #[must_use]
     pub fn item(&self) -> Option<Item> {
         match self.0 {
             raw::Refusal { kind: SECTION_TYPE, item: SYMBOLS, .. } => Some(Item::Symbols),
@@ -235,6 +239,7 @@ impl Error {
     /// Returns where in the file the thing begins that is refused: 0 for the header, the offset of a list of headers,
     /// of a table or of a string table, or that of the string, the note, the bytes, or the field of a number that does
     /// not fit. For a header that is read of a list it is the list's offset.
+    #[must_use]
     pub fn offset(&self) -> u64 {
         self.0.offset
     }
@@ -285,6 +290,7 @@ impl Error {
     }
 
     /// Returns the kind of this error.
+    #[must_use]
     pub fn kind(&self) -> Kind {
         let raw::Refusal { kind, first, second, third, fourth, .. } = self.0;
         let (byte, overflow) = (first as u8, fourth != 0);
@@ -355,9 +361,11 @@ impl fmt::Debug for Error {
     }
 }
 
+#[cfg(feature = "std")]
 impl error::Error for Error {}
 
 /// Returns an error of the kind `InvalidData` with the same text.
+#[cfg(feature = "std")]
 impl From<Error> for io::Error {
     fn from(e: Error) -> io::Error {
         io::Error::new(io::ErrorKind::InvalidData, e)
@@ -367,6 +375,8 @@ impl From<Error> for io::Error {
 #[cfg(test)]
 pub(crate) mod tests {
     use super::*;
+    use std::prelude::v1::*;
+    use std::{format, panic};
 
     // Returns the text of `goblin.h`, from the repository or from where it is installed with this crate. It is not
     // beside a copy of this crate elsewhere, such as a vendored one.
@@ -506,6 +516,7 @@ pub(crate) mod tests {
         assert_eq!(name.to_string(), "The value 0x1234 of tag 0x1 has no string");
     }
 
+    #[cfg(feature = "std")]
     #[test]
     fn an_error_of_input_has_the_same_text() {
         let refused = Error::new(raw::Refusal { kind: 12, ..raw::Refusal::default() });

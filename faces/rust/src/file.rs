@@ -1,8 +1,8 @@
 //! The bytes of a file.
 use crate::raw::Range;
 use crate::sys;
-use std::ops::Deref;
-use std::{fmt, str};
+use core::ops::Deref;
+use core::{fmt, str};
 
 /// The bytes of a file. Its `Debug` prints only their number.
 #[derive(Clone, Copy)]

@@ -13,11 +13,13 @@ use crate::sys;
 
 impl Header {
     /// Reports whether the file is of the 64-bit class. Any class but 2 counts as the 32-bit class.
+    #[must_use]
     pub fn is_64(&self) -> bool {
         self.ei_class == ELFCLASS64
     }
 
     /// Reports whether the file is little endian. Any byte order but 2 counts as little endian.
+    #[must_use]
     pub fn little_endian(&self) -> bool {
         self.ei_data != ELFDATA2MSB
     }
@@ -131,11 +133,13 @@ impl Header {
 }
 
 /// Returns the name of a class, [`Header::ei_class`]: `ELF32`, `ELF64`, `NONE` or `UNKNOWN_CLASS`.
+#[must_use]
 pub fn class_to_str(ei_class: u8) -> &'static str {
     name_of(CLASS, ei_class.into())
 }
 
 /// Returns the name of a file's type, [`Header::e_type`], such as `DYN`, or `UNKNOWN_ET`.
+#[must_use]
 pub fn et_to_str(e_type: u16) -> &'static str {
     name_of(ET, e_type.into())
 }
@@ -151,6 +155,7 @@ pub fn et_to_str(e_type: u16) -> &'static str {
 /// };
 /// assert_eq!(bits, 64);
 /// ```
+#[must_use]
 pub fn machine_to_str(e_machine: u16) -> &'static str {
     name_of(MACHINE, e_machine.into())
 }

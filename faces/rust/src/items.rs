@@ -16,14 +16,14 @@
 //! # }
 //! ```
 use crate::error::{Error, Result};
-use std::iter::FusedIterator;
-use std::ops::Range;
-use std::{fmt, mem};
+use core::iter::FusedIterator;
+use core::ops::Range;
+use core::{fmt, mem};
 
 // The number of items at the end of a batch that are for the back of the list. The others are for the front.
 const BACK: u64 = 16;
 
-/// A list in a file: symbols, relocations, section headers or program headers.
+/// A list in a file: symbols, relocations, section headers or program headers. Only types of this crate have it.
 ///
 /// ```
 /// use goblin_rs::items::{Items, List};
@@ -40,30 +40,50 @@ const BACK: u64 = 16;
 /// # Ok(())
 /// # }
 /// ```
-pub trait List: Copy {
-    /// An item as the library writes it.
-    type Raw: Copy;
-    /// An array of some items.
-    type Batch: AsRef<[Self::Raw]> + AsMut<[Self::Raw]> + Clone;
+///
+/// ```compile_fail
+/// # use goblin_rs::items::List;
+/// #[derive(Clone, Copy)]
+/// struct Mine;
+/// impl List for Mine {
+///     type Item = u8;
+/// #     type Raw = u8;
+/// #     type Batch = [u8; 32];
+/// #     fn batch() -> [u8; 32] { [0; 32] }
+/// #     fn count(&self) -> u64 { 0 }
+/// #     fn read(&self, _: u64) -> goblin_rs::Result<Option<u8>> { Ok(None) }
+/// #     fn fill(&self, _: u64, _: &mut [u8]) -> goblin_rs::Result<Option<u64>> { Ok(None) }
+/// }
+/// ```
+pub trait List: Copy + Batches {
     /// An item.
     type Item: From<Self::Raw>;
-
-    /// Returns an array whose items are not read yet.
-    #[doc(hidden)]
-    fn batch() -> Self::Batch;
-
-    /// Returns the number of items, which was read when the list was made.
-    #[doc(hidden)]
-    fn count(&self) -> u64;
-
-    /// Reads the item at an index.
-    #[doc(hidden)]
-    fn read(&self, index: u64) -> Result<Option<Self::Raw>>;
-
-    /// Reads the items from an index on until the list or the array ends, and returns how many were read.
-    #[doc(hidden)]
-    fn fill(&self, first: u64, items: &mut [Self::Raw]) -> Result<Option<u64>>;
 }
+
+// How a list is read. Since no other crate can name this trait, none has lists of its own, so it can get more methods.
+mod sealed {
+    use crate::error::Result;
+
+    pub trait Batches {
+        /// An item as the library writes it.
+        type Raw: Copy;
+        /// An array of some items.
+        type Batch: AsRef<[Self::Raw]> + AsMut<[Self::Raw]> + Clone;
+
+        /// Returns an array whose items are not read yet.
+        fn batch() -> Self::Batch;
+
+        /// Returns the number of items, which was read when the list was made.
+        fn count(&self) -> u64;
+
+        /// Reads the item at an index.
+        fn read(&self, index: u64) -> Result<Option<Self::Raw>>;
+
+        /// Reads the items from an index on until the list or the array ends, and returns how many were read.
+        fn fill(&self, first: u64, items: &mut [Self::Raw]) -> Result<Option<u64>>;
+    }
+}
+pub(crate) use sealed::Batches;
 
 /// Returns what the library read of a list that was made. This is no error: by its contracts the library refuses a list
 /// at every index or at none, and the bytes have not changed.
@@ -87,13 +107,21 @@ macro_rules! list {
     ($list:ident $(<$of:ident: $bound:ident>)? of $item:ty, by $iterator:ty, $one:literal, $more:literal) => {
         impl<'a $(, $of: $bound<'a>)?> $list<'a $(, $of)?> {
             #[doc = concat!("Returns the number of ", $more, ".")]
+            #[must_use]
             pub fn len(&self) -> usize {
                 self.count as usize
             }
 
             #[doc = concat!("Reports whether there is no ", $one, ".")]
+            #[must_use]
             pub fn is_empty(&self) -> bool {
                 self.count == 0
+            }
+
+            #[doc = concat!("Returns the ", $more, " as a vector.")]
+            #[must_use]
+            pub fn to_vec(&self) -> alloc::vec::Vec<$item> {
+                self.iter().collect()
             }
 
             #[doc = concat!("Returns an iterator over the ", $more, " in order.")]
@@ -130,8 +158,9 @@ macro_rules! table {
         impl $list<'_> {
             #[doc = concat!("Returns the ", $one, " at an index, or `None` past the end.")]
             #[inline]
+            #[must_use]
             pub fn get(&self, index: usize) -> Option<$item> {
-                $crate::items::made($crate::items::List::read(self, index as u64)).map(<$item>::from)
+                $crate::items::made($crate::items::Batches::read(self, index as u64)).map(<$item>::from)
             }
         }
 
@@ -161,6 +190,7 @@ pub(crate) use {list, table};
 /// # }
 /// ```
 #[derive(Clone)]
+#[must_use = "iterators are lazy and do nothing unless consumed"]
 pub struct Items<L: List> {
     list: L,
     // Items that were read: those for the front, then those for the back.
@@ -274,6 +304,16 @@ impl<L: List> DoubleEndedIterator for Items<L> {
         }
         self.back.end -= 1;
         Some(self.item(self.back.end))
+    }
+
+    fn nth_back(&mut self, n: usize) -> Option<Self::Item> {
+        let mut n = n as u64;
+        for range in [&mut self.back, &mut self.middle, &mut self.front] {
+            let skipped = n.min(range.end - range.start);
+            range.end -= skipped;
+            n -= skipped;
+        }
+        self.next_back()
     }
 }
 

@@ -1,7 +1,8 @@
 //! Safe Rust over `goblin_c`, the static library of a verified port of goblin's ELF layer.
 //!
 //! A file is a slice of bytes. [`Elf::parse`] reads its header, and everything else is read on demand. The library's
-//! results are proved, and this crate passes them on. Names are goblin's for everything that goblin has.
+//! results are proved, and this crate passes them on. Where it has what goblin has, it has goblin's names and answers:
+//! [two tables](#coming-from-goblin) say so of each field and call.
 //!
 //! ```
 //! # fn main() -> Result<(), Box<dyn std::error::Error>> {
@@ -38,13 +39,56 @@
 //! calls for notes `sh_addralign`. So a string table can be read at any offset: `elf.strtab(&SectionHeader { sh_offset,
 //! sh_size, ..section })`.
 //!
+//! # What may change
+//! [`header::Header`], [`section_header::SectionHeader`], [`program_header::ProgramHeader`], [`sym::Sym`],
+//! [`reloc::Reloc`], [`dynamic::Dyn`], [`note::Note`] and [`note::NoteBytes`] have the standard's fields, all public. A
+//! program makes them by a literal, or by some fields and `..Default::default()`. They get no further fields in a
+//! compatible version. Enumerations may get further variants, and traits further methods: no other crate has them.
+//!
 //! # Writing
 //! The calls of [`header::Header`] whose names begin with `put` change a record in a `&mut [u8]`. What they write reads
 //! as the same record, and no other byte changes, which is proved.
 //!
+//! # Platforms
+//! The library is made for Linux (and Android) on x86-64 and AArch64, and this crate needs a host of 64 bits. The files
+//! that it reads may be of any machine. It needs Rust 1.63. Without the feature `std`, which is on by default, it needs
+//! only `core` and `alloc`: [`Error`] is then no error of std, and [`strtab::Strtab::get_c_str`] is missing. All types
+//! may be shared and sent between threads, since the library has no state.
+//!
 //! # Coming from goblin
-//! Here each part of the file is read on demand, which can fail, and a list is not a slice. So some lines that work
-//! with goblin don't compile. They are the comments below, each before what to write instead:
+//! Here each part of the file is read on demand, which can fail, so most of goblin's fields are calls that return a
+//! result. A list is not a slice.
+//!
+//! |field of goblin's `Elf`|here|
+//! |---|---|
+//! |`header`|`header`, with fields such as `ei_osabi` for its `e_ident`|
+//! |`is_64`, `little_endian`, `entry`, `is_lib`|`is_64()`, `little_endian()`, `entry()`, `is_lib()?`|
+//! |`program_headers`, `section_headers`|`program_headers()?`, `section_headers()?`|
+//! |`shdr_strtab`, `dynstrtab`|`shdr_strtab()?`, `dynstrtab()?`|
+//! |`syms`, `strtab`|`syms()?`, `None` if there is no table, and its `strtab()`. ([`Elf::strtab`] reads any section)|
+//! |`dynsyms`|`dynsyms()?`: the symbols of the section of type `SHT_DYNSYM`. goblin counts those at `DT_SYMTAB` by `DT_GNU_HASH` or else `DT_HASH`, and up to the highest index in a relocation. Without such a section they are refused here|
+//! |`dynamic`|`dynamic()?`, with `entries()` for `dyns`, which end before `DT_NULL`, and `value(tag)` for `info`|
+//! |`dynrelas`, `dynrels`, `pltrelocs`, `shdr_relocs`|`dynrelas()?`, `dynrels()?`, `pltrelocs()?`, `shdr_relocs()?`|
+//! |`libraries`, `rpaths`, `runpaths`, `soname`|`libraries()?` and so on. A name that can't be read is an error; goblin leaves it out|
+//! |`interpreter`|`interpreter()?`, up to its first zero byte|
+//! |`versym`, `verdef`, `verneed`|not here|
+//!
+//! |call of goblin|here|
+//! |---|---|
+//! |`Elf::parse`, `is_object_file`|the same. It also stands for `parse_header` and `lazy_parse`, since it reads only the header|
+//! |`Elf::parse_with_opts`, permissive|[`Elf::whole`], and the calls that begin with `readable_`|
+//! |`iter_note_headers`, `iter_note_sections`|the same without arguments|
+//! |`get_at(offset)` and `[offset]` of a `Strtab`|[`get(offset)?`](strtab::Strtab::get), `None` past the end. What is not UTF-8 is an error|
+//! |`to_vec`, `len` of a `Strtab`|not here|
+//! |`get`, `len`, `is_empty`, `iter`, `to_vec` of symbols and relocations|the same, also of sections and segments|
+//! |`machine_to_str` and so on|the same, but `dynamic::tag_to_str`, which is not here|
+//! |`st_bind`, `is_import`, `vm_range`, `is_executable` and so on of records|the same|
+//! |`r_info`, `r_sym`, `r_type` of an `r_info`|not here. A [`reloc::Reloc`] has the last two|
+//! |`parse`, `size`, `check_size`, `from_bytes`, `from_fd` of records|not here: lists read them|
+//! |`pwrite_with` of a record|a call of [`header::Header`] whose name begins with `put`|
+//! |what reads symbol versions, hash tables, compressed sections, archives, Mach-O or PE|not here|
+//!
+//! These lines, the comments, work with goblin, each before what to write instead:
 //!
 //! ```
 //! # fn main() -> Result<(), Box<dyn std::error::Error>> {
@@ -71,8 +115,9 @@
 //! }
 //! // elf.section_headers[1], elf.section_headers.first()
 //! let _: (Option<SectionHeader>, _) = (elf.section_headers()?.get(1), elf.section_headers()?.get(0));
-//! // &elf.section_headers[1..], elf.section_headers.to_vec()
-//! let sections: Vec<SectionHeader> = elf.section_headers()?.iter().skip(1).collect();
+//! // elf.section_headers.to_vec(), &elf.section_headers[1..]
+//! let sections: Vec<SectionHeader> = elf.section_headers()?.to_vec();
+//! let sections = &sections[1..];
 //! # assert!(!sections.is_empty());
 //! // elf.section_headers()?.skip(1), since `iter` makes the iterator
 //! let _ = elf.section_headers()?.iter().skip(1);
@@ -90,8 +135,8 @@
 //! for (index, relocs) in elf.shdr_relocs()? {
 //!     println!("{} in section {index}", relocs.len());
 //! }
-//! // elf.pltrelocs, elf.dynrelas, elf.dynrels
-//! println!("{} {} {}", elf.pltrelocs()?.len(), elf.dynrelas()?.len(), elf.dynrels()?.len());
+//! // elf.pltrelocs.iter(), elf.libraries
+//! println!("{} {:?}", elf.pltrelocs()?.iter().count(), elf.libraries()?);
 //!
 //! // elf.iter_note_headers(&bytes), whose items are results
 //! let _: Vec<NoteBytes> = elf.iter_note_headers()?.collect();
@@ -108,9 +153,12 @@
 //! # Ok(())
 //! # }
 //! ```
-//!
-//! `elf.libraries`, `elf.rpaths`, `elf.runpaths`, `elf.soname` and `elf.interpreter` are calls.
+#![no_std]
 #![deny(missing_docs, unsafe_code)]
+
+extern crate alloc;
+#[cfg(any(feature = "std", test))]
+extern crate std;
 
 mod address_map;
 mod constants;
@@ -130,6 +178,7 @@ pub mod section_header;
 pub mod strtab;
 pub mod sym;
 #[allow(unsafe_code)]
+#[cfg_attr(not(feature = "std"), allow(dead_code))]
 mod sys;
 
 pub use constants::other;

@@ -10,9 +10,9 @@ use crate::part::Part;
 use crate::program_header::{ProgramHeaders, PT_NOTE};
 use crate::section_header::{SectionHeaders, SHT_NOTE};
 use crate::{raw, sys};
-use std::iter::FusedIterator;
-use std::marker::PhantomData;
-use std::str;
+use core::iter::FusedIterator;
+use core::marker::PhantomData;
+use core::str;
 
 /// A note.
 ///
@@ -22,7 +22,7 @@ use std::str;
 /// let note = Note { n_type: 3, name: "GNU", desc: b"\x01\x02" };
 /// assert_eq!(note.type_to_str(), "NT_GNU_BUILD_ID");
 /// ```
-#[derive(Clone, Copy, Debug, PartialEq, Eq, Hash)]
+#[derive(Clone, Copy, Debug, Default, PartialEq, Eq, Hash)]
 pub struct Note<'a> {
     /// Its type, whose meaning depends on the name.
     pub n_type: u32,
@@ -35,6 +35,7 @@ pub struct Note<'a> {
 impl Note<'_> {
     /// Returns the name of its type, such as `NT_GNU_BUILD_ID`, or `NT_UNKNOWN`. Type 3 is `NT_GNU_BUILD_ID` for every
     /// name but `CORE`, as in goblin.
+    #[must_use]
     pub fn type_to_str(&self) -> &'static str {
         type_to_str(self.name.as_bytes(), self.n_type)
     }
@@ -52,7 +53,7 @@ fn type_to_str(name: &[u8], n_type: u32) -> &'static str {
 /// let note = NoteBytes { n_type: 3, name: b"GNU\0", desc: b"\x01\x02" };
 /// assert_eq!(note.name.strip_suffix(b"\0"), Some(&b"GNU"[..]));
 /// ```
-#[derive(Clone, Copy, Debug, PartialEq, Eq, Hash)]
+#[derive(Clone, Copy, Debug, Default, PartialEq, Eq, Hash)]
 pub struct NoteBytes<'a> {
     /// Its type, whose meaning depends on the name.
     pub n_type: u32,
@@ -64,11 +65,13 @@ pub struct NoteBytes<'a> {
 
 impl<'a> NoteBytes<'a> {
     /// Returns its name without the zero bytes at its end, or `None` if it is not UTF-8.
+    #[must_use]
     pub fn text(&self) -> Option<&'a str> {
         str::from_utf8(self.start_of_name()).ok()
     }
 
     /// Returns the name of its type, as [`Note::type_to_str`] does.
+    #[must_use]
     pub fn type_to_str(&self) -> &'static str {
         type_to_str(self.start_of_name(), self.n_type)
     }
@@ -79,7 +82,7 @@ impl<'a> NoteBytes<'a> {
     }
 }
 
-/// What notes are read as: [`Note`] or [`NoteBytes`].
+/// What notes are read as: [`Note`] or [`NoteBytes`]. Only these two have it.
 ///
 /// ```
 /// use goblin_rs::note::{AnyNote, Notes};
@@ -98,17 +101,29 @@ impl<'a> NoteBytes<'a> {
 /// # Ok(())
 /// # }
 /// ```
-pub trait AnyNote<'a>: Copy {
-    /// Reads the note at an offset.
-    #[doc(hidden)]
-    fn read(notes: &Notes<'a, Self>, offset: u64) -> Result<Option<raw::Note>>;
+pub trait AnyNote<'a>: Copy + sealed::AnyNote<'a> {}
 
-    /// Returns a note that was read.
-    #[doc(hidden)]
-    fn new(file: File<'a>, note: raw::Note) -> Self;
+// How notes are read. No other crate can name this trait, so it can get more methods.
+mod sealed {
+    use super::Notes;
+    use crate::error::Result;
+    use crate::file::File;
+    use crate::raw;
+
+    pub trait AnyNote<'a>: Sized {
+        /// Reads the note at an offset.
+        fn read(notes: &Notes<'a, Self>, offset: u64) -> Result<Option<raw::Note>>;
+
+        /// Returns a note that was read.
+        fn new(file: File<'a>, note: raw::Note) -> Self;
+    }
 }
 
-impl<'a> AnyNote<'a> for Note<'a> {
+impl<'a> AnyNote<'a> for Note<'a> {}
+
+impl<'a> AnyNote<'a> for NoteBytes<'a> {}
+
+impl<'a> sealed::AnyNote<'a> for Note<'a> {
     fn read(notes: &Notes<'a, Self>, offset: u64) -> Result<Option<raw::Note>> {
         sys::goblin_note(&notes.file, &notes.header, &notes.range, notes.alignment, offset)
     }
@@ -118,7 +133,7 @@ impl<'a> AnyNote<'a> for Note<'a> {
     }
 }
 
-impl<'a> AnyNote<'a> for NoteBytes<'a> {
+impl<'a> sealed::AnyNote<'a> for NoteBytes<'a> {
     fn read(notes: &Notes<'a, Self>, offset: u64) -> Result<Option<raw::Note>> {
         sys::goblin_note_bytes(&notes.file, &notes.header, &notes.range, notes.alignment, offset)
     }
@@ -191,6 +206,7 @@ list!(Notes<N: AnyNote> of N, by NoteDataIterator<'a, N>, "note", "notes");
 /// # }
 /// ```
 #[derive(Clone, Debug)]
+#[must_use = "iterators are lazy and do nothing unless consumed"]
 pub struct NoteDataIterator<'a, N = Note<'a>> {
     notes: Notes<'a, N>,
     // The offset to read the next note at.
@@ -243,6 +259,7 @@ enum Holders<'a> {
 /// # }
 /// ```
 #[derive(Clone, Debug)]
+#[must_use = "iterators are lazy and do nothing unless consumed"]
 pub struct NoteIterator<'a> {
     elf: Elf<'a>,
     holders: Holders<'a>,
@@ -329,6 +346,7 @@ pub(crate) fn build_id<'a>(elf: &Elf<'a>) -> Result<Option<&'a [u8]>> {
 
 // Returns what ends the search in a section or a segment: a build ID, an error, or that no more notes are read.
 fn build_id_in<'a>(elf: &Elf<'a>, part: &impl Part, left: &mut usize) -> Option<Result<Option<&'a [u8]>>> {
+    use sealed::AnyNote;
     let notes = Notes::<NoteBytes>::unread(elf, part);
     let mut next = notes.range.offset;
     // (the section or segment counts as a note, which comes before its own)

@@ -6,8 +6,8 @@ use crate::raw::Range;
 use crate::section_header::SectionHeader;
 use crate::sys;
 
-/// What has bytes in a file: a [`SectionHeader`] or a [`ProgramHeader`]. Calls that take either take a
-/// reference to this.
+/// What has bytes in a file: a [`SectionHeader`] or a [`ProgramHeader`]. Calls that take either take a reference to this.
+/// Only these two have it.
 ///
 /// ```
 /// # fn main() -> Result<(), Box<dyn std::error::Error>> {
@@ -24,21 +24,31 @@ use crate::sys;
 /// # Ok(())
 /// # }
 /// ```
-pub trait Part {
-    /// Returns its range in the file, inside the file or not.
-    #[doc(hidden)]
-    fn range(&self) -> Range;
+pub trait Part: sealed::Part {}
 
-    /// Returns the alignment of its notes.
-    #[doc(hidden)]
-    fn alignment(&self) -> u64;
+// What a part is read by. No other crate can name this trait, so it can get more methods.
+mod sealed {
+    use crate::error::Result;
+    use crate::file::File;
+    use crate::raw::Range;
 
-    /// Returns the range of its bytes, if it has some.
-    #[doc(hidden)]
-    fn found(&self, file: File<'_>) -> Result<Option<Range>>;
+    pub trait Part {
+        /// Returns its range in the file, inside the file or not.
+        fn range(&self) -> Range;
+
+        /// Returns the alignment of its notes.
+        fn alignment(&self) -> u64;
+
+        /// Returns the range of its bytes, if it has some.
+        fn found(&self, file: File<'_>) -> Result<Option<Range>>;
+    }
 }
 
-impl Part for SectionHeader {
+impl Part for SectionHeader {}
+
+impl Part for ProgramHeader {}
+
+impl sealed::Part for SectionHeader {
     fn range(&self) -> Range {
         SectionHeader::range(self)
     }
@@ -52,7 +62,7 @@ impl Part for SectionHeader {
     }
 }
 
-impl Part for ProgramHeader {
+impl sealed::Part for ProgramHeader {
     fn range(&self) -> Range {
         ProgramHeader::range(self)
     }

@@ -3,20 +3,23 @@ use crate::constants::names::PT;
 pub use crate::constants::program_header::*;
 use crate::elf::Elf;
 use crate::error::Result;
-use crate::items::{table, Items, List};
+use crate::items::{table, Batches, Items, List};
 use crate::names::name_of;
 pub use crate::raw::ProgramHeader;
-use crate::section_header::{SectionHeader, SHF_TLS, SHT_NOBITS};
+use crate::section_header::{SectionHeader, SectionHeaderIterator, SectionHeaders, SHF_TLS, SHT_NOBITS};
 use crate::{raw, sys};
-use std::ops::Range;
+use core::iter::FusedIterator;
+use core::ops::Range;
 
 impl ProgramHeader {
     /// Returns the segment's range in the file, inside the file or not. Its end is at most `u64::MAX`.
+    #[must_use]
     pub fn file_range(&self) -> Range<usize> {
         self.p_offset as usize..self.p_offset.saturating_add(self.p_filesz) as usize
     }
 
     /// Returns the segment's range in memory. Its end is at most `u64::MAX`.
+    #[must_use]
     pub fn vm_range(&self) -> Range<usize> {
         self.p_vaddr as usize..self.p_vaddr.saturating_add(self.p_memsz) as usize
     }
@@ -34,6 +37,7 @@ impl ProgramHeader {
     ///   segment is empty, too.
     ///
     /// This rule is not part of the library. It is tested, and compared with `readelf`, but not proved.
+    #[must_use]
     pub fn holds(&self, section: &SectionHeader) -> bool {
         let has_bytes = section.sh_type != SHT_NOBITS;
         let first =
@@ -65,16 +69,19 @@ impl ProgramHeader {
     }
 
     /// Reports whether the segment may be executed.
+    #[must_use]
     pub fn is_executable(&self) -> bool {
         self.p_flags & PF_X != 0
     }
 
     /// Reports whether the segment may be read.
+    #[must_use]
     pub fn is_read(&self) -> bool {
         self.p_flags & PF_R != 0
     }
 
     /// Reports whether the segment may be written.
+    #[must_use]
     pub fn is_write(&self) -> bool {
         self.p_flags & PF_W != 0
     }
@@ -113,9 +120,12 @@ impl<'a> ProgramHeaders<'a> {
 table!(ProgramHeaders of ProgramHeader, "program header", "program headers");
 
 impl List for ProgramHeaders<'_> {
+    type Item = ProgramHeader;
+}
+
+impl Batches for ProgramHeaders<'_> {
     type Raw = ProgramHeader;
     type Batch = [ProgramHeader; 32];
-    type Item = ProgramHeader;
 
     fn batch() -> Self::Batch {
         [Default::default(); 32]
@@ -135,7 +145,54 @@ impl List for ProgramHeaders<'_> {
     }
 }
 
+/// An iterator over the sections of a segment, from both ends.
+///
+/// ```
+/// # fn main() -> Result<(), Box<dyn std::error::Error>> {
+/// # let bytes = std::fs::read(std::env::current_exe()?)?;
+/// use goblin_rs::program_header::{SegmentSections, PT_LOAD};
+///
+/// let elf = goblin_rs::Elf::parse(&bytes)?;
+/// let loaded = elf.program_headers()?.iter().find(|segment| segment.p_type == PT_LOAD).ok_or("no segment")?;
+/// let sections: SegmentSections = elf.segment_sections(&loaded)?;
+/// assert!(sections.count() > 0);
+/// # Ok(())
+/// # }
+/// ```
+#[derive(Clone, Debug)]
+#[must_use = "iterators are lazy and do nothing unless consumed"]
+pub struct SegmentSections<'a> {
+    segment: ProgramHeader,
+    sections: SectionHeaderIterator<'a>,
+}
+
+impl<'a> SegmentSections<'a> {
+    pub(crate) fn of(segment: ProgramHeader, sections: SectionHeaders<'a>) -> Self {
+        let mut sections = sections.iter();
+        // (section 0 means no section)
+        sections.next();
+        SegmentSections { segment, sections }
+    }
+}
+
+impl Iterator for SegmentSections<'_> {
+    type Item = SectionHeader;
+
+    fn next(&mut self) -> Option<SectionHeader> {
+        self.sections.find(|section| self.segment.holds(section))
+    }
+}
+
+impl DoubleEndedIterator for SegmentSections<'_> {
+    fn next_back(&mut self) -> Option<SectionHeader> {
+        self.sections.rfind(|section| self.segment.holds(section))
+    }
+}
+
+impl FusedIterator for SegmentSections<'_> {}
+
 /// Returns the name of a segment's type, such as `PT_LOAD`, or `UNKNOWN_PT`.
+#[must_use]
 pub fn pt_to_str(p_type: u32) -> &'static str {
     name_of(PT, p_type)
 }

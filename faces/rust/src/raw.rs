@@ -1,6 +1,9 @@
 //! The structs of `goblin.h`, which the library reads and writes. Some are public types of this crate. The test
 //! compares the offset and the size of each field with the library's.
 
+#[cfg(test)]
+use std::vec::Vec;
+
 const _: () = assert!(usize::BITS == 64, "the library is only for 64-bit machines");
 
 macro_rules! records {
@@ -180,6 +183,8 @@ records! {
 pub mod tests {
     use super::*;
     use crate::sys;
+    use std::prelude::v1::*;
+    use std::{string::ToString, vec};
 
     pub trait Fields {
         /// Returns the bytes of each field. A range counts as two fields.

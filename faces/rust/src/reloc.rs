@@ -3,10 +3,10 @@ pub use crate::constants::reloc::*;
 use crate::elf::Elf;
 use crate::error::Result;
 use crate::file::File;
-use crate::items::{list, made, table, Items, List};
+use crate::items::{list, made, table, Batches, Items, List};
 use crate::section_header::{SectionHeader, SectionHeaderIterator, SectionHeaders, SHT_REL, SHT_RELA};
 use crate::{raw, sys};
-use std::iter::{Enumerate, FusedIterator};
+use core::iter::{Enumerate, FusedIterator};
 
 /// A relocation.
 ///
@@ -95,9 +95,12 @@ impl<'a> RelocSection<'a> {
 table!(RelocSection of Reloc, "relocation", "relocations");
 
 impl List for RelocSection<'_> {
+    type Item = Reloc;
+}
+
+impl Batches for RelocSection<'_> {
     type Raw = raw::Reloc;
     type Batch = [raw::Reloc; 64];
-    type Item = Reloc;
 
     fn batch() -> Self::Batch {
         [Default::default(); 64]
@@ -170,6 +173,7 @@ pub(crate) fn holds_relocs(header: &SectionHeader) -> bool {
 /// # }
 /// ```
 #[derive(Clone, Debug)]
+#[must_use = "iterators are lazy and do nothing unless consumed"]
 pub struct RelocSectionIterator<'a> {
     elf: Elf<'a>,
     headers: Enumerate<SectionHeaderIterator<'a>>,

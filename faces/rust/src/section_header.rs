@@ -3,16 +3,17 @@ use crate::constants::names::{SHF, SHT};
 pub use crate::constants::section_header::*;
 use crate::elf::Elf;
 use crate::error::Result;
-use crate::items::{table, Items, List};
+use crate::items::{table, Batches, Items, List};
 use crate::names::name_of;
 pub use crate::raw::SectionHeader;
 use crate::{raw, sys};
-use std::ops::Range;
+use core::ops::Range;
 
 impl SectionHeader {
     /// Returns the section's range in the file, inside the file or not, or `None` if its type is `SHT_NOBITS`. For any
     /// other type it is `sh_offset` and `sh_size` as they stand, and may be empty. Its end is at most `usize::MAX`.
     /// [`Elf::section_data`] returns the bytes.
+    #[must_use]
     pub fn file_range(&self) -> Option<Range<usize>> {
         let start = self.sh_offset as usize;
         let range = start..start.saturating_add(self.sh_size as usize);
@@ -20,6 +21,7 @@ impl SectionHeader {
     }
 
     /// Returns the section's range in memory. Its end is at most `usize::MAX`.
+    #[must_use]
     pub fn vm_range(&self) -> Range<usize> {
         let start = self.sh_addr as usize;
         start..start.saturating_add(self.sh_size as usize)
@@ -27,21 +29,25 @@ impl SectionHeader {
 
     /// Reports whether the section holds relocations with addends (`SHT_RELA`). As in goblin, it is false for those
     /// without (`SHT_REL`).
+    #[must_use]
     pub fn is_relocation(&self) -> bool {
         self.sh_type == SHT_RELA
     }
 
     /// Reports whether the section is loaded and executable.
+    #[must_use]
     pub fn is_executable(&self) -> bool {
         self.is_alloc() && self.sh_flags & SHF_EXECINSTR != 0
     }
 
     /// Reports whether the section is loaded and writable.
+    #[must_use]
     pub fn is_writable(&self) -> bool {
         self.is_alloc() && self.sh_flags & SHF_WRITE != 0
     }
 
     /// Reports whether the section is loaded into memory.
+    #[must_use]
     pub fn is_alloc(&self) -> bool {
         self.sh_flags & SHF_ALLOC != 0
     }
@@ -87,9 +93,12 @@ impl<'a> SectionHeaders<'a> {
 table!(SectionHeaders of SectionHeader, "section header", "section headers");
 
 impl List for SectionHeaders<'_> {
+    type Item = SectionHeader;
+}
+
+impl Batches for SectionHeaders<'_> {
     type Raw = SectionHeader;
     type Batch = [SectionHeader; 32];
-    type Item = SectionHeader;
 
     fn batch() -> Self::Batch {
         [Default::default(); 32]
@@ -111,11 +120,13 @@ impl List for SectionHeaders<'_> {
 
 /// Returns the name of a section's type, such as `SHT_PROGBITS`, or `UNKNOWN_SHT`. As in goblin, 19 is `SHT_NUM`, which
 /// newer tools print as `RELR`, and 0x70000001 is `SHT_X86_64_UNWIND` for every machine.
+#[must_use]
 pub fn sht_to_str(sh_type: u32) -> &'static str {
     name_of(SHT, sh_type)
 }
 
 /// Returns the name of one flag of a section, such as `SHF_WRITE`, or `SHF_UNKNOWN`.
+#[must_use]
 pub fn shf_to_str(flag: u64) -> &'static str {
     // (no flag above 32 bits has a name, and neither has 0)
     name_of(SHF, u32::try_from(flag).unwrap_or(0))

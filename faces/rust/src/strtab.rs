@@ -2,6 +2,8 @@
 use crate::error::{Error, Result};
 use crate::file::File;
 use crate::{raw, sys};
+use alloc::vec::Vec;
+#[cfg(feature = "std")]
 use std::ffi::CStr;
 
 /// A string table: a range of the file.
@@ -68,6 +70,7 @@ impl<'a> Strtab<'a> {
     ///
     /// # Errors
     /// If the table is not inside the file.
+    #[cfg(feature = "std")]
     #[inline]
     pub fn get_c_str(&self, offset: usize) -> Result<Option<&'a CStr>> {
         sys::c_string(self.file.0, &self.range, offset as u64)

@@ -5,8 +5,9 @@
 use crate::error::{Error, Result};
 use crate::file::File;
 use crate::raw::{Dyn, Header, Note, ProgramHeader, Range, Refusal, Reloc, SectionHeader, Sym};
+use core::str;
+#[cfg(feature = "std")]
 use std::ffi::CStr;
-use std::str;
 
 // A call takes the file's bytes and further arguments: after `by` a slice to read, after `into` an array to fill.
 // It returns an item (the number of items that were filled, for an array), `None` for GOBLIN_END, or the error for
@@ -203,6 +204,7 @@ pub fn string<'a>(bytes: &'a [u8], strings: &Range, offset: u64) -> Result<Optio
 }
 
 /// Returns the C string whose range `goblin_string_closed` returns. It is not searched once more for zero bytes.
+#[cfg(feature = "std")]
 #[inline]
 pub fn c_string<'a>(bytes: &'a [u8], strings: &Range, offset: u64) -> Result<Option<&'a CStr>> {
     let string = goblin_string_closed(bytes, strings, offset)?;

@@ -1,4 +1,5 @@
 //! Tests Rust's idioms over the tables of small files that are made here.
+use goblin_rs::dynamic::{DynIterator, DynValues};
 use goblin_rs::error::Kind;
 use goblin_rs::header::{header32, header64, *};
 use goblin_rs::items::{Items, List};
@@ -31,6 +32,12 @@ fn has_items<L: List, T: Clone + Debug + PartialEq>(items: Items<L>, of: impl Fn
         let rest = list.get(n..).map_or(&[][..], |rest| rest.get(1..).unwrap_or(&[]));
         assert_eq!((skipped.len(), skipped.clone().count()), (rest.len(), rest.len()), "{n}");
         assert_eq!(skipped.map(&of).collect::<Vec<_>>(), rest);
+        let mut from_end = items.clone();
+        assert_eq!(from_end.next().map(&of).as_ref(), list.first());
+        let kept = list.len().saturating_sub(n.saturating_add(1));
+        let wanted = list.get(kept).filter(|_| kept > 0 && n < list.len());
+        assert_eq!(from_end.nth_back(n).map(&of).as_ref(), wanted, "{n}");
+        assert_eq!(from_end.map(&of).collect::<Vec<_>>(), list.get(1..kept).unwrap_or(&[]));
     }
     let (mut turns, mut left) = (items, list);
     while let [first, middle @ ..] = left {
@@ -58,6 +65,40 @@ fn symbols_from_both_ends() {
         assert_eq!(values, made);
         has_items(symbols.iter(), |symbol| symbol.st_value, &made);
     }
+}
+
+#[test]
+fn types_can_be_named_shared_and_made() {
+    struct Held<'a> {
+        entries: DynIterator<'a>,
+        values: DynValues<'a>,
+        sections: SegmentSections<'a>,
+    }
+    fn is_shared<T: Send + Sync + Clone + Debug>(_: &T) {}
+    let file = made(FORMS[0], 0);
+    let elf = Elf::parse(&file).unwrap();
+    assert_eq!(elf.bytes(), &file[..]);
+    let whole = ProgramHeader { p_type: PT_NULL, p_filesz: file.len() as u64, p_memsz: 0x10000, ..Default::default() };
+    let sections = elf.segment_sections(&whole).unwrap();
+    assert!(sections.clone().rev().map(|s| s.sh_name).eq([34, 29, 23, 15, 7, 1]));
+    is_shared(&(
+        elf,
+        sections.clone(),
+        elf.syms().unwrap(),
+        elf.shdr_relocs().unwrap(),
+        elf.iter_note_headers().unwrap(),
+    ));
+    is_shared(&(elf.syms().unwrap().unwrap().address_map(), Elf::parse(&[]).unwrap_err(), elf.shdr_strtab().unwrap()));
+    if let Some(dynamic) = elf.dynamic().unwrap() {
+        let held = Held { entries: dynamic.entries(), values: dynamic.values(1), sections };
+        is_shared(&(held.entries, held.values, held.sections));
+    }
+    let none = Symtab::default();
+    assert_eq!(
+        (none.len(), none.get(0), none.iter().next(), none.find("a"), none.at(0)),
+        (0, None, None, Ok(None), None)
+    );
+    assert_eq!((Note::default().name, NoteBytes::default().desc), ("", &[][..]));
 }
 
 #[test]
@@ -170,7 +211,12 @@ fn notes_and_names_as_bytes() {
 #[test]
 fn names_are_static_texts() {
     let name: &'static str = machine_to_str(EM_X86_64);
-    assert!(matches!((name, et_to_str(ET_DYN), class_to_str(2)), ("X86_64", "DYN", "ELF64")));
+    let matched = match name {
+        "AARCH64" => 1,
+        "X86_64" => 2,
+        _ => 3,
+    };
+    assert_eq!((matched, et_to_str(ET_DYN), class_to_str(2)), (2, "DYN", "ELF64"));
     let of_symbols = [bind_to_str(1), type_to_str(2), visibility_to_str(3), get_type(0x1a)];
     assert_eq!(of_symbols, ["GLOBAL", "FUNC", "PROTECTED", "GNU_IFUNC"]);
     assert_eq!([pt_to_str(PT_NOTE), pt_to_str(9), sht_to_str(11)], ["PT_NOTE", "UNKNOWN_PT", "SHT_DYNSYM"]);

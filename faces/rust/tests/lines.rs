@@ -93,7 +93,7 @@ fn of_sections() -> Tried {
     assert_eq!(elf.section_headers()?.get(1), elf.section(".note")?);
     assert_eq!(elf.section_headers()?.iter().last(), elf.section(".names")?);
     assert_eq!(elf.section_headers()?.iter().next_back(), elf.section_header(6)?);
-    let mut by_size: Vec<SectionHeader> = elf.section_headers()?.into_iter().collect();
+    let mut by_size: Vec<SectionHeader> = elf.section_headers()?.to_vec();
     by_size.sort_by_key(|s| std::cmp::Reverse(s.sh_size));
     assert_eq!(by_size.first().copied(), elf.section(".symtab")?);
     let total: u64 = elf.section_headers()?.iter().filter(SectionHeader::is_alloc).map(|s| s.sh_size).sum();

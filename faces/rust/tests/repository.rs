@@ -44,6 +44,25 @@ fn field(elf: &Elf<'_>, name: &str) -> String {
     }
 }
 
+// The public fields of goblin's `Elf`, in its order.
+const FIELDS: &str =
+    "header program_headers section_headers shdr_strtab dynstrtab dynsyms syms strtab dynamic dynrelas \
+    dynrels pltrelocs shdr_relocs soname interpreter libraries rpaths runpaths is_64 is_lib entry little_endian versym \
+    verdef verneed";
+
+#[test]
+fn the_guide_names_each_field_of_goblin() {
+    let guide = fs::read_to_string(Path::new(env!("CARGO_MANIFEST_DIR")).join("src/lib.rs")).unwrap();
+    let table = guide.split("|field of goblin's `Elf`|here|\n").nth(1).unwrap().split("\n//!\n").next().unwrap();
+    let named: Vec<_> = table.lines().skip(1).filter_map(|line| line.split('|').nth(1)).collect();
+    let mut named: Vec<_> =
+        named.iter().flat_map(|names| names.split(", ")).map(|name| name.trim_matches('`')).collect();
+    let mut fields: Vec<_> = FIELDS.split(' ').collect();
+    named.sort_unstable();
+    fields.sort_unstable();
+    assert_eq!(named, fields);
+}
+
 #[test]
 fn fields_are_goblin_s() {
     let folder = Path::new(env!("CARGO_MANIFEST_DIR")).join("../../checks/files");
