@@ -349,12 +349,13 @@ fn compares_strings(names: &Strtab) {
 
 #[test]
 fn reads_no_open_string_for_each_name() {
-    // (of each all 2 MiB would be read, which is 40 GB)
+    // (of each all 2 MiB would be read, which is 4 GB)
     let (file, size) = (made(FORMS[0], 0), 2 << 20);
     let start = file.len() as u64;
     let long = [file, vec![b'a'; size]].concat();
     let strings = SectionHeader { sh_type: 3, sh_offset: start, sh_size: size as u64, ..SectionHeader::default() };
-    let refused = Elf::parse(&long).unwrap().strtab(&strings).get_all_bytes(0..20_000).unwrap_err();
+    let found = Elf::parse(&long).unwrap().strtab(&strings).get_all_bytes(0..2000);
+    let refused = found.map(|names| names.len()).unwrap_err();
     assert_eq!((refused.kind(), refused.offset()), (Kind::OpenString(0), start));
 }
 
