@@ -124,7 +124,7 @@ class Reader {
     templated({ left, last, is_bare, args: before }) {
         if (last === undefined || before) this.fail();
         const args = this.takes('I') && this.arguments(), list = listed(args),
-            is_empty = args.at(-1)?.pack?.length === 0;
+            is_empty = listed(args.slice(-1)) === '';
         const [start, end] = [left.endsWith('<') ? ' ' : '', list.endsWith('>') && !is_empty ? ' ' : ''];
         return { left: `${left}${start}<${list}${end}>`, right: '', last, is_bare, args };
     }
