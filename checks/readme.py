@@ -85,7 +85,9 @@ def reader(lines, folder):
     crates = run(['python3 checks/crates.py goblin'], '').split()
     run([f'cp -R --parents {" ".join(f"crates/{crate}/{part}" for crate in crates for part in ("src", "specs", "proofs"))} "$TO"',
          *(f'grep ^{crate}: crates.txt >> "$TO/crates.txt"' for crate in crates)], '', TO=folder)
-    run([line.replace('rt check', 'rt try < stdin') for line in lines], '(?m)^run=ended status=0', folder)
+    # (what is left of the template is its source)
+    run([*(line.replace('rt check', 'rt try < src/main.rt') for line in lines), 'echo "left: $(ls | xargs)"'],
+        '(?ms)^run=ended status=0.*^left: (out )?src$', folder)
 
 
 BLOCKS = {'export PATH=KIT/bin': kit, 'make try ': shown, 'rt new ': reader}
