@@ -1,6 +1,6 @@
 //! The constants of the records, each in the module of its record, word for word the library's. Only flags and indices
-//! of sections have other types: those of the fields that hold them. The module `other` has what the library doesn't, and
-//! `names` has the names of numbers.
+//! of sections have other types: those of the fields that hold them. The module `other` has what the library doesn't,
+//! and `names` has the names of numbers.
 // (`faces/constants.py` of the repository makes these files.)
 pub mod dynamic;
 pub mod header;
