@@ -366,10 +366,10 @@ pub(crate) mod tests {
     use std::prelude::v1::*;
     use std::{format, panic};
 
-    // Returns the text of `goblin.h`, from the repository or from where it is installed with this crate.
+    // Returns the text of `goblin.h`, from a crate of a registry, the repository, or where it is installed with this.
     pub(crate) fn goblin_h() -> String {
         let here = std::path::Path::new(env!("CARGO_MANIFEST_DIR"));
-        let paths = ["../c/goblin.h", "../../../include/goblin.h"].map(|path| here.join(path));
+        let paths = ["goblin.h", "../c/goblin.h", "../../../include/goblin.h"].map(|path| here.join(path));
         let found = paths.iter().find_map(|path| std::fs::read_to_string(path).ok());
         found.unwrap_or_else(|| panic!("goblin.h is missing: looked for {paths:?}"))
     }
