@@ -1,8 +1,8 @@
 //! Safe Rust over `goblin_c`, the static library of a verified port of goblin's ELF layer.
 //!
 //! A file is a slice of bytes. [`Elf::parse`] reads its header, and everything else is read on demand. The library's
-//! results are proved, and this crate passes them on. [Two tables](#coming-from-goblin) say what stands here for each of
-//! goblin's fields and calls.
+//! results are proved, and this crate passes them on. [Two tables](#coming-from-goblin) say what stands here for each
+//! of goblin's fields and calls.
 //!
 //! ```
 //! # fn main() -> Result<(), Box<dyn std::error::Error>> {
