@@ -460,4 +460,15 @@ if [ "$kind" = library ]; then
     into=$(dirname "$archive")${some:+/$cpu}/${wheel##*/}
     place "$wheel" "$into"
     echo "wrote $into"
+    # (the crate has the libraries of each target whose archive is beside this one)
+    set --
+    for other in x86_64 aarch64; do
+        beside=$(dirname "$archive")/goblin_c-$version-$other-unknown-linux-gnu.tar.gz
+        if [ "$other" != "${target%%-*}" ] && [ -e "$beside" ]; then set -- "$beside"; fi
+    done
+    if [ -z "$some" ]; then
+        crate=$(python3 faces/rust/crate.py "$folder" "$archive" "$@")
+        place "$crate" "$(dirname "$archive")/${crate##*/}"
+        echo "wrote $(dirname "$archive")/${crate##*/}"
+    fi
 fi

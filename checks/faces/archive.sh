@@ -18,6 +18,32 @@ quietly cmp "$folder/goblin_c.077.tar.gz" "$folder/goblin_c.022.tar.gz"
 tar -tzf "$folder/goblin_c.022.tar.gz" > "$folder/output"
 grep -qx 'goblin_c-[^/]*/README\.md' "$folder/output" || fail "the archive has no README.md"
 python3 checks/installed.py "$folder/goblin_c.022.tar.gz"
+# A client takes the crate from a registry, by its version, and can be packaged. The crate's own tests need no other file.
+if has cargo 'the crate is not taken from a registry'; then
+    registry=$folder/registry
+    mkdir -p "$registry/index/go/bl" "$folder/client/src" "$folder/client/.cargo"
+    cp "$folder/goblin_rs-$version.crate" "$registry/"
+    printf '{"name":"goblin_rs","vers":"%s","deps":[],"cksum":"%s","features":{"default":["std"],"std":[]},"yanked":false}\n' "$version" \
+        "$(sha256sum < "$registry/goblin_rs-$version.crate" | awk '{ print $1 }')" > "$registry/index/go/bl/goblin_rs"
+    printf '[source.crates-io]\nreplace-with = "local"\n[source.local]\nlocal-registry = "%s"\n' "$registry" \
+        > "$folder/client/.cargo/config.toml"
+    printf '[package]\nname = "client"\nversion = "1.0.0"\nedition = "2021"\nlicense = "MIT"\ndescription = "A client"\n' \
+        > "$folder/client/Cargo.toml"
+    printf '[dependencies]\ngoblin_rs = "%s"\n' "${version%.*}" >> "$folder/client/Cargo.toml"
+    cp faces/rust/examples/symbols.rs "$folder/client/src/main.rs"
+    alone() { (cd "$folder/$1" && shift && unset GOBLIN_C_LIB && CARGO_HOME="$folder/home" PKG_CONFIG_LIBDIR="$folder" "$@"); }
+    quietly alone client cargo build --offline
+    "$folder/client/target/debug/client" "$program_file" > "$folder/listed"
+    [ "$(grep -c ' main$' "$folder/listed")" -eq 1 ] || fail "the client of the crate does not list main: $(cat "$folder/listed")"
+    quietly alone client cargo package --offline --allow-dirty
+    mkdir "$folder/unpacked"
+    tar -C "$folder/unpacked" --strip-components=1 -xzf "$registry/goblin_rs-$version.crate"
+    for file in README.md LICENSE goblin.h libraries/x86_64-linux/libgoblin_c.a; do
+        [ -s "$folder/unpacked/$file" ] || fail "the crate has no $file"
+    done
+    quietly alone unpacked cargo test --offline --lib --tests
+    echo 'a client takes the crate from a registry'
+fi
 find_node
 python3 checks/readme.py "$folder/libgoblin_c.a" "$folder/goblin_c.022.tar.gz" "$(cat "$folder/node" 2> "$folder/output" || :)"
 

@@ -1,7 +1,7 @@
 //! Links libgoblin_c.a. It looks in the folder that GOBLIN_C_LIB names; a relative name starts from the folder of this
-//! file. Without GOBLIN_C_LIB it looks where the library is installed with this crate, or where `rt lib` puts it in the
-//! repository, and where pkg-config finds it. Beside a copy of this crate elsewhere it doesn't look. It skips a library
-//! for another platform.
+//! file. Without GOBLIN_C_LIB it looks in the libraries of a crate from a registry, where the library is installed with
+//! this crate, or where `rt lib` puts it in the repository, and where pkg-config finds it. Beside a copy of this crate
+//! elsewhere it doesn't look. It skips a library for another platform.
 //!
 //! If it finds none, it warns, and says where it looked and how to get the library. Only linking needs the library:
 //! without it `cargo check`, `cargo clippy` and `cargo doc` succeed, and a build ends with rustc's error that the
@@ -65,22 +65,23 @@ fn here() -> PathBuf {
 }
 
 /// Returns the folders to look in. They are absolute, since rustc may run in another folder than this program.
-fn folders() -> Vec<PathBuf> {
+fn folders(platform: &str) -> Vec<PathBuf> {
     let here = &here();
     if let Some(folder) = named() {
         return vec![here.join(folder)];
     }
-    beside(here).into_iter().chain(from_pkg_config()).collect()
+    beside(here, platform).into_iter().chain(from_pkg_config()).collect()
 }
 
-/// Returns the library's folder, if this crate is where it is installed with the library, or in the repository. (Its
-/// name may be a symbolic link.)
-fn beside(here: &Path) -> Option<PathBuf> {
+/// Returns the library's folder, if this crate has libraries, or is where it is installed with the library, or in the
+/// repository. (Its name may be a symbolic link.)
+fn beside(here: &Path, platform: &str) -> Option<PathBuf> {
     let here = fs::canonicalize(here).ok()?;
     let above = |levels| here.ancestors().nth(levels);
+    let own = Some(here.join("libraries")).filter(|folder| folder.is_dir()).map(|folder| folder.join(platform));
     let installed = above(3).filter(|_| here.ends_with("share/goblin_c/rust")).map(|folder| folder.join("lib"));
     let sources = above(2).map(|folder| folder.join("crates/goblin_c")).filter(|folder| folder.is_dir());
-    installed.or(sources.map(|folder| folder.join("out")))
+    own.or(installed).or(sources.map(|folder| folder.join("out")))
 }
 
 /// Warns that the library is missing, and says where it was looked for and how to get it.
@@ -102,7 +103,7 @@ fn warn(folders: &[PathBuf], platform: &str) {
             env!("CARGO_PKG_VERSION")
         );
     }
-    if named().is_none() && beside(&here()).is_none() {
+    if named().is_none() && beside(&here(), platform).is_none() {
         println!(
             "cargo:warning=no folder beside this crate was looked in: it is a copy, outside of its installation and \
              its repository"
@@ -128,7 +129,7 @@ fn main() {
     let of_target = |part| env::var(format!("CARGO_CFG_TARGET_{}", part)).unwrap_or_default();
     // (Android is Linux, too)
     let platform = of_target("ARCH") + "-" + &of_target("OS").replace("android", "linux");
-    let folders = folders();
+    let folders = folders(&platform);
     let found = folders.iter().find(|folder| fault(folder, &platform).is_none());
     for library in folders.iter().map(|folder| folder.join(LIBRARY)) {
         // (cargo compiles all anew as long as one that is named isn't there)

@@ -78,8 +78,8 @@ impl<'a> AddressMap<'a> {
     }
 }
 
-// What decides between two symbols whose section holds an address: the higher value, then the size 0, and then the lower
-// index. The last two are one number, whose highest bit is set for the size 0.
+// What decides between two symbols whose section holds an address: the higher value, then the size 0, and then the
+// lower index. The last two are one number, whose highest bit is set for the size 0.
 #[derive(Clone, Copy, PartialEq, Eq, PartialOrd, Ord)]
 struct Rank {
     value: u64,

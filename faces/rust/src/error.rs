@@ -378,13 +378,17 @@ pub(crate) mod tests {
     use std::prelude::v1::*;
     use std::{format, panic};
 
-    // Returns the text of `goblin.h`, from the repository or from where it is installed with this crate. It is not
-    // beside a copy of this crate elsewhere, such as a vendored one.
+    // Returns the text of `goblin.h`, from a crate of a registry, the repository, or where it is installed with this
+    // crate. It is not beside a copy of this crate elsewhere, such as a vendored one.
     pub(crate) fn goblin_h() -> Option<String> {
         let here = std::fs::canonicalize(env!("CARGO_MANIFEST_DIR")).unwrap();
-        let path = ["faces/rust", "share/goblin_c/rust"].iter().position(|place| here.ends_with(place))?;
-        let path = here.join(["../c/goblin.h", "../../../include/goblin.h"][path]);
-        Some(std::fs::read_to_string(&path).unwrap_or_else(|e| panic!("{path:?}: {e}")))
+        let place = ["faces/rust", "share/goblin_c/rust"].iter().position(|place| here.ends_with(place));
+        let path = place.map(|place| here.join(["../c/goblin.h", "../../../include/goblin.h"][place]));
+        let path = path.unwrap_or_else(|| here.join("goblin.h"));
+        match std::fs::read_to_string(&path) {
+            Err(_) if place.is_none() => None,
+            text => Some(text.unwrap_or_else(|e| panic!("{path:?}: {e}"))),
+        }
     }
 
     // Returns the constants of `goblin.h` after a line: the comment, the name and the number of each.

@@ -1,8 +1,8 @@
 //! Safe Rust over `goblin_c`, the static library of a verified port of goblin's ELF layer.
 //!
 //! A file is a slice of bytes. [`Elf::parse`] reads its header, and everything else is read on demand. The library's
-//! results are proved, and this crate passes them on. Where it has what goblin has, it has goblin's names and answers:
-//! [two tables](#coming-from-goblin) say so of each field and call.
+//! results are proved, and this crate passes them on. [Two tables](#coming-from-goblin) say what stands here for each
+//! of goblin's fields and calls.
 //!
 //! ```
 //! # fn main() -> Result<(), Box<dyn std::error::Error>> {
@@ -59,26 +59,31 @@
 //! Here each part of the file is read on demand, which can fail, so most of goblin's fields are calls that return a
 //! result. A list is not a slice.
 //!
+//! The symbols of `dynsyms` are those of the section of type `SHT_DYNSYM`. goblin counts those at `DT_SYMTAB` by
+//! `DT_GNU_HASH`, or else by `DT_HASH`, and at least up to the highest index in a relocation. Without such a section
+//! they are refused here. A name of the dynamic section that can't be read is an error; goblin leaves it out.
+//!
 //! |field of goblin's `Elf`|here|
 //! |---|---|
 //! |`header`|`header`, with fields such as `ei_osabi` for its `e_ident`|
 //! |`is_64`, `little_endian`, `entry`, `is_lib`|`is_64()`, `little_endian()`, `entry()`, `is_lib()?`|
 //! |`program_headers`, `section_headers`|`program_headers()?`, `section_headers()?`|
 //! |`shdr_strtab`, `dynstrtab`|`shdr_strtab()?`, `dynstrtab()?`|
-//! |`syms`, `strtab`|`syms()?`, `None` if there is no table, and its `strtab()`. ([`Elf::strtab`] reads any section)|
-//! |`dynsyms`|`dynsyms()?`: the symbols of the section of type `SHT_DYNSYM`. goblin counts those at `DT_SYMTAB` by `DT_GNU_HASH` or else `DT_HASH`, and up to the highest index in a relocation. Without such a section they are refused here|
-//! |`dynamic`|`dynamic()?`, with `entries()` for `dyns`, which end before `DT_NULL`, and `value(tag)` for `info`|
+//! |`syms`, `strtab`|`syms()?`, `None` if there is no table, and its `strtab()`|
+//! |`dynsyms`|`dynsyms()?`, `None` if there are none|
+//! |`dynamic`|`dynamic()?`, with `entries()` for `dyns`, up to `DT_NULL`, and `value(tag)` for `info`|
 //! |`dynrelas`, `dynrels`, `pltrelocs`, `shdr_relocs`|`dynrelas()?`, `dynrels()?`, `pltrelocs()?`, `shdr_relocs()?`|
-//! |`libraries`, `rpaths`, `runpaths`, `soname`|`libraries()?` and so on. A name that can't be read is an error; goblin leaves it out|
+//! |`libraries`, `rpaths`, `runpaths`, `soname`|`libraries()?`, `rpaths()?`, `runpaths()?`, `soname()?`|
 //! |`interpreter`|`interpreter()?`, up to its first zero byte|
 //! |`versym`, `verdef`, `verneed`|not here|
 //!
 //! |call of goblin|here|
 //! |---|---|
-//! |`Elf::parse`, `is_object_file`|the same. It also stands for `parse_header` and `lazy_parse`, since it reads only the header|
+//! |`Elf::parse`, `is_object_file`|the same|
+//! |`Elf::parse_header`, `Elf::lazy_parse`|`Elf::parse`, which reads only the header|
 //! |`Elf::parse_with_opts`, permissive|[`Elf::whole`], and the calls that begin with `readable_`|
 //! |`iter_note_headers`, `iter_note_sections`|the same without arguments|
-//! |`get_at(offset)` and `[offset]` of a `Strtab`|[`get(offset)?`](strtab::Strtab::get), `None` past the end. What is not UTF-8 is an error|
+//! |`get_at(offset)`, `[offset]` of a `Strtab`|`get(offset)?`, `None` past the end. What is not UTF-8 is an error|
 //! |`to_vec`, `len` of a `Strtab`|not here|
 //! |`get`, `len`, `is_empty`, `iter`, `to_vec` of symbols and relocations|the same, also of sections and segments|
 //! |`machine_to_str` and so on|the same, but `dynamic::tag_to_str`, which is not here|

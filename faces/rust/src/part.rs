@@ -6,8 +6,8 @@ use crate::raw::Range;
 use crate::section_header::SectionHeader;
 use crate::sys;
 
-/// What has bytes in a file: a [`SectionHeader`] or a [`ProgramHeader`]. Calls that take either take a reference to this.
-/// Only these two have it.
+/// What has bytes in a file: a [`SectionHeader`] or a [`ProgramHeader`]. Calls that take either take a reference to
+/// this. Only these two have it.
 ///
 /// ```
 /// # fn main() -> Result<(), Box<dyn std::error::Error>> {

@@ -32,12 +32,14 @@ fn has_items<L: List, T: Clone + Debug + PartialEq>(items: Items<L>, of: impl Fn
         let rest = list.get(n..).map_or(&[][..], |rest| rest.get(1..).unwrap_or(&[]));
         assert_eq!((skipped.len(), skipped.clone().count()), (rest.len(), rest.len()), "{n}");
         assert_eq!(skipped.map(&of).collect::<Vec<_>>(), rest);
+        // (some items were read for either end)
         let mut from_end = items.clone();
-        assert_eq!(from_end.next().map(&of).as_ref(), list.first());
-        let kept = list.len().saturating_sub(n.saturating_add(1));
-        let wanted = list.get(kept).filter(|_| kept > 0 && n < list.len());
-        assert_eq!(from_end.nth_back(n).map(&of).as_ref(), wanted, "{n}");
-        assert_eq!(from_end.map(&of).collect::<Vec<_>>(), list.get(1..kept).unwrap_or(&[]));
+        assert_eq!(from_end.next_back().map(&of).as_ref(), list.last());
+        from_end.next();
+        let inner = list.get(1..list.len().max(1) - 1).unwrap_or(&[]);
+        let kept = inner.len().checked_sub(n.saturating_add(1));
+        assert_eq!(from_end.nth_back(n).map(&of).as_ref(), kept.map(|kept| &inner[kept]), "{n}");
+        assert_eq!(from_end.map(&of).collect::<Vec<_>>(), inner[..kept.unwrap_or(0)]);
     }
     let (mut turns, mut left) = (items, list);
     while let [first, middle @ ..] = left {
