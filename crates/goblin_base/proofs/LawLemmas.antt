@@ -15,10 +15,11 @@ use Rattle.goblin_base.proofs.Common.{invalid_utf8, or_cut, texts_of, zero, suc,
 use Rattle.goblin_base.proofs.Common.{eqb-true, and_from, and_left, and_right, drop_more, drop_all, take-append-drop}
 use Rattle.goblin_base.proofs.Common.{drop-drop, get_or-range_with_len, fails_before_first, join_with_byte, piece_end}
 use Rattle.goblin_base.proofs.Common.{entries_from}
+use Rattle.std.proofs.lemmas.Bool.Decides.{nat_tests}
 use Rattle.goblin_base.specs.declared.error.Fault.{Fault}
 use Rattle.goblin_base.specs.declared.error.Fault.TheVariants.{StrtabOffset, StrtabRange}
 use Rattle.goblin_base.specs.StrtabLaws.{TextIsUtf8, ClosedForm, JoinsAgain, PermissiveAccepts, StrictIsPermissive}
-use Rattle.goblin_base.specs.StrtabLaws.{LookUpHasPlain, StrictLookUpIsPlain, DependsOnRange, StringsJoin, joined}
+use Rattle.goblin_base.specs.StrtabLaws.{LookUpHasPlain, StrictLookUpIsPlain, DependsOnRange, RangesRefused, StringsJoin, joined}
 use Rattle.goblin_base.specs.StrtabLaws.{ends_in}
 use Rattle.goblin_base.proofs.PiecesLemmas.{start_to, start_of_start, end_from, at_end, inside_piece, piece_is_range}
 use Rattle.goblin_base.proofs.PiecesLemmas.{start_next}
@@ -300,3 +301,11 @@ pub depends_on_range : DependsOnRange
 unfolding strtab_of
 depends_on_range mode a b o n d len same =
     ap (λ r. refuse_as malformed r >>= (λ x. table_of mode x d)) (range_depends mode a b o n len same)
+
+pub ranges_refused : RangesRefused
+unfolding range_in
+ranges_refused = record {
+  past = λ file o n h. grind (arith, nat_tests);
+  long = λ file o n h l small. grind (arith, nat_tests);
+  overflows = λ file o n h l large. grind (arith, nat_tests);
+}

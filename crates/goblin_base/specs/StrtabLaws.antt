@@ -1,6 +1,6 @@
 -- Laws of string tables. They speak of the definitions only.
-use Rattle.std.specs.Prelude.{◌≡◌, ◌↔◌, ℕ, ◌-◌, ◌^◌, ◌<◌, ◌≤◌, ◌==◌, ◌&&◌, Bool, true, false, List, [], ◌∷◌, ◌++◌}
-use Rattle.std.specs.Prelude.{map, length, take, drop, nat_lt, slice_index, if◌then◌else◌, IsTrue, IsOk, Some, Ok}
+use Rattle.std.specs.Prelude.{◌≡◌, ◌↔◌, ℕ, ◌+◌, ◌-◌, ◌^◌, ◌<◌, ◌≤◌, ◌==◌, ◌&&◌, Bool, true, false, List, [], ◌∷◌, ◌++◌}
+use Rattle.std.specs.Prelude.{map, length, take, drop, nat_lt, slice_index, if◌then◌else◌, IsTrue, IsOk, Some, Ok, Err}
 use Rattle.std.specs.Prelude.{unwrap_or}
 use Rattle.std.specs.Bool.{Decides}
 use Rattle.goblin_base.specs.Common.{join_with_byte, result_ok, IsUtf8, is_utf8, ParseMode, Strict, Permissive}
@@ -9,6 +9,7 @@ use Rattle.goblin_base.specs.Pieces.{piece, entries, entries_by_place}
 use Rattle.goblin_base.specs.Search.{digits}
 use Rattle.goblin_base.specs.Strtab.{StringTable, walked, range_in, strtab_of, plain, look_up, has_name, strings_of}
 use Rattle.goblin_base.specs.Wanted.{is_piece, starts_piece}
+use Rattle.goblin_base.specs.declared.error.Fault.TheVariants.{StrtabOffset, StrtabRange}
 
 -- the test passes exactly if the bytes are well-formed UTF-8: the joined shortest spellings of scalar values
 abbrev pub TextIsUtf8 : Type 0
@@ -94,3 +95,17 @@ abbrev pub PiecesBegin : Type 0
 PiecesBegin = (bytes : List ℕ) (delim o : ℕ) (text : List ℕ)
     → Decides (starts_piece bytes delim o text)
     ((o < length bytes) × (take (length text) (piece bytes delim o) ≡ text))
+
+-- which ranges are refused in strict mode, in plain numbers, and as what
+pub record RangesRefused : Type 0 where
+  pub past :
+      (file : List ℕ) (offset size : ℕ)
+      → length file < offset → range_in Strict file offset size ≡ Err (StrtabOffset offset (length file))
+  pub long :
+      (file : List ℕ) (offset size : ℕ)
+      → offset ≤ length file → length file < offset + size → offset + size < 2 ^ 64
+      → range_in Strict file offset size ≡ Err (StrtabRange size offset (length file) false)
+  pub overflows :
+      (file : List ℕ) (offset size : ℕ)
+      → offset ≤ length file → length file < offset + size → 2 ^ 64 ≤ offset + size
+      → range_in Strict file offset size ≡ Err (StrtabRange size offset (length file) true)

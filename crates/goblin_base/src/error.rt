@@ -1,6 +1,6 @@
 //! The errors of reading and writing.
-ghost use Rattle.std.specs.Prelude.{◌≡◌, IfOk, Some, false, string_bytes};
-ghost use Rattle.goblin_base.specs.Common.{misplaced, refusal_of, facts_of, fault_facts, fault_text, numbers, refusal_facts, refusal_text, with_item};
+ghost use Rattle.std.specs.Prelude.{◌≡◌, ◌⊎◌, Err, IfOk, Ok, Result, Some, alloc_error, false, string_bytes};
+ghost use Rattle.goblin_base.specs.Common.{Gives, Refusal, Refuses, Returns, misplaced, refusal_of, facts_of, fault_facts, fault_text, numbers, refusal_facts, refusal_text, with_item};
 
 use crate::scroll;
 use crate::texts::{Kind, Report};
@@ -305,3 +305,16 @@ impl fmt::Display for Error {
         write!(f, "{}", self.report())
     }
 }
+
+/// Laws of what contracts say of results. By `Returns` a value is the expected one, and so is an error. By `Gives` an error
+/// may also be out of memory, in place of any result. By `Refuses` there is an error, the expected one.
+pub fn results<X, Y>()
+    ensures value { (view : X → Y) (x : X) (expected : Result Y Refusal) → Returns view (Ok x) expected → expected ≡ Ok (view x) }
+    ensures err { (view : X → Y) (e : Error) (expected : Result Y Refusal)
+        → Returns view (Err e) expected → expected ≡ Err (refusal_of e) }
+    ensures given { (view : X → Y) (x : X) (expected : Result Y Refusal) → Gives view (Ok x) expected → expected ≡ Ok (view x) }
+    ensures given_err { (view : X → Y) (e : Error) (expected : Result Y Refusal)
+        → Gives view (Err e) expected → (e ≡ Error.Memory alloc_error) ⊎ (expected ≡ Err (refusal_of e)) }
+    ensures refused { (result : Result X Error) (refusal : Refusal)
+        → Refuses result refusal → (e : Error) × (result ≡ Err e) × (refusal_of e ≡ refusal) }
+{}

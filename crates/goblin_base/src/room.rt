@@ -1,6 +1,7 @@
 //! The test whether some bytes lie in a slice.
-ghost use Rattle.std.specs.Prelude.{◌≡◌, ◌≤◌, ◌+◌, ◌↔◌, IsOk};
+ghost use Rattle.std.specs.Prelude.{◌≡◌, ◌<◌, ◌≤◌, ◌+◌, ◌-◌, ◌↔◌, Err, IsOk};
 ghost use Rattle.goblin_base.specs.Common.{room_of};
+ghost use Rattle.goblin_base.specs.declared.scroll.Error.TheVariants.{BadOffset, TooBig};
 
 use crate::scroll;
 
@@ -14,6 +15,8 @@ use crate::scroll;
 pub fn room(len: usize, offset: usize, size: usize) -> Result<(), scroll::Error>
     ensures value { result ≡ room_of len offset size }
     ensures fits { IsOk result ↔ (offset + size ≤ len) }
+    ensures past { len < offset + size → len ≤ offset → result ≡ Err (BadOffset offset) }
+    ensures few { len < offset + size → offset < len → result ≡ Err (TooBig size (len - offset)) }
 {
     if offset <= len && size <= len - offset {
         return Ok(());

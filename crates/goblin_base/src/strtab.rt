@@ -13,7 +13,7 @@ ghost use Rattle.goblin_base.specs.Wanted.{can_be_string, stands_at};
 ghost use Rattle.goblin_base.specs.StrtabLaws.{ClosedForm, DependsOnRange, DigitsCount, JoinsAgain, LookUpHasPlain};
 ghost use Rattle.goblin_base.specs.StrtabLaws.{PermissiveAccepts, StrictIsPermissive, StrictLookUpIsPlain, TextIsUtf8};
 ghost use Rattle.goblin_base.specs.StrtabLaws.{NamesArePlain, TextIsTaken, StringsJoin, NamesAreRead};
-ghost use Rattle.goblin_base.specs.StrtabLaws.{PiecesAreCompared, PiecesBegin};
+ghost use Rattle.goblin_base.specs.StrtabLaws.{PiecesAreCompared, PiecesBegin, RangesRefused};
 
 use crate::ascii::{ascii_piece, len_before, short_len_before};
 use crate::entries::{Entries, Looked, Probes};
@@ -442,6 +442,7 @@ pub fn laws()
     ensures look_up_has_plain { LookUpHasPlain }
     ensures strict_look_up_is_plain { StrictLookUpIsPlain }
     ensures depends_on_range { DependsOnRange }
+    ensures ranges_refused { RangesRefused }
     ensures text_is_taken { TextIsTaken }
     ensures names_are_plain { NamesArePlain }
     ensures digits_count { DigitsCount }

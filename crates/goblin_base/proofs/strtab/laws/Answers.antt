@@ -3,7 +3,7 @@
 use Rattle.goblin_base.proofs.DigitsLemmas.{digits_count}
 use Rattle.goblin_base.proofs.LawLemmas.{text_is_utf8, closed_form, joins_again, permissive_accepts}
 use Rattle.goblin_base.proofs.LawLemmas.{strict_is_permissive, look_up_has_plain, strict_look_up_is_plain}
-use Rattle.goblin_base.proofs.LawLemmas.{depends_on_range, strings_join}
+use Rattle.goblin_base.proofs.LawLemmas.{depends_on_range, ranges_refused, strings_join}
 use Rattle.goblin_base.proofs.WantedLemmas.{names_are_read, pieces_are_compared, pieces_begin}
 use Rattle.goblin_base.specs.TextLaws.{text_is_taken, names_are_plain}
 use Rattle.goblin_base.proofs.strtab.laws.Goals as goal
@@ -18,6 +18,7 @@ returns c = record {
   look_up_has_plain = look_up_has_plain;
   strict_look_up_is_plain = strict_look_up_is_plain;
   depends_on_range = depends_on_range;
+  ranges_refused = ranges_refused;
   text_is_taken = text_is_taken;
   names_are_plain = names_are_plain;
   digits_count = digits_count;

@@ -114,7 +114,7 @@ loop-i-preserved c =
       walked = of_same_places walked (search kept);
       strict = search rules;
       near = search rules;
-      marked = search rules;
+      marked = subst (λ bs. HaveMarks bs c.args.delim c.next_end-end.new.marks) s.same e.marked;
       looks = search rules;
       ascii = λ low.
           absurd (no_fault c.args.view.now.bytes _ _ c.loop-i.i c.next_end-end.result.0 s.same e.unchanged
@@ -129,6 +129,12 @@ loop-i-preserved c =
             c.in_ok-i.ensures.ordered,
           );
     }
+
+pub loop-i-smaller : goal.loop-i-smaller
+loop-i-smaller c =
+    let size = ap length c.loop-i.invariant.same in
+    let some = not_empty _ c.loop-i.i c.next_end-end.result.0 c.if-is_text.ensures.value.1 in
+    omega (arith, size, some, c.len.ensures.value, c.loop-i-test.true, c.in_ok-i.ensures.ordered)
 
 pub returns-in_err-i-clause-looks_ascii : goal.returns-in_err-i-clause-looks_ascii
 returns-in_err-i-clause-looks_ascii c = λ low.

@@ -26,5 +26,7 @@ invariant-loop-i l = record {
   passed : 0 < l.i → piece_end l.fn.view.bytes l.delim 0 ≤ l.i;
 }
 
+-- Each turn goes on at a later offset: after the end of the piece that it found,
+-- or at the end that `walk_damaged` returns.
 abbrev pub decreases-loop-i : goal.decreases-loop-i
 decreases-loop-i l = length l.fn.view.bytes + 1 - l.i

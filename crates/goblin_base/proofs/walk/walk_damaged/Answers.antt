@@ -35,7 +35,7 @@ pub loop-i-preserved : goal.loop-i-preserved
 loop-i-preserved c =
     let s = c.loop-i.invariant in
     let found = attempt_fault c.args.delim s.same s.ends s.within c.requires.within c.in-Fault.ensures.value in
-    let e : c.loop-place.place ≡ c.in-Fault.next = omega (arith, found.0.further) in
+    let e : c.loop-place.place ≡ c.in-Fault.next = omega (arith, found.0.further, found.1) in
     record {
       same = c.in-Fault.ensures.unchanged ∙ s.same;
       from = omega (arith, found.0.further, s.from);
