@@ -18,7 +18,7 @@ use Rattle.goblin_base.specs.Layout.{EachReadFits}
 use Rattle.goblin_base.specs.LayoutLaws.{size_of_fields-is}
 use Rattle.goblin_base.specs.NumberLaws.{IsBytes-append}
 use Rattle.goblin_headers.specs.Header.{HeaderShape, field_widths}
-use Rattle.goblin_headers.specs.HeaderTrips.{HeadersFit, IsOneHeaderImage}
+use Rattle.goblin_headers.specs.HeaderTrips.{HeadersFit, IdentIsWritten, IsOneHeaderImage}
 
 -- headers that begin with an identification, and what holds of reading and writing them
 pub record IsHeader {R : Type 0} (ident : R → List ℕ) (l : Layout R) : Type 0 where
@@ -162,6 +162,12 @@ one_header_image {layout = layout} all order h bytes long are =
       λ is. rw is (laws.image_bytes h are, laws.length_image h long, reads_alone laws h long),
       λ so. image_of_read laws bytes so.0 so.1 ∙ ap ((layout order).image) so.2 ∙ image-low laws h long are,
     )
+
+-- the image begins with the identification
+pub ident_is_written : {R : Type 0} {ident : R → List ℕ} {layout : Endian → Layout R}
+    → ((order : Endian) → IsHeader ident (layout order)) → IdentIsWritten ident layout
+ident_is_written {ident = ident} all order h long =
+    let laws = all order in ap (take 16) (laws.image_is h) ∙ take_at (ident h) (laws.after_ident h) 16 long
 
 -- those that fit are those that are their own low bits
 pub headers_fit : {R : Type 0} {ident : R → List ℕ} {layout : Endian → Layout R}

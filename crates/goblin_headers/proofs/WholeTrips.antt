@@ -14,9 +14,9 @@ use Rattle.std.specs.List.{starts_with}
 use Rattle.std.proofs.lemmas.List.{append_assoc, append-nil, length-append, length-take-le, take-append-drop}
 use Rattle.std.proofs.lemmas.List.{take-append-le, get_or_append_left, get_or-take}
 use Rattle.std.proofs.lemmas.Slice.Eq.{bytes_eq-Decides}
-use Rattle.goblin_headers.specs.Header.{header_size, Identifies, new_header, magic, class_byte, data_byte, class_named}
+use Rattle.goblin_headers.specs.Header.{header_size, HeaderFits, Identifies, new_header, magic, class_byte, data_byte, class_named}
 use Rattle.goblin_headers.specs.HeaderTrips.{EachFits, OneImage, ReadsBack, WrittenAndReadBack, ImageOfRead, WritesBack}
-use Rattle.goblin_headers.specs.HeaderTrips.{NewIsOfContext, NewIsReadBack, IsReadBack, IsWrittenAndReadBack}
+use Rattle.goblin_headers.specs.HeaderTrips.{NewIsOfContext, NewIsReadBack, NewInNumbers, IsReadBack, IsWrittenAndReadBack}
 use Rattle.goblin_headers.specs.HeaderTrips.{IsWrittenBack}
 use Rattle.goblin_headers.specs.ReadHeader.{read_header, read_in_order, needs}
 use Rattle.goblin_headers.proofs.HeaderLemmas.{header_laws, headers_fit, one_header_image, IsHeader}
@@ -247,6 +247,12 @@ pub each_fits : EachFits
 each_fits class.Little = headers_fit (header_laws class.Little)
 each_fits class.Big = headers_fit (header_laws class.Big)
 
+-- a header that fits a class fits it in either byte order
+fits_in : (class : Container) (order : Endian) (h : Header)
+    → HeaderFits class h → (header_layout class order).Fits h
+fits_in class.Little order h fits = fits
+fits_in class.Big order h fits = fits
+
 -- bytes that begin with the magic number do so whatever bytes follow
 begins_so : (image ident after rest : List ℕ)
     → image ≡ ident ++ after → length ident ≡ 16 → take 4 ident ≡ magic
@@ -275,7 +281,7 @@ reads_back class order h rest names fits =
     } in
     read_begun class (image ++ rest) begins
     ∙ ap (with_size (header_size class))
-    (raw_reads_back (header_laws class) DataType order h rest names.names_order fits)
+    (raw_reads_back (header_laws class) DataType order h rest names.names_order (fits_in class order h fits))
 
 -- a header that names a class is written as one of that class
 writes_in_class : (class : Container) (h : Header) (old new : List ℕ) (answer : Result ℕ Error)
@@ -321,7 +327,7 @@ order_is_named : (order : Endian) → order_named (data_byte order) ≡ Some ord
 order_is_named order = grind (arith, nat_tests)
 
 new_fits : (class : Container) (order : Endian)
-    → (header_layout class order).Fits (new_header (record { container = class; le = order }))
+    → HeaderFits class (new_header (record { container = class; le = order }))
 new_fits class order = grind (arith, nat_tests)
 
 pub new_is_of_context : NewIsOfContext
@@ -333,6 +339,9 @@ new_is_of_context ctx = (
   },
   new_fits ctx.container ctx.le,
 )
+
+pub new_in_numbers : NewInNumbers
+new_in_numbers order = (refl, refl, refl, refl)
 
 pub new_is_read_back : NewIsReadBack
 new_is_read_back ctx =

@@ -1,9 +1,14 @@
 -- Headers are read back from the bytes that they were written as, and written back as the bytes that they were read
 -- from.
-use Rattle.std.specs.Prelude.{◌≡◌, ◌↔◌, ◌≤◌, ℕ, List, ◌++◌, length, take, Result, Ok}
-use Rattle.goblin_headers.specs.Common.{Container, Ctx, Endian, Error, Fault, Layout, IsBytes, Header}
+use Rattle.std.specs.Prelude.{◌≡◌, ◌≢◌, ◌↔◌, ◌⊎◌, ◌<◌, ◌≤◌, ℕ, List, [], ◌∷◌, ◌++◌, length, replicate, slice_index, take}
+use Rattle.std.specs.Prelude.{Result, Ok, Err}
+use Rattle.goblin_headers.specs.Common.{Container, Ctx, Endian, Error, Fault, Layout, IsBytes, Header, Little, Big}
+use Rattle.goblin_headers.specs.Common.{BadMagic, Malformed, Scroll, DataType, ElfClass, TooSmall, number_at}
 use Rattle.goblin_base.specs.Layout.{EachReadFits}
+use Rattle.goblin_base.specs.declared.container.Endian.TheVariants as order
+use Rattle.goblin_base.specs.declared.scroll.Error.TheVariants.{TooBig}
 use Rattle.goblin_headers.specs.Header.{header_size, header_layout, HeaderFits, NamesOrder, Identifies, new_header}
+use Rattle.goblin_headers.specs.Header.{data_byte, header_values}
 use Rattle.goblin_headers.specs.ReadHeader.{read_in_order, read_header}
 use Rattle.goblin_headers.specs.WriteHeader.{WritesInOrder, WritesHeader}
 
@@ -47,6 +52,11 @@ IsWrittenBack {R = R} size ident layout =
     → WritesInOrder (ident h) layout h bytes answer new
     → (answer ≡ Ok size) × (new ≡ bytes)
 
+-- a header is written with its identification, whether it fits or not
+abbrev pub IdentIsWritten : {R : Type 0} → (R → List ℕ) → (Endian → Layout R) → Type 0
+IdentIsWritten {R = R} ident layout =
+    (order : Endian) (h : R) → length (ident h) ≡ 16 → take 16 ((layout order).image h) ≡ ident h
+
 -- the image of a header in a class is the only list of bytes that is read as it
 abbrev pub OneImage : Type 0
 OneImage = (class : Container) → IsOneHeaderImage (λ h. h.e_ident) (header_layout class)
@@ -62,7 +72,7 @@ abbrev pub ReadsBack : Type 0
 ReadsBack =
     (class : Container) (order : Endian) (h : Header) (rest : List ℕ)
     → let l = header_layout class order in
-    Identifies class order h.e_ident → l.Fits h
+    Identifies class order h.e_ident → HeaderFits class h
     → read_header (l.image h ++ rest) ≡ Ok (h, l.size)
 
 -- it is written if the buffer holds it, and then read back
@@ -70,7 +80,7 @@ abbrev pub WrittenAndReadBack : Type 0
 WrittenAndReadBack =
     (class : Container) (order : Endian) (h : Header) (old new : List ℕ) (answer : Result ℕ Error)
     → let l = header_layout class order in
-    Identifies class order h.e_ident → l.Fits h → l.size ≤ length old
+    Identifies class order h.e_ident → HeaderFits class h → l.size ≤ length old
     → WritesHeader h old answer new
     → (answer ≡ Ok l.size) × (read_header new ≡ Ok (h, l.size))
 
@@ -97,7 +107,7 @@ abbrev pub NewIsOfContext : Type 0
 NewIsOfContext =
     (ctx : Ctx)
     → let new = new_header ctx in
-    Identifies ctx.container ctx.le new.e_ident × (header_layout ctx.container ctx.le).Fits new
+    Identifies ctx.container ctx.le new.e_ident × HeaderFits ctx.container new
 
 -- a new header is read back from its image
 abbrev pub NewIsReadBack : Type 0
@@ -105,3 +115,58 @@ NewIsReadBack =
     (ctx : Ctx)
     → let l = header_layout ctx.container ctx.le in
     read_header (l.image (new_header ctx)) ≡ Ok (new_header ctx, l.size)
+
+-- a new header in plain numbers
+abbrev pub NewInNumbers : Type 0
+NewInNumbers =
+    (order : Endian)
+    → let small = new_header (record { container = Little; le = order }) in
+    let large = new_header (record { container = Big; le = order }) in
+    (small.e_ident ≡ 0x7f ∷ 0x45 ∷ 0x4c ∷ 0x46 ∷ 1 ∷ data_byte order ∷ 1 ∷ replicate 9 0)
+    × (large.e_ident ≡ 0x7f ∷ 0x45 ∷ 0x4c ∷ 0x46 ∷ 2 ∷ data_byte order ∷ 1 ∷ replicate 9 0)
+    × (header_values small ≡ 3 ∷ 0 ∷ 1 ∷ 0 ∷ 0 ∷ 0 ∷ 0 ∷ 52 ∷ 32 ∷ 0 ∷ 40 ∷ 0 ∷ 0 ∷ [])
+    × (header_values large ≡ 3 ∷ 0 ∷ 1 ∷ 0 ∷ 0 ∷ 0 ∷ 0 ∷ 64 ∷ 56 ∷ 0 ∷ 64 ∷ 0 ∷ 0 ∷ [])
+
+-- bytes that begin with the magic number, and then have this class byte
+pub record HasClassByte (bytes : List ℕ) (byte : ℕ) : Type 0 where
+  pub long : 16 ≤ length bytes
+  pub begins : take 4 bytes ≡ 0x7f ∷ 0x45 ∷ 0x4c ∷ 0x46 ∷ []
+  pub byte_is : slice_index bytes 4 ≡ byte
+
+-- which headers are refused, in plain numbers, and as what
+pub record HeadersRefused : Type 0 where
+  pub short : (bytes : List ℕ) → length bytes < 16 → read_header bytes ≡ Err (Malformed TooSmall)
+  pub no_magic :
+      (bytes : List ℕ)
+      → 16 ≤ length bytes → take 4 bytes ≢ 0x7f ∷ 0x45 ∷ 0x4c ∷ 0x46 ∷ []
+      → read_header bytes ≡ Err (BadMagic (number_at order.Little bytes 0 8))
+  pub no_class :
+      (bytes : List ℕ) (byte : ℕ)
+      → HasClassByte bytes byte → byte ≢ 1 → byte ≢ 2 → read_header bytes ≡ Err (Malformed (ElfClass byte))
+  pub no_order :
+      (bytes : List ℕ) (byte : ℕ)
+      → HasClassByte bytes byte → (byte ≡ 1) ⊎ (byte ≡ 2) → slice_index bytes 5 ≢ 1 → slice_index bytes 5 ≢ 2
+      → read_header bytes ≡ Err (Malformed (DataType (slice_index bytes 5)))
+  pub cut32 :
+      (bytes : List ℕ)
+      → HasClassByte bytes 1 → (slice_index bytes 5 ≡ 1) ⊎ (slice_index bytes 5 ≡ 2) → length bytes < 52
+      → read_header bytes ≡ Err (Scroll (TooBig 52 (length bytes)))
+  pub cut64 :
+      (bytes : List ℕ)
+      → HasClassByte bytes 2 → (slice_index bytes 5 ≡ 1) ⊎ (slice_index bytes 5 ≡ 2) → length bytes < 64
+      → read_header bytes ≡ Err (Scroll (TooBig 64 (length bytes)))
+
+-- which raw headers of a size are refused, and as what; one without bytes is at its end
+pub record RawHeadersRefused {R : Type 0} (size : ℕ) (layout : Endian → Layout R) : Type 0 where
+  pub short :
+      (fault : ℕ → Fault) (bytes : List ℕ)
+      → 0 < length bytes → length bytes < 16
+      → read_in_order layout fault bytes ≡ Err (Scroll (TooBig 16 (length bytes)))
+  pub no_order :
+      (fault : ℕ → Fault) (bytes : List ℕ)
+      → 16 ≤ length bytes → slice_index bytes 5 ≢ 1 → slice_index bytes 5 ≢ 2
+      → read_in_order layout fault bytes ≡ Err (Malformed (fault (slice_index bytes 5)))
+  pub cut :
+      (fault : ℕ → Fault) (bytes : List ℕ)
+      → 16 ≤ length bytes → (slice_index bytes 5 ≡ 1) ⊎ (slice_index bytes 5 ≡ 2) → length bytes < size
+      → read_in_order layout fault bytes ≡ Err (Scroll (TooBig size (length bytes)))

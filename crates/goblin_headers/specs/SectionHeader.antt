@@ -1,5 +1,5 @@
 -- Section headers of either class (System V gABI, "Section Header").
-use Rattle.std.specs.Prelude.{ℕ, List, [], ◌∷◌, slice_index, Bool, not, ◌==◌, bit_and}
+use Rattle.std.specs.Prelude.{ℕ, List, [], ◌∷◌, slice_index, Bool, not, ◌&&◌, ◌==◌, bit_and}
 use Rattle.goblin_headers.specs.Common.{Container, Endian, field, values_of, Layout, Shape, shaped, widened, Little}
 use Rattle.goblin_headers.specs.Common.{Big, SectionHeader}
 use Rattle.goblin_headers.specs.declared.section_header32.SectionHeader.{SectionHeader as Raw32}
@@ -71,6 +71,16 @@ section_header_of_values values = record {
 -- a section header has at least one of these flags
 abbrev pub has_flag : SectionHeader → ℕ → Bool
 has_flag h flags = not (bit_and h.sh_flags flags == 0)
+
+-- a section in memory, and one that may be executed or written there
+abbrev pub is_alloc : SectionHeader → Bool
+is_alloc h = has_flag h 2
+
+abbrev pub is_executable : SectionHeader → Bool
+is_executable h = has_flag h 2 && has_flag h 4
+
+abbrev pub is_writable : SectionHeader → Bool
+is_writable h = has_flag h 2 && has_flag h 1
 
 -- the values of the fields of a section header in file order, which is the same in both classes
 abbrev pub section_header_values : SectionHeader → List ℕ

@@ -4,7 +4,7 @@ ghost use Rattle.goblin_headers.specs.Common.{Endian, ComparesAndClones, HasFiel
 ghost use Rattle.goblin_base.specs.declared.container.Container.TheVariants as class;
 ghost use Rattle.goblin_headers.specs.Constants.{class_numbers, data_numbers, file_type_numbers, ident_place_numbers, ident_size_numbers, system_numbers, unnamed_machine_numbers};
 ghost use Rattle.goblin_headers.specs.Header.{header_layout, header_size, magic, order_named};
-ghost use Rattle.goblin_headers.specs.HeaderTrips.{EachFits, OneImage, ReadsBack, WrittenAndReadBack, ImageOfRead, WritesBack, NewIsOfContext, NewIsReadBack};
+ghost use Rattle.goblin_headers.specs.HeaderTrips.{EachFits, HeadersFit, HeadersRefused, IdentIsWritten, NewInNumbers, OneImage, ReadsBack, WrittenAndReadBack, ImageOfRead, WritesBack, NewIsOfContext, NewIsReadBack};
 ghost use Rattle.goblin_headers.specs.HeaderNames.{class_name, file_type_name};
 ghost use Rattle.goblin_headers.specs.Machines.{machine_name, machine_numbers};
 
@@ -235,10 +235,12 @@ impl IntoCtx<Ctx> for Header {
 
 /// Laws of headers:
 ///
-/// - Each field of a header lies at its offset in its class. Of one that doesn't fit, the low bits are kept.
+/// - Each field of a header lies at its offset in its class. Of one that doesn't fit, the low bits are kept, and the whole
+///   identification.
+/// - Which headers are refused, and as what.
 /// - The image of a header is the only list of bytes that is read as that header.
 /// - A header that was read fits. A header fits exactly if the fields after its identification are
-///   their own low bits.
+///   their own low bits, in either byte order.
 /// - A header that fits the class that it names is read back from its image in that class, whatever
 ///   bytes follow. So it is from the bytes that `try_into_ctx` or `into_ctx` wrote; `try_into_ctx`
 ///   succeeds wherever the buffer holds it.
@@ -259,12 +261,16 @@ pub fn laws()
         × HasFields (header_layout class.Big) fields
         ((16, 2) ∷ (18, 2) ∷ (20, 4) ∷ (24, 8) ∷ (32, 8) ∷ (40, 8) ∷ (48, 4) ∷ (52, 2) ∷ (54, 2) ∷ (56, 2) ∷ (58, 2)
         ∷ (60, 2) ∷ (62, 2) ∷ []) }
+    ensures ident_written { (class : Container) → IdentIsWritten (λ h. h.e_ident) (header_layout class) }
     ensures image { OneImage }
     ensures fits { EachFits }
+    ensures fits_in_order { (class : Container) → HeadersFit (λ h. h.e_ident) (header_layout class) }
+    ensures refused { HeadersRefused }
     ensures reads_back { ReadsBack }
     ensures written { WrittenAndReadBack }
     ensures image_of_read { ImageOfRead }
     ensures writes_back { WritesBack }
+    ensures new { NewInNumbers }
     ensures new_context { NewIsOfContext }
     ensures new_reads_back { NewIsReadBack }
     ensures derived { ComparesAndClones ⟦<Header as PartialEq>⟧ ⟦<Header as Clone>⟧ }

@@ -3,7 +3,7 @@ ghost use Rattle.std.specs.Prelude.{◌≡◌, ◌≤◌, ◌++◌, length, drop
 ghost use Rattle.goblin_headers.specs.Common.{ComparesAndClones, HasFields, values_of};
 ghost use Rattle.goblin_headers.specs.Constants.{class_numbers, data_numbers, file_type_numbers, ident_place_numbers, ident_size_numbers, system_numbers, unnamed_machine_numbers};
 ghost use Rattle.goblin_headers.specs.Header.{magic, headed, header64, widened64, as64};
-ghost use Rattle.goblin_headers.specs.HeaderTrips.{HeadersFit, IsOneHeaderImage, IsReadBack, IsWrittenAndReadBack, IsWrittenBack};
+ghost use Rattle.goblin_headers.specs.HeaderTrips.{HeadersFit, IdentIsWritten, RawHeadersRefused, IsOneHeaderImage, IsReadBack, IsWrittenAndReadBack, IsWrittenBack};
 ghost use Rattle.goblin_headers.specs.HeaderNames.{class_name, file_type_name};
 ghost use Rattle.goblin_headers.specs.Machines.{machine_name, machine_numbers};
 ghost use Rattle.goblin_headers.specs.ReadHeader.{read_in_order};
@@ -240,7 +240,8 @@ impl TryIntoCtx<Endian> for Header {
     }
 }
 
-/// Laws of headers: where each field lies, and which low bits of it are kept. The image of a header is the only list of
+/// Laws of headers: where each field lies, and which low bits of it are kept, with the whole identification. Which are
+/// refused. The image of a header is the only list of
 /// bytes that is read as that header. A header that fits is read back from its image, and from the bytes that it was
 /// written to. A header that was read is written back unchanged, and fits. A header fits exactly if the fields after
 /// its identification are their own low bits. All fields of the default header are 0. `==` is true exactly if all
@@ -252,7 +253,9 @@ pub fn laws()
         ∷ h.e_phentsize ∷ h.e_phnum ∷ h.e_shentsize ∷ h.e_shnum ∷ h.e_shstrndx ∷ [])
         ((16, 2) ∷ (18, 2) ∷ (20, 4) ∷ (24, 8) ∷ (32, 8) ∷ (40, 8) ∷ (48, 4) ∷ (52, 2) ∷ (54, 2) ∷ (56, 2) ∷ (58, 2)
         ∷ (60, 2) ∷ (62, 2) ∷ []) }
+    ensures ident_written { IdentIsWritten (λ h. h.e_ident) (headed header64) }
     ensures image { IsOneHeaderImage (λ h. h.e_ident) (headed header64) }
+    ensures refused { RawHeadersRefused 64 (headed header64) }
     ensures fits { HeadersFit (λ h. h.e_ident) (headed header64) }
     ensures reads_back { IsReadBack (λ h. h.e_ident) (headed header64) }
     ensures written { IsWrittenAndReadBack (λ h. h.e_ident) (headed header64) }

@@ -221,7 +221,8 @@ impl LaidOut<Ctx> for ProgramHeader {
 
 /// Laws: a list of program headers that fit both classes is read back the same in each class and byte order. Where each
 /// field of a program header lies, and of a raw one, and which low bits of it are kept. A segment loads an address
-/// exactly if it is of type 1 and the address is of one of its bytes in the file. All fields of the default one are 0.
+/// exactly if it is of type 1 and the address is of one of its bytes in the file. A new one is of type 1 and aligned to
+/// 2,097,152 bytes. All fields of the default one are 0.
 /// `==` is true exactly if all fields are equal. `clone` returns the program header, and never fails.
 #[tactic(auto, using(crate::specs::ProgramHeaderLaws::same_program_headers))]
 pub fn laws()
@@ -242,6 +243,8 @@ pub fn laws()
         ((0, 4) ∷ (4, 4) ∷ (8, 8) ∷ (16, 8) ∷ (24, 8) ∷ (32, 8) ∷ (40, 8) ∷ (48, 8) ∷ []) }
     ensures loads { (address : ℕ) (s : ProgramHeader) → IsTrue (loads address s)
         ↔ ((s.p_type ≡ 1) × (s.p_vaddr ≤ address) × (address < s.p_vaddr + s.p_filesz)) }
+    ensures new { values_of (program_header64.fields (as64 new_program_header))
+        ≡ 1 ∷ 0 ∷ 0 ∷ 0 ∷ 0 ∷ 0 ∷ 0 ∷ 2097152 ∷ [] }
     ensures zeros { (h : ProgramHeader) → ⟦<ProgramHeader as Default>⟧.is_default h
         → values_of (program_header64.fields (as64 h)) ≡ replicate 8 0 }
     ensures derived { ComparesAndClones ⟦<ProgramHeader as PartialEq>⟧ ⟦<ProgramHeader as Clone>⟧ }

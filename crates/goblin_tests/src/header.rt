@@ -90,6 +90,18 @@ fn puts_headers_in_the_class_of_a_context(rt: HostRuntime) {
     assert!(rt; has_written(rt, &buffer, NEW64_IN_32));
 }
 
+// What doesn't fit loses its high bits, and neither the identification nor a number beside it.
+const MISFIT: &[u8; 52] = b"\x7fELF\x01\x02\x01\x02\x03\x04\x05\x06\x07\x08\x09\x0a\
+    \x00\x02\x00\x3e\x00\x00\x00\x01\x00\x40\x10\x00\x00\x00\x00\x40\x00\x00\x00\xa0\x00\x00\xf0\x0d\
+    \x00\x40\x00\x38\x00\x0d\x00\x40\x00\x02\x00\x01";
+
+#[test]
+fn writes_headers_that_do_not_fit(rt: HostRuntime) {
+    let e_ident = [0x7f, 0x45, 0x4c, 0x46, 1, 2, 1, 2, 3, 4, 5, 6, 7, 8, 9, 10];
+    let misfit = Header { e_ident, e_entry: 0x1_0040_1000, e_shoff: 0xffff_0000_0000_00a0, ..READ };
+    assert!(rt; writes(rt, misfit, LE, MISFIT));
+}
+
 #[test]
 fn reads_and_writes_raw_headers(rt: HostRuntime) {
     let raw = header64::Header::from(READ);

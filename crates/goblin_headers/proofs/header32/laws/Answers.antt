@@ -1,5 +1,6 @@
-use Rattle.goblin_headers.proofs.Common.{and_from, arith, comparing, refl, rules, common_steps}
-use Rattle.goblin_headers.proofs.HeaderLemmas.{header32_laws, headers_fit, one_header_image}
+use Rattle.goblin_headers.proofs.Common.{headed, header32, and_from, arith, comparing, refl, rules, common_steps}
+use Rattle.goblin_headers.proofs.HeaderLemmas.{header32_laws, headers_fit, ident_is_written, one_header_image}
+use Rattle.goblin_headers.proofs.HeaderRefusals.{raw_refused}
 use Rattle.goblin_headers.proofs.WholeTrips.{raw_reads_back, raw_written_and_read_back, raw_writes_back}
 use Rattle.goblin_headers.proofs.header32.laws.Goals as goal
 
@@ -7,8 +8,10 @@ pub returns : goal.returns
 returns c = record {
   ident = λ order bytes. refl;
   places = λ order. (λ bytes. refl, λ h. refl);
+  ident_written = ident_is_written header32_laws;
   image = one_header_image header32_laws;
   fits = headers_fit header32_laws;
+  refused = raw_refused 52 (headed header32) (λ order. refl);
   reads_back = raw_reads_back header32_laws;
   written = raw_written_and_read_back header32_laws;
   writes_back = raw_writes_back header32_laws 52 (λ order. refl);
