@@ -1,5 +1,5 @@
 //! Section headers, which describe what a file holds: System V gABI, "Section Header".
-ghost use Rattle.std.specs.Prelude.{◌≡◌, ◌≢◌, ◌↔◌, Err, None, Some, nat_le, true, IsTrue, IfErr, IsNone, IsOk, IfOk, IfSome, List, map, replicate, vec_capacity, slice_index, [], ◌∷◌, ◌^◌, ◌+◌, ◌<◌, ◌≤◌, ◌⊎◌, ℕ};
+ghost use Rattle.std.specs.Prelude.{◌≡◌, ◌≢◌, ◌↔◌, codes, Err, None, Some, nat_le, true, IsTrue, IfErr, IsNone, IsOk, IfOk, IfSome, List, map, replicate, vec_capacity, slice_index, [], ◌∷◌, ◌^◌, ◌+◌, ◌<◌, ◌≤◌, ◌⊎◌, ℕ};
 ghost use Rattle.goblin_headers.specs.Common.{IsBitSet, ComparesAndClones, Gives, HasFields, IsSameInEachClass, Refuses, Returns, values_of, span};
 ghost use Rattle.goblin_base.specs.declared.container.Container.TheVariants as class;
 ghost use Rattle.goblin_base.specs.declared.error.Fault.TheVariants.{SectionAddr, SectionOffset};
@@ -317,12 +317,12 @@ impl LaidOut<Ctx> for SectionHeader {
 
 /// Laws: a list of section headers that fit both classes is read back the same in each class and byte order. Where each
 /// field of a section header lies, and of a raw one, and which low bits of it are kept. A flag is a bit of the third
-/// field. A section in memory has the flag 2; one that may be executed or written has the flag 4 or 1, too. A section
+/// field, and has its name. A section in memory has the flag 2; one that may be executed or written has the flag 4 or 1, too. A section
 /// passes `check_size` exactly if its type is 8, its size is 0, or it lies in the file and its addresses end below
 /// 2 ^ 64. Which numbers its refusal has. Which index is that of the section names. A linked section has neither index 0
 /// nor type 8. All fields of the default one are 0. `==` is true exactly if all fields are equal. `clone` returns the
 /// section header, and never fails.
-#[tactic(auto, using(crate::specs::SectionHeaderLaws::same_section_headers))]
+#[tactic(auto, using(crate::specs::SectionHeaderLaws::same_section_headers), unfolding(crate::specs::SectionNames::section_flag_name))]
 pub fn laws()
     ensures same { IsSameInEachClass section_header_layout }
     ensures raw32 { HasFields ⟦<section_header32::SectionHeader as LaidOut<Endian>>⟧.layout (λ h.
@@ -342,6 +342,10 @@ pub fn laws()
         fields ((0, 4) ∷ (4, 4) ∷ (8, 8) ∷ (16, 8) ∷ (24, 8) ∷ (32, 8) ∷ (40, 4) ∷ (44, 4) ∷ (48, 8) ∷ (56, 8) ∷ []) }
     ensures flags { (h : SectionHeader) (bit : ℕ) →
         IsTrue (has_flag h (2 ^ bit)) ↔ IsBitSet (slice_index (section_header_values h) 2) bit }
+    ensures flag_names { map section_flag_name (1 ∷ 2 ∷ 4 ∷ 0x10 ∷ 0x20 ∷ 0x40 ∷ 0x80 ∷ 0x100 ∷ 0x200 ∷ 0x400 ∷ 0x800 ∷ [])
+        ≡ codes "SHF_WRITE" ∷ codes "SHF_ALLOC" ∷ codes "SHF_EXECINSTR" ∷ codes "SHF_MERGE" ∷ codes "SHF_STRINGS"
+        ∷ codes "SHF_INFO_LINK" ∷ codes "SHF_LINK_ORDER" ∷ codes "SHF_OS_NONCONFORMING" ∷ codes "SHF_GROUP"
+        ∷ codes "SHF_TLS" ∷ codes "SHF_COMPRESSED" ∷ [] }
     ensures in_memory { (h : SectionHeader) → (is_alloc h ≡ has_flag h 2)
         × (IsTrue (is_executable h) ↔ (IsTrue (has_flag h 2) × IsTrue (has_flag h 4)))
         × (IsTrue (is_writable h) ↔ (IsTrue (has_flag h 2) × IsTrue (has_flag h 1))) }
