@@ -292,6 +292,14 @@ static uint64_t each_refused(void) {
     return i;
 }
 
+/* Reads the last byte of a table whose first string is long, as often as there are items. */
+static uint64_t ends_of_long_strings(void) {
+    goblin_range_t strings = {LONG_AT + 1, LONG_SIZE - 1}, string;
+    uint64_t i = 0;
+    while (i < ITEMS && goblin_string(bytes, len, &strings, LONG_SIZE - 2, &string, &why) == GOBLIN_OK) i++;
+    return i;
+}
+
 static uint64_t bytes_of_each_long_string(void) {
     goblin_range_t strings = long_strings(), string;
     uint64_t i = 0;
@@ -419,6 +427,7 @@ static int strings_take_little(void) {
     int right = 1;
     right &= takes_little("each long string", each_long_string, 4);
     right &= takes_little("each long string that is closed", each_long_string_closed, 4);
+    right &= takes_little("the end of a table whose first string is long", ends_of_long_strings, ITEMS);
     right &= takes_little("long strings compared with a short name", long_strings_compared, ITEMS);
     right &= takes_little("long strings compared with a short start", long_strings_started, ITEMS);
     fill_strings(0xc3, 0xa9, 'a');

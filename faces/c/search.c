@@ -51,6 +51,9 @@ static int search_made(void) {
         for (int k = 0; k < 4; k++) bytes[symbols + i * sizeof(Elf64_Sym) + k] = (uint8_t)(i >> 8 * k);
     memset(bytes + strings, 'a', STRINGS - 1);
     wrong = search(bytes, len, "a short name", (const uint8_t *)"aaab", 4);
+    /* (each string begins with it and goes on, which one byte after it shows) */
+    memset(long_name, 'a', STRINGS / 2);
+    wrong |= search(bytes, len, "a long name that each string begins with", long_name, STRINGS / 2);
     memset(long_name, 'b', STRINGS);
     wrong |= search(bytes, len, "a name as long", long_name, STRINGS);
     long_name[STRINGS - 1] = 0xff;

@@ -3,7 +3,7 @@ pub use Rattle.goblin.specs.declared.elf.note.Note.{Note}
 pub use Rattle.goblin.specs.declared.elf.note.NotePlaces.{NotePlaces}
 pub use Rattle.goblin_base.specs.Record.{unless_fault}
 unfoldable pub use Rattle.goblin_base.specs.Record.{read_within, records}
-pub use Rattle.goblin_base.specs.RecordLaws.{fits-room_of, room_of_fits, unless_fault-is}
+pub use Rattle.goblin_base.specs.RecordLaws.{fits-room_of, room_of-few, room_of_fits, unless_fault-is}
 pub use Rattle.goblin_base.specs.Refusal.{Refusal, bad_offset, malformed, misplaced, refusal_of}
 unfoldable pub use Rattle.goblin_base.specs.Room.{room_of}
 pub use Rattle.goblin_base.specs.Steps.{refuse_as, refuse_if, ◌>>=◌}

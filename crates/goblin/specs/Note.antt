@@ -1,10 +1,11 @@
 -- Notes: the note that bytes are read as, and the notes of a range (System V gABI, "Note Section").
 use Rattle.std.specs.Prelude.{◌+◌, ◌-◌, ◌==◌, ◌||◌, max, ℕ, zero, suc, nat_le, if◌then◌else◌, List, [], ◌∷◌, length}
-use Rattle.std.specs.Prelude.{◌≡◌, take, drop, Option, Some, None, Result, Ok, Err}
+use Rattle.std.specs.Prelude.{◌≡◌, ◌≢◌, ◌<◌, ◌≤◌, ◌⊎◌, take, drop, Option, Some, None, Result, Ok, Err}
 use Rattle.goblin.specs.Common.{next_multiple_of, Ctx, Endian, Error, read_within, Refusal, bad_offset, malformed}
 use Rattle.goblin.specs.Common.{misplaced, refusal_of, room_of, ◌>>=◌, refuse_if, refuse_as, nhdr32_of, nhdr32_size}
 use Rattle.goblin.specs.Common.{Nhdr32, Note, NotePlaces}
 use Rattle.goblin_base.specs.declared.error.Fault.TheVariants.{NoteAlign}
+use Rattle.goblin_base.specs.Refusal.{too_big}
 use Rattle.goblin_base.specs.Utf8.{text_or_fault}
 use Rattle.goblin.specs.declared.elf.note.NotePart.{NotePart}
 use Rattle.goblin.specs.declared.elf.note.NotePart.TheVariants.{Header, Name, Desc}
@@ -144,3 +145,12 @@ items_within (suc k) bytes size offset ctx =
 -- items from its end on; or its refusal as the last item
 unfoldable pub note_items : List ℕ → ℕ → ℕ → ℕ × Ctx → List (Result NoteParts Refusal)
 note_items bytes size offset ctx = items_within (size - offset) bytes size offset ctx
+
+-- which alignments and headers of notes are refused, in plain numbers, and as what; an alignment is about no part
+pub record NotesRefused (alignment : ℕ) (order : Endian) (bytes : List ℕ) : Type 0 where
+  pub align : 4 < alignment → alignment ≢ 8
+      → (read_places alignment order bytes ≡ Err (malformed (NoteAlign alignment)))
+      × (whole_places alignment order bytes ≡ Err (record { part = None; refusal = malformed (NoteAlign alignment) }))
+  pub header : (alignment ≤ 4) ⊎ (alignment ≡ 8) → 0 < length bytes → length bytes < 12
+      → (read_places alignment order bytes ≡ Err (too_big 12 (length bytes)))
+      × (whole_places alignment order bytes ≡ Err (record { part = Some Header; refusal = too_big 12 (length bytes) }))

@@ -1,6 +1,6 @@
 -- Symbol tables: which are accepted, and which symbols they hold (System V gABI, "Symbol Table").
-use Rattle.std.specs.Prelude.{◌≡◌, ◌*◌, ◌-◌, ◌/◌, ◌^◌, min, ℕ, List, [], length, drop, take, nat_le, nat_lt}
-use Rattle.std.specs.Prelude.{if◌then◌else◌, Result, Ok, Err}
+use Rattle.std.specs.Prelude.{◌≡◌, ◌<◌, ◌≤◌, ◌+◌, ◌*◌, ◌-◌, ◌/◌, ◌^◌, min, ℕ, List, [], length, drop, take, nat_le}
+use Rattle.std.specs.Prelude.{nat_lt, if◌then◌else◌, Result, Ok, Err}
 use Rattle.goblin.specs.Common.{Ctx, Error, Strict, Permissive, records, Sym, sym_size, sym_of}
 use Rattle.goblin_base.specs.declared.error.Error.TheVariants.{Malformed}
 use Rattle.goblin_base.specs.declared.error.Fault.TheVariants.{SymtabOffset, TooManySymbols, SymtabPast}
@@ -67,3 +67,15 @@ DependsOnItsRange =
     let range = min count ((length bytes - offset) / size) * size in
     take range (drop offset bytes) ≡ take range (drop offset others)
     → symtab_by mode bytes offset count ctx ≡ symtab_by mode others offset count ctx
+
+-- which tables are taken and refused, in plain numbers, and as what
+pub record SymtabsRefused (bytes : List ℕ) (offset count : ℕ) (ctx : Ctx) : Type 0 where
+  pub past : length bytes ≤ offset
+      → symtab_of bytes offset count ctx ≡ Err (Malformed (SymtabOffset offset (length bytes)))
+  pub many : (mode : ParseMode) → offset < length bytes → 2 ^ 64 ≤ count * sym_size ctx.container
+      → symtab_by mode bytes offset count ctx ≡ Err (Malformed (TooManySymbols offset count))
+  pub long : (requested : ℕ) → requested ≡ count * sym_size ctx.container → requested < 2 ^ 64
+      → offset < length bytes → length bytes - offset < requested
+      → symtab_of bytes offset count ctx ≡ Err (Malformed (SymtabPast requested (length bytes - offset)))
+  pub fits : offset < length bytes → offset + count * sym_size ctx.container ≤ length bytes → length bytes < 2 ^ 64
+      → symtab_of bytes offset count ctx ≡ Ok (symbols_at bytes offset count ctx)

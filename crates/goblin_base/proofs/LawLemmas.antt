@@ -19,8 +19,8 @@ use Rattle.std.proofs.lemmas.Bool.Decides.{nat_tests}
 use Rattle.goblin_base.specs.declared.error.Fault.{Fault}
 use Rattle.goblin_base.specs.declared.error.Fault.TheVariants.{StrtabOffset, StrtabRange}
 use Rattle.goblin_base.specs.StrtabLaws.{TextIsUtf8, ClosedForm, JoinsAgain, PermissiveAccepts, StrictIsPermissive}
-use Rattle.goblin_base.specs.StrtabLaws.{LookUpHasPlain, StrictLookUpIsPlain, DependsOnRange, RangesRefused, StringsJoin, joined}
-use Rattle.goblin_base.specs.StrtabLaws.{ends_in}
+use Rattle.goblin_base.specs.StrtabLaws.{LookUpHasPlain, StrictLookUpIsPlain, DependsOnRange, RangesRefused}
+use Rattle.goblin_base.specs.StrtabLaws.{StringsJoin, joined, ends_in}
 use Rattle.goblin_base.proofs.PiecesLemmas.{start_to, start_of_start, end_from, at_end, inside_piece, piece_is_range}
 use Rattle.goblin_base.proofs.PiecesLemmas.{start_next}
 use Rattle.goblin_base.proofs.WalkLemmas.{entries_closed, no_entry_place, entries_more_readable, entries_past}
@@ -302,10 +302,7 @@ unfolding strtab_of
 depends_on_range mode a b o n d len same =
     ap (λ r. refuse_as malformed r >>= (λ x. table_of mode x d)) (range_depends mode a b o n len same)
 
-pub ranges_refused : RangesRefused
+pub ranges_refused : (file : List ℕ) (o n : ℕ) → RangesRefused file o n
 unfolding range_in
-ranges_refused = record {
-  past = λ file o n h. grind (arith, nat_tests);
-  long = λ file o n h l small. grind (arith, nat_tests);
-  overflows = λ file o n h l large. grind (arith, nat_tests);
-}
+ranges_refused file o n =
+    record { past = λ h. grind (arith, nat_tests); long = λ h l. grind (arith, nat_tests) }

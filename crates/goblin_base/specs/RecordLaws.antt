@@ -1,8 +1,9 @@
 -- Laws of reading and writing a record at the start of a byte slice.
 use Rattle.goblin_base.specs.Common.{refl, ap, arith, nat_tests, Error, set-get_or, reverse-reverse}
-use Rattle.std.proofs.Common.{◌≡◌, ◌≤◌, ◌+◌, ℕ, List, ◌++◌, length, drop, Result, Ok, Err}
+use Rattle.std.proofs.Common.{◌≡◌, ◌<◌, ◌≤◌, ◌+◌, ℕ, List, ◌++◌, length, drop, Result, Ok, Err}
 use Rattle.goblin_base.specs.declared.error.Error.TheVariants.{Scroll}
 use Rattle.goblin_base.specs.declared.scroll.Error.{Error as Misplaced}
+use Rattle.goblin_base.specs.declared.scroll.Error.TheVariants.{TooBig}
 use Rattle.goblin_base.specs.Room.{room_of}
 use Rattle.goblin_base.specs.Record.{unless_fault, read_within, Writes}
 
@@ -15,6 +16,11 @@ room_of_fits len offset size h = grind (arith, nat_tests)
 pub fits-room_of : (len offset size : ℕ) (u : Unit {0}) → room_of len offset size ≡ Ok u → offset + size ≤ len
 unfolding room_of
 fits-room_of len offset size u e = grind (arith, nat_tests)
+
+-- if some bytes are there, and fewer than are needed, they are too few
+pub room_of-few : (len size : ℕ) → 0 < len → len < size → room_of len 0 size ≡ Err (TooBig size len)
+unfolding room_of
+room_of-few len size some less = grind (arith, nat_tests)
 
 -- if the test of room passes, reading returns the record
 pub read_within-ok : {X : Type 0} (size s : ℕ) (read : List ℕ → X) (bytes : List ℕ) (u : Unit {0}) (x : X)

@@ -1,7 +1,7 @@
 -- Laws of string tables. They speak of the definitions only.
 use Rattle.std.specs.Prelude.{◌≡◌, ◌↔◌, ℕ, ◌+◌, ◌-◌, ◌^◌, ◌<◌, ◌≤◌, ◌==◌, ◌&&◌, Bool, true, false, List, [], ◌∷◌, ◌++◌}
-use Rattle.std.specs.Prelude.{map, length, take, drop, nat_lt, slice_index, if◌then◌else◌, IsTrue, IsOk, Some, Ok, Err}
-use Rattle.std.specs.Prelude.{unwrap_or}
+use Rattle.std.specs.Prelude.{map, length, take, drop, nat_le, nat_lt, slice_index, if◌then◌else◌, IsTrue, IsOk, Some}
+use Rattle.std.specs.Prelude.{Ok, Err, unwrap_or}
 use Rattle.std.specs.Bool.{Decides}
 use Rattle.goblin_base.specs.Common.{join_with_byte, result_ok, IsUtf8, is_utf8, ParseMode, Strict, Permissive}
 use Rattle.goblin_base.specs.Entries.{text_of}
@@ -97,15 +97,7 @@ PiecesBegin = (bytes : List ℕ) (delim o : ℕ) (text : List ℕ)
     ((o < length bytes) × (take (length text) (piece bytes delim o) ≡ text))
 
 -- which ranges are refused in strict mode, in plain numbers, and as what
-pub record RangesRefused : Type 0 where
-  pub past :
-      (file : List ℕ) (offset size : ℕ)
-      → length file < offset → range_in Strict file offset size ≡ Err (StrtabOffset offset (length file))
-  pub long :
-      (file : List ℕ) (offset size : ℕ)
-      → offset ≤ length file → length file < offset + size → offset + size < 2 ^ 64
-      → range_in Strict file offset size ≡ Err (StrtabRange size offset (length file) false)
-  pub overflows :
-      (file : List ℕ) (offset size : ℕ)
-      → offset ≤ length file → length file < offset + size → 2 ^ 64 ≤ offset + size
-      → range_in Strict file offset size ≡ Err (StrtabRange size offset (length file) true)
+pub record RangesRefused (file : List ℕ) (offset size : ℕ) : Type 0 where
+  pub past : length file < offset → range_in Strict file offset size ≡ Err (StrtabOffset offset (length file))
+  pub long : offset ≤ length file → length file < offset + size
+      → range_in Strict file offset size ≡ Err (StrtabRange size offset (length file) (nat_le (2 ^ 64) (offset + size)))

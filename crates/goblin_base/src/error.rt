@@ -306,13 +306,15 @@ impl fmt::Display for Error {
     }
 }
 
-/// Laws of what contracts say of results. By `Returns` a value is the expected one, and so is an error. By `Gives` an error
-/// may also be out of memory, in place of any result. By `Refuses` there is an error, the expected one.
+/// Laws of what contracts say of results. By `Returns` a value is the expected one, and so is an error. By `Gives` an
+/// error may also be out of memory, in place of any result. By `Refuses` there is an error, the expected one.
 pub fn results<X, Y>()
-    ensures value { (view : X → Y) (x : X) (expected : Result Y Refusal) → Returns view (Ok x) expected → expected ≡ Ok (view x) }
+    ensures value { (view : X → Y) (x : X) (expected : Result Y Refusal)
+        → Returns view (Ok x) expected → expected ≡ Ok (view x) }
     ensures err { (view : X → Y) (e : Error) (expected : Result Y Refusal)
         → Returns view (Err e) expected → expected ≡ Err (refusal_of e) }
-    ensures given { (view : X → Y) (x : X) (expected : Result Y Refusal) → Gives view (Ok x) expected → expected ≡ Ok (view x) }
+    ensures given { (view : X → Y) (x : X) (expected : Result Y Refusal)
+        → Gives view (Ok x) expected → expected ≡ Ok (view x) }
     ensures given_err { (view : X → Y) (e : Error) (expected : Result Y Refusal)
         → Gives view (Err e) expected → (e ≡ Error.Memory alloc_error) ⊎ (expected ≡ Err (refusal_of e)) }
     ensures refused { (result : Result X Error) (refusal : Refusal)

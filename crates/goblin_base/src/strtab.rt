@@ -1,7 +1,7 @@
 //! String tables, which are indexed by byte offsets: System V gABI, "String Table".
 ghost use Rattle.std.specs.Prelude.{◌≡◌, ◌+◌, ◌<◌, ◌≤◌, ◌↔◌, [], false, drop, length, map, nat_lt, position};
 ghost use Rattle.std.specs.Prelude.{◌==◌, if◌then◌else◌, Some, None, Ok, IfErr, IfOk, IfSome, IsNone, IsOk};
-ghost use Rattle.std.specs.Prelude.{MatchOption, EachIndex, alloc_error, min, slice_index, slice_range};
+ghost use Rattle.std.specs.Prelude.{List, ℕ, MatchOption, EachIndex, alloc_error, min, slice_index, slice_range};
 ghost use Rattle.std.specs.Option.{option_map};
 ghost use Rattle.goblin_base.specs.Common.{IsCharBoundary, Returns, Gives};
 ghost use Rattle.goblin_base.specs.Entries.{text_of};
@@ -442,7 +442,7 @@ pub fn laws()
     ensures look_up_has_plain { LookUpHasPlain }
     ensures strict_look_up_is_plain { StrictLookUpIsPlain }
     ensures depends_on_range { DependsOnRange }
-    ensures ranges_refused { RangesRefused }
+    ensures ranges_refused { (file : List ℕ) (offset size : ℕ) → RangesRefused file offset size }
     ensures text_is_taken { TextIsTaken }
     ensures names_are_plain { NamesArePlain }
     ensures digits_count { DigitsCount }

@@ -1,12 +1,12 @@
 -- The laws of the dynamic section that the search does not find: each record that fits is one of the table's
 -- (`entries_in_a_row`), and a range passes the test of room exactly if it lies in the file (`ranges_lie_in_file`).
-use Rattle.std.proofs.Common.{◌+◌, ◌/◌, length, arith}
+use Rattle.std.proofs.Common.{◌+◌, ◌/◌, length, arith, refl}
 use Rattle.std.proofs.Math.Nat.{le-div_iff_mul-le}
 use Rattle.std.proofs.lemmas.Bool.Decides.{nat_tests}
 use Rattle.goblin_base.specs.RecordLaws.{fits-room_of, room_of_fits}
 use Rattle.goblin_base.proofs.Eager.{get_records, past_records}
 use Rattle.goblin_dynamic.specs.Dyn.{entry_laws, entry_of, entry_size}
-use Rattle.goblin_dynamic.specs.DynamicLaws.{EntriesInARow, RangesLieInFile}
+use Rattle.goblin_dynamic.specs.DynamicLaws.{EntriesInARow, EntriesOfARange, RangesLieInFile}
 
 pub entries_in_a_row : EntriesInARow
 entries_in_a_row bytes ctx k =
@@ -30,4 +30,12 @@ ranges_lie_in_file = record {
       grind (arith, nat_tests, fits-room_of len r.offset r.size, room_of_fits len r.offset r.size);
 }
 
-pub ruleset dynamic_laws = (entries_in_a_row, ranges_lie_in_file)
+pub entries_of_a_range : EntriesOfARange
+entries_of_a_range = record {
+  whole = λ bytes r ctx fits. rw (room_of_fits (length bytes) r.offset r.size fits) refl;
+  up_to_null = λ bytes r ctx fits. rw (room_of_fits (length bytes) r.offset r.size fits) refl;
+  there = λ bytes r ctx entries is. rw is refl;
+  none = λ bytes ctx. refl;
+}
+
+pub ruleset dynamic_laws = (entries_in_a_row, entries_of_a_range, ranges_lie_in_file)

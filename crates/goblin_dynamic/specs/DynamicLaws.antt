@@ -7,9 +7,9 @@ use Rattle.goblin.specs.declared.elf.program_header.ProgramHeader.{ProgramHeader
 use Rattle.goblin.specs.declared.elf.section_header.SectionHeader.{SectionHeader}
 use Rattle.goblin_base.specs.declared.container.Ctx.{Ctx}
 use Rattle.goblin_dynamic.specs.Dyn.{entry_of, entry_size}
-use Rattle.goblin_dynamic.specs.Dynamic.{dynamic_range, dynamic_section, dynamic_section_range, entries_in}
+use Rattle.goblin_dynamic.specs.Dynamic.{dynamic_range, dynamic_section, dynamic_section_range, entries_at, entries_in}
 use Rattle.goblin_dynamic.specs.Dynamic.{entries_up_to_null, first_value, in_file, strings_range}
-use Rattle.goblin_dynamic.specs.Dynamic.{strings_section_range, values_with, whole_entries}
+use Rattle.goblin_dynamic.specs.Dynamic.{strings_section_range, values_with, whole_entries, whole_entries_in}
 use Rattle.goblin_dynamic.specs.declared.dynamic.FileRange.{FileRange}
 use Rattle.goblin_dynamic.specs.declared.entry.Dyn.{Dyn}
 
@@ -26,6 +26,21 @@ pub record EndAtNull : Type 0 where
   pub none : entries_up_to_null [] ≡ []
   pub end : (d : Dyn) (rest : List Dyn) → d.d_tag ≡ 0 → entries_up_to_null (d ∷ rest) ≡ []
   pub kept : (d : Dyn) (rest : List Dyn) → d.d_tag ≢ 0 → entries_up_to_null (d ∷ rest) ≡ d ∷ entries_up_to_null rest
+
+-- a range that lies in the file has exactly the entries of its bytes, one after another, up to the first with tag 0
+pub record EntriesOfARange : Type 0 where
+  pub whole :
+      (bytes : List ℕ) (r : FileRange) (ctx : Ctx)
+      → r.offset + r.size ≤ length bytes
+      → whole_entries_in bytes r ctx ≡ Ok (whole_entries (take r.size (drop r.offset bytes)) ctx)
+  pub up_to_null :
+      (bytes : List ℕ) (r : FileRange) (ctx : Ctx)
+      → r.offset + r.size ≤ length bytes
+      → entries_in bytes r ctx ≡ Ok (entries_up_to_null (whole_entries (take r.size (drop r.offset bytes)) ctx))
+  pub there :
+      (bytes : List ℕ) (r : FileRange) (ctx : Ctx) (entries : List Dyn)
+      → entries_in bytes r ctx ≡ Ok entries → entries_at bytes (Some r) ctx ≡ Ok (Some entries)
+  pub none : (bytes : List ℕ) (ctx : Ctx) → entries_at bytes None ctx ≡ Ok None
 
 -- the values of a tag are those of the entries with it, in their order, and its value is the first of them
 pub record ValuesOfATag : Type 0 where

@@ -3,7 +3,7 @@ ghost use Rattle.std.specs.Prelude.{◌≡◌, ◌<◌, ◌^◌, ◌/◌, length
 ghost use Rattle.std.specs.Iterator.{YieldsFirst, item_count};
 ghost use Rattle.goblin_base.specs.Common.{ComparesAndClones};
 ghost use Rattle.goblin_dynamic.specs.Dyn.{entry_size};
-ghost use Rattle.goblin_dynamic.specs.DynamicLaws.{EndAtNull, EntriesInARow, RangeOfTheFirst, RangesLieInFile, ValuesOfATag, WhereStringsLie};
+ghost use Rattle.goblin_dynamic.specs.DynamicLaws.{EndAtNull, EntriesInARow, EntriesOfARange, RangeOfTheFirst, RangesLieInFile, ValuesOfATag, WhereStringsLie};
 ghost use Rattle.goblin_dynamic.specs.Dynamic.{dynamic_range, dynamic_section, dynamic_section_range, dynamic_segment, entries_at, entries_in, entries_up_to_null, first_value, in_file, section_range, strings_range, strings_section_range, values_with, whole_entries, whole_entries_in};
 
 use crate::entry::{Dyn, SIZEOF_DYN32, SIZEOF_DYN64};
@@ -304,16 +304,17 @@ impl<'a> Iterator for Values<'a> {
 
 /// Laws: `==` is true exactly if two ranges are the same. `clone` returns the range, and never fails.
 ///
-/// Each entry is read where it lies, one after another, as long as the bytes hold it. [`Dynamic`] ends before the first
-/// entry with tag 0. The values of a tag are those of the entries with it, in their order, and [`Dynamic::value`] is
-/// the first of them. The range is that of the first segment of type `PT_DYNAMIC`, or of the first section of type
-/// `SHT_DYNAMIC`. The strings begin where `DT_STRTAB` is loaded from, and have the size of `DT_STRSZ`; or they are the
-/// section that the `sh_link` of that section names. Entries that are read, and strings that are found, lie in the
-/// file.
+/// Each entry is read where it lies, one after another, as long as the bytes hold it. A range that lies in the file has
+/// all the entries of its bytes. [`Dynamic`] ends before the first of them with tag 0. The values of a tag are those of
+/// the entries with it, in their order, and [`Dynamic::value`] is the first of them. The range is that of the first
+/// segment of type `PT_DYNAMIC`, or of the first section of type `SHT_DYNAMIC`. The strings begin where `DT_STRTAB` is
+/// loaded from, and have the size of `DT_STRSZ`; or they are the section that the `sh_link` of that section names.
+/// Entries that are read, and strings that are found, lie in the file.
 #[tactic(auto, using(crate::proofs::DynamicLemmas::dynamic_laws))]
 pub fn laws()
     ensures derived { ComparesAndClones ⟦<FileRange as PartialEq>⟧ ⟦<FileRange as Clone>⟧ }
     ensures entries { EntriesInARow }
+    ensures of_range { EntriesOfARange }
     ensures end { EndAtNull }
     ensures values { ValuesOfATag }
     ensures ranges { RangeOfTheFirst }

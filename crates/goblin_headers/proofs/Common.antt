@@ -3,8 +3,8 @@ pub use Rattle.goblin_base.proofs.Eager.{all_fit, not_too_many, too_many}
 pub use Rattle.goblin_base.proofs.StepLemmas.{found, found_within, passed, step}
 pub use Rattle.goblin_base.specs.Common.{Gives, Returns, fields_at, size_of_fields}
 unfoldable pub use Rattle.goblin_base.specs.Eager.{records_from}
-pub use Rattle.goblin_base.specs.RecordLaws.{Writes-err, Writes-ok, fits-room_of, room_of_fits, unless_fault-err}
-pub use Rattle.goblin_base.specs.RecordLaws.{unless_fault-is}
+pub use Rattle.goblin_base.specs.RecordLaws.{Writes-err, Writes-ok, fits-room_of, room_of-few, room_of_fits}
+pub use Rattle.goblin_base.specs.RecordLaws.{unless_fault-err, unless_fault-is}
 unfoldable pub use Rattle.goblin_base.specs.Strtab.{has_name}
 pub use Rattle.goblin_headers.specs.Common.{BadMagic, Big, Container, Ctx, Data, DataType, ElfClass, Endian, Error}
 pub use Rattle.goblin_headers.specs.Common.{Field, Header, InvalidClass, IsBytes, Layout, Malformed, Scroll}

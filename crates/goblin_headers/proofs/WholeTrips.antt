@@ -5,19 +5,22 @@
 -- the class byte are read as they were written (`reads_back`). A header that was read names the class and the byte
 -- order of its bytes (`was_read`), so it is written as it was read (`writes_back`).
 use Rattle.goblin_headers.proofs.Common.{◌≡◌, ◌≤◌, ℕ, true, nat_eq, List, [], ◌++◌, length, take, drop, slice_index}
-use Rattle.goblin_headers.proofs.Common.{Some, Result, Ok, refl, sym, ap, ◌∙◌, arith, false, nat_lt, not, Err}
+use Rattle.goblin_headers.proofs.Common.{None, Some, Result, Ok, refl, sym, ap, ◌∙◌, arith, false, nat_lt, not, Err}
 use Rattle.goblin_headers.proofs.Common.{Container, Endian, Error, with_size, Layout, number_at, refuse_if, Header}
 use Rattle.goblin_headers.proofs.Common.{header_layout, order_named, class_of, WritesHeader, WritesInOrder, nat_tests}
 use Rattle.goblin_headers.proofs.Common.{BadMagic, DataType, ElfClass, Malformed, TooSmall, step, passed, found, ◌<◌}
-use Rattle.goblin_headers.proofs.Common.{Writes, room_of_fits, fits-room_of, order_of, room_of, found_within}
+use Rattle.goblin_headers.proofs.Common.{Writes, room_of_fits, room_of-few, fits-room_of, order_of, room_of}
+use Rattle.goblin_headers.proofs.Common.{found_within}
 use Rattle.std.specs.List.{starts_with}
+use Rattle.std.proofs.lemmas.Bool.{false_from_ne_true}
 use Rattle.std.proofs.lemmas.List.{append_assoc, append-nil, length-append, length-take-le, take-append-drop}
 use Rattle.std.proofs.lemmas.List.{take-append-le, get_or_append_left, get_or-take}
 use Rattle.std.proofs.lemmas.Slice.Eq.{bytes_eq-Decides}
-use Rattle.goblin_headers.specs.Header.{header_size, HeaderFits, Identifies, new_header, magic, class_byte, data_byte, class_named}
+use Rattle.goblin_headers.specs.Header.{header_size, HeaderFits, Identifies, new_header, magic, class_byte, data_byte}
+use Rattle.goblin_headers.specs.Header.{class_named}
 use Rattle.goblin_headers.specs.HeaderTrips.{EachFits, OneImage, ReadsBack, WrittenAndReadBack, ImageOfRead, WritesBack}
-use Rattle.goblin_headers.specs.HeaderTrips.{NewIsOfContext, NewIsReadBack, NewInNumbers, IsReadBack, IsWrittenAndReadBack}
-use Rattle.goblin_headers.specs.HeaderTrips.{IsWrittenBack}
+use Rattle.goblin_headers.specs.HeaderTrips.{NewIsOfContext, NewIsReadBack, NewInNumbers, IsReadBack}
+use Rattle.goblin_headers.specs.HeaderTrips.{IsWrittenAndReadBack, HeadersRefused, IsWrittenBack, RawHeadersRefused}
 use Rattle.goblin_headers.specs.ReadHeader.{read_header, read_in_order, needs}
 use Rattle.goblin_headers.proofs.HeaderLemmas.{header_laws, headers_fit, one_header_image, IsHeader}
 use Rattle.goblin_base.specs.declared.error.Fault.{Fault}
@@ -248,8 +251,7 @@ each_fits class.Little = headers_fit (header_laws class.Little)
 each_fits class.Big = headers_fit (header_laws class.Big)
 
 -- a header that fits a class fits it in either byte order
-fits_in : (class : Container) (order : Endian) (h : Header)
-    → HeaderFits class h → (header_layout class order).Fits h
+fits_in : (class : Container) (order : Endian) (h : Header) → HeaderFits class h → (header_layout class order).Fits h
 fits_in class.Little order h fits = fits
 fits_in class.Big order h fits = fits
 
@@ -325,6 +327,38 @@ class_is_named class = grind (arith, nat_tests)
 
 order_is_named : (order : Endian) → order_named (data_byte order) ≡ Some order
 order_is_named order = grind (arith, nat_tests)
+
+-- the first test that fails refuses
+pub raw_refused : {R : Type 0} (size : ℕ) (layout : Endian → Layout R) → ((order : Endian) → (layout order).size ≡ size)
+    → (fault : ℕ → Fault) (bytes : List ℕ) → RawHeadersRefused size layout fault bytes
+unfolding read_in_order
+raw_refused size layout sized fault bytes = record {
+  short = λ some less. rw (room_of-few (length bytes) 16 some less) refl;
+  no_order = λ long one two.
+      let none : order_named (slice_index bytes 5) ≡ None = grind (arith, nat_tests) in
+      rw (room_of_fits (length bytes) 0 16 (omega (arith, long)), none) refl;
+  cut = λ order long is less.
+      let room = room_of_fits (length bytes) 0 16 (omega (arith, long)) in
+      let few = room_of-few (length bytes) size (omega (arith, long)) less in
+      rw (room, ap order_named is ∙ order_is_named order, sized order, few) refl;
+}
+
+pub headers_refused : (bytes : List ℕ) → HeadersRefused bytes
+unfolding read_header
+headers_refused bytes =
+    let enough : 16 ≤ length bytes → nat_lt (length bytes) 16 ≡ false = λ long. grind (arith, nat_tests) in
+    let starts = bytes_eq-Decides magic (take 4 bytes) in
+    record {
+      short = λ less. grind (arith, nat_tests);
+      no_magic = λ long none.
+          rw (enough long, false_from_ne_true (starts_with nat_eq bytes magic) (λ t. none (sym (starts.0 t)))) refl;
+      no_class = λ long begins one two.
+          let none : class_named (slice_index bytes 4) ≡ None = grind (arith, nat_tests) in
+          rw (enough long, starts.1 (sym begins), none) refl;
+      in_class = λ class long begins is.
+          let named = ap class_named is ∙ class_is_named class in
+          read_begun class bytes (record { long = long; starts = starts.1 (sym begins); named = named });
+    }
 
 new_fits : (class : Container) (order : Endian)
     → HeaderFits class (new_header (record { container = class; le = order }))

@@ -1,14 +1,14 @@
 -- Headers are read back from the bytes that they were written as, and written back as the bytes that they were read
 -- from.
-use Rattle.std.specs.Prelude.{◌≡◌, ◌≢◌, ◌↔◌, ◌⊎◌, ◌<◌, ◌≤◌, ℕ, List, [], ◌∷◌, ◌++◌, length, replicate, slice_index, take}
+use Rattle.std.specs.Prelude.{◌≡◌, ◌≢◌, ◌↔◌, ◌<◌, ◌≤◌, ℕ, List, [], ◌∷◌, ◌++◌, length, replicate, slice_index, take}
 use Rattle.std.specs.Prelude.{Result, Ok, Err}
 use Rattle.goblin_headers.specs.Common.{Container, Ctx, Endian, Error, Fault, Layout, IsBytes, Header, Little, Big}
-use Rattle.goblin_headers.specs.Common.{BadMagic, Malformed, Scroll, DataType, ElfClass, TooSmall, number_at}
+use Rattle.goblin_headers.specs.Common.{BadMagic, Malformed, Scroll, DataType, ElfClass, TooSmall, number_at, with_size}
 use Rattle.goblin_base.specs.Layout.{EachReadFits}
 use Rattle.goblin_base.specs.declared.container.Endian.TheVariants as order
 use Rattle.goblin_base.specs.declared.scroll.Error.TheVariants.{TooBig}
 use Rattle.goblin_headers.specs.Header.{header_size, header_layout, HeaderFits, NamesOrder, Identifies, new_header}
-use Rattle.goblin_headers.specs.Header.{data_byte, header_values}
+use Rattle.goblin_headers.specs.Header.{class_byte, data_byte, header_values}
 use Rattle.goblin_headers.specs.ReadHeader.{read_in_order, read_header}
 use Rattle.goblin_headers.specs.WriteHeader.{WritesInOrder, WritesHeader}
 
@@ -127,46 +127,24 @@ NewInNumbers =
     × (header_values small ≡ 3 ∷ 0 ∷ 1 ∷ 0 ∷ 0 ∷ 0 ∷ 0 ∷ 52 ∷ 32 ∷ 0 ∷ 40 ∷ 0 ∷ 0 ∷ [])
     × (header_values large ≡ 3 ∷ 0 ∷ 1 ∷ 0 ∷ 0 ∷ 0 ∷ 0 ∷ 64 ∷ 56 ∷ 0 ∷ 64 ∷ 0 ∷ 0 ∷ [])
 
--- bytes that begin with the magic number, and then have this class byte
-pub record HasClassByte (bytes : List ℕ) (byte : ℕ) : Type 0 where
-  pub long : 16 ≤ length bytes
-  pub begins : take 4 bytes ≡ 0x7f ∷ 0x45 ∷ 0x4c ∷ 0x46 ∷ []
-  pub byte_is : slice_index bytes 4 ≡ byte
-
--- which headers are refused, in plain numbers, and as what
-pub record HeadersRefused : Type 0 where
-  pub short : (bytes : List ℕ) → length bytes < 16 → read_header bytes ≡ Err (Malformed TooSmall)
-  pub no_magic :
-      (bytes : List ℕ)
-      → 16 ≤ length bytes → take 4 bytes ≢ 0x7f ∷ 0x45 ∷ 0x4c ∷ 0x46 ∷ []
+-- which headers are refused, in plain numbers, and as what, before they are read as those of a class
+pub record HeadersRefused (bytes : List ℕ) : Type 0 where
+  pub short : length bytes < 16 → read_header bytes ≡ Err (Malformed TooSmall)
+  pub no_magic : 16 ≤ length bytes → take 4 bytes ≢ 0x7f ∷ 0x45 ∷ 0x4c ∷ 0x46 ∷ []
       → read_header bytes ≡ Err (BadMagic (number_at order.Little bytes 0 8))
-  pub no_class :
-      (bytes : List ℕ) (byte : ℕ)
-      → HasClassByte bytes byte → byte ≢ 1 → byte ≢ 2 → read_header bytes ≡ Err (Malformed (ElfClass byte))
-  pub no_order :
-      (bytes : List ℕ) (byte : ℕ)
-      → HasClassByte bytes byte → (byte ≡ 1) ⊎ (byte ≡ 2) → slice_index bytes 5 ≢ 1 → slice_index bytes 5 ≢ 2
-      → read_header bytes ≡ Err (Malformed (DataType (slice_index bytes 5)))
-  pub cut32 :
-      (bytes : List ℕ)
-      → HasClassByte bytes 1 → (slice_index bytes 5 ≡ 1) ⊎ (slice_index bytes 5 ≡ 2) → length bytes < 52
-      → read_header bytes ≡ Err (Scroll (TooBig 52 (length bytes)))
-  pub cut64 :
-      (bytes : List ℕ)
-      → HasClassByte bytes 2 → (slice_index bytes 5 ≡ 1) ⊎ (slice_index bytes 5 ≡ 2) → length bytes < 64
-      → read_header bytes ≡ Err (Scroll (TooBig 64 (length bytes)))
+  pub no_class : 16 ≤ length bytes → take 4 bytes ≡ 0x7f ∷ 0x45 ∷ 0x4c ∷ 0x46 ∷ []
+      → slice_index bytes 4 ≢ 1 → slice_index bytes 4 ≢ 2
+      → read_header bytes ≡ Err (Malformed (ElfClass (slice_index bytes 4)))
+  pub in_class : (class : Container)
+      → 16 ≤ length bytes → take 4 bytes ≡ 0x7f ∷ 0x45 ∷ 0x4c ∷ 0x46 ∷ [] → slice_index bytes 4 ≡ class_byte class
+      → read_header bytes ≡ with_size (header_size class) (read_in_order (header_layout class) DataType bytes)
 
--- which raw headers of a size are refused, and as what; one without bytes is at its end
-pub record RawHeadersRefused {R : Type 0} (size : ℕ) (layout : Endian → Layout R) : Type 0 where
-  pub short :
-      (fault : ℕ → Fault) (bytes : List ℕ)
-      → 0 < length bytes → length bytes < 16
+-- the same of those of a class, which have a size; no bytes are refused at their end
+pub record RawHeadersRefused {R : Type 0} (size : ℕ) (layout : Endian → Layout R) (fault : ℕ → Fault) (bytes : List ℕ)
+    : Type 0 where
+  pub short : 0 < length bytes → length bytes < 16
       → read_in_order layout fault bytes ≡ Err (Scroll (TooBig 16 (length bytes)))
-  pub no_order :
-      (fault : ℕ → Fault) (bytes : List ℕ)
-      → 16 ≤ length bytes → slice_index bytes 5 ≢ 1 → slice_index bytes 5 ≢ 2
+  pub no_order : 16 ≤ length bytes → slice_index bytes 5 ≢ 1 → slice_index bytes 5 ≢ 2
       → read_in_order layout fault bytes ≡ Err (Malformed (fault (slice_index bytes 5)))
-  pub cut :
-      (fault : ℕ → Fault) (bytes : List ℕ)
-      → 16 ≤ length bytes → (slice_index bytes 5 ≡ 1) ⊎ (slice_index bytes 5 ≡ 2) → length bytes < size
+  pub cut : (order : Endian) → 16 ≤ length bytes → slice_index bytes 5 ≡ data_byte order → length bytes < size
       → read_in_order layout fault bytes ≡ Err (Scroll (TooBig size (length bytes)))

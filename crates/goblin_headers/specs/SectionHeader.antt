@@ -72,10 +72,7 @@ section_header_of_values values = record {
 abbrev pub has_flag : SectionHeader → ℕ → Bool
 has_flag h flags = not (bit_and h.sh_flags flags == 0)
 
--- a section in memory, and one that may be executed or written there
-abbrev pub is_alloc : SectionHeader → Bool
-is_alloc h = has_flag h 2
-
+-- a section in memory that may be executed, and one that may be written
 abbrev pub is_executable : SectionHeader → Bool
 is_executable h = has_flag h 2 && has_flag h 4
 

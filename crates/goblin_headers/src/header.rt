@@ -235,8 +235,8 @@ impl IntoCtx<Ctx> for Header {
 
 /// Laws of headers:
 ///
-/// - Each field of a header lies at its offset in its class. Of one that doesn't fit, the low bits are kept, and the whole
-///   identification.
+/// - Each field of a header lies at its offset in its class. Of one that doesn't fit, the low bits are kept, and the
+///   whole identification.
 /// - Which headers are refused, and as what.
 /// - The image of a header is the only list of bytes that is read as that header.
 /// - A header that was read fits. A header fits exactly if the fields after its identification are
@@ -265,7 +265,7 @@ pub fn laws()
     ensures image { OneImage }
     ensures fits { EachFits }
     ensures fits_in_order { (class : Container) → HeadersFit (λ h. h.e_ident) (header_layout class) }
-    ensures refused { HeadersRefused }
+    ensures refused { (bytes : List ℕ) → HeadersRefused bytes }
     ensures reads_back { ReadsBack }
     ensures written { WrittenAndReadBack }
     ensures image_of_read { ImageOfRead }

@@ -256,7 +256,7 @@ pub fn laws()
         ∷ (48, 2) ∷ (50, 2) ∷ []) }
     ensures ident_written { IdentIsWritten (λ h. h.e_ident) (headed header32) }
     ensures image { IsOneHeaderImage (λ h. h.e_ident) (headed header32) }
-    ensures refused { RawHeadersRefused 52 (headed header32) }
+    ensures refused { (fault : ℕ → Fault) (bytes : List ℕ) → RawHeadersRefused 52 (headed header32) fault bytes }
     ensures fits { HeadersFit (λ h. h.e_ident) (headed header32) }
     ensures reads_back { IsReadBack (λ h. h.e_ident) (headed header32) }
     ensures written { IsWrittenAndReadBack (λ h. h.e_ident) (headed header32) }

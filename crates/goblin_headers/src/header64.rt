@@ -255,7 +255,7 @@ pub fn laws()
         ∷ (60, 2) ∷ (62, 2) ∷ []) }
     ensures ident_written { IdentIsWritten (λ h. h.e_ident) (headed header64) }
     ensures image { IsOneHeaderImage (λ h. h.e_ident) (headed header64) }
-    ensures refused { RawHeadersRefused 64 (headed header64) }
+    ensures refused { (fault : ℕ → Fault) (bytes : List ℕ) → RawHeadersRefused 64 (headed header64) fault bytes }
     ensures fits { HeadersFit (λ h. h.e_ident) (headed header64) }
     ensures reads_back { IsReadBack (λ h. h.e_ident) (headed header64) }
     ensures written { IsWrittenAndReadBack (λ h. h.e_ident) (headed header64) }

@@ -1,11 +1,11 @@
 //! Section headers, which describe what a file holds: System V gABI, "Section Header".
-ghost use Rattle.std.specs.Prelude.{◌≡◌, ◌≢◌, ◌↔◌, codes, Err, None, Some, nat_le, true, IsTrue, IfErr, IsNone, IsOk, IfOk, IfSome, List, map, replicate, vec_capacity, slice_index, [], ◌∷◌, ◌^◌, ◌+◌, ◌<◌, ◌≤◌, ◌⊎◌, ℕ};
+ghost use Rattle.std.specs.Prelude.{◌≡◌, ◌≢◌, ◌↔◌, ◌&&◌, codes, Err, None, Some, nat_le, true, IsTrue, IfErr, IsNone, IsOk, IfOk, IfSome, List, map, replicate, vec_capacity, slice_index, [], ◌∷◌, ◌^◌, ◌+◌, ◌<◌, ◌≤◌, ◌⊎◌, ℕ};
 ghost use Rattle.goblin_headers.specs.Common.{IsBitSet, ComparesAndClones, Gives, HasFields, IsSameInEachClass, Refuses, Returns, values_of, span};
 ghost use Rattle.goblin_base.specs.declared.container.Container.TheVariants as class;
 ghost use Rattle.goblin_base.specs.declared.error.Fault.TheVariants.{SectionAddr, SectionOffset};
 ghost use Rattle.goblin_headers.specs.Constants.{section_flag_numbers, section_index_numbers, section_type_numbers};
-ghost use Rattle.goblin_headers.specs.SectionHeader.{as64, has_flag, is_alloc, is_executable, is_writable, section_header64, section_header_layout, section_header_of_values, section_header_size, section_header_values};
-ghost use Rattle.goblin_headers.specs.SectionHeaders.{count_from, linked, names_index, section_headers_from, section_headers_from_tested, section_headers_of, section_headers_of_tested, size_checked, size_checked_in};
+ghost use Rattle.goblin_headers.specs.SectionHeader.{as64, has_flag, is_executable, is_writable, section_header64, section_header_layout, section_header_of_values, section_header_size, section_header_values};
+ghost use Rattle.goblin_headers.specs.SectionHeaders.{count_from, names_index, section_headers_from, section_headers_from_tested, section_headers_of, section_headers_of_tested, size_checked, size_checked_in};
 ghost use Rattle.goblin_headers.specs.SectionNames.{section_flag_name, section_flag_names, section_name};
 
 pub use crate::{section_header32, section_header64};
@@ -251,7 +251,7 @@ impl SectionHeader {
 
     /// Reports whether the section is in memory while the program runs: it has the flag 2 (`SHF_ALLOC`).
     pub fn is_alloc(&self) -> bool
-        ensures { result ≡ is_alloc self.now }
+        ensures { result ≡ has_flag self.now 2 }
     {
         self.has_flag(SHF_ALLOC)
     }
@@ -317,11 +317,10 @@ impl LaidOut<Ctx> for SectionHeader {
 
 /// Laws: a list of section headers that fit both classes is read back the same in each class and byte order. Where each
 /// field of a section header lies, and of a raw one, and which low bits of it are kept. A flag is a bit of the third
-/// field, and has its name. A section in memory has the flag 2; one that may be executed or written has the flag 4 or 1, too. A section
+/// field; of some the names. A section that may be executed or written has the flag 2, as all in memory, and 4 or 1. It
 /// passes `check_size` exactly if its type is 8, its size is 0, or it lies in the file and its addresses end below
-/// 2 ^ 64. Which numbers its refusal has. Which index is that of the section names. A linked section has neither index 0
-/// nor type 8. All fields of the default one are 0. `==` is true exactly if all fields are equal. `clone` returns the
-/// section header, and never fails.
+/// 2 ^ 64. Which numbers its refusal has. Which index is that of the section names. All fields of the default one are
+/// 0. `==` is true exactly if all fields are equal. `clone` returns the section header, and never fails.
 #[tactic(auto, using(crate::specs::SectionHeaderLaws::same_section_headers), unfolding(crate::specs::SectionNames::section_flag_name))]
 pub fn laws()
     ensures same { IsSameInEachClass section_header_layout }
@@ -342,13 +341,10 @@ pub fn laws()
         fields ((0, 4) ∷ (4, 4) ∷ (8, 8) ∷ (16, 8) ∷ (24, 8) ∷ (32, 8) ∷ (40, 4) ∷ (44, 4) ∷ (48, 8) ∷ (56, 8) ∷ []) }
     ensures flags { (h : SectionHeader) (bit : ℕ) →
         IsTrue (has_flag h (2 ^ bit)) ↔ IsBitSet (slice_index (section_header_values h) 2) bit }
-    ensures flag_names { map section_flag_name (1 ∷ 2 ∷ 4 ∷ 0x10 ∷ 0x20 ∷ 0x40 ∷ 0x80 ∷ 0x100 ∷ 0x200 ∷ 0x400 ∷ 0x800 ∷ [])
-        ≡ codes "SHF_WRITE" ∷ codes "SHF_ALLOC" ∷ codes "SHF_EXECINSTR" ∷ codes "SHF_MERGE" ∷ codes "SHF_STRINGS"
-        ∷ codes "SHF_INFO_LINK" ∷ codes "SHF_LINK_ORDER" ∷ codes "SHF_OS_NONCONFORMING" ∷ codes "SHF_GROUP"
-        ∷ codes "SHF_TLS" ∷ codes "SHF_COMPRESSED" ∷ [] }
-    ensures in_memory { (h : SectionHeader) → (is_alloc h ≡ has_flag h 2)
-        × (IsTrue (is_executable h) ↔ (IsTrue (has_flag h 2) × IsTrue (has_flag h 4)))
-        × (IsTrue (is_writable h) ↔ (IsTrue (has_flag h 2) × IsTrue (has_flag h 1))) }
+    ensures flag_names { map section_flag_name (0x10 ∷ 0x20 ∷ 0x40 ∷ 0x80 ∷ []) ≡ codes "SHF_MERGE"
+        ∷ codes "SHF_STRINGS" ∷ codes "SHF_INFO_LINK" ∷ codes "SHF_LINK_ORDER" ∷ [] }
+    ensures in_memory { (h : SectionHeader) → (is_executable h ≡ (has_flag h 2 && has_flag h 4))
+        × (is_writable h ≡ (has_flag h 2 && has_flag h 1)) }
     ensures checked { (len : ℕ) (s : SectionHeader) → IsOk (size_checked len s) ↔ ((s.sh_type ≡ 8) ⊎ ((s.sh_size ≡ 0)
         ⊎ ((s.sh_offset + s.sh_size ≤ len) × (s.sh_addr + s.sh_size < 2 ^ 64)))) }
     ensures refused { (len : ℕ) (s : SectionHeader) → s.sh_type ≢ 8 → 0 < s.sh_size →
@@ -359,8 +355,6 @@ pub fn laws()
     ensures names_index { (index : ℕ) (first : SectionHeader) → (names_index 0xffff None ≡ 0)
         × (names_index 0xffff (Some first) ≡ first.sh_link)
         × (index ≢ 0xffff → (names_index index None ≡ index) × (names_index index (Some first) ≡ index)) }
-    ensures linked { (index : ℕ) (s : SectionHeader) → (linked index None ≡ None)
-        × ((linked index (Some s) ≡ Some s) ↔ ((index ≢ 0) × (s.sh_type ≢ 8))) }
     ensures zeros { (h : SectionHeader) → ⟦<SectionHeader as Default>⟧.is_default h
         → values_of (section_header64.fields (as64 h)) ≡ replicate 10 0 }
     ensures derived { ComparesAndClones ⟦<SectionHeader as PartialEq>⟧ ⟦<SectionHeader as Clone>⟧ }

