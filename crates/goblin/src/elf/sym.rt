@@ -513,7 +513,6 @@ pub fn laws()
 /// the one found has size 0, and is at the address or below it in a section that holds the address. Of the symbols
 /// there it is as high as any, and the first of size 0 of those as high. `None` is returned exactly if no symbol
 /// contains the address, and each one of size 0 there has a higher one there.
-#[tactic(auto, using(crate::proofs::AddressLemmas::symbol_at_comes_first))]
 pub fn addresses()
     ensures first { SymbolAtComesFirst }
     ensures has_place { (s : Sym) → IsTrue (has_place s)
