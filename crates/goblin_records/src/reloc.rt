@@ -182,7 +182,6 @@ impl LaidOut<RelocCtx> for Reloc {
 /// each class and byte order. The default relocation has all fields 0 and no addend. The default context has no
 /// addends, isn't MIPS64, and is of the default class and byte order. `==` is true exactly if all fields are equal.
 /// `clone` returns the value, and never fails.
-#[tactic(auto, using(crate::specs::RelocLaws::whole_laws))]
 pub fn laws()
     ensures same { SameInEachClass }
     ensures rel32 { HasPlaces
