@@ -2,15 +2,14 @@
 use Rattle.std.proofs.Common.{◌≡◌, ◌+◌, ◌-◌, ◌<◌, ◌≤◌, ℕ, zero, suc, Bool, false, nat_le, List, [], length, ◌⊎◌, max}
 use Rattle.std.proofs.Common.{take, drop, Result, Ok, Err, IfOk, inl, inr, refl, sym, ap, subst, ◌∙◌, arith}
 use Rattle.goblin.specs.Common.{cases_lt, le-leb, lt-leb, nat_tests, div_ceil, next_multiple_of, Ctx, Endian, malformed}
-use Rattle.goblin.specs.Common.{read_within, unless_fault, fits-room_of, room_of_fits, room_of-few, Refusal, refusal_of}
+use Rattle.goblin.specs.Common.{read_within, unless_fault, fits-room_of, room_of_fits, Refusal, refusal_of}
 use Rattle.goblin.specs.Common.{bad_offset}
 use Rattle.goblin.specs.Common.{room_of, ◌>>=◌, refuse_as, refuse_if, Nhdr32, nhdr32_of, nhdr32_size, NotePlaces}
 use Rattle.std.proofs.lemmas.List.{length-drop, length-take, take-append-drop}
 use Rattle.goblin_base.specs.declared.scroll.Error.{Error as Misplaced}
 use Rattle.goblin_records.specs.NhdrLaws.{nhdr32_laws}
 use Rattle.goblin.specs.Note.{NoteParts, note_align, bytes_at, utf8_at, note_places, read_places, places_at, note_at}
-use Rattle.goblin.specs.Note.{item_and_rest, items_within, note_items, whole_places, whole_note_places, NotesRefused}
-use Rattle.goblin_base.specs.declared.error.Fault.TheVariants.{NoteAlign}
+use Rattle.goblin.specs.Note.{item_and_rest, items_within, note_items, whole_places, whole_note_places}
 use Rattle.goblin.specs.Notes.{LieWithin, PlacesLieWithin, WholeIsNote, NoteByNote, NotesAdvance, FewNotes}
 
 -- a property that holds after each value of the first step holds after both
@@ -221,16 +220,4 @@ pub few_notes : FewNotes
 unfolding note_items
 few_notes bytes size offset ctx = few_within (size - offset) bytes size offset ctx
 
-aligned : (alignment : ℕ) → (alignment ≤ 4) ⊎ (alignment ≡ 8) → note_align alignment ≡ Ok (max alignment 4)
-aligned alignment either = grind (arith, nat_tests)
-
-pub notes_refused : (alignment : ℕ) (order : Endian) (bytes : List ℕ) → NotesRefused alignment order bytes
-unfolding read_places whole_places read_within
-notes_refused alignment order bytes = record {
-  align = λ more other.
-      let refused : note_align alignment ≡ Err (malformed (NoteAlign alignment)) = grind (arith, nat_tests) in
-      rw refused (refl, refl);
-  header = λ either some less. rw (aligned alignment either, room_of-few (length bytes) 12 some less) (refl, refl);
-}
-
-pub ruleset note_laws = (note_by_note, places_lie_within, notes_advance, few_notes, notes_refused)
+pub ruleset note_laws = (note_by_note, places_lie_within, notes_advance, few_notes)

@@ -4,7 +4,7 @@ use Rattle.std.proofs.Common.{if◌then◌else◌, List, length, take, drop, Res
 use Rattle.std.proofs.Math.Nat.{le-div_iff_mul-le, min-eq_left}
 use Rattle.goblin.specs.Common.{nat_tests, Ctx, Error, Strict, Permissive, records-agree, sym_size, sym_of}
 use Rattle.goblin_records.specs.SymLaws.{sym_laws}
-use Rattle.goblin.specs.Symtab.{Symbols, symbols_at, PermissiveKeepsStrict, DependsOnItsRange, SymtabsRefused}
+use Rattle.goblin.specs.Symtab.{Symbols, symbols_at, PermissiveKeepsStrict, DependsOnItsRange}
 
 -- a symbol takes some bytes
 positive : (ctx : Ctx) → 0 < sym_size ctx.container
@@ -48,14 +48,3 @@ depends_on_its_range Permissive bytes others offset count ctx long same =
     let available = length bytes - offset in
     let table = symbols-agree bytes others offset (min count (available / size)) ctx same in
     rw (← long, table) refl
-
-pub symtabs_refused : (bytes : List ℕ) (offset count : ℕ) (ctx : Ctx) → SymtabsRefused bytes offset count ctx
-symtabs_refused bytes offset count ctx = record {
-  past = λ past. grind (arith, nat_tests);
-  many = λ mode before large. elim (mode) [
-    | Strict ↦ grind (arith, nat_tests)
-    | Permissive ↦ grind (arith, nat_tests)
-  ];
-  long = λ requested is small before long. rw (← is) (grind (arith, nat_tests));
-  fits = λ before fits small. grind (arith, nat_tests);
-}

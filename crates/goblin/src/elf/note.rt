@@ -422,7 +422,7 @@ pub fn constants()
 /// ends, how many items a range has, which note is a whole note, that a refusal ends its own range alone, and which
 /// alignments and headers are refused. `==` is true exactly if two places or two parts are the same. `clone` returns
 /// the value, and never fails.
-#[tactic(auto, using(crate::specs::NoteLaws::note_laws))]
+#[tactic(auto, using(crate::specs::NoteLaws::note_laws, crate::proofs::RefusalLemmas::notes_refused))]
 pub fn laws()
     ensures items { NoteByNote }
     ensures places { PlacesLieWithin }

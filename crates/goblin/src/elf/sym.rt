@@ -501,7 +501,7 @@ pub fn constants()
 
 /// Laws: which tables are refused, and as what. A table that strict options accept is the same with permissive ones. A
 /// table depends only on the bytes of its range and on the file's length.
-#[tactic(auto, using(crate::specs::SymtabLaws::permissive_keeps_strict, crate::specs::SymtabLaws::depends_on_its_range, crate::specs::SymtabLaws::symtabs_refused))]
+#[tactic(auto, using(crate::specs::SymtabLaws::permissive_keeps_strict, crate::specs::SymtabLaws::depends_on_its_range, crate::proofs::RefusalLemmas::symtabs_refused))]
 pub fn laws()
     ensures refused { (bytes : List ℕ) (offset count : ℕ) (ctx : Ctx) → SymtabsRefused bytes offset count ctx }
     ensures permissive { PermissiveKeepsStrict }
