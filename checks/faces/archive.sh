@@ -31,7 +31,9 @@ if has cargo 'the crate is not taken from a registry'; then
         > "$folder/client/Cargo.toml"
     printf '[dependencies]\ngoblin_rs = "%s"\n' "${version%.*}" >> "$folder/client/Cargo.toml"
     cp faces/rust/examples/symbols.rs "$folder/client/src/main.rs"
-    alone() { (cd "$folder/$1" && shift && unset GOBLIN_C_LIB && CARGO_HOME="$folder/home" PKG_CONFIG_LIBDIR="$folder" "$@"); }
+    alone() {
+        (cd "$folder/$1" && shift && env -u GOBLIN_C_LIB CARGO_HOME="$folder/home" CARGO_TARGET_DIR=target PKG_CONFIG_LIBDIR="$folder" "$@")
+    }
     quietly alone client cargo build --offline
     "$folder/client/target/debug/client" "$program_file" > "$folder/listed"
     [ "$(grep -c ' main$' "$folder/listed")" -eq 1 ] || fail "the client of the crate does not list main: $(cat "$folder/listed")"

@@ -168,8 +168,8 @@ impl<'a> Symtab<'a> {
         made(sys::goblin_section(&self.file, &self.header, index as u64))
     }
 
-    /// Returns a sorted map of the addresses, for many searches. It is not proved. Making it takes two to three times
-    /// as long as sorting a vector of the symbols (165,439 in any order).
+    /// Returns a sorted map of the addresses, for many searches. It is not proved. Making it takes about twice as long
+    /// as sorting a vector of the symbols (165,439 in any order).
     #[must_use]
     pub fn address_map(&self) -> AddressMap<'a> {
         AddressMap::of(*self)

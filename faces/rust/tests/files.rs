@@ -734,6 +734,33 @@ fn symbols_by_a_map_of_their_addresses() {
     }
 }
 
+#[test]
+fn a_map_of_many_nested_symbols_takes_no_square_of_their_number() {
+    let (form, count) = (FORMS[0], 60_000);
+    let mut file = made(form, 0);
+    let start = file.len() as u64;
+    // each of the first lies in the one before it, and the others are labels of a section that begins after them
+    for i in 0..count {
+        file.extend(form.symbol(0, i, 4 * count - 2 * i, 2, 0, 2));
+        file.extend(form.symbol(0, count + i, 0, 2, 0, 1));
+    }
+    let header = Elf::parse(&file).unwrap().header;
+    let table = SectionHeader { sh_type: SHT_SYMTAB, sh_offset: start, sh_size: 48 * count, ..Default::default() };
+    for (index, sh_addr) in [(1, 3 * count), (2, 0)] {
+        let holder = SectionHeader { sh_addr, sh_size: 9 * count, sh_flags: SHF_ALLOC, ..Default::default() };
+        header.put_section_header(&mut file, index, &holder).unwrap();
+    }
+    let symbols = Elf::parse(&file).unwrap().symtab(&table).unwrap();
+    let begin = std::time::Instant::now();
+    let map = symbols.address_map();
+    assert!(begin.elapsed().as_secs() < 10);
+    for address in [0, 1, count, 2 * count, 3 * count - 1, 3 * count, 4 * count, 9 * count, 12 * count - 1, 12 * count]
+    {
+        assert_eq!(map.at(address), symbols.at(address), "{address}");
+    }
+    assert!(map.at(4 * count - 1).is_some() && map.at(12 * count).is_none());
+}
+
 /// Returns the symbol of an address, by trying all symbols.
 fn expected_at(elf: &Elf<'_>, symbols: &[Sym], address: u64) -> Option<usize> {
     let counts =
