@@ -98,7 +98,12 @@ const MISFIT: &[u8; 52] = b"\x7fELF\x01\x02\x01\x02\x03\x04\x05\x06\x07\x08\x09\
 #[test]
 fn writes_headers_that_do_not_fit(rt: HostRuntime) {
     let e_ident = [0x7f, 0x45, 0x4c, 0x46, 1, 2, 1, 2, 3, 4, 5, 6, 7, 8, 9, 10];
-    let misfit = Header { e_ident, e_entry: 0x1_0040_1000, e_shoff: 0xffff_0000_0000_00a0, ..READ };
+    let misfit = Header {
+        e_ident,
+        e_entry: 0x1_0040_1000,
+        e_shoff: 0xffff_0000_0000_00a0,
+        ..READ
+    };
     assert!(rt; writes(rt, misfit, LE, MISFIT));
 }
 
