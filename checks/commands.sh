@@ -31,7 +31,8 @@ gate: git doesn't list the files of this folder, for the reason above" \
 chmod 755 "$folder"
 mkdir "$folder/copy" "$folder/modules"
 touch "$folder/modules/elftools.py" "$folder/modules/numpy.py"
-cp -R --parents Makefile HANDLES crates.txt crates/*/src crates/*/specs crates/*/proofs bench checks/*.* commands faces "$folder/copy"
+cp -R --parents Makefile HANDLES crates.txt crates/*/src crates/*/specs crates/*/proofs crates/goblin_names/stdout bench checks/*.* commands \
+    faces "$folder/copy"
 cp LICENSE CHANGELOG.md checks/files/symbols "$folder/copy"
 python3 checks/program.py checks/files/symbols > "$folder/wanted"
 cd "$folder/copy"
