@@ -166,7 +166,16 @@ impl<'a> Dynamic<'a> {
     pub fn strings_by_sections(bytes: &[u8], sections: &Sections<'_>) -> Result<Option<FileRange>>
         ensures { result ≡ in_file bytes.now (strings_section_range sections.now) }
     {
-        in_file(bytes, linked_range(sections))
+        in_file(bytes, Dynamic::strings_range_by_sections(sections))
+    }
+
+    /// Returns the range of the strings by the sections, as [`Dynamic::strings_by_sections`] does. The file may be too
+    /// short for it.
+    pub fn strings_range_by_sections(sections: &Sections<'_>) -> Option<FileRange>
+        ensures { result ≡ strings_section_range sections.now }
+    {
+        let index = dynamic_section(sections)?.sh_link as usize;
+        Some(range_of(&SectionHeader::linked_in(sections, index)?))
     }
 
     /// Returns the value of the first entry with a tag, or `None` if there is none.
@@ -197,14 +206,6 @@ fn in_file(bytes: &[u8], range: Option<FileRange>) -> Result<Option<FileRange>>
         room(bytes.len(), offset, size)?;
     }
     Ok(range)
-}
-
-// Returns the range of the section that the `sh_link` of the dynamic section names.
-fn linked_range(sections: &Sections<'_>) -> Option<FileRange>
-    ensures { result ≡ strings_section_range sections.now }
-{
-    let index = dynamic_section(sections)?.sh_link as usize;
-    Some(range_of(&SectionHeader::linked_in(sections, index)?))
 }
 
 // Returns the table of the entries before the first `DT_NULL` of some bytes.
