@@ -199,7 +199,7 @@ stage_library() {
     done
     put LICENSE share/goblin_c/LICENSE
     put CHANGELOG.md share/goblin_c/CHANGELOG.md
-    for example in execstack flag needed nm size strings symbolize truncated values; do
+    for example in execstack flag needed nm pread size strings symbolize truncated values; do
         put "faces/c/$example.c" "share/goblin_c/examples/$example.c"
     done
     put faces/c/example.h share/goblin_c/examples/example.h

@@ -56,10 +56,10 @@ check_examples() {
         /All are compiled with these variables:$/ { is_variables = 1; next }
         is_variables { gsub(/^ +/, "static "); is_variables = !sub(/ *\*\/$/, ""); gsub(/; /, ";\nstatic "); print
             if (!is_variables) print "extern int run_examples(void);\nint run_examples(void) {" }
-        /^(uint(32|64)_t|void) goblin_/ { calls++ }
+        /^(bool|size_t|uint(32|64)_t|void) goblin_/ { calls++ }
         sub(/^ *Example: /, "") { examples++; is_example = 1; printf "    { " }
         is_example { is_example = !sub(/ \*\/$/, ""); print $0 (is_example ? "" : " }") }
-        END { print "    if (goblin_header(bytes, len, &header, GOBLIN_UNREAD)) return 1;"
+        END { print "    if (goblin_file(bytes, len, &file, GOBLIN_UNREAD)) return 1;"
             print "    return range.size + string.size + value + note.n_type + count > 0;\n}"
             exit calls == 0 || calls != examples }' \
         faces/c/goblin.h > "$folder/examples.c" || fail "each call in goblin.h must have one example"
@@ -87,10 +87,11 @@ check_examples() {
 
 # Fails unless cost.c makes each call of goblin.h that is passed a file, so that each has a limit on its time.
 check_cost() {
-    awk '/^(uint(32|64)_t|void) goblin_[a-z_]*\((const )?uint8_t \*bytes/ { sub(/\(.*/, ""); print $NF }' faces/c/goblin.h > "$folder/calls"
+    awk '/^[a-z0-9_]+ goblin_[a-z0-9_]*\((const goblin_file_t \*file|(const )?void \*bytes)/ { sub(/\(.*/, ""); print $NF }' \
+        faces/c/goblin.h > "$folder/calls"
     [ -s "$folder/calls" ] || fail "goblin.h has no calls that are passed a file"
     while read -r call; do
-        grep -qF "$call(bytes, len" faces/c/cost.c || fail "$call is passed a file and cost.c does not call it: give it a row there"
+        grep -qE "\b$call\((&[a-z]+|bytes, len)," faces/c/cost.c || fail "$call is passed a file and cost.c does not call it: give it a row there"
     done < "$folder/calls"
     quietly "$folder/cost"
     lists=$(wc -l < "$folder/output") calls=$(wc -l < "$folder/calls")
@@ -99,7 +100,7 @@ check_cost() {
 
 # Counts the instructions of calls for one item, by callgrind, over a program and over names that single.c makes. Each limit is a quarter
 # more than was counted: a function that is no longer put into its caller, or a refusal that is prepared before it is needed, costs more.
-# Of 64 strings at once one may take six tenths of what it takes alone, and a comparison one and a half times what a client's own takes,
+# Of 64 strings at once one may take seven tenths of what it takes alone, and a comparison one and a half times what a client's own takes,
 # with its memcmp. Of the program's names most differ, so comparing them has a limit below that, too.
 check_instructions() {
     has valgrind 'the instructions of calls for one item are not counted' || return 0
@@ -114,14 +115,14 @@ check_instructions() {
         callgrind_annotate --inclusive=yes --threshold=100 "$folder/counts" > "$folder/listed"
         while read -r call times; do
             case $file$call in
-                goblin_string_bytes) limit=90 ;; goblin_string_is) limit=$((own * 3 / 2)) ;; *goblin_string_is) limit=46 ;; *starts) limit=50 ;;
-                *header) limit=84 ;; *section) limit=81 ;; *symbol) limit=45 ;; *reloc) limit=54 ;; *string) limit=73 ;; *bytes) limit=67 ;;
-                *strings) limit=$((alone * 6 / 10)) ;; *) limit=100 ;;
+                goblin_string) limit=90 ;; goblin_string_is) limit=$((own * 3 / 2)) ;; *goblin_string_is) limit=46 ;; *starts) limit=50 ;;
+                *file) limit=84 ;; *section) limit=81 ;; *symbol) limit=45 ;; *reloc) limit=54 ;; *string_utf8) limit=73 ;; *string) limit=67 ;;
+                *strings) limit=$((alone * 7 / 10)) ;; *) limit=100 ;;
             esac
             all=$(awk -v call="$call" '$0 ~ ":" call " " { gsub(/,/, "", $1); print $1; exit }' "$folder/listed")
             each=$((${all:-0} / times))
             if [ "$each" -eq 0 ] || [ "$each" -gt "$limit" ]; then fail "$call takes $each instructions, and its limit is $limit"; fi
-            case $call in *bytes) alone=$each ;; plain*) own=$each ;; esac
+            case $call in *string) alone=$each ;; plain*) own=$each ;; esac
             case $call in *_is | *starts) [ "$each" -le $((own * 3 / 2)) ] || fail "$call takes $each instructions, and a client $own" ;; esac
             printf '%s %s of %s, ' "$call" "$each" "$limit" >> "$folder/counted"
         done < "$folder/calls"
@@ -167,6 +168,24 @@ check_execstack() {
     ends_with 1 "execstack: $1: there is no program header of type PT_GNU_STACK" "$folder/execstack" -c "$1"
     ends_with 0 "[?] $1" "$folder/execstack" "$1"
     echo "execstack.c changes one flag"
+}
+
+# Runs pread.c over a program, of which readelf lists the parts of memory and the notes, and over a copy whose section header 0 has the number
+# of program headers.
+check_pread() {
+    awk '$1 == "LOAD" { sub(/^0x0*/, "0x", $5); sub(/^0x0*/, "0x", $6); print $3, $5, "of", $6 }
+        $1 == "GNU" && $3 ~ /^NT_/ { sub("TYPE_0", "0", $3); print $1, $2, $3 }' $program_file.listed > "$folder/wanted"
+    prints_wanted "$folder/pread" $program_file
+    cp $program_file "$folder/parts"
+    at() { od -An -tu"$2" -j"$1" -N"$2" $program_file | tr -d ' '; }
+    put() { printf %b "$2" | dd of="$folder/parts" bs=1 seek="$1" conv=notrunc 2> "$folder/output"; }
+    put $(($(at 40 8) + 44)) "$(printf '\\0%o' "$(at 56 2)")"
+    put 56 '\0377\0377'
+    prints_wanted "$folder/pread" "$folder/parts"
+    head -c 600 $program_file > "$folder/parts"
+    ends_with 1 "pread: the program headers can't be read" "$folder/pread" "$folder/parts"
+    ends_with 1 "*pread: the notes can't be read*" "$folder/pread" checks/files/made/x86_64_core
+    echo "pread.c reads parts of a file"
 }
 
 # Fails unless nm.c takes no bytes after the table of section indices for an index. In a copy of a 64-bit file that made.c makes, section 10 is
@@ -245,13 +264,14 @@ check_programs() {
 *' "$folder/strings" "$file" .note
     check_execstack "$file"
     check_indices "$files/little64"
+    check_pread
     # (comparison.py compares what needed.c lists of the whole file, and of x86_64_stripped, which has no section headers)
     "$folder/needed" $program_file > "$folder/wanted"
     head -c -1 $program_file > "$folder/cut"
     prints_wanted "$folder/needed" "$folder/cut"
     ends_with 0 'int*needed libf*needed: no zero byte closes a string *1048576*runpath: no zero *60' "$folder/needed" checks/files/facts/open_names
     echo "needed.c lists the same by the program headers if the last section header is cut, and says which names are not closed"
-    for program in nm needed truncated size values strings; do
+    for program in nm needed pread truncated size values strings; do
         if [ $program = strings ]; then section=.comment; else section=; fi
         # shellcheck disable=SC2016 # (they are of the shell that is run)
         ends_with 2 'stdout: No space left on device' \

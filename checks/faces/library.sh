@@ -11,7 +11,7 @@ has nm 'what the library needs is not tested' || exit 0
 has readelf 'what the library needs is not tested' || exit 0
 nm -u "$folder/libgoblin_c.a" | awk 'NF == 2 { print $2 }' > "$folder/needs"
 readelf -SW "$folder/libgoblin_c.a" > "$folder/sections"
-if [ "$(cat "$folder/needs")" != memcpy ] || ! grep -q '\.text\.goblin_header ' "$folder/sections" \
+if [ "$(cat "$folder/needs")" != memcpy ] || ! grep -q '\.text\.goblin_file ' "$folder/sections" \
     || grep -e '\.eh_frame' -e '\.note\.gnu\.property' "$folder/sections"; then
     fail "the library needs more than memcpy, or has unwind tables or notes; it needs: $(cat "$folder/needs")"
 fi

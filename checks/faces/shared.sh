@@ -15,7 +15,7 @@ files=$folder/files examples=$folder/target/debug/examples
 # A program for x86-64. What readelf prints of it is stored beside it.
 program_file=checks/files/made/x86_64_program
 # The examples of faces/c.
-c_examples='execstack flag needed nm size strings symbolize truncated values'
+c_examples='execstack flag needed nm pread size strings symbolize truncated values'
 # The version of all that is installed.
 version=$(awk -F '"' '/^version = / { print $2; exit }' faces/rust/Cargo.toml)
 

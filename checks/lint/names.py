@@ -6,7 +6,7 @@
 - in a CALLING.md a module in parentheses, as (`Strtab`), is one of specs/, and the name before it stands there;
 - in docs/PROVED.md a name after a function or module and a colon, as in `walk`: `looks`, is a clause in its file or a definition;
 - of an example of a change in docs/MAP.md, also of a number, `git grep -wF` finds each word outside docs/, or in the named folders.
-Columns of a table with the head goblin, libelf, object, pyelftools or lief hold names of others, which may stand anywhere.
+Columns of a table with the head goblin, libelf, object, pyelftools, lief or interface 7 hold names of others, which may stand anywhere.
 """
 import os
 import re
@@ -15,7 +15,7 @@ import subprocess
 from crates import text_of, tracked
 
 # The heads of such columns.
-HEADS = ('goblin', 'libelf', 'object', 'pyelftools', 'lief')
+HEADS = ('goblin', 'libelf', 'object', 'pyelftools', 'lief', 'interface 7')
 # Names of others that stand in no such column: of libelf and of CMake.
 OTHERS = {'elf_getshdrnum', 'PkgConfig', 'GOBLIN'}
 READ = ('crates/*/src/*', 'crates/*/specs/*', 'faces', 'checks', 'bench', 'commands', 'Makefile', 'crates.txt', ':!*.md')

@@ -11,9 +11,9 @@ from rattle import code_of
 
 HEADER = 'faces/c/goblin.h'
 # (strings are blank in what is read of Rattle's code)
-DEFINED = re.compile(r'\bpub extern +fn (\w+)\(([^)]*)\)(?: -> (\w+))?')
+DEFINED = re.compile(r'\bpub extern +fn (\w+)(?:<[^>]*>)?\(([^)]*)\)(?: -> (\w+))?')
 DECLARED = re.compile(r'\b(\w+) (goblin_\w+)\(([^()]*)\)')
-PARAMETER = re.compile(r'(\w+): (&mut |&)?(\[)?(\w+)\]?')
+PARAMETER = re.compile(r"(\w+): (?:(&)(?:'\w+ )?(mut )?)?(\[)?(\w+)")
 ARGUMENT = re.compile(r'(.*?)(\w+)')
 
 
@@ -21,6 +21,8 @@ def type_in_c(name):
     """The type for C of a number or a struct in Rattle."""
     if re.fullmatch('[ui](8|16|32|64)', name):
         return f'{"u" * (name[0] == "u")}int{name[1:]}_t'
+    if name == 'usize':
+        return 'size_t'
     return f'goblin{re.sub("([A-Z])", lambda found: "_" + found[1].lower(), name[len("Goblin"):])}_t' if name.startswith('Goblin') else name
 
 
@@ -33,9 +35,10 @@ def types_of(result, arguments):
 def expected(parameters, result):
     """The types for C of a call's result and arguments, with void for bytes."""
     arguments = []
-    for name, reference, bracket, own in PARAMETER.findall(parameters):
+    for name, reference, mutable, bracket, own in PARAMETER.findall(parameters):
         kind = 'void' if bracket and own == 'u8' else type_in_c(own)
-        arguments += [(f'{"const " * (reference == "&")}{kind}{" *" * bool(reference)}', name)] + [('size_t', '')] * bool(bracket)
+        constant = bool(reference) and not mutable
+        arguments += [(f'{"const " * constant}{kind}{" *" * bool(reference)}', name)] + [('size_t', '')] * bool(bracket)
     return types_of(type_in_c(result) if result else 'void', arguments)
 
 

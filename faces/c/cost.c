@@ -20,7 +20,7 @@ enum { LONG_AT = 64 + ITEMS * 64, LONG_SIZE = 4000000 };
 
 static uint8_t *bytes;
 static size_t len;
-static goblin_header_t header;
+static goblin_file_t file;
 static goblin_refusal_t why;
 /* The array for lists of items. */
 static void *array;
@@ -38,31 +38,31 @@ static goblin_range_t range_of(uint64_t items, uint64_t size) {
 static uint64_t each_section(void) {
     goblin_section_t section;
     uint64_t i = 0;
-    while (goblin_section(bytes, len, &header, i, &section, &why) == GOBLIN_OK) i++;
+    while (goblin_section(&file, i, &section, &why) == GOBLIN_OK) i++;
     return i;
 }
 
 static uint64_t all_sections(void) {
     uint64_t filled = 0;
-    return goblin_sections(bytes, len, &header, 0, (goblin_section_t *)array, ITEMS, &filled, &why) ? 0 : filled;
+    return goblin_sections(&file, 0, (goblin_section_t *)array, ITEMS, &filled, &why) ? 0 : filled;
 }
 
 static uint64_t section_of_no_type(void) {
     goblin_section_t section;
     uint64_t index;
-    return goblin_section_by_type(bytes, len, &header, 1, 0, &index, &section, &why) == GOBLIN_END ? ITEMS : 0;
+    return goblin_section_by_type(&file, 1, 0, &index, &section, &why) == GOBLIN_END ? ITEMS : 0;
 }
 
 static uint64_t each_segment(void) {
     goblin_segment_t segment;
     uint64_t i = 0;
-    while (goblin_segment(bytes, len, &header, i, &segment, &why) == GOBLIN_OK) i++;
+    while (goblin_segment(&file, i, &segment, &why) == GOBLIN_OK) i++;
     return i;
 }
 
 static uint64_t offset_of_no_address(void) {
     uint64_t offset;
-    return goblin_address_to_offset(bytes, len, &header, 1, &offset, &why) == GOBLIN_END ? SEGMENTS : 0;
+    return goblin_address_to_offset(&file, 1, &offset, &why) == GOBLIN_END ? SEGMENTS : 0;
 }
 
 /* Defines a function that repeats a call as often as there are items. It returns how often the call returned the
@@ -75,73 +75,76 @@ static uint64_t offset_of_no_address(void) {
     }
 
 /* What the repeated calls are passed, and what they write. */
-static goblin_header_t named, many, other, part;
+static goblin_file_t named, many, other, cut, part;
 static goblin_section_t section;
 static goblin_segment_t segment;
 static goblin_symbol_t symbol;
 static goblin_reloc_t reloc;
 static goblin_dyn_t entry;
 static goblin_range_t table, range;
-static uint64_t number;
+static uint64_t number, first;
 
-REPEATED(header_read, GOBLIN_OK, goblin_header(bytes, len, &named, &why))
-REPEATED(sections_counted, GOBLIN_OK, goblin_section_count(bytes, len, &header, &number, &why))
-REPEATED(whole_headers, GOBLIN_OK, (goblin_whole_header(bytes, len - 200 * i, &many, &part), GOBLIN_OK))
-REPEATED(sections_one_by_one, GOBLIN_OK, goblin_sections(bytes, len, &header, i, &section, 1, &number, &why))
-REPEATED(linked_sections, i ? GOBLIN_OK : GOBLIN_END, goblin_linked_section(bytes, len, &header, i, &section, &why))
-REPEATED(section_names, GOBLIN_OK, goblin_section_names(bytes, len, &named, &section, &why))
+REPEATED(header_read, GOBLIN_OK, goblin_file(bytes, len, &named, &why))
+REPEATED(sections_counted, GOBLIN_OK, goblin_section_count(&file, &number, &why))
+REPEATED(whole_headers, GOBLIN_OK,
+         (cut = many, cut.len = len - 200 * i, goblin_whole_header(&cut, &part), GOBLIN_OK))
+REPEATED(sections_one_by_one, GOBLIN_OK, goblin_sections(&file, i, &section, 1, &number, &why))
+REPEATED(linked_sections, i ? GOBLIN_OK : GOBLIN_END, goblin_linked_section(&file, i, &section, &why))
+REPEATED(names_section, GOBLIN_OK, goblin_names_section(&named, &section, &why))
 REPEATED(section_by_name, GOBLIN_OK,
-         goblin_section_by_name(bytes, len, &header, &table, "", 0, i, &number, &section, &why))
-REPEATED(section_by_type, GOBLIN_OK, goblin_section_by_type(bytes, len, &header, 0, i, &number, &section, &why))
-REPEATED(section_bytes, GOBLIN_OK, goblin_section_bytes(bytes, len, &section, &range, &why))
-REPEATED(segments_counted, GOBLIN_OK, goblin_segment_count(bytes, len, &header, &number, &why))
-REPEATED(many_segments_counted, GOBLIN_OK, goblin_segment_count(bytes, len, &many, &number, &why))
-REPEATED(many_segments, GOBLIN_OK, goblin_segment(bytes, len, &many, i, &segment, &why))
-REPEATED(segment_bytes, GOBLIN_OK, goblin_segment_bytes(bytes, len, &segment, &range, &why))
-REPEATED(first_address, GOBLIN_OK, goblin_address_to_offset(bytes, len, &header, 0, &number, &why))
-REPEATED(symbols_counted, GOBLIN_OK, goblin_symbol_count(bytes, len, &header, &table, &number, &why))
-REPEATED(symbols_of_another_file, GOBLIN_OK, goblin_symbol(bytes, len, &other, &table, i, &symbol, &why))
-REPEATED(symbols_one_by_one, GOBLIN_OK, goblin_symbols(bytes, len, &header, &table, i, &symbol, 1, &number, &why))
+         goblin_section_by_name(&file, &table, "", 0, i, &number, &section, &why))
+REPEATED(section_by_type, GOBLIN_OK, goblin_section_by_type(&file, 0, i, &number, &section, &why))
+REPEATED(section_bytes, GOBLIN_OK, goblin_section_range(&file, &section, &range, &why))
+REPEATED(segments_counted, GOBLIN_OK, goblin_segment_count(&file, &number, &why))
+REPEATED(many_segments_counted, GOBLIN_OK, goblin_segment_count(&many, &number, &why))
+REPEATED(many_segments, GOBLIN_OK, goblin_segment(&many, i, &segment, &why))
+REPEATED(segment_bytes, GOBLIN_OK, goblin_segment_range(&file, &segment, &range, &why))
+REPEATED(first_address, GOBLIN_OK, goblin_address_to_offset(&file, 0, &number, &why))
+REPEATED(symbols_counted, GOBLIN_OK, goblin_symbol_count(&file, &table, &number, &why))
+REPEATED(symbols_of_another_file, GOBLIN_OK, goblin_symbol(&other, &table, i, &symbol, &why))
+REPEATED(symbols_one_by_one, GOBLIN_OK, goblin_symbols(&file, &table, i, &symbol, 1, &number, &why))
 REPEATED(segments_one_by_one, GOBLIN_OK,
-         goblin_segments(bytes, len, &header, i % SEGMENTS, &segment, 1, &number, &why))
+         goblin_segments(&file, i % SEGMENTS, &segment, 1, &number, &why))
 REPEATED(symbol_by_name, GOBLIN_OK,
-         goblin_symbol_by_name(bytes, len, &header, &table, &table, "", 0, i, &number, &symbol, &why))
-REPEATED(relocs_counted, GOBLIN_OK, goblin_reloc_count(bytes, len, &header, &table, true, &number, &why))
-REPEATED(relocs_one_by_one, GOBLIN_OK, goblin_relocs(bytes, len, &header, &table, true, i, &reloc, 1, &number, &why))
-REPEATED(dynamic_found, GOBLIN_OK, goblin_dynamic(bytes, len, &header, &range, &why))
+         goblin_symbol_by_name(&file, &table, &table, "", 0, i, &number, &symbol, &why))
+REPEATED(relocs_counted, GOBLIN_OK, goblin_reloc_count(&file, &table, true, &number, &why))
+REPEATED(relocs_one_by_one, GOBLIN_OK, goblin_relocs(&file, &table, true, i, &reloc, 1, &number, &why))
+REPEATED(dynamic_found, GOBLIN_OK, goblin_dynamic(&file, &range, &why))
 REPEATED(entries_one_by_one, GOBLIN_OK,
-         goblin_dynamic_entries(bytes, len, &header, &table, i, &entry, 1, &number, &why))
-REPEATED(value_of_a_tag, GOBLIN_OK, goblin_dynamic_value(bytes, len, &header, &range, DT_STRSZ, &number, &why))
-REPEATED(dynamic_strings, GOBLIN_OK, goblin_dynamic_strings(bytes, len, &header, &range, &table, &why))
-REPEATED(each_number_of_the_file, GOBLIN_OK, goblin_number(bytes, len, &header, i * 8, 8, &number, &why))
-REPEATED(header_written, GOBLIN_OK, goblin_put_header(bytes, len, &header, &why))
-REPEATED(sections_written, GOBLIN_OK, goblin_put_section(bytes, len, &header, i, &section, &why))
-REPEATED(segments_written, GOBLIN_OK, goblin_put_segment(bytes, len, &header, i % SEGMENTS, &segment, &why))
-REPEATED(symbols_written, GOBLIN_OK, goblin_put_symbol(bytes, len, &header, &table, i, &symbol, &why))
-REPEATED(relocs_written, GOBLIN_OK, goblin_put_reloc(bytes, len, &header, &table, true, i, &reloc, &why))
-REPEATED(numbers_written, GOBLIN_OK, goblin_put_number(bytes, len, &header, 128 + i * 8, 8, i, &why))
+         goblin_dynamic_entries(&file, &table, i, &entry, 1, &number, &why))
+REPEATED(entries_counted, GOBLIN_OK, goblin_dynamic_count(&file, &range, &number, &why))
+REPEATED(value_of_a_tag, GOBLIN_OK, goblin_dynamic_value(&file, &range, DT_STRSZ, 0, &number, &first, &why))
+REPEATED(dynamic_strings, GOBLIN_OK, goblin_dynamic_strings(&file, &range, &table, &why))
+REPEATED(each_number_of_the_file, GOBLIN_OK, goblin_number(&file, i * 8, 8, &number, &why))
+REPEATED(header_written, GOBLIN_OK, goblin_put_header(bytes, len, &file.header, &why))
+REPEATED(sections_written, GOBLIN_OK, goblin_put_section(bytes, len, &file.header, i, &section, &why))
+REPEATED(segments_written, GOBLIN_OK, goblin_put_segment(bytes, len, &file.header, i % SEGMENTS, &segment, &why))
+REPEATED(symbols_written, GOBLIN_OK, goblin_put_symbol(bytes, len, &file.header, &table, i, &symbol, &why))
+REPEATED(relocs_written, GOBLIN_OK, goblin_put_reloc(bytes, len, &file.header, &table, true, i, &reloc, &why))
+REPEATED(entries_written, GOBLIN_OK, goblin_put_dynamic_entry(bytes, len, &file.header, &table, i, &entry, &why))
+REPEATED(numbers_written, GOBLIN_OK, goblin_put_number(bytes, len, &file.header, 128 + i * 8, 8, i, &why))
 REPEATED(numbers_in_a_range_written, GOBLIN_OK,
-         goblin_put_number_in(bytes, len, &header, &table, i * 8, 8, i, &why))
-REPEATED(range_cut, GOBLIN_OK, (goblin_range_in_file(bytes, len, &segment.file, &range), GOBLIN_OK))
+         goblin_put_number_in(bytes, len, &file.header, &table, i * 8, 8, i, &why))
+REPEATED(range_cut, GOBLIN_OK, (goblin_range_in_file(&file, &segment.file, &range), GOBLIN_OK))
 
 static uint64_t each_symbol(void) {
     goblin_range_t table = range_of(ITEMS, sizeof(Elf64_Sym));
     goblin_symbol_t symbol;
     uint64_t i = 0;
-    while (goblin_symbol(bytes, len, &header, &table, i, &symbol, &why) == GOBLIN_OK) i++;
+    while (goblin_symbol(&file, &table, i, &symbol, &why) == GOBLIN_OK) i++;
     return i;
 }
 
 static uint64_t all_symbols(void) {
     goblin_range_t table = range_of(ITEMS, sizeof(Elf64_Sym));
     uint64_t filled = 0;
-    return goblin_symbols(bytes, len, &header, &table, 0, (goblin_symbol_t *)array, ITEMS, &filled, &why) ? 0 : filled;
+    return goblin_symbols(&file, &table, 0, (goblin_symbol_t *)array, ITEMS, &filled, &why) ? 0 : filled;
 }
 
 static uint64_t symbol_at_no_address(void) {
     goblin_range_t table = range_of(ITEMS, sizeof(Elf64_Sym));
     uint64_t index;
-    return goblin_symbol_by_address(bytes, len, &header, &table, 1, &index, &why) == GOBLIN_END ? ITEMS : 0;
+    return goblin_symbol_by_address(&file, &table, 1, &index, &why) == GOBLIN_END ? ITEMS : 0;
 }
 
 /* The section of the symbols, which begins at the address 0. Its header is after the symbols. */
@@ -171,7 +174,7 @@ static uint64_t scattered(uint64_t i) { return i * 7919 % ITEMS + 1; }
 static uint64_t found_at(uint64_t address, uint64_t expected) {
     goblin_range_t table = range_of(ITEMS, sizeof(Elf64_Sym));
     uint64_t index = 0;
-    return goblin_symbol_by_address(bytes, len, &header, &table, address, &index, &why) == GOBLIN_OK
+    return goblin_symbol_by_address(&file, &table, address, &index, &why) == GOBLIN_OK
         && index == expected ? ITEMS : 0;
 }
 static uint64_t symbol_at_last(void) { return found_at(scattered(ITEMS - 1), ITEMS - 1); }
@@ -182,14 +185,14 @@ static uint64_t each_reloc(void) {
     goblin_range_t relocs = range_of(ITEMS, sizeof(Elf64_Rela));
     goblin_reloc_t reloc;
     uint64_t i = 0;
-    while (goblin_reloc(bytes, len, &header, &relocs, true, i, &reloc, &why) == GOBLIN_OK) i++;
+    while (goblin_reloc(&file, &relocs, true, i, &reloc, &why) == GOBLIN_OK) i++;
     return i;
 }
 
 static uint64_t all_relocs(void) {
     goblin_range_t relocs = range_of(ITEMS, sizeof(Elf64_Rela));
     uint64_t filled = 0;
-    return goblin_relocs(bytes, len, &header, &relocs, true, 0, (goblin_reloc_t *)array, ITEMS, &filled, &why)
+    return goblin_relocs(&file, &relocs, true, 0, (goblin_reloc_t *)array, ITEMS, &filled, &why)
                ? 0
                : filled;
 }
@@ -197,34 +200,47 @@ static uint64_t all_relocs(void) {
 static uint64_t all_entries(void) {
     uint64_t filled = 0;
     goblin_dyn_t *entries = (goblin_dyn_t *)array;
-    return goblin_dynamic_entries(bytes, len, &header, &table, 0, entries, ITEMS, &filled, &why) ? 0 : filled;
+    return goblin_dynamic_entries(&file, &table, 0, entries, ITEMS, &filled, &why) ? 0 : filled;
 }
 
 static uint64_t value_of_no_tag(void) {
-    uint64_t value;
-    return goblin_dynamic_value(bytes, len, &header, &table, 1, &value, &why) == GOBLIN_END ? ITEMS : 0;
+    uint64_t index, value;
+    return goblin_dynamic_value(&file, &table, 1, 0, &index, &value, &why) == GOBLIN_END ? ITEMS : 0;
+}
+
+static uint64_t entries_of_all(void) {
+    uint64_t entries;
+    return goblin_dynamic_count(&file, &table, &entries, &why) == GOBLIN_OK ? entries : 0;
 }
 
 static uint64_t each_note(void) {
     goblin_range_t notes = range_of(ITEMS, sizeof(Elf64_Nhdr));
     goblin_note_t note = {{0, 0}, {0, 0}, notes.offset, 0};
     uint64_t i = 0;
-    while (goblin_note(bytes, len, &header, &notes, 4, note.next, &note, &why) == GOBLIN_OK) i++;
+    while (goblin_note_utf8(&file, &notes, 4, note.next, &note, &why) == GOBLIN_OK) i++;
     return i;
 }
 
-static uint64_t each_note_as_bytes(void) {
+static uint64_t each_note_of_bytes(void) {
     goblin_range_t notes = range_of(ITEMS, sizeof(Elf64_Nhdr));
     goblin_note_t note = {{0, 0}, {0, 0}, notes.offset, 0};
     uint64_t i = 0;
-    while (goblin_note_bytes(bytes, len, &header, &notes, 4, note.next, &note, &why) == GOBLIN_OK) i++;
+    while (goblin_note(&file, &notes, 4, note.next, &note, &why) == GOBLIN_OK) i++;
+    return i;
+}
+
+static uint64_t each_whole_note(void) {
+    goblin_range_t notes = range_of(ITEMS, sizeof(Elf64_Nhdr));
+    goblin_note_t note = {{0, 0}, {0, 0}, notes.offset, 0};
+    uint64_t i = 0;
+    while (goblin_note_whole(&file, &notes, 4, note.next, &note, &why) == GOBLIN_OK) i++;
     return i;
 }
 
 static uint64_t each_number(void) {
     goblin_range_t numbers = range_of(ITEMS, sizeof(uint64_t));
     uint64_t i = 0, number;
-    while (goblin_number_in(bytes, len, &header, &numbers, i * sizeof number, sizeof number, &number,
+    while (goblin_number_in(&file, &numbers, i * sizeof number, sizeof number, &number,
                             &why) == GOBLIN_OK)
         i++;
     return i;
@@ -233,7 +249,7 @@ static uint64_t each_number(void) {
 static uint64_t each_string(void) {
     goblin_range_t strings = range_of(ITEMS, 1), string;
     uint64_t i = 0;
-    while (goblin_string(bytes, len, &strings, i, &string, &why) == GOBLIN_OK) i++;
+    while (goblin_string_utf8(&file, &strings, i, &string, &why) == GOBLIN_OK) i++;
     return i;
 }
 
@@ -243,20 +259,20 @@ static uint64_t all_strings(void) {
     uint64_t filled = 0;
     for (uint64_t i = 0; i < ITEMS; i++) offsets[i] = i;
     goblin_range_t *found = (goblin_range_t *)array;
-    return goblin_strings(bytes, len, &strings, offsets, ITEMS, found, ITEMS, &filled, &why) ? 0 : filled;
+    return goblin_strings(&file, &strings, offsets, ITEMS, found, ITEMS, &filled, &why) ? 0 : filled;
 }
 
 static uint64_t bytes_of_each_string(void) {
     goblin_range_t strings = range_of(ITEMS, 1), string;
     uint64_t i = 0;
-    while (goblin_string_bytes(bytes, len, &strings, i, &string, &why) == GOBLIN_OK) i++;
+    while (goblin_string(&file, &strings, i, &string, &why) == GOBLIN_OK) i++;
     return i;
 }
 
 static uint64_t each_closed_string(void) {
     goblin_range_t strings = range_of(ITEMS + 1, 1), string;
     uint64_t i = 0;
-    while (i < ITEMS && goblin_string_closed(bytes, len, &strings, i, &string, &why) == GOBLIN_OK) i++;
+    while (i < ITEMS && goblin_string_closed(&file, &strings, i, &string, &why) == GOBLIN_OK) i++;
     return i;
 }
 
@@ -281,14 +297,16 @@ static uint64_t long_string(uint64_t i) { return i % 4 * LONG_SIZE + 1; }
 static uint64_t each_long_string(void) {
     goblin_range_t strings = long_strings(), string;
     uint64_t i = 0;
-    while (i < 4 && goblin_string(bytes, len, &strings, long_string(i), &string, &why) == GOBLIN_OK) i++;
+    while (i < 4 && goblin_string_utf8(&file, &strings, long_string(i), &string, &why) == GOBLIN_OK) i++;
     return i;
 }
 
 static uint64_t each_refused(void) {
     goblin_range_t strings = long_strings(), string;
     uint64_t i = 0;
-    while (i < 4 && goblin_string(bytes, len, &strings, long_string(i), &string, &why) == GOBLIN_BAD_INPUT) i++;
+    while (i < 4
+           && goblin_string_utf8(&file, &strings, long_string(i), &string, &why) == GOBLIN_REFUSED_BAD_INPUT)
+        i++;
     return i;
 }
 
@@ -296,36 +314,42 @@ static uint64_t each_refused(void) {
 static uint64_t ends_of_long_strings(void) {
     goblin_range_t strings = {LONG_AT + 1, LONG_SIZE - 1}, string;
     uint64_t i = 0;
-    while (i < ITEMS && goblin_string(bytes, len, &strings, LONG_SIZE - 2, &string, &why) == GOBLIN_OK) i++;
+    while (i < ITEMS && goblin_string(&file, &strings, LONG_SIZE - 2, &string, &why) == GOBLIN_OK) i++;
     return i;
 }
 
 static uint64_t bytes_of_each_long_string(void) {
     goblin_range_t strings = long_strings(), string;
     uint64_t i = 0;
-    while (i < 4 && goblin_string_bytes(bytes, len, &strings, long_string(i), &string, &why) == GOBLIN_OK) i++;
+    while (i < 4 && goblin_string(&file, &strings, long_string(i), &string, &why) == GOBLIN_OK) i++;
     return i;
+}
+
+/* Finds where the last of the strings begins, which no zero byte closes. */
+static uint64_t last_long_string(void) {
+    goblin_range_t strings = long_strings(), closed;
+    return goblin_closed_strings(&file, &strings, &closed, &why) == GOBLIN_OK && closed.size == 3 * LONG_SIZE + 1;
 }
 
 static uint64_t each_long_string_closed(void) {
     goblin_range_t strings = long_strings(), string;
     uint64_t i = 0;
-    while (i < 3 && goblin_string_closed(bytes, len, &strings, long_string(i), &string, &why) == GOBLIN_OK) i++;
-    return goblin_string_closed(bytes, len, &strings, long_string(3), &string, &why) == GOBLIN_END ? i + 1 : 0;
+    while (i < 3 && goblin_string_closed(&file, &strings, long_string(i), &string, &why) == GOBLIN_OK) i++;
+    return goblin_string_closed(&file, &strings, long_string(3), &string, &why) == GOBLIN_END ? i + 1 : 0;
 }
 
 /* Compares each long string with a short name, and with a short start, as often as there are items. */
 static uint64_t long_strings_compared(void) {
     goblin_range_t strings = long_strings();
     uint64_t i = 0;
-    while (i < ITEMS && goblin_string_is(bytes, len, &strings, long_string(i), "aaa", 3, &why) == GOBLIN_END) i++;
+    while (i < ITEMS && !goblin_string_is(&file, &strings, long_string(i), "aaa", 3)) i++;
     return i;
 }
 
 static uint64_t long_strings_started(void) {
     goblin_range_t strings = long_strings();
     uint64_t i = 0;
-    while (i < ITEMS && goblin_string_starts(bytes, len, &strings, long_string(i), "aaa", 3, &why) == GOBLIN_OK) i++;
+    while (i < ITEMS && goblin_string_starts(&file, &strings, long_string(i), "aaa", 3)) i++;
     return i;
 }
 
@@ -352,7 +376,7 @@ static int make_file(void) {
     memcpy(bytes, &first, sizeof first);
     memcpy(bytes + 64, &counted, sizeof counted);
     fill_strings('a', 'a', 'a');
-    return goblin_header(bytes, len, &header, &why) == GOBLIN_OK;
+    return goblin_file(bytes, len, &file, &why) == GOBLIN_OK;
 }
 
 /* Lists of all items. */
@@ -369,7 +393,8 @@ static int lists_take_little(void) {
     right &= takes_little("each relocation", each_reloc, ITEMS);
     right &= takes_little("all relocations", all_relocs, ITEMS);
     right &= takes_little("each note", each_note, ITEMS);
-    right &= takes_little("each note as bytes", each_note_as_bytes, ITEMS);
+    right &= takes_little("each note, UTF-8 or not", each_note_of_bytes, ITEMS);
+    right &= takes_little("each note that is whole", each_whole_note, ITEMS);
     right &= takes_little("each number in a range", each_number, ITEMS);
     right &= takes_little("each string", each_string, ITEMS);
     right &= takes_little("all strings", all_strings, ITEMS);
@@ -384,18 +409,18 @@ static int repeated_calls_take_little(void) {
     Elf64_Phdr load;
     memset(&load, 0, sizeof load);
     load.p_type = PT_LOAD, load.p_filesz = 1;
-    named = header;
+    named = file;
     table = range_of(ITEMS, sizeof(Elf64_Sym));
     right &= takes_little("the header", header_read, ITEMS);
     right &= takes_little("the number of sections", sections_counted, ITEMS);
-    many = header, many.e_phnum = 0xffff;
+    many = file, many.header.e_phnum = 0xffff;
     right &= takes_little("the whole headers of files that are cut", whole_headers, ITEMS);
     right &= takes_little("each of the segments whose number the first section has", many_segments, ITEMS);
     right &= takes_little("sections one by one", sections_one_by_one, ITEMS);
     right &= takes_little("each linked section", linked_sections, ITEMS);
-    right &= takes_little("the section names", section_names, ITEMS);
-    named.e_shstrndx = 0xffff, bytes[64 + offsetof(Elf64_Shdr, sh_link)] = 1;
-    right &= takes_little("the section names by the first section", section_names, ITEMS);
+    right &= takes_little("the section names", names_section, ITEMS);
+    named.header.e_shstrndx = 0xffff, bytes[64 + offsetof(Elf64_Shdr, sh_link)] = 1;
+    right &= takes_little("the section names by the first section", names_section, ITEMS);
     right &= takes_little("each section by its name", section_by_name, ITEMS);
     right &= takes_little("each section by its type", section_by_type, ITEMS);
     section.sh_type = SHT_PROGBITS, section.file = table, segment.p_type = PT_LOAD, segment.file = table;
@@ -409,9 +434,9 @@ static int repeated_calls_take_little(void) {
     memset(bytes + 128, 0, sizeof load);
     right &= takes_little("the number of symbols", symbols_counted, ITEMS);
     right &= takes_little("symbols one by one", symbols_one_by_one, ITEMS);
-    other = header, other.ei_class = ELFCLASS32;
+    other = file, other.header.ei_class = ELFCLASS32;
     right &= takes_little("each symbol of a 32-bit file", symbols_of_another_file, ITEMS);
-    other = header, other.ei_data = ELFDATA2MSB;
+    other = file, other.header.ei_data = ELFDATA2MSB;
     right &= takes_little("each symbol of a big-endian file", symbols_of_another_file, ITEMS);
     right &= takes_little("each symbol by its name", symbol_by_name, ITEMS);
     right &= takes_little("the number of relocations", relocs_counted, ITEMS);
@@ -428,6 +453,7 @@ static int strings_take_little(void) {
     right &= takes_little("each long string", each_long_string, 4);
     right &= takes_little("each long string that is closed", each_long_string_closed, 4);
     right &= takes_little("the end of a table whose first string is long", ends_of_long_strings, ITEMS);
+    right &= takes_little("the last long string that is closed", last_long_string, 1);
     right &= takes_little("long strings compared with a short name", long_strings_compared, ITEMS);
     right &= takes_little("long strings compared with a short start", long_strings_started, ITEMS);
     fill_strings(0xc3, 0xa9, 'a');
@@ -451,8 +477,10 @@ static int dynamic_takes_little(void) {
     table.offset = LONG_AT, table.size = ITEMS * sizeof(Elf64_Dyn);
     right &= takes_little("all entries of the dynamic section", all_entries, ITEMS);
     right &= takes_little("its entries one by one", entries_one_by_one, ITEMS);
+    right &= takes_little("the number of its entries", entries_of_all, ITEMS);
     right &= takes_little("the value of a tag that no entry has", value_of_no_tag, ITEMS);
     right &= takes_little("the dynamic section", dynamic_found, ITEMS);
+    right &= takes_little("the number of a few entries", entries_counted, ITEMS);
     right &= takes_little("the value of a tag", value_of_a_tag, ITEMS);
     right &= takes_little("the strings of the dynamic section", dynamic_strings, ITEMS);
     memset(bytes + 128, 0, sizeof two), memset(bytes + two[0].p_offset, 0, sizeof few);
@@ -476,12 +504,13 @@ static int addresses_take_little(void) {
 static int writing_takes_little(void) {
     int right = 1;
     memset(&section, 0, sizeof section), memset(&segment, 0, sizeof segment), memset(&symbol, 0, sizeof symbol);
-    memset(&reloc, 0, sizeof reloc), section.file.size = ITEMS, reloc.has_addend = 1;
+    memset(&reloc, 0, sizeof reloc), section.file.size = ITEMS, reloc.r_addend = 1;
     right &= takes_little("the header written", header_written, ITEMS);
     right &= takes_little("each section written", sections_written, ITEMS);
     right &= takes_little("segments written", segments_written, ITEMS);
     right &= takes_little("each symbol written", symbols_written, ITEMS);
     right &= takes_little("each relocation written", relocs_written, ITEMS);
+    right &= takes_little("each entry written", entries_written, ITEMS);
     right &= takes_little("each number written", numbers_written, ITEMS);
     right &= takes_little("each number of a range written", numbers_in_a_range_written, ITEMS);
     return right;

@@ -13,7 +13,7 @@ enum { FEW = 3, WHOLE = 20, FIRST = 16 };
 
 static uint8_t bytes[0x1000000], saved[sizeof bytes];
 static size_t len;
-static goblin_header_t h;
+static goblin_file_t f;
 static goblin_refusal_t why;
 
 /* Defines put_NAME(item) for each struct, which prints its fields. */
@@ -59,7 +59,7 @@ static bool put_status(const char *what, uint32_t status) {
     return status == GOBLIN_OK;
 }
 
-#define ASK(call, item, ...) put_status(#call, call(bytes, len, __VA_ARGS__, &(item), &why))
+#define ASK(call, item, ...) put_status(#call, call(__VA_ARGS__, &(item), &why))
 #define PUT(kind, item) (put_##kind(&(item)), putchar('\n'))
 #define SHOW(call, kind, item, ...) (ASK(call, item, __VA_ARGS__) && (PUT(kind, item), true))
 
@@ -68,7 +68,7 @@ static bool put_status(const char *what, uint32_t status) {
     do { \
         uint64_t place; \
         goblin_##kind##_t found; \
-        if (put_status(#call, call(bytes, len, __VA_ARGS__, &place, &found, &why))) \
+        if (put_status(#call, call(__VA_ARGS__, &place, &found, &why))) \
             printf(" %" PRIx64, place), PUT(kind, found); \
     } while (0)
 
@@ -100,7 +100,7 @@ static bool put_strings(const char *what, uint32_t status, const goblin_section_
    returned a status and perhaps their range. */
 static void part(uint32_t status, goblin_range_t found, goblin_range_t range) {
     goblin_range_t cut = found;
-    if (status > GOBLIN_END) goblin_range_in_file(bytes, len, &range, &cut);
+    if (status > GOBLIN_END) goblin_range_in_file(&f, &range, &cut);
     printf("goblin_range_in_file");
     if (status == GOBLIN_END) puts(" none");
     else put_data(cut);
@@ -109,35 +109,39 @@ static void part(uint32_t status, goblin_range_t found, goblin_range_t range) {
 /* Prints some numbers of a range. */
 static void numbers_in(goblin_range_t range) {
     uint64_t number;
-    SHOW(goblin_number_in, number, number, &h, &range, 0, 8);
-    SHOW(goblin_number_in, number, number, &h, &range, range.size / 2, 2);
-    SHOW(goblin_number_in, number, number, &h, &range, range.size - 1, 1);
+    SHOW(goblin_number_in, number, number, &f, &range, 0, 8);
+    SHOW(goblin_number_in, number, number, &f, &range, range.size / 2, 2);
+    SHOW(goblin_number_in, number, number, &f, &range, range.size - 1, 1);
 }
 
 /* Writes numbers in a range, one of which doesn't fit. */
 static void write_numbers_in(goblin_range_t range) {
-    WRITE(goblin_put_number_in, &h, &range, 0, 8, 0x7f);
-    WRITE(goblin_put_number_in, &h, &range, range.size / 2, 2, 0x7f000);
-    WRITE(goblin_put_number_in, &h, &range, range.size - 1, 1, 0x7f);
+    WRITE(goblin_put_number_in, &f.header, &range, 0, 8, 0x7f);
+    WRITE(goblin_put_number_in, &f.header, &range, range.size / 2, 2, 0x7f000);
+    WRITE(goblin_put_number_in, &f.header, &range, range.size - 1, 1, 0x7f);
+}
+
+/* Prints whether a string of a table matches, or why the table is refused. */
+static void put_match(const char *what, bool matches, goblin_range_t strings) {
+    goblin_range_t none;
+    uint32_t status = matches ? GOBLIN_OK : goblin_string(&f, &strings, strings.size, &none, &why);
+    if (put_status(what, status)) putchar('\n');
 }
 
 /* Prints whether the string at an offset is some of its own bytes, from the first on, and whether it starts with
    them. */
 static void compare(goblin_range_t strings, uint64_t offset, goblin_range_t found, uint64_t size) {
     const uint8_t *name = bytes + found.offset;
-    if (put_status("goblin_string_is", goblin_string_is(bytes, len, &strings, offset, name, (size_t)size, &why)))
-        putchar('\n');
-    if (put_status("goblin_string_starts",
-                   goblin_string_starts(bytes, len, &strings, offset, name, (size_t)size, &why)))
-        putchar('\n');
+    put_match("goblin_string_is", goblin_string_is(&f, &strings, offset, name, (size_t)size), strings);
+    put_match("goblin_string_starts", goblin_string_starts(&f, &strings, offset, name, (size_t)size), strings);
 }
 
 /* Prints the string at an offset, as UTF-8, as bytes, and if it is closed. */
 static void string(goblin_range_t strings, uint64_t offset) {
     goblin_range_t found = {0, 0};
-    if (ASK(goblin_string, found, &strings, offset)) put_bytes(found), putchar('\n');
-    if (ASK(goblin_string_closed, found, &strings, offset)) put_bytes(found), putchar('\n');
-    if (ASK(goblin_string_bytes, found, &strings, offset)) put_bytes(found), putchar('\n');
+    if (ASK(goblin_string_utf8, found, &f, &strings, offset)) put_bytes(found), putchar('\n');
+    if (ASK(goblin_string_closed, found, &f, &strings, offset)) put_bytes(found), putchar('\n');
+    if (ASK(goblin_string, found, &f, &strings, offset)) put_bytes(found), putchar('\n');
     compare(strings, offset, found, found.size);
     compare(strings, offset, found, found.size / 2);
 }
@@ -149,31 +153,31 @@ static void one_symbol(goblin_range_t table, goblin_range_t names, uint64_t at) 
     goblin_symbol_t symbol;
     goblin_range_t name;
     uint64_t index;
-    if (!ASK(goblin_symbol, symbol, &h, &table, at)) return;
+    if (!ASK(goblin_symbol, symbol, &f, &table, at)) return;
     put_symbol(&symbol);
     TEXT(goblin_bind_to_str, symbol.st_info >> 4);
     TEXT(goblin_type_to_str, symbol.st_info & 15);
     TEXT(goblin_visibility_to_str, symbol.st_other & 7);
     putchar('\n');
     string(names, symbol.st_name);
-    if (goblin_string(bytes, len, &names, symbol.st_name, &name, &why) == GOBLIN_OK)
+    if (goblin_string_utf8(&f, &names, symbol.st_name, &name, &why) == GOBLIN_OK)
         for (uint64_t first = 0; first < 2; first++)
-            SEARCH(goblin_symbol_by_name, symbol, &h, &table, &names, bytes + name.offset, (size_t)name.size,
+            SEARCH(goblin_symbol_by_name, symbol, &f, &table, &names, bytes + name.offset, (size_t)name.size,
                    first * (at + 1));
-    SHOW(goblin_symbol_by_address, number, index, &h, &table, symbol.st_value);
-    SHOW(goblin_symbol_by_address, number, index, &h, &table, symbol.st_value + symbol.st_size);
+    SHOW(goblin_symbol_by_address, number, index, &f, &table, symbol.st_value);
+    SHOW(goblin_symbol_by_address, number, index, &f, &table, symbol.st_value + symbol.st_size);
     if (at >= FEW) return;
-    symbol.st_value ^= 1, symbol.st_name += any_high(at);
-    WRITE(goblin_put_symbol, &h, &table, at, &symbol);
+    symbol.st_value ^= 1, symbol.st_size ^= any_high(at);
+    WRITE(goblin_put_symbol, &f.header, &table, at, &symbol);
 }
 
 static void symbols(const goblin_section_t *section) {
     goblin_section_t strings;
     goblin_range_t table = range_of(section), names;
     uint64_t count;
-    uint32_t status = goblin_linked_section(bytes, len, &h, section->sh_link, &strings, &why);
+    uint32_t status = goblin_linked_section(&f, section->sh_link, &strings, &why);
     if (!put_strings("goblin_linked_section", status, &strings, &names)) return;
-    if (!SHOW(goblin_symbol_count, number, count, &h, &table)) return;
+    if (!SHOW(goblin_symbol_count, number, count, &f, &table)) return;
     bool is_table = section->sh_type == SHT_SYMTAB || section->sh_type == SHT_DYNSYM;
     for (uint64_t i = 0; i < count && (is_table || i < FEW); i++) one_symbol(table, names, i);
     one_symbol(table, names, count - (count > 0)), one_symbol(table, names, count);
@@ -181,26 +185,26 @@ static void symbols(const goblin_section_t *section) {
 
 static void one_reloc(goblin_range_t range, bool is_rela, uint64_t at) {
     goblin_reloc_t reloc;
-    if (!ASK(goblin_reloc, reloc, &h, &range, is_rela, at)) return;
+    if (!ASK(goblin_reloc, reloc, &f, &range, is_rela, at)) return;
     put_reloc(&reloc);
     printf(" %" PRId64 "\n", reloc.r_addend);
     if (at >= FEW) return;
-    reloc.r_offset ^= 1, reloc.r_sym += any_high(at);
-    WRITE(goblin_put_reloc, &h, &range, is_rela, at, &reloc);
+    reloc.r_offset ^= 1, reloc.r_sym ^= (uint32_t)(any_high(at) >> 8); /* (3 bytes hold it in a 32-bit file) */
+    WRITE(goblin_put_reloc, &f.header, &range, is_rela, at, &reloc);
 }
 
 static void relocs(const goblin_section_t *section) {
     goblin_range_t range = range_of(section);
     bool is_rela = section->sh_type == SHT_RELA, is_list = is_rela || section->sh_type == SHT_REL;
     uint64_t count;
-    if (!SHOW(goblin_reloc_count, number, count, &h, &range, is_rela)) return;
+    if (!SHOW(goblin_reloc_count, number, count, &f, &range, is_rela)) return;
     for (uint64_t i = 0; i < count && (is_list || i < FEW); i++) one_reloc(range, is_rela, i);
     one_reloc(range, is_rela, count);
 }
 
 static void notes(goblin_range_t range, uint64_t alignment) {
     goblin_note_t note;
-    for (uint64_t next = range.offset; ASK(goblin_note, note, &h, &range, alignment, next); next = note.next) {
+    for (uint64_t next = range.offset; ASK(goblin_note_utf8, note, &f, &range, alignment, next); next = note.next) {
         put_note(&note);
         TEXT(goblin_note_type_to_str, bytes + note.name.offset, (size_t)note.name.size, note.n_type);
         put_bytes(note.name), put_bytes(note.desc), putchar('\n');
@@ -209,7 +213,7 @@ static void notes(goblin_range_t range, uint64_t alignment) {
 
 static void notes_as_bytes(goblin_range_t range, uint64_t alignment) {
     goblin_note_t note;
-    for (uint64_t next = range.offset; ASK(goblin_note_bytes, note, &h, &range, alignment, next); next = note.next) {
+    for (uint64_t next = range.offset; ASK(goblin_note_whole, note, &f, &range, alignment, next); next = note.next) {
         put_note(&note);
         put_bytes(note.name), put_bytes(note.desc), putchar('\n');
     }
@@ -217,25 +221,25 @@ static void notes_as_bytes(goblin_range_t range, uint64_t alignment) {
 
 static void segments(void) {
     uint64_t count, offset;
-    if (!SHOW(goblin_segment_count, number, count, &h)) return;
+    if (!SHOW(goblin_segment_count, number, count, &f)) return;
     for (uint64_t i = 0; i <= count; i++) {
         goblin_segment_t segment;
         goblin_range_t range;
-        if (!ASK(goblin_segment, segment, &h, i)) return;
+        if (!ASK(goblin_segment, segment, &f, i)) return;
         put_segment(&segment);
         TEXT(goblin_pt_to_str, segment.p_type);
         putchar('\n');
-        SHOW(goblin_segment_bytes, range, range, &segment);
-        uint32_t status = goblin_segment_bytes(bytes, len, &segment, &range, &why);
+        SHOW(goblin_segment_range, range, range, &f, &segment);
+        uint32_t status = goblin_segment_range(&f, &segment, &range, &why);
         part(status, range, segment.file);
         numbers_in(segment.file);
         for (uint64_t k = 0; k < 3; k++)
-            SHOW(goblin_address_to_offset, number, offset, &h, segment.p_vaddr + k * (segment.file.size / 2));
+            SHOW(goblin_address_to_offset, number, offset, &f, segment.p_vaddr + k * (segment.file.size / 2));
         notes(segment.file, segment.p_align);
         notes_as_bytes(segment.file, segment.p_align);
         if (i >= FEW) continue;
         segment.p_flags ^= GOBLIN_PF_X, segment.p_memsz += any_high(i);
-        WRITE(goblin_put_segment, &h, i, &segment);
+        WRITE(goblin_put_segment, &f.header, i, &segment);
         write_numbers_in(segment.file);
     }
 }
@@ -244,71 +248,54 @@ static void sections(void) {
     uint64_t count;
     goblin_section_t names, section;
     goblin_range_t strings, range, name;
-    if (!SHOW(goblin_section_count, number, count, &h)) return;
-    uint32_t status = goblin_section_names(bytes, len, &h, &names, &why);
-    if (!put_strings("goblin_section_names", status, &names, &strings)) return;
+    if (!SHOW(goblin_section_count, number, count, &f)) return;
+    uint32_t status = goblin_names_section(&f, &names, &why);
+    if (!put_strings("goblin_names_section", status, &names, &strings)) return;
     for (uint64_t i = 0; i <= count; i++) {
-        if (!ASK(goblin_section, section, &h, i)) return;
+        if (!ASK(goblin_section, section, &f, i)) return;
         put_section(&section);
         TEXT(goblin_sht_to_str, section.sh_type);
         for (int bit = 0; bit < 32; bit++)
-            if (section.sh_flags >> bit & 1) TEXT(goblin_shf_to_str, 1U << bit);
+            if (section.sh_flags >> bit & 1) TEXT(goblin_shf_to_str, UINT64_C(1) << bit);
         putchar('\n');
         string(strings, section.sh_name);
-        if (goblin_string(bytes, len, &strings, section.sh_name, &name, &why) == GOBLIN_OK)
+        if (goblin_string_utf8(&f, &strings, section.sh_name, &name, &why) == GOBLIN_OK)
             for (uint64_t first = 0; first < 3; first++)
-                SEARCH(goblin_section_by_name, section, &h, &strings, bytes + name.offset, (size_t)name.size,
+                SEARCH(goblin_section_by_name, section, &f, &strings, bytes + name.offset, (size_t)name.size,
                        first * i);
-        SEARCH(goblin_section_by_type, section, &h, section.sh_type, i / 2);
-        SEARCH(goblin_section_by_type, section, &h, section.sh_type, i + 1);
-        SHOW(goblin_section_bytes, range, range, &section);
-        status = goblin_section_bytes(bytes, len, &section, &range, &why);
+        SEARCH(goblin_section_by_type, section, &f, section.sh_type, i / 2);
+        SEARCH(goblin_section_by_type, section, &f, section.sh_type, i + 1);
+        SHOW(goblin_section_range, range, range, &f, &section);
+        status = goblin_section_range(&f, &section, &range, &why);
         part(status, range, range_of(&section));
         numbers_in(range_of(&section));
         symbols(&section), relocs(&section), notes(range_of(&section), section.sh_addralign);
         notes_as_bytes(range_of(&section), section.sh_addralign);
         if (i >= FEW) continue;
-        section.sh_flags ^= GOBLIN_SHF_WRITE, section.sh_name += any_high(i);
-        WRITE(goblin_put_section, &h, i, &section);
+        section.sh_flags ^= GOBLIN_SHF_WRITE, section.file.size ^= any_high(i);
+        WRITE(goblin_put_section, &f.header, i, &section);
     }
-}
-
-/* Finds the dynamic section. In a file without program headers it is a section, which is then found, too. */
-static uint32_t find_dynamic(goblin_range_t *range, goblin_section_t *section) {
-    uint64_t count, index;
-    uint32_t status = goblin_dynamic(bytes, len, &h, range, &why);
-    section->sh_type = SHT_NULL;
-    if (status != GOBLIN_END || goblin_segment_count(bytes, len, &h, &count, &why) != GOBLIN_OK || count > 0)
-        return status;
-    status = goblin_section_by_type(bytes, len, &h, SHT_DYNAMIC, 0, &index, section, &why);
-    return status == GOBLIN_OK ? goblin_section_bytes(bytes, len, section, range, &why) : status;
 }
 
 /* Prints the entries of the dynamic section, its strings, and the values of some tags with the strings there. */
 static void dynamic(void) {
     static const uint64_t tags[] = {DT_NULL, DT_NEEDED, DT_STRTAB, DT_SONAME, DT_FLAGS_1};
-    goblin_section_t section, linked;
     goblin_range_t range, strings = {0, 0};
     goblin_dyn_t entry;
-    uint64_t filled, value;
-    uint32_t found = find_dynamic(&range, &section), status = found;
+    uint64_t filled, index, value;
+    uint32_t found = goblin_dynamic(&f, &range, &why), status = found;
     if (found > GOBLIN_END) { put_status("goblin_dynamic_entries", found); return; }
     printf("goblin_dynamic_entries");
     for (uint64_t i = 0; status == GOBLIN_OK; i++) {
-        status = goblin_dynamic_entries(bytes, len, &h, &range, i, &entry, 1, &filled, &why);
+        status = goblin_dynamic_entries(&f, &range, i, &entry, 1, &filled, &why);
         if (status == GOBLIN_OK) put_dyn(&entry);
     }
     putchar('\n');
-    if (section.sh_type != SHT_NULL) {
-        status = goblin_linked_section(bytes, len, &h, section.sh_link, &linked, &why);
-        if (!put_strings("goblin_dynamic_strings", status, &linked, &strings)) return;
-    } else {
-        status = found == GOBLIN_OK ? goblin_dynamic_strings(bytes, len, &h, &range, &strings, &why) : found;
-        if (status > GOBLIN_END) { put_status("goblin_dynamic_strings", status); return; }
-        printf("goblin_dynamic_strings"), PUT(range, strings);
-    }
+    status = found == GOBLIN_OK ? goblin_dynamic_strings(&f, &range, &strings, &why) : found;
+    if (status > GOBLIN_END) { put_status("goblin_dynamic_strings", status); return; }
+    printf("goblin_dynamic_strings"), PUT(range, strings);
     for (size_t i = 0; i < sizeof tags / sizeof *tags; i++) {
-        status = found == GOBLIN_OK ? goblin_dynamic_value(bytes, len, &h, &range, tags[i], &value, &why) : found;
+        status = found == GOBLIN_OK ? goblin_dynamic_value(&f, &range, tags[i], 0, &index, &value, &why) : found;
         if (put_status("goblin_dynamic_value", status)) PUT(number, value), string(strings, value);
     }
 }
@@ -317,18 +304,18 @@ static void dynamic(void) {
    it does not. */
 static void whole(void) {
     uint64_t count;
-    goblin_header_t w;
+    goblin_file_t w;
     goblin_section_t section;
     goblin_segment_t segment;
     goblin_range_t strings;
-    goblin_whole_header(bytes, len, &h, &w);
+    goblin_whole_header(&f, &w);
     printf("goblin_whole_header");
-    PUT(header, w);
+    PUT(header, w.header);
     if (!SHOW(goblin_section_count, number, count, &w)) return;
     for (uint64_t i = 0; i < count && i < WHOLE; i++) SHOW(goblin_section, section, section, &w, i);
     SHOW(goblin_section, section, section, &w, count);
     SHOW(goblin_section, section, section, &w, UINT64_MAX);
-    put_strings("goblin_section_names", goblin_section_names(bytes, len, &w, &section, &why), &section, &strings);
+    put_strings("goblin_names_section", goblin_names_section(&w, &section, &why), &section, &strings);
     if (!SHOW(goblin_segment_count, number, count, &w)) return;
     for (uint64_t i = 0; i < count && i < WHOLE; i++) SHOW(goblin_segment, segment, segment, &w, i);
     SHOW(goblin_segment, segment, segment, &w, count);
@@ -337,7 +324,7 @@ static void whole(void) {
 
 /* Writes the header and numbers. */
 static void writing(void) {
-    goblin_header_t changed = h;
+    goblin_header_t changed = f.header;
     changed.e_type ^= 1, changed.e_entry ^= 1;
     WRITE(goblin_put_header, &changed);
     changed.e_entry += any_high(1);
@@ -345,15 +332,15 @@ static void writing(void) {
     changed.ei_data = 3;
     WRITE(goblin_put_header, &changed);
     for (uint64_t width = 1; width <= 8; width *= 2) {
-        WRITE(goblin_put_number, &h, len / 2, width, 0x7f);
-        WRITE(goblin_put_number, &h, len - 4, width, 0x7f00);
+        WRITE(goblin_put_number, &f.header, len / 2, width, 0x7f);
+        WRITE(goblin_put_number, &f.header, len - 4, width, 0x7f00);
     }
 }
 
 static void numbers(void) {
     uint64_t number;
     for (uint64_t width = 0; width <= 9; width++)
-        for (uint64_t i = 0; i < 3; i++) SHOW(goblin_number, number, number, &h, i * (len / 2) - (i == 2) * 4, width);
+        for (uint64_t i = 0; i < 3; i++) SHOW(goblin_number, number, number, &f, i * (len / 2) - (i == 2) * 4, width);
 }
 
 static bool load(const char *path) {
@@ -368,11 +355,11 @@ int main(int argc, char **argv) {
     for (int i = 1; i < argc; i++) {
         if (!load(argv[i])) return EXIT_FAILURE;
         printf("file %d\n", i);
-        if (!put_status("goblin_header", goblin_header(bytes, len, &h, &why))) continue;
-        put_header(&h);
-        TEXT(goblin_class_to_str, h.ei_class);
-        TEXT(goblin_et_to_str, h.e_type);
-        TEXT(goblin_machine_to_str, h.e_machine);
+        if (!put_status("goblin_file", goblin_file(bytes, len, &f, &why))) continue;
+        put_header(&f.header);
+        TEXT(goblin_class_to_str, f.header.ei_class);
+        TEXT(goblin_et_to_str, f.header.e_type);
+        TEXT(goblin_machine_to_str, f.header.e_machine);
         putchar('\n');
         memcpy(saved, bytes, len);
         segments(), sections(), dynamic(), whole(), writing(), numbers();

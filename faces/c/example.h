@@ -1,4 +1,4 @@
-/* What the examples share: the file that is read, its header, why a call refused it, and how that is printed. */
+/* What the examples share: the file that is read, why a call refused it, and how that is printed. */
 #include "goblin.h"
 #include <errno.h>
 #include <inttypes.h>
@@ -8,32 +8,32 @@
 
 static uint8_t *bytes;
 static size_t len;
-static goblin_header_t header;
+static goblin_file_t file;
 static goblin_refusal_t why;
 
 /* Reads a file into memory of malloc. Returns whether all of it is read. */
 static inline bool load(const char *path) {
-    FILE *file = fopen(path, "rb");
+    FILE *stream = fopen(path, "rb");
     /* (a folder can be opened, and has a size, but its first byte can't be read) */
-    bool is_read = file && (getc(file) != EOF || feof(file));
-    long size = is_read && fseek(file, 0, SEEK_END) == 0 ? ftell(file) : -1;
+    bool is_read = stream && (getc(stream) != EOF || feof(stream));
+    long size = is_read && fseek(stream, 0, SEEK_END) == 0 ? ftell(stream) : -1;
     bytes = size < 0 ? NULL : (uint8_t *)malloc((size_t)size + 1);
     if (!bytes) {
         int reason = errno;
-        if (file) fclose(file);
+        if (stream) fclose(stream);
         return errno = reason, false;
     }
-    rewind(file);
-    len = fread(bytes, 1, (size_t)size, file);
-    is_read = !ferror(file);
-    return fclose(file) == 0 && is_read;
+    rewind(stream);
+    len = fread(bytes, 1, (size_t)size, stream);
+    is_read = !ferror(stream);
+    return fclose(stream) == 0 && is_read;
 }
 
-/* Reads the header, and finds the first program header of a type, and its index. */
+/* Reads the header of the file, and finds the first program header of a type, and its index. */
 static inline uint32_t find_segment(uint32_t p_type, uint64_t *index, goblin_segment_t *segment) {
-    uint32_t status = goblin_header(bytes, len, &header, &why);
+    uint32_t status = goblin_file(bytes, len, &file, &why);
     for (*index = 0; status == GOBLIN_OK; ++*index) {
-        status = goblin_segment(bytes, len, &header, *index, segment, &why);
+        status = goblin_segment(&file, *index, segment, &why);
         if (status != GOBLIN_OK || segment->p_type == p_type) break;
     }
     return status;

@@ -1,14 +1,14 @@
 /* Shows or changes whether the stack of a program may be executed: execstack [-c | -s] FILE
    This is the flag GOBLIN_PF_X of the program header of type GOBLIN_PT_GNU_STACK. -c clears it in the file, and -s sets
-   it. Prints X if it is set, - if it is not, and ? if there is no such program header. Then -c and -s fail. */
+   it. Prints X if it is set, - if it is not, and ? if there is no such program file.header. Then -c and -s fail. */
 #include "goblin.h"
 #include "example.h"
 
 static bool store(const char *path) {
-    FILE *file = fopen(path, "r+b");
-    if (!file) return false;
-    bool is_written = fwrite(bytes, 1, len, file) == len;
-    return fclose(file) == 0 && is_written;
+    FILE *stream = fopen(path, "r+b");
+    if (!stream) return false;
+    bool is_written = fwrite(bytes, 1, len, stream) == len;
+    return fclose(stream) == 0 && is_written;
 }
 
 int main(int argc, char **argv) {
@@ -26,7 +26,7 @@ int main(int argc, char **argv) {
     uint32_t flags = clears ? stack.p_flags & ~GOBLIN_PF_X : sets ? stack.p_flags | GOBLIN_PF_X : stack.p_flags;
     if (flags != stack.p_flags) {
         stack.p_flags = flags;
-        if (goblin_put_segment(bytes, len, &header, index, &stack, &why) != GOBLIN_OK)
+        if (goblin_put_segment(bytes, len, &file.header, index, &stack, &why) != GOBLIN_OK)
             return fprintf(stderr, "execstack: %s: %s\n", path, refusal_text()), 1;
         if (!store(path)) return perror(path), 2;
     }

@@ -10,17 +10,17 @@ int main(int argc, char **argv) {
     const char *name = argv[2];
     goblin_section_t names, section;
     uint64_t index = 0;
-    uint32_t status = goblin_header(bytes, len, &header, &why);
-    if (status == GOBLIN_OK) status = goblin_section_names(bytes, len, &header, &names, &why);
+    uint32_t status = goblin_file(bytes, len, &file, &why);
+    if (status == GOBLIN_OK) status = goblin_names_section(&file, &names, &why);
     if (status == GOBLIN_OK)
-        status = goblin_section_by_name(bytes, len, &header, &names.file, name, strlen(name), 0,
+        status = goblin_section_by_name(&file, &names.file, name, strlen(name), 0,
                                         &index, &section, &why);
     if (status == GOBLIN_END) return fprintf(stderr, "flag: there is no section %s\n", name), 1;
     if (status != GOBLIN_OK) return print_refusal("flag");
     uint64_t before = section.sh_flags;
     section.sh_flags ^= GOBLIN_SHF_WRITE;
-    if (goblin_put_section(bytes, len, &header, index, &section, &why) != GOBLIN_OK
-        || goblin_section(bytes, len, &header, index, &section, &why) != GOBLIN_OK)
+    if (goblin_put_section(bytes, len, &file.header, index, &section, &why) != GOBLIN_OK
+        || goblin_section(&file, index, &section, &why) != GOBLIN_OK)
         return print_refusal("flag");
     printf("%s: flags 0x%" PRIx64 ", now 0x%" PRIx64 "\n", name, before, section.sh_flags);
     return written(0);

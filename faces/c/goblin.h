@@ -14,53 +14,74 @@
      Each call that can fail returns a uint32_t:
        GOBLIN_OK (0)   The call has written its result.
        GOBLIN_END (1)  There is no such item: an index or offset is past the end, or none has that name, type, address.
-       2 or more       The file is refused. The number is one of the GOBLIN_ numbers below. The call has written the
-                       same number to `*why`, with the numbers that belong to it and the offset of what is refused.
-     The result is the argument before `why`, of a search by name or type the two before it, and the array of a call
-     that fills one. A call that begins with goblin_put_ has none: it writes into `bytes`. Nor have goblin_string_is and
-     goblin_string_starts, which return GOBLIN_OK for yes and GOBLIN_END for no. A call writes its result, or the bytes,
-     only at GOBLIN_OK (goblin_strings is the exception), `*why` only at a refusal, and nothing else. So a result that
-     is zero before the call is still zero at GOBLIN_END, and one goblin_refusal_t serves all calls of a program.
-     Refusals come before GOBLIN_END, if a call does not say otherwise: also past the end of a table that is refused.
+       2 or more       The file is refused. The number is one of the GOBLIN_REFUSED_ numbers below. The call has written
+                       the same number to `*why`, with the numbers that belong to it and the offset of what is refused.
+     The result is the argument before `why`, of a search by name, type or tag the two before it, and the array of a
+     call that fills one. A call that begins with goblin_put_ has none: it writes into `bytes`. A call writes its
+     result, or the bytes, only at GOBLIN_OK (goblin_strings is the exception), `*why` only at a refusal, and nothing
+     else. So a result that is zero before the call is still zero at GOBLIN_END, and one goblin_refusal_t serves all
+     calls of a program. Refusals come before GOBLIN_END, if a call does not say otherwise: also past the end of a table
+     that is refused. goblin_string_is and goblin_string_starts return a bool: true for yes.
 
    Pointers
-     `bytes` points to the `len` bytes of the whole file. `bytes`, an array, a name or a text may be null if its length
-     or capacity is 0. Nothing else may be null: GOBLIN_STATUS and GOBLIN_GIVEN list these arguments by their numbers,
-     for compilers that warn of a null there. They warn too of a status that is not read. A caller that does not read
-     `why` passes GOBLIN_UNREAD. What a call writes must not overlap anything else that it is given. Names and texts are
-     `const void *`, so a string literal and bytes are both passed without a cast.
+     Most calls take a goblin_file_t first, which goblin_file fills: it points to the `len` bytes of the file. `bytes`,
+     an array, a name or a text may be null if its length or capacity is 0. Nothing else may be null: GOBLIN_STATUS and
+     GOBLIN_GIVEN list these arguments by their numbers, for compilers that warn of a null there. They warn too of a
+     result that is not read. A caller that does not read `why` passes GOBLIN_UNREAD. What a call writes must not
+     overlap anything else that it is given. Names and texts are `const void *`, so a string literal and bytes are both
+     passed without a cast. GOBLIN_LITERAL passes a literal with its length.
 
    Files that change
      Nothing else may write the bytes during a call: calls may run at once in several threads, but for goblin_put_ calls
      into the same bytes. They may change between two calls, since each call checks all that it reads. But what an
-     earlier call returned may then be out of date. If a mapped file is made shorter, a read past its new end ends the
-     program (SIGBUS). Read a file into a buffer if others may shorten it.
+     earlier call returned may then be out of date, and `file.bytes` too, if the bytes are moved, as by realloc. If a
+     mapped file is made shorter, a read past its new end ends the program (SIGBUS). Read a file into a buffer if others
+     may shorten it.
 
    Files that are cut
      If one section header is not inside the file, each call that reads section headers is refused, searches too;
-     program headers are refused in the same way. goblin_whole_header makes a header that counts only the headers inside
-     the file: with it no list of headers is refused. A table whose range ends past the file is refused, too: cut the
-     range with goblin_range_in_file first.
+     program headers are refused in the same way. goblin_whole_header makes a file that counts only the headers inside
+     it: with it no list of headers is refused. A table whose range ends past the file is refused, too: cut the range
+     with goblin_range_in_file first.
+
+   A part of a file
+     The bytes need not be a whole file, if they hold what the call reads, at the offsets that the call is given:
+       goblin_file                    the header: the first 52 or 64 bytes
+       sections                       all section headers, at e_shoff
+       segments                       all program headers, at e_phoff; section header 0 if e_phnum is GOBLIN_PN_XNUM
+       symbols, relocations, strings, entries, a number in a range: the range that is passed
+       a symbol by its address        the symbols, and all section headers
+       a note                         the note; of goblin_note_whole as much of it as is in the range
+       a range of bytes               the range
+       the dynamic section            the program headers, or without those the section headers, and the range
+     So a caller may read parts into buffers of its own: goblin_file over the file's start, and for each other part a
+     goblin_file_t whose `bytes` are the part and whose `header` is the file's, with ranges and offsets that count from
+     the part's start. A put changes such a part, too. pread.c reads a core file in this way.
 
    Units
-     Offsets and sizes are in bytes. Offsets start at the file's first byte if nothing else is said. Numbers are in the
-     machine's own byte order, whatever the file's.
+     Offsets and sizes are in bytes. Offsets start at the first of the file's bytes if nothing else is said. Numbers are
+     in the machine's own byte order, whatever the file's.
+     A range of size 0 at the end of the file is inside the file; goblin_symbol and its like refuse one there.
 
    Header
-     Read the header first, and pass it to the other calls. They use its class, byte order, machine, and the offsets and
-     counts of its tables. A caller may also fill a header itself.
+     The calls use the file's class, byte order, machine, and the offsets and counts of its tables. A caller may also
+     change or fill a header itself, in which any number may stand.
 
    One item or many
-     To read a whole table, use the plural calls, such as goblin_symbols: with 64 items at once an item takes 0.51 to
-     0.67 of the time of a call for one. With a capacity of 0 they fill nothing, and return what they return for one
-     (goblin_strings GOBLIN_OK).
+     To read a whole table, use the plural calls, such as goblin_symbols, which take about half the time of a call for
+     each item. With a capacity of 0 they fill nothing, and return what they return for one (goblin_strings GOBLIN_OK).
+     A call takes a time in proportion to what it writes, if it does not say otherwise.
+
+   Names
+     Names and strings are bytes, which need not be UTF-8. goblin_string_utf8 and goblin_note_utf8 refuse those that are
+     not.
 
    Examples
      Each call has an example. All are compiled with these variables:
-       const uint8_t *bytes; uint8_t *own; size_t len; goblin_header_t header, whole; goblin_refusal_t why;
-       goblin_range_t range, string; goblin_section_t section, table, names, sections[64];
+       const uint8_t *bytes; uint8_t *own; size_t len; goblin_file_t file, whole; goblin_header_t header;
+       goblin_refusal_t why; goblin_range_t range, string; goblin_section_t section, table, names, sections[64];
        goblin_segment_t segment, segments[64]; goblin_symbol_t symbol, symbols[64];
-       goblin_reloc_t reloc, relocs[64]; goblin_note_t note; goblin_dyn_t entries[64];
+       goblin_reloc_t reloc, relocs[64]; goblin_note_t note; goblin_dyn_t entry, entries[64];
        goblin_range_t ranges[64]; uint64_t offsets[64]; uint64_t count, index, filled, value; char text[160]; */
 #ifndef GOBLIN_H
 #define GOBLIN_H
@@ -73,11 +94,12 @@
 extern "C" {
 #endif
 
-/* The number of the interface. It goes up if a call or a struct changes. goblin_version() returns the library's, which
-   must be the same. */
-#define GOBLIN_VERSION 7
+/* The number of the interface. It goes up if a call, a struct or a number changes or goes. New ones, and new numbers of
+   refusals, leave it as it is: a program may be linked with a later library of the same number. goblin_version()
+   returns the library's, which must be the same. */
+#define GOBLIN_VERSION 8
 /* The version of the package that this file is part of. */
-#define GOBLIN_VERSION_STRING "0.8.0"
+#define GOBLIN_VERSION_STRING "0.9.0"
 
 /* In C++ the numbers below have the type that calls return, so that `?:` takes a call and a number for one type. */
 #if defined __cplusplus && __cplusplus >= 201103L
@@ -93,72 +115,63 @@ enum GOBLIN_NUMBERS {
     GOBLIN_END = 1,
 
     /* The file does not start with the magic number: the first eight bytes as a little-endian number. */
-    GOBLIN_BAD_MAGIC = 2,
+    GOBLIN_REFUSED_BAD_MAGIC = 2,
     /* An item ends past the end of the file: its size; how many bytes there are from its offset to the end. */
-    GOBLIN_TOO_BIG = 3,
+    GOBLIN_REFUSED_TOO_BIG = 3,
     /* An item starts at the end of the file or past it: its offset. */
-    GOBLIN_BAD_OFFSET = 4,
-    /* A name is not UTF-8: how many bytes there are from its offset to the end of what is read. `item`
-       is GOBLIN_INVALID_UTF8. */
-    GOBLIN_BAD_INPUT = 5,
-    /* There are more items than the file could hold, wherever they are: their number. `item` is GOBLIN_SECTION_HEADERS
-       or GOBLIN_PROGRAM_HEADERS. */
-    GOBLIN_BUFFER_TOO_SHORT = 6,
-    /* No call returns this, since none allocates. */
-    GOBLIN_OUT_OF_MEMORY = 7,
-
-    /* No call returns 11, 18, 22 or 23 so far. They are here since the library has them. */
-    /* The class byte is neither 1 nor 2, of a header that is queried or written: the byte. */
-    GOBLIN_INVALID_CLASS = 10,
-    /* The byte of the byte order is neither 1 nor 2, of a header that is queried: the byte. */
-    GOBLIN_INVALID_ENDIANNESS = 11,
+    GOBLIN_REFUSED_BAD_OFFSET = 4,
+    /* A string or a name is not UTF-8: how many bytes there are from its offset to the end of what is read. `item`
+       is GOBLIN_ITEM_INVALID_UTF8. Only the calls whose names end with _utf8 return it. */
+    GOBLIN_REFUSED_BAD_INPUT = 5,
+    /* There are more items than the file could hold, wherever they are: their number. `item` is
+       GOBLIN_ITEM_SECTION_HEADERS or GOBLIN_ITEM_PROGRAM_HEADERS. */
+    GOBLIN_REFUSED_BUFFER_TOO_SHORT = 6,
+    /* The class byte is neither 1 nor 2, of a header that is written: the byte. */
+    GOBLIN_REFUSED_INVALID_CLASS = 10,
     /* The file has fewer than 16 bytes. */
-    GOBLIN_TOO_SMALL = 12,
+    GOBLIN_REFUSED_TOO_SMALL = 12,
     /* The class byte is neither 1 nor 2: the byte. */
-    GOBLIN_ELF_CLASS = 13,
+    GOBLIN_REFUSED_ELF_CLASS = 13,
     /* The byte of the byte order is neither 1 nor 2: the byte. */
-    GOBLIN_DATA_TYPE = 14,
-    /* The byte of the byte order is neither 1 nor 2, of a raw header or one that is written: the byte. */
-    GOBLIN_DATA = 15,
+    GOBLIN_REFUSED_DATA_TYPE = 14,
+    /* The byte of the byte order is neither 1 nor 2, of a header that is written: the byte. */
+    GOBLIN_REFUSED_DATA = 15,
     /* The alignment of notes is neither 4 nor 8: the alignment. */
-    GOBLIN_NOTE_ALIGN = 16,
+    GOBLIN_REFUSED_NOTE_ALIGN = 16,
     /* A symbol table starts at the end of the file or past it: its offset; the file's length. */
-    GOBLIN_SYMTAB_OFFSET = 17,
-    /* The size of a symbol table does not fit in 64 bits: its offset; the number of its symbols. */
-    GOBLIN_TOO_MANY_SYMBOLS = 18,
+    GOBLIN_REFUSED_SYMTAB_OFFSET = 17,
     /* A symbol table ends past the end of the file: its size; how many bytes there are from its offset to the end. */
-    GOBLIN_SYMTAB_PAST = 19,
+    GOBLIN_REFUSED_SYMTAB_PAST = 19,
     /* A string table starts past the end of the file: its offset; the file's length. */
-    GOBLIN_STRTAB_OFFSET = 20,
+    GOBLIN_REFUSED_STRTAB_OFFSET = 20,
     /* A string table ends past the end of the file: its size; its offset; the file's length; 1 if its end does not fit
        in 64 bits, else 0. */
-    GOBLIN_STRTAB_RANGE = 21,
-    /* A section ends past the end of the file: the offset of its name in the section names; its size; its offset; 1 if
-       its end does not fit in 64 bits, else 0. */
-    GOBLIN_SECTION_OFFSET = 22,
-    /* The addresses of a section do not fit in 64 bits: the offset of its name in the section names; its size; its
-       address; 1. */
-    GOBLIN_SECTION_ADDR = 23,
-    /* A number that is to be written does not fit its field, or a relocation has an addend where its table has none, or
-       the reverse: the first such number of the record, a negative one as (uint64_t)r_addend. */
-    GOBLIN_INTEGER_FIT = 24
+    GOBLIN_REFUSED_STRTAB_RANGE = 21,
+    /* A number that is to be written does not fit its field: the first such number of the record in the order of the
+       file, r_sym before r_type, a negative one as (uint64_t)r_addend. `item` is GOBLIN_ITEM_ADDEND for an addend other
+       than 0 in a table whose relocations have none. */
+    GOBLIN_REFUSED_INTEGER_FIT = 24
+
+    /* The numbers 7 to 9, 11, 18, 22 and 23 are reserved: the library has refusals of which no call is refused. */
 };
 
 /* Values of `item` of goblin_refusal_t: 0 for refusals that have none. */
 enum GOBLIN_NUMBERS {
-    GOBLIN_INVALID_UTF8 = 1,
-    GOBLIN_SECTION_HEADERS = 2,
-    GOBLIN_PROGRAM_HEADERS = 3,
-    /* The part of a note that goblin_note_bytes does not find. goblin_refusal_to_str has no words for these. */
-    GOBLIN_NOTE_HEADER = 4,
-    GOBLIN_NOTE_NAME = 5,
-    GOBLIN_NOTE_DESC = 6
+    GOBLIN_ITEM_INVALID_UTF8 = 1,
+    GOBLIN_ITEM_SECTION_HEADERS = 2,
+    GOBLIN_ITEM_PROGRAM_HEADERS = 3,
+    /* The part of a note that goblin_note_whole does not find. goblin_refusal_to_str has no words for these. */
+    GOBLIN_ITEM_NOTE_HEADER = 4,
+    GOBLIN_ITEM_NOTE_NAME = 5,
+    GOBLIN_ITEM_NOTE_DESC = 6,
+    /* An addend that its table has no field for. */
+    GOBLIN_ITEM_ADDEND = 7
 };
 
 /* Why a file is refused. */
 typedef struct {
     uint32_t kind; /* what the call returned */
-    uint32_t item; /* GOBLIN_INVALID_UTF8 or the like, else 0 */
+    uint32_t item; /* GOBLIN_ITEM_INVALID_UTF8 or the like, else 0 */
     uint64_t first; /* the numbers that belong to the kind, in the order of its comment, and zeros */
     uint64_t second;
     uint64_t third;
@@ -189,10 +202,10 @@ typedef struct {
     uint16_t e_machine;   /* the machine, a GOBLIN_EM_ number */
     uint16_t e_ehsize;    /* the size of this header that the file states */
     uint16_t e_phentsize; /* the size of a program header that the file states; only the class decides what is read */
-    uint16_t e_phnum;     /* the number of program headers; if it is 0xffff (PN_XNUM), see goblin_segment_count */
+    uint16_t e_phnum;     /* the number of program headers; if it is GOBLIN_PN_XNUM, see goblin_segment_count */
     uint16_t e_shentsize; /* the size of a section header that the file states; only the class decides what is read */
     uint16_t e_shnum;     /* the number of section headers; if it is 0, the first section's sh_size has the number */
-    uint16_t e_shstrndx;  /* the index of the section that holds the section names: see goblin_section_names */
+    uint16_t e_shstrndx;  /* the index of the section that holds the section names: see goblin_names_section */
     uint8_t ei_class;     /* GOBLIN_ELFCLASS64 (2) for 64 bits; any other number counts as GOBLIN_ELFCLASS32 (1) */
     uint8_t ei_data;      /* GOBLIN_ELFDATA2MSB (2) for big endian; any other number counts as GOBLIN_ELFDATA2LSB (1) */
     uint8_t ei_version;   /* the version of the format once more */
@@ -200,56 +213,70 @@ typedef struct {
     uint8_t ei_abiversion; /* the version of that ABI */
 } goblin_header_t;
 
+/* A file: some bytes of it, and its header. goblin_file fills one, and a caller may change or fill it, too. See
+   "A part of a file" above. One that is all zeros is a file without bytes, in which no call finds anything. */
+typedef struct {
+    const uint8_t *bytes;   /* its bytes; may be null if `len` is 0 */
+    size_t len;             /* how many there are */
+    goblin_header_t header; /* its header, by which the calls read: the class, the byte order, the machine, and where
+                               the tables of headers are */
+} goblin_file_t;
+
+/* Records. On a little-endian machine a goblin_section_t, goblin_symbol_t, goblin_reloc_t or goblin_dyn_t has the
+   fields of an Elf64_Shdr, Elf64_Sym, Elf64_Rela or Elf64_Dyn at the same offsets, so it may be copied over one. On a
+   big-endian machine this is so but for goblin_reloc_t. A goblin_segment_t is as long as an Elf64_Phdr, with p_filesz
+   before p_vaddr. */
+
 /* A section header. */
 typedef struct {
-    goblin_range_t file;   /* sh_offset and sh_size as they stand, inside the file or not; a section of type
-                              GOBLIN_SHT_NOBITS has no bytes in the file, whatever its size */
-    uint64_t sh_name;      /* the offset of its name in the section names */
+    uint32_t sh_name;      /* the offset of its name in the section names */
+    uint32_t sh_type;      /* what it holds, a GOBLIN_SHT_ number */
     uint64_t sh_flags;     /* GOBLIN_SHF_ flags */
     uint64_t sh_addr;      /* its address in memory, or 0 */
-    uint64_t sh_addralign; /* the alignment of its address; 0 and 1 for none */
-    uint64_t sh_entsize;   /* the size of an entry if it is a table; the size that is read depends on the class alone */
-    uint32_t sh_type;      /* what it holds, a GOBLIN_SHT_ number */
+    goblin_range_t file;   /* sh_offset and sh_size as they stand, inside the file or not; a section of type
+                              GOBLIN_SHT_NOBITS has no bytes in the file, whatever its size */
     uint32_t sh_link;      /* the index of a section that belongs to it */
     uint32_t sh_info;      /* further information that depends on the type */
+    uint64_t sh_addralign; /* the alignment of its address; 0 and 1 for none */
+    uint64_t sh_entsize;   /* the size of an entry if it is a table; the size that is read depends on the class alone */
 } goblin_section_t;
 
 /* A program header. */
 typedef struct {
+    uint32_t p_type;     /* what it is, a GOBLIN_PT_ number */
+    uint32_t p_flags;    /* GOBLIN_PF_ flags: 1 execute, 2 write, 4 read */
     goblin_range_t file; /* p_offset and p_filesz as they stand, inside the file or not */
     uint64_t p_vaddr;    /* its address in memory */
     uint64_t p_paddr;    /* its physical address, on systems that have such */
     uint64_t p_memsz;    /* its size in memory */
     uint64_t p_align;    /* its alignment */
-    uint32_t p_type;     /* what it is, a GOBLIN_PT_ number */
-    uint32_t p_flags;    /* GOBLIN_PF_ flags: 1 execute, 2 write, 4 read */
 } goblin_segment_t;
 
 /* A symbol. */
 typedef struct {
-    uint64_t st_name;  /* the offset of its name in the string table, or 0 for none */
-    uint64_t st_value; /* its value: mostly an address; in a file of type GOBLIN_ET_REL an offset in its section */
+    uint32_t st_name;  /* the offset of its name in the string table, or 0 for none */
+    uint8_t st_info;   /* its binding and its type: GOBLIN_ST_BIND and GOBLIN_ST_TYPE */
+    uint8_t st_other;  /* its visibility: GOBLIN_ST_VISIBILITY */
+    uint16_t st_shndx; /* the index of its section, or a GOBLIN_SHN_ number: 0 if it is not defined in this file */
+    uint64_t st_value; /* its value: mostly an address; in a file of type GOBLIN_ET_REL an offset in its section; in one
+                          for GOBLIN_EM_PPC64 whose functions have descriptors, that of the descriptor, in .opd */
     uint64_t st_size;  /* its size; 0 for none or an unknown size */
-    uint64_t st_shndx; /* the index of its section, or a GOBLIN_SHN_ number: 0 if it is not defined in this file */
-    uint8_t st_info;   /* the binding in the high four bits, the type in the low four */
-    uint8_t st_other;  /* the visibility in the low three bits */
 } goblin_symbol_t;
 
 /* A relocation. */
 typedef struct {
-    uint64_t r_offset;   /* where it applies: an offset in a section, or an address, which depends on the file's type */
-    uint64_t r_sym;      /* the index of the symbol, or 0 for none */
-    int64_t r_addend;    /* the addend, signed in both classes; 0 if the relocation has none of its own */
-    uint32_t r_type;     /* its type, whose meaning depends on the machine */
-    uint32_t has_addend; /* 1 if r_addend was read, else 0 */
+    uint64_t r_offset; /* where it applies: an offset in a section, or an address, which depends on the file's type */
+    uint32_t r_type;   /* its type, whose meaning depends on the machine */
+    uint32_t r_sym;    /* the index of the symbol, or 0 for none */
+    int64_t r_addend;  /* the addend, signed in both classes; 0 if the table's relocations have none of their own */
 } goblin_reloc_t;
 
 /* A note. */
 typedef struct {
-    goblin_range_t name; /* its name, which is UTF-8, without its last byte, zero in most files; of goblin_note_bytes
-                            the whole name */
+    goblin_range_t name; /* its name, without its last byte, zero in most files */
     goblin_range_t desc; /* its descriptor */
-    uint64_t next;       /* the offset to read the next note at, which may lie past the end of the file */
+    uint64_t next;       /* the offset to read the next note at: above the note's own by 12 at least, and perhaps past
+                            the end of the file */
     uint32_t n_type;     /* its type, whose meaning depends on the name */
 } goblin_note_t;
 
@@ -270,6 +297,7 @@ typedef struct {
     uint64_t size_of_reloc;
     uint64_t size_of_note;
     uint64_t size_of_dyn;
+    uint64_t size_of_file;
     goblin_refusal_t refusal;
     goblin_range_t range;
     goblin_header_t header;
@@ -295,6 +323,25 @@ static inline goblin_refusal_t *goblin_unread(void) {
 #define GOBLIN_UNREAD goblin_unread()
 #endif
 
+/* A string literal and its length, without its zero byte: two arguments of a call. */
+#define GOBLIN_LITERAL(literal) ("" literal ""), (sizeof(literal) - 1)
+
+/* The binding and the type in st_info, and an st_info made of them; the visibility in st_other. */
+#define GOBLIN_ST_BIND(st_info) ((st_info) >> 4)
+#define GOBLIN_ST_TYPE(st_info) ((st_info) & 15)
+#define GOBLIN_ST_INFO(binding, type) ((binding) << 4 | ((type) & 15))
+#define GOBLIN_ST_VISIBILITY(st_other) ((st_other) & 7)
+
+/* The size of a record in the class of a header, in bytes. */
+#define GOBLIN_SIZEOF(header, record) \
+    ((header)->ei_class == GOBLIN_ELFCLASS64 ? GOBLIN_SIZEOF_##record##64 : GOBLIN_SIZEOF_##record##32)
+#define GOBLIN_SIZEOF_SHDR(header) GOBLIN_SIZEOF(header, SHDR)
+#define GOBLIN_SIZEOF_PHDR(header) GOBLIN_SIZEOF(header, PHDR)
+#define GOBLIN_SIZEOF_SYM(header) GOBLIN_SIZEOF(header, SYM)
+#define GOBLIN_SIZEOF_REL(header) GOBLIN_SIZEOF(header, REL)
+#define GOBLIN_SIZEOF_RELA(header) GOBLIN_SIZEOF(header, RELA)
+#define GOBLIN_SIZEOF_DYN(header) GOBLIN_SIZEOF(header, DYN)
+
 /* The status of a call is to be read, and these arguments may not be null. (In C89 clang warns of bool.) */
 #ifdef __clang__
 #pragma clang diagnostic push
@@ -316,208 +363,209 @@ uint32_t goblin_version(void);
 
 /* Fills a goblin_layout_t with the sizes of the structs and with marks: in each struct all bytes of the first field are
    1, those of the second field 2, and so on, in the order of this file. A range counts as two fields. A field whose
-   offset or size differs in C and in the library reads as another number.
-   Example: goblin_layout_t layout; goblin_layout(&layout); */
-void goblin_layout(goblin_layout_t *layout) GOBLIN_GIVEN((1));
+   offset or size differs in C and in the library reads as another number. `size` is the size of `*layout`. Returns how
+   many bytes are written: 0 if `size` is too small for the layout of this interface. A later library writes more only
+   for a larger `size`.
+   Example: goblin_layout_t layout; if (goblin_layout(&layout, sizeof layout) != sizeof layout) return 1; */
+size_t goblin_layout(goblin_layout_t *layout, size_t size) GOBLIN_STATUS((1));
 
-/* ---- the header ---- */
+/* ---- the file and its header ---- */
 
-/* Reads the header, which is at the start of the file.
-   Returns GOBLIN_TOO_SMALL, GOBLIN_BAD_MAGIC, GOBLIN_ELF_CLASS, GOBLIN_DATA_TYPE or GOBLIN_TOO_BIG, the first of these
-   that applies, in this order. Never returns GOBLIN_END.
-   Example: if (goblin_header(bytes, len, &header, &why) != GOBLIN_OK) return 1; */
-uint32_t goblin_header(const uint8_t *bytes, size_t len, goblin_header_t *header, goblin_refusal_t *why)
+/* Fills a file: its bytes, which are kept by their address, and the header that is at their start.
+   Returns GOBLIN_REFUSED_TOO_SMALL, _BAD_MAGIC, _ELF_CLASS, _DATA_TYPE or _TOO_BIG, the first of these that applies, in
+   this order. Never returns GOBLIN_END.
+   Example: if (goblin_file(bytes, len, &file, &why) != GOBLIN_OK) return 1; */
+uint32_t goblin_file(const uint8_t *bytes, size_t len, goblin_file_t *file, goblin_refusal_t *why)
     GOBLIN_STATUS((3, 4));
 
-/* Copies a header, and makes the copy count only the headers that are whole inside the file. With the copy the other
-   calls work on a file that is cut or damaged, searches too.
+/* Copies a file, and makes the header of the copy count only the headers that are whole inside the file. With the copy
+   the other calls work on a file that is cut or damaged, searches too.
    If all section headers are inside the file, e_shoff and e_shnum stay. Else e_shnum is how many of them are, at most
    0xffff; if none is, e_shoff and e_shnum are 0. If all program headers are inside the file, e_phnum stays. Else it is
    how many of them are, at most 0xfffe. If their number can't be read (see goblin_segment_count), it is how many of
-   0xfffe are. All other fields stay. With the copy no list of headers is refused. Where one is not refused with
-   `header`, the calls return and write the same with the copy. In most files the header of the section names is one of
-   the last, so goblin_section_names returns GOBLIN_END if the end is cut. Cannot fail. The copy is for reading:
-   goblin_put_header would write its counts over the file's own.
-   Example: goblin_whole_header(bytes, len, &header, &whole); */
-void goblin_whole_header(const uint8_t *bytes, size_t len, const goblin_header_t *header, goblin_header_t *whole)
-    GOBLIN_GIVEN((3, 4));
+   0xfffe are. All other fields stay. With the copy no list of headers is refused. Where one is not refused with `file`,
+   the calls return and write the same with the copy. In most files the header of the section names is one of the last,
+   so goblin_names_section returns GOBLIN_END if the end is cut. Cannot fail. The copy is for reading: goblin_put_header
+   would write its counts over the file's own.
+   Example: goblin_whole_header(&file, &whole); */
+void goblin_whole_header(const goblin_file_t *file, goblin_file_t *whole) GOBLIN_GIVEN((1, 2));
 
 /* ---- sections and segments ---- */
 
 /* Counts the section headers. Their number is 0 if e_shoff is 0. Else it is e_shnum, or if that is 0, sh_size of the
    first section, but at least 1.
-   The table is checked in this order. GOBLIN_BAD_OFFSET or GOBLIN_TOO_BIG: the first header is not inside the file.
-   GOBLIN_BUFFER_TOO_SHORT: there are more headers than the file could hold. GOBLIN_BAD_OFFSET or GOBLIN_TOO_BIG: a
-   later header is not inside the file. Never returns GOBLIN_END.
-   Example: if (goblin_section_count(bytes, len, &header, &count, &why) != GOBLIN_OK) return 1; */
-uint32_t goblin_section_count(const uint8_t *bytes, size_t len, const goblin_header_t *header, uint64_t *count,
-    goblin_refusal_t *why) GOBLIN_STATUS((3, 4, 5));
+   The table is checked in this order. GOBLIN_REFUSED_BAD_OFFSET or GOBLIN_REFUSED_TOO_BIG: the first header is not
+   inside the file. GOBLIN_REFUSED_BUFFER_TOO_SHORT: there are more headers than the file could hold.
+   GOBLIN_REFUSED_BAD_OFFSET or GOBLIN_REFUSED_TOO_BIG: a later header is not inside the file. Never returns GOBLIN_END.
+   Example: if (goblin_section_count(&file, &count, &why) != GOBLIN_OK) return 1; */
+uint32_t goblin_section_count(const goblin_file_t *file, uint64_t *count, goblin_refusal_t *why)
+    GOBLIN_STATUS((1, 2, 3));
 
 /* Reads the section header at an index. GOBLIN_END if the index is not below the number of sections.
    Refused as goblin_section_count is.
-   Example: while (goblin_section(bytes, len, &header, index, &section, &why) == GOBLIN_OK) index++; */
-uint32_t goblin_section(const uint8_t *bytes, size_t len, const goblin_header_t *header, uint64_t index,
-    goblin_section_t *section, goblin_refusal_t *why) GOBLIN_STATUS((3, 5, 6));
+   Example: while (goblin_section(&file, index, &section, &why) == GOBLIN_OK) index++; */
+uint32_t goblin_section(const goblin_file_t *file, uint64_t index, goblin_section_t *section, goblin_refusal_t *why)
+    GOBLIN_STATUS((1, 3, 4));
 
 /* Reads the section headers from the index `first` on into an array of `capacity` items, until the table or the array
    ends. `*filled` is the number of items that are written; those after them are unchanged. GOBLIN_END if `first` is not
    below the number of sections. Refused as goblin_section_count is.
-   Example: while (goblin_sections(bytes, len, &header, index, sections, 64, &filled, &why) == GOBLIN_OK)
+   Example: while (goblin_sections(&file, index, sections, 64, &filled, &why) == GOBLIN_OK)
                 index += filled; */
-uint32_t goblin_sections(const uint8_t *bytes, size_t len, const goblin_header_t *header, uint64_t first,
-    goblin_section_t *sections, size_t capacity, uint64_t *filled, goblin_refusal_t *why) GOBLIN_STATUS((3, 7, 8));
+uint32_t goblin_sections(const goblin_file_t *file, uint64_t first, goblin_section_t *sections, size_t capacity,
+    uint64_t *filled, goblin_refusal_t *why) GOBLIN_STATUS((1, 5, 6));
 
 /* Reads the section that a section header links to by its sh_link, such as the string table of a symbol table.
    GOBLIN_END if the index is 0, which means no section, if it is not below the number of sections, or if the section is
    of type GOBLIN_SHT_NOBITS, which has no bytes in the file. Refused as goblin_section_count is.
-   Example: if (goblin_linked_section(bytes, len, &header, table.sh_link, &names, &why) > GOBLIN_END) return 1; */
-uint32_t goblin_linked_section(const uint8_t *bytes, size_t len, const goblin_header_t *header, uint64_t index,
-    goblin_section_t *section, goblin_refusal_t *why) GOBLIN_STATUS((3, 5, 6));
+   Example: if (goblin_linked_section(&file, table.sh_link, &names, &why) > GOBLIN_END) return 1; */
+uint32_t goblin_linked_section(const goblin_file_t *file, uint64_t index, goblin_section_t *section,
+    goblin_refusal_t *why) GOBLIN_STATUS((1, 3, 4));
 
 /* Reads the section that holds the section names. Its index is e_shstrndx, or sh_link of section 0 if e_shstrndx is
    0xffff (GOBLIN_SHN_XINDEX). GOBLIN_END if goblin_linked_section returns that for this index, or if there is no
    section 0. Refused as goblin_section_count is.
-   Example: if (goblin_section_names(bytes, len, &header, &names, &why) > GOBLIN_END) return 1; */
-uint32_t goblin_section_names(const uint8_t *bytes, size_t len, const goblin_header_t *header,
-    goblin_section_t *section, goblin_refusal_t *why) GOBLIN_STATUS((3, 4, 5));
+   Example: if (goblin_names_section(&file, &names, &why) > GOBLIN_END) return 1; */
+uint32_t goblin_names_section(const goblin_file_t *file, goblin_section_t *section, goblin_refusal_t *why)
+    GOBLIN_STATUS((1, 2, 3));
 
 /* Finds the first section with a name, from the index `first` on. Writes its index and its header. `names` is the range
-   of the section names in the file. A section has no name if its name is not UTF-8 or lies past the names. The empty
-   name is a name, which section 0 has in most files. No section has a name with a zero byte in it, so leave out the
-   zero byte at the end of `name`. GOBLIN_END if no section has the name.
-   Refused as goblin_section_count is, and then as goblin_string is for the range `names`, but never
-   by GOBLIN_BAD_INPUT.
-   Example: if (goblin_section_by_name(bytes, len, &header, &names.file, ".text", 5, 0, &index, &section, &why))
+   of the section names in the file. A section has no name if its name lies past the names. The empty name is a name,
+   which section 0 has in most files. No section has a name with a zero byte in it, so leave out the zero byte at the
+   end of `name`. GOBLIN_END if no section has the name. A call may read all sections, and of each name as much as
+   `name` has.
+   Refused as goblin_section_count is, and then as goblin_string is for the range `names`.
+   Example: if (goblin_section_by_name(&file, &names.file, GOBLIN_LITERAL(".text"), 0, &index, &section, &why))
             return 1; */
-uint32_t goblin_section_by_name(const uint8_t *bytes, size_t len, const goblin_header_t *header,
-    const goblin_range_t *names, const void *name, size_t name_len, uint64_t first, uint64_t *index,
-    goblin_section_t *section, goblin_refusal_t *why) GOBLIN_STATUS((3, 4, 8, 9, 10));
+uint32_t goblin_section_by_name(const goblin_file_t *file, const goblin_range_t *names, const void *name,
+    size_t name_len, uint64_t first, uint64_t *index, goblin_section_t *section, goblin_refusal_t *why)
+    GOBLIN_STATUS((1, 2, 6, 7, 8));
 
 /* Finds the first section of a type, a GOBLIN_SHT_ number, from the index `first` on. Writes its index and its header.
-   GOBLIN_END if there is none. Refused as goblin_section_count is.
-   Example: if (goblin_section_by_type(bytes, len, &header, GOBLIN_SHT_SYMTAB, 0, &index, &section, &why)) return 1; */
-uint32_t goblin_section_by_type(const uint8_t *bytes, size_t len, const goblin_header_t *header, uint32_t sh_type,
-    uint64_t first, uint64_t *index, goblin_section_t *section, goblin_refusal_t *why) GOBLIN_STATUS((3, 6, 7, 8));
+   GOBLIN_END if there is none. A call may read all sections. Refused as goblin_section_count is.
+   Example: if (goblin_section_by_type(&file, GOBLIN_SHT_SYMTAB, 0, &index, &section, &why)) return 1; */
+uint32_t goblin_section_by_type(const goblin_file_t *file, uint32_t sh_type, uint64_t first, uint64_t *index,
+    goblin_section_t *section, goblin_refusal_t *why) GOBLIN_STATUS((1, 4, 5, 6));
 
 /* Finds the range of a section's bytes, which is its `file`, if it is inside the file. GOBLIN_END if the section has no
    bytes in the file: its type is GOBLIN_SHT_NULL or GOBLIN_SHT_NOBITS, or its size is 0. This is tested before any
-   refusal. GOBLIN_BAD_OFFSET or GOBLIN_TOO_BIG: the bytes are not inside the file.
-   Example: if (goblin_section_bytes(bytes, len, &section, &range, &why)) return 1; */
-uint32_t goblin_section_bytes(const uint8_t *bytes, size_t len, const goblin_section_t *section, goblin_range_t *range,
-    goblin_refusal_t *why) GOBLIN_STATUS((3, 4, 5));
+   refusal. GOBLIN_REFUSED_BAD_OFFSET or GOBLIN_REFUSED_TOO_BIG: the bytes are not inside the file.
+   Example: if (goblin_section_range(&file, &section, &range, &why)) return 1; */
+uint32_t goblin_section_range(const goblin_file_t *file, const goblin_section_t *section, goblin_range_t *range,
+    goblin_refusal_t *why) GOBLIN_STATUS((1, 2, 3, 4));
 
-/* Counts the program headers. Their number is e_phnum, unless that is 0xffff (PN_XNUM). Then it is sh_info of the first
-   section, or 0xffff if e_shoff is 0.
-   The table is checked in this order. GOBLIN_BAD_OFFSET or GOBLIN_TOO_BIG, with e_shoff as `why->offset`: the number
-   is in the header of the first section, which is not inside the file. GOBLIN_BUFFER_TOO_SHORT: there are more
-   headers than the file could hold. GOBLIN_BAD_OFFSET or GOBLIN_TOO_BIG: one of them is not inside the file. Never
-   returns GOBLIN_END.
-   Example: if (goblin_segment_count(bytes, len, &header, &count, &why) != GOBLIN_OK) return 1; */
-uint32_t goblin_segment_count(const uint8_t *bytes, size_t len, const goblin_header_t *header, uint64_t *count,
-    goblin_refusal_t *why) GOBLIN_STATUS((3, 4, 5));
+/* Counts the program headers. Their number is e_phnum, unless that is 0xffff (GOBLIN_PN_XNUM). Then it is sh_info of
+   the first section, or 0xffff if e_shoff is 0.
+   The table is checked in this order. GOBLIN_REFUSED_BAD_OFFSET or GOBLIN_REFUSED_TOO_BIG, with e_shoff as
+   `why->offset`: the number is in the header of the first section, which is not inside the file.
+   GOBLIN_REFUSED_BUFFER_TOO_SHORT: there are more headers than the file could hold. GOBLIN_REFUSED_BAD_OFFSET or
+   GOBLIN_REFUSED_TOO_BIG: one of them is not inside the file. Never returns GOBLIN_END.
+   Example: if (goblin_segment_count(&file, &count, &why) != GOBLIN_OK) return 1; */
+uint32_t goblin_segment_count(const goblin_file_t *file, uint64_t *count, goblin_refusal_t *why)
+    GOBLIN_STATUS((1, 2, 3));
 
 /* Finds the range of a segment's bytes in the file. GOBLIN_END if it has none: its type is GOBLIN_PT_NULL, or its size
-   in the file is 0. This is tested before any refusal. Refused as goblin_section_bytes is.
-   Example: if (goblin_segment_bytes(bytes, len, &segment, &range, &why)) return 1; */
-uint32_t goblin_segment_bytes(const uint8_t *bytes, size_t len, const goblin_segment_t *segment, goblin_range_t *range,
-    goblin_refusal_t *why) GOBLIN_STATUS((3, 4, 5));
+   in the file is 0. This is tested before any refusal. Refused as goblin_section_range is.
+   Example: if (goblin_segment_range(&file, &segment, &range, &why)) return 1; */
+uint32_t goblin_segment_range(const goblin_file_t *file, const goblin_segment_t *segment, goblin_range_t *range,
+    goblin_refusal_t *why) GOBLIN_STATUS((1, 2, 3, 4));
 
 /* Reads the program header at an index. GOBLIN_END if the index is not below the number of program headers.
    Refused as goblin_segment_count is.
-   Example: while (goblin_segment(bytes, len, &header, index, &segment, &why) == GOBLIN_OK) index++; */
-uint32_t goblin_segment(const uint8_t *bytes, size_t len, const goblin_header_t *header, uint64_t index,
-    goblin_segment_t *segment, goblin_refusal_t *why) GOBLIN_STATUS((3, 5, 6));
+   Example: while (goblin_segment(&file, index, &segment, &why) == GOBLIN_OK) index++; */
+uint32_t goblin_segment(const goblin_file_t *file, uint64_t index, goblin_segment_t *segment, goblin_refusal_t *why)
+    GOBLIN_STATUS((1, 3, 4));
 
 /* Reads the program headers from the index `first` on, as goblin_sections reads sections. Refused as
    goblin_segment_count is.
-   Example: while (goblin_segments(bytes, len, &header, index, segments, 64, &filled, &why) == GOBLIN_OK)
+   Example: while (goblin_segments(&file, index, segments, 64, &filled, &why) == GOBLIN_OK)
                 index += filled; */
-uint32_t goblin_segments(const uint8_t *bytes, size_t len, const goblin_header_t *header, uint64_t first,
-    goblin_segment_t *segments, size_t capacity, uint64_t *filled, goblin_refusal_t *why) GOBLIN_STATUS((3, 7, 8));
+uint32_t goblin_segments(const goblin_file_t *file, uint64_t first, goblin_segment_t *segments, size_t capacity,
+    uint64_t *filled, goblin_refusal_t *why) GOBLIN_STATUS((1, 5, 6));
 
 /* Finds the offset in the file of the byte that is loaded at an address: that of the first segment of type
    GOBLIN_PT_LOAD for which p_vaddr <= address < p_vaddr + file.size. These sums do not wrap around. GOBLIN_END if there
    is no such segment: nothing is loaded there, or only zeros that are not in the file.
-   Refused as goblin_segment_count is. GOBLIN_BAD_OFFSET: the file has no byte at the offset. One that does not fit in
-   64 bits is reported as UINT64_MAX.
+   Refused as goblin_segment_count is. GOBLIN_REFUSED_BAD_OFFSET: the file has no byte at the offset. One that does not
+   fit in 64 bits is reported as UINT64_MAX.
    Example: if (header.e_entry
-                && goblin_address_to_offset(bytes, len, &header, header.e_entry, &value, &why) != GOBLIN_OK)
+                && goblin_address_to_offset(&file, header.e_entry, &value, &why) != GOBLIN_OK)
                 return 1; */
-uint32_t goblin_address_to_offset(const uint8_t *bytes, size_t len, const goblin_header_t *header, uint64_t address,
-    uint64_t *offset, goblin_refusal_t *why) GOBLIN_STATUS((3, 5, 6));
+uint32_t goblin_address_to_offset(const goblin_file_t *file, uint64_t address, uint64_t *offset, goblin_refusal_t *why)
+    GOBLIN_STATUS((1, 3, 4));
 
 /* ---- symbols ---- */
 
 /* Reads the symbol at an index of a symbol table. `table` is the range of the table. A part of a symbol at its end is
    ignored. GOBLIN_END after the last whole symbol.
-   GOBLIN_SYMTAB_OFFSET: the range starts at the end of the file or past it, even if its size is 0. GOBLIN_SYMTAB_PAST:
-   the symbols end past the end of the file.
-   Example: while (goblin_symbol(bytes, len, &header, &table.file, index, &symbol, &why) == GOBLIN_OK) index++; */
-uint32_t goblin_symbol(const uint8_t *bytes, size_t len, const goblin_header_t *header, const goblin_range_t *table,
-    uint64_t index, goblin_symbol_t *symbol, goblin_refusal_t *why) GOBLIN_STATUS((3, 4, 6, 7));
+   GOBLIN_REFUSED_SYMTAB_OFFSET: the range starts at the end of the file or past it, even if its size is 0.
+   GOBLIN_REFUSED_SYMTAB_PAST: the symbols end past the end of the file.
+   Example: while (goblin_symbol(&file, &table.file, index, &symbol, &why) == GOBLIN_OK) index++; */
+uint32_t goblin_symbol(const goblin_file_t *file, const goblin_range_t *table, uint64_t index, goblin_symbol_t *symbol,
+    goblin_refusal_t *why) GOBLIN_STATUS((1, 2, 4, 5));
 
 /* Counts the symbols that lie in a range whole. Refused as goblin_symbol is. Never returns GOBLIN_END.
-   Example: if (goblin_symbol_count(bytes, len, &header, &table.file, &count, &why)) return 1; */
-uint32_t goblin_symbol_count(const uint8_t *bytes, size_t len, const goblin_header_t *header,
-    const goblin_range_t *table, uint64_t *count, goblin_refusal_t *why) GOBLIN_STATUS((3, 4, 5, 6));
+   Example: if (goblin_symbol_count(&file, &table.file, &count, &why)) return 1; */
+uint32_t goblin_symbol_count(const goblin_file_t *file, const goblin_range_t *table, uint64_t *count,
+    goblin_refusal_t *why) GOBLIN_STATUS((1, 2, 3, 4));
 
 /* Reads the symbols from the index `first` on, as goblin_sections reads sections. Refused as goblin_symbol is.
-   Example: while (!goblin_symbols(bytes, len, &header, &table.file, index, symbols, 64, &filled, &why))
+   Example: while (!goblin_symbols(&file, &table.file, index, symbols, 64, &filled, &why))
                 index += filled; */
-uint32_t goblin_symbols(const uint8_t *bytes, size_t len, const goblin_header_t *header, const goblin_range_t *table,
-    uint64_t first, goblin_symbol_t *symbols, size_t capacity, uint64_t *filled, goblin_refusal_t *why)
-    GOBLIN_STATUS((3, 4, 8, 9));
+uint32_t goblin_symbols(const goblin_file_t *file, const goblin_range_t *table, uint64_t first,
+    goblin_symbol_t *symbols, size_t capacity, uint64_t *filled, goblin_refusal_t *why) GOBLIN_STATUS((1, 2, 6, 7));
 
 /* Finds the first symbol with a name, from the index `first` on. Writes its index and the symbol. `names` is the range
-   of the table's strings. A symbol has no name if its name is not UTF-8 or lies past the strings. The empty name and
-   names with zero bytes are as for goblin_section_by_name; symbol 0 has the empty name in most files. GOBLIN_END if no
-   symbol has the name.
-   Refused as goblin_symbol is, and then as goblin_string is for the range `names`, but never by GOBLIN_BAD_INPUT.
-   Example: if (goblin_symbol_by_name(bytes, len, &header, &table.file, &names.file, "main", 4, 0, &index, &symbol,
+   of the table's strings. A symbol has no name if its name lies past the strings. The empty name and names with zero
+   bytes are as for goblin_section_by_name; symbol 0 has the empty name in most files. GOBLIN_END if no symbol has the
+   name. A call may read all symbols, and of each name as much as `name` has.
+   Refused as goblin_symbol is, and then as goblin_string is for the range `names`.
+   Example: if (goblin_symbol_by_name(&file, &table.file, &names.file, GOBLIN_LITERAL("main"), 0, &index, &symbol,
                                       &why))
                 return 1; */
-uint32_t goblin_symbol_by_name(const uint8_t *bytes, size_t len, const goblin_header_t *header,
-    const goblin_range_t *table, const goblin_range_t *names, const void *name, size_t name_len, uint64_t first,
-    uint64_t *index, goblin_symbol_t *symbol, goblin_refusal_t *why) GOBLIN_STATUS((3, 4, 5, 9, 10, 11));
+uint32_t goblin_symbol_by_name(const goblin_file_t *file, const goblin_range_t *table, const goblin_range_t *names,
+    const void *name, size_t name_len, uint64_t first, uint64_t *index, goblin_symbol_t *symbol, goblin_refusal_t *why)
+    GOBLIN_STATUS((1, 2, 3, 7, 8, 9));
 
 /* Finds the index of the symbol of an address. Only symbols of a section (st_shndx from 1 to 0xfeff, or 0xffff) and of
    type GOBLIN_STT_NOTYPE, _OBJECT, _FUNC or _GNU_IFUNC count. The symbol contains the address: of those with
    st_value <= address < st_value + st_size it is the one with the highest st_value, the first of several.
-   If no symbol contains the address, a label of size 0 may be there, as assembly has. A label counts only in its own
-   section: of the symbols with st_value <= address whose section holds the address, it is the first of size 0 among
-   those with the highest st_value. The section is the one at the index st_shndx. It holds the addresses with sh_addr <=
-   address < sh_addr + file.size, but none if its sh_flags lack GOBLIN_SHF_ALLOC. In a file of type GOBLIN_ET_REL an
-   st_value is an offset in a section, so there any section holds those with address < file.size, and symbols of
-   different sections mix. An st_shndx of 0xffff or past the sections is that of no section. None of these sums wraps
-   around.
+   If no symbol contains the address, a label of size 0 may be there, as assembly has. A label counts only if its
+   section holds the address, in which the label's own st_value need not be: of the symbols with st_value <= address
+   whose section holds the address, it is the first of size 0 among those with the highest st_value. The section is the
+   one at the index st_shndx. It holds the addresses with sh_addr <= address < sh_addr + file.size, but none if its
+   sh_flags lack GOBLIN_SHF_ALLOC. In a file of type GOBLIN_ET_REL an st_value is an offset in a section, so there any
+   section holds those with address < file.size, whatever its sh_flags, and symbols of different sections mix. An
+   st_shndx of 0xffff or past the sections is that of no section. None of these sums wraps around. In a file for
+   GOBLIN_EM_PPC64 whose functions have descriptors, the st_value of a function is an address in .opd, where it is
+   found.
    GOBLIN_END if there is no such symbol. Each call reads all symbols. For many addresses read them once and sort them,
    as symbolize.c does. Refused as goblin_symbol is, and then as goblin_section_count is.
-   Example: if (goblin_symbol_by_address(bytes, len, &header, &table.file, 0x401000, &index, &why)) return 1; */
-uint32_t goblin_symbol_by_address(const uint8_t *bytes, size_t len, const goblin_header_t *header,
-    const goblin_range_t *table, uint64_t address, uint64_t *index, goblin_refusal_t *why) GOBLIN_STATUS((3, 4, 6, 7));
+   Example: if (goblin_symbol_by_address(&file, &table.file, 0x401000, &index, &why)) return 1; */
+uint32_t goblin_symbol_by_address(const goblin_file_t *file, const goblin_range_t *table, uint64_t address,
+    uint64_t *index, goblin_refusal_t *why) GOBLIN_STATUS((1, 2, 4, 5));
 
 /* ---- relocations ---- */
 
 /* Reads the relocation at an index of a relocation section. `table` is the range of the section, and `is_rela` says
    whether its relocations have addends (type GOBLIN_SHT_RELA) or not (GOBLIN_SHT_REL). The last one is the last that
    lies in the range whole. GOBLIN_END after that one. In a little-endian MIPS64 file, r_sym and r_type are read in
-   the format of those files. GOBLIN_BAD_OFFSET or GOBLIN_TOO_BIG: the range has bytes, and not all of them are
-   inside the file.
-   Example: while (goblin_reloc(bytes, len, &header, &table.file, true, index, &reloc, &why) == GOBLIN_OK) index++; */
-uint32_t goblin_reloc(const uint8_t *bytes, size_t len, const goblin_header_t *header, const goblin_range_t *table,
-    bool is_rela, uint64_t index, goblin_reloc_t *reloc, goblin_refusal_t *why) GOBLIN_STATUS((3, 4, 7, 8));
+   the format of those files. GOBLIN_REFUSED_BAD_OFFSET or GOBLIN_REFUSED_TOO_BIG: the range has bytes, and not all of
+   them are inside the file.
+   Example: while (goblin_reloc(&file, &table.file, true, index, &reloc, &why) == GOBLIN_OK) index++; */
+uint32_t goblin_reloc(const goblin_file_t *file, const goblin_range_t *table, bool is_rela, uint64_t index,
+    goblin_reloc_t *reloc, goblin_refusal_t *why) GOBLIN_STATUS((1, 2, 5, 6));
 
 /* Counts the relocations that lie in a range whole. Refused as goblin_reloc is. Never returns GOBLIN_END.
-   Example: if (goblin_reloc_count(bytes, len, &header, &table.file, true, &count, &why)) return 1; */
-uint32_t goblin_reloc_count(const uint8_t *bytes, size_t len, const goblin_header_t *header,
-    const goblin_range_t *table, bool is_rela, uint64_t *count, goblin_refusal_t *why) GOBLIN_STATUS((3, 4, 6, 7));
+   Example: if (goblin_reloc_count(&file, &table.file, true, &count, &why)) return 1; */
+uint32_t goblin_reloc_count(const goblin_file_t *file, const goblin_range_t *table, bool is_rela, uint64_t *count,
+    goblin_refusal_t *why) GOBLIN_STATUS((1, 2, 4, 5));
 
 /* Reads the relocations from the index `first` on, as goblin_sections reads sections. Refused as goblin_reloc is.
-   Example: while (!goblin_relocs(bytes, len, &header, &table.file, true, index, relocs, 64, &filled, &why))
+   Example: while (!goblin_relocs(&file, &table.file, true, index, relocs, 64, &filled, &why))
                 index += filled; */
-uint32_t goblin_relocs(const uint8_t *bytes, size_t len, const goblin_header_t *header, const goblin_range_t *table,
-    bool is_rela, uint64_t first, goblin_reloc_t *relocs, size_t capacity, uint64_t *filled, goblin_refusal_t *why)
-    GOBLIN_STATUS((3, 4, 9, 10));
+uint32_t goblin_relocs(const goblin_file_t *file, const goblin_range_t *table, bool is_rela, uint64_t first,
+    goblin_reloc_t *relocs, size_t capacity, uint64_t *filled, goblin_refusal_t *why) GOBLIN_STATUS((1, 2, 7, 8));
 
 /* ---- notes ---- */
 
@@ -526,161 +574,184 @@ uint32_t goblin_relocs(const uint8_t *bytes, size_t len, const goblin_header_t *
    the offset to read the next one at.
    GOBLIN_END if the offset is the end of the range or past it. This is tested before any refusal. A note that starts
    before the end of the range may end past it. An offset before the range is read as one inside it.
-   Then, in this order. GOBLIN_BAD_OFFSET: the offset is the end of the file or past it. GOBLIN_NOTE_ALIGN: the
-   alignment is neither 4 nor 8. GOBLIN_BAD_OFFSET or GOBLIN_TOO_BIG: the note's header is not inside the file, or then
-   its name. GOBLIN_BAD_INPUT: the name is not UTF-8; goblin_note_bytes reads such a note. GOBLIN_BAD_OFFSET or
-   GOBLIN_TOO_BIG: the descriptor is not inside the file. But for the first, the numbers of these refusals count from
-   the start of the note.
-   Example: if (goblin_note(bytes, len, &header, &section.file, section.sh_addralign, section.file.offset, &note, &why))
-            return 1; */
-uint32_t goblin_note(const uint8_t *bytes, size_t len, const goblin_header_t *header, const goblin_range_t *notes,
-    uint64_t alignment, uint64_t offset, goblin_note_t *note, goblin_refusal_t *why) GOBLIN_STATUS((3, 4, 7, 8));
+   Then, in this order. GOBLIN_REFUSED_BAD_OFFSET: the offset is the end of the file or past it.
+   GOBLIN_REFUSED_NOTE_ALIGN: the alignment is neither 4 nor 8. GOBLIN_REFUSED_BAD_OFFSET or GOBLIN_REFUSED_TOO_BIG: the
+   note's header is not inside the file, or then its name, or then its descriptor. But for the first, the numbers of
+   these refusals count from the start of the note.
+   Example: if (goblin_note(&file, &section.file, section.sh_addralign, section.file.offset, &note, &why)) return 1; */
+uint32_t goblin_note(const goblin_file_t *file, const goblin_range_t *notes, uint64_t alignment, uint64_t offset,
+    goblin_note_t *note, goblin_refusal_t *why) GOBLIN_STATUS((1, 2, 5, 6));
 
-/* Reads the note at an offset of the file as goblin_note does, with two differences. Its name need not be UTF-8, and
-   `name` is all of it, as many bytes as the note says: with the zero byte that closes it and any others at its end. And
-   the note must lie in the range: its header, its name and its descriptor must be inside both the range and the file.
-   GOBLIN_END as for goblin_note. Then, in this order. GOBLIN_NOTE_ALIGN: the alignment is neither 4 nor 8.
-   GOBLIN_BAD_OFFSET or GOBLIN_TOO_BIG: the header, the name or the descriptor is not inside. `item` is then
-   GOBLIN_NOTE_HEADER, GOBLIN_NOTE_NAME or GOBLIN_NOTE_DESC, and the numbers count from the start of the note up to the
-   end of the range or of the file. If goblin_note finds a note whose descriptor is inside the range, this call finds
-   the same one, with its longer name.
-   Example: if (goblin_note_bytes(bytes, len, &header, &section.file, section.sh_addralign, section.file.offset, &note,
-            &why)) return 1; */
-uint32_t goblin_note_bytes(const uint8_t *bytes, size_t len, const goblin_header_t *header, const goblin_range_t *notes,
-    uint64_t alignment, uint64_t offset, goblin_note_t *note, goblin_refusal_t *why) GOBLIN_STATUS((3, 4, 7, 8));
+/* As goblin_note, for a note whose name is UTF-8. GOBLIN_REFUSED_BAD_INPUT if it is not, before the descriptor is
+   tested. Of a note that this call reads, goblin_note reads the same. It reads all of the name.
+   Example: if (goblin_note_utf8(&file, &section.file, section.sh_addralign, section.file.offset, &note, &why))
+            return 1; */
+uint32_t goblin_note_utf8(const goblin_file_t *file, const goblin_range_t *notes, uint64_t alignment, uint64_t offset,
+    goblin_note_t *note, goblin_refusal_t *why) GOBLIN_STATUS((1, 2, 5, 6));
+
+/* As goblin_note, for a note that lies in the range: its header, its whole name and its descriptor must be inside both
+   the range and the file.
+   GOBLIN_END as for goblin_note. Then, in this order. GOBLIN_REFUSED_NOTE_ALIGN: the alignment is neither 4 nor 8.
+   GOBLIN_REFUSED_BAD_OFFSET or GOBLIN_REFUSED_TOO_BIG: the header, the name or the descriptor is not inside. `item` is
+   then GOBLIN_ITEM_NOTE_HEADER, GOBLIN_ITEM_NOTE_NAME or GOBLIN_ITEM_NOTE_DESC, and the numbers count from the start of
+   the note up to the end of the range or of the file. A note that this call reads, goblin_note reads, too, and one of
+   goblin_note whose name and descriptor are inside the range, this call.
+   Example: if (goblin_note_whole(&file, &section.file, section.sh_addralign, section.file.offset, &note, &why))
+            return 1; */
+uint32_t goblin_note_whole(const goblin_file_t *file, const goblin_range_t *notes, uint64_t alignment, uint64_t offset,
+    goblin_note_t *note, goblin_refusal_t *why) GOBLIN_STATUS((1, 2, 5, 6));
 
 /* ---- the dynamic section ----
 
-   It says what a program needs of the loader: libraries, search paths, and where tables are. goblin_dynamic finds it by
-   the program headers. In a file without them it is the section of type GOBLIN_SHT_DYNAMIC, if there is one: pass its
-   `file` as `dynamic`. Its strings are then the section that goblin_linked_section finds.
+   It says what a program needs of the loader: libraries, search paths, and where tables are.
    These calls take the first segment of the type, and of a tag the first value. Of a malformed file that has several,
-   a loader may take others: that of glibc takes the last segment, and of most tags the last value. */
+   a loader may take others: that of glibc takes the last segment, and of most tags the last value.
+   In a 32-bit file d_tag and d_val have 4 bytes, and are extended by zeros. */
 
 /* Finds the range of the dynamic section: the `file` of the first segment of type GOBLIN_PT_DYNAMIC, also if its size
-   is 0. GOBLIN_END if no segment has that type.
-   Refused as goblin_segment_count is. GOBLIN_BAD_OFFSET or GOBLIN_TOO_BIG: the range is not inside the file.
-   Example: if (goblin_dynamic(bytes, len, &header, &range, &why)) return 1; */
-uint32_t goblin_dynamic(const uint8_t *bytes, size_t len, const goblin_header_t *header, goblin_range_t *dynamic,
-    goblin_refusal_t *why) GOBLIN_STATUS((3, 4, 5));
+   is 0. In a file without segments, whose number is 0, it is that of the first section of type GOBLIN_SHT_DYNAMIC.
+   GOBLIN_END if no segment, or then no section, has that type.
+   Refused as goblin_segment_count is, and in a file without segments then as goblin_section_count is.
+   GOBLIN_REFUSED_BAD_OFFSET or GOBLIN_REFUSED_TOO_BIG: the range is not inside the file.
+   Example: if (goblin_dynamic(&file, &range, &why)) return 1; */
+uint32_t goblin_dynamic(const goblin_file_t *file, goblin_range_t *dynamic, goblin_refusal_t *why)
+    GOBLIN_STATUS((1, 2, 3));
+
+/* Counts the entries of a dynamic section: those before the first one of tag GOBLIN_DT_NULL, or if none has that tag
+   those that lie in the range whole. It reads them all. Refused as goblin_dynamic_entries is. Never returns GOBLIN_END.
+   Example: if (goblin_dynamic_count(&file, &range, &count, &why)) return 1; */
+uint32_t goblin_dynamic_count(const goblin_file_t *file, const goblin_range_t *dynamic, uint64_t *count,
+    goblin_refusal_t *why) GOBLIN_STATUS((1, 2, 3, 4));
 
 /* Reads the entries of a dynamic section from the index `first` on into an array of `capacity` items. They end before
    the next entry of tag GOBLIN_DT_NULL, or else with the last one that lies in the range `dynamic` whole. `*filled` is
    the number of items that are written; those after them are unchanged. If it is below `capacity`, there are no more.
    GOBLIN_END if there is no entry at `first`, or one of tag GOBLIN_DT_NULL. From an index past that entry the call
    reads what follows it, which has no meaning. It reads at most `capacity` entries and one more.
-   GOBLIN_BAD_OFFSET or GOBLIN_TOO_BIG: the range is not inside the file.
-   Example: while (!goblin_dynamic_entries(bytes, len, &header, &range, index, entries, 64, &filled, &why))
-                index += filled; */
-uint32_t goblin_dynamic_entries(const uint8_t *bytes, size_t len, const goblin_header_t *header,
-    const goblin_range_t *dynamic, uint64_t first, goblin_dyn_t *entries, size_t capacity, uint64_t *filled,
-    goblin_refusal_t *why) GOBLIN_STATUS((3, 4, 8, 9));
+   GOBLIN_REFUSED_BAD_OFFSET or GOBLIN_REFUSED_TOO_BIG: the range is not inside the file.
+   Example: while (!goblin_dynamic_entries(&file, &range, index, entries, 64, &filled, &why)) index += filled; */
+uint32_t goblin_dynamic_entries(const goblin_file_t *file, const goblin_range_t *dynamic, uint64_t first,
+    goblin_dyn_t *entries, size_t capacity, uint64_t *filled, goblin_refusal_t *why) GOBLIN_STATUS((1, 2, 6, 7));
 
-/* Finds the value of the first entry with a tag, a GOBLIN_DT_ number, among those that goblin_dynamic_entries reads
-   from index 0 on. GOBLIN_END if none has the tag. Refused as goblin_dynamic_entries is.
-   Example: if (goblin_dynamic_value(bytes, len, &header, &range, GOBLIN_DT_SONAME, &value, &why)) return 1; */
-uint32_t goblin_dynamic_value(const uint8_t *bytes, size_t len, const goblin_header_t *header,
-    const goblin_range_t *dynamic, uint64_t tag, uint64_t *value, goblin_refusal_t *why) GOBLIN_STATUS((3, 4, 6, 7));
+/* Finds the first entry with a tag, a GOBLIN_DT_ number, from the index `first` on, among those that
+   goblin_dynamic_count counts. Writes its index and its value. GOBLIN_END if there is none. A call may read all
+   entries. Refused as goblin_dynamic_entries is.
+   Example: if (goblin_dynamic_value(&file, &range, GOBLIN_DT_SONAME, 0, &index, &value, &why)) return 1; */
+uint32_t goblin_dynamic_value(const goblin_file_t *file, const goblin_range_t *dynamic, uint64_t tag, uint64_t first,
+    uint64_t *index, uint64_t *value, goblin_refusal_t *why) GOBLIN_STATUS((1, 2, 5, 6, 7));
 
 /* Finds the range of the strings of a dynamic section. The value of GOBLIN_DT_STRTAB is their address, from which
    goblin_address_to_offset finds their offset, and that of GOBLIN_DT_STRSZ is their size. GOBLIN_END if one of these
-   entries is missing, or if no segment loads the address from the file.
-   Refused as goblin_dynamic_entries is, and then as goblin_segment_count is. GOBLIN_BAD_OFFSET or GOBLIN_TOO_BIG, with
-   the offset of the strings as `why->offset`: they are not inside the file.
-   Example: if (goblin_dynamic_strings(bytes, len, &header, &range, &string, &why)) return 1; */
-uint32_t goblin_dynamic_strings(const uint8_t *bytes, size_t len, const goblin_header_t *header,
-    const goblin_range_t *dynamic, goblin_range_t *strings, goblin_refusal_t *why) GOBLIN_STATUS((3, 4, 5, 6));
+   entries is missing, or if no segment loads the address from the file. In a file without segments they are the section
+   that goblin_linked_section finds for the first section of type GOBLIN_SHT_DYNAMIC. A call may read all entries.
+   Refused as goblin_dynamic_entries is, then as goblin_segment_count is, and in a file without segments then as
+   goblin_section_count is. GOBLIN_REFUSED_BAD_OFFSET or GOBLIN_REFUSED_TOO_BIG, with the offset of the strings as
+   `why->offset`: they are not inside the file. Strings of size 0 at the end of the file are inside it, though
+   goblin_address_to_offset, which finds a byte, is refused there.
+   Example: if (goblin_dynamic_strings(&file, &range, &string, &why)) return 1; */
+uint32_t goblin_dynamic_strings(const goblin_file_t *file, const goblin_range_t *dynamic, goblin_range_t *strings,
+    goblin_refusal_t *why) GOBLIN_STATUS((1, 2, 3, 4));
 
 /* ---- strings ---- */
 
 /* Finds the range of the string at an offset of a string table, without the zero byte at its end. `strings` is the
    range of the table, and the offset counts from its start. The string ends at the next zero byte or at the end of the
-   table, and is UTF-8. GOBLIN_END if the offset is not below the size of the table.
-   GOBLIN_STRTAB_OFFSET: the table starts past the end of the file. GOBLIN_STRTAB_RANGE: it ends past the end of the
-   file. GOBLIN_BAD_INPUT: the string is not UTF-8.
-   Example: if (goblin_string(bytes, len, &names.file, symbol.st_name, &string, &why)) return 1; */
-uint32_t goblin_string(const uint8_t *bytes, size_t len, const goblin_range_t *strings, uint64_t offset,
-    goblin_range_t *string, goblin_refusal_t *why) GOBLIN_STATUS((3, 5, 6));
+   table. GOBLIN_END if the offset is not below the size of the table.
+   GOBLIN_REFUSED_STRTAB_OFFSET: the table starts past the end of the file. GOBLIN_REFUSED_STRTAB_RANGE: it ends past
+   the end of the file. A call reads all of the string.
+   Example: if (goblin_string(&file, &names.file, symbol.st_name, &string, &why)) return 1; */
+uint32_t goblin_string(const goblin_file_t *file, const goblin_range_t *strings, uint64_t offset,
+    goblin_range_t *string, goblin_refusal_t *why) GOBLIN_STATUS((1, 2, 4, 5));
 
-/* As goblin_string, for a string that need not be UTF-8: never returns GOBLIN_BAD_INPUT. If goblin_string finds a
-   string, this call finds the same range.
-   Example: if (goblin_string_bytes(bytes, len, &names.file, symbol.st_name, &string, &why)) return 1; */
-uint32_t goblin_string_bytes(const uint8_t *bytes, size_t len, const goblin_range_t *strings, uint64_t offset,
-    goblin_range_t *string, goblin_refusal_t *why) GOBLIN_STATUS((3, 5, 6));
+/* As goblin_string, for a string that is UTF-8. GOBLIN_REFUSED_BAD_INPUT if it is not. If this call finds a string,
+   goblin_string finds the same range.
+   Example: if (goblin_string_utf8(&file, &names.file, symbol.st_name, &string, &why)) return 1; */
+uint32_t goblin_string_utf8(const goblin_file_t *file, const goblin_range_t *strings, uint64_t offset,
+    goblin_range_t *string, goblin_refusal_t *why) GOBLIN_STATUS((1, 2, 4, 5));
 
-/* As goblin_string_bytes, for a string that a zero byte closes inside the table. If it finds one, `bytes +
+/* As goblin_string, for a string that a zero byte closes inside the table. If it finds one, `file.bytes +
    string.offset` is a C string: the byte after the range is zero, and none in the range is, so `%s` prints the string.
-   GOBLIN_END also if the string ends at the end of the table.
-   Example: if (goblin_string_closed(bytes, len, &names.file, symbol.st_name, &string, &why) == GOBLIN_OK)
-                puts((const char *)bytes + string.offset); */
-uint32_t goblin_string_closed(const uint8_t *bytes, size_t len, const goblin_range_t *strings, uint64_t offset,
-    goblin_range_t *string, goblin_refusal_t *why) GOBLIN_STATUS((3, 5, 6));
+   GOBLIN_END also if the string ends at the end of the table. A call reads all of the string: to test many, see
+   goblin_closed_strings.
+   Example: if (goblin_string_closed(&file, &names.file, symbol.st_name, &string, &why) == GOBLIN_OK)
+                puts((const char *)file.bytes + string.offset); */
+uint32_t goblin_string_closed(const goblin_file_t *file, const goblin_range_t *strings, uint64_t offset,
+    goblin_range_t *string, goblin_refusal_t *why) GOBLIN_STATUS((1, 2, 4, 5));
+
+/* Finds the part of a string table up to its last zero byte, with that byte. At each offset below the size of the part
+   a C string begins, which ends inside the part. The part has the offset of the table, and the size 0 if the table has
+   no zero byte. A call reads the bytes after the last zero byte.
+   Refused as goblin_string is. Never returns GOBLIN_END.
+   Example: if (goblin_closed_strings(&file, &names.file, &range, &why)) return 1; */
+uint32_t goblin_closed_strings(const goblin_file_t *file, const goblin_range_t *strings, goblin_range_t *closed,
+    goblin_refusal_t *why) GOBLIN_STATUS((1, 2, 3, 4));
 
 /* Finds the ranges of the strings at many offsets of a string table, in the order of `offsets`: at each as
-   goblin_string_bytes does, up to the first offset that is not below the size of the table. The strings need not be
-   UTF-8. `*filled` is the number of items of `ranges` that are written; those after them are unchanged. GOBLIN_OK if
-   all offsets have a string, or as many as there are items of `ranges`. Else the call returns what goblin_string_bytes
-   returns at offsets[*filled], and writes the same refusal, and `ranges` and `*filled`, too.
-   Example: if (goblin_strings(bytes, len, &names.file, offsets, 64, ranges, 64, &filled, &why)) return 1; */
-uint32_t goblin_strings(const uint8_t *bytes, size_t len, const goblin_range_t *strings, const uint64_t *offsets,
+   goblin_string does, up to the first offset that is not below the size of the table. `*filled` is the number of items
+   of `ranges` that are written; those after them are unchanged. GOBLIN_OK if all offsets have a string, or as many as
+   there are items of `ranges`. Else the call returns what goblin_string returns at offsets[*filled], and writes the
+   same refusal, and `ranges` and `*filled`, too.
+   Example: if (goblin_strings(&file, &names.file, offsets, 64, ranges, 64, &filled, &why)) return 1; */
+uint32_t goblin_strings(const goblin_file_t *file, const goblin_range_t *strings, const uint64_t *offsets,
     size_t offsets_len, goblin_range_t *ranges, size_t capacity, uint64_t *filled, goblin_refusal_t *why)
-    GOBLIN_STATUS((3, 8, 9));
+    GOBLIN_STATUS((1, 2, 7, 8));
 
-/* Compares the string at an offset of a string table with a name of `name_len` bytes, where it is: GOBLIN_OK if the
-   string that goblin_string_bytes finds has these bytes and no others. GOBLIN_END if not, or if the offset is not below
-   the size of the table. Neither need be UTF-8. No string has a zero byte in it, so leave out the zero byte at the end
-   of `name`. Refused as goblin_string_bytes is. Of the string it reads at most `name_len` bytes and one more.
-   Example: if (goblin_string_is(bytes, len, &names.file, section.sh_name, ".text", 5, &why) == GOBLIN_OK) index++; */
-uint32_t goblin_string_is(const uint8_t *bytes, size_t len, const goblin_range_t *strings, uint64_t offset,
-    const void *name, size_t name_len, goblin_refusal_t *why) GOBLIN_STATUS((3, 7));
+/* Whether the string at an offset of a string table has the `name_len` bytes of `name` and no others: true if
+   goblin_string finds a string there and it has these bytes. So false may also mean that the table is not inside the
+   file. No string has a zero byte in it, so leave out the zero byte at the end of `name`. Of the string the call reads
+   at most `name_len` bytes and one more.
+   Example: if (goblin_string_is(&file, &names.file, section.sh_name, GOBLIN_LITERAL(".text"))) index++; */
+bool goblin_string_is(const goblin_file_t *file, const goblin_range_t *strings, uint64_t offset, const void *name,
+    size_t name_len) GOBLIN_STATUS((1, 2));
 
-/* As goblin_string_is: GOBLIN_OK if the string starts with the `start_len` bytes of `start`, as it does with none.
-   Example: if (goblin_string_starts(bytes, len, &names.file, section.sh_name, ".debug", 6, &why) == GOBLIN_OK)
-                index++; */
-uint32_t goblin_string_starts(const uint8_t *bytes, size_t len, const goblin_range_t *strings, uint64_t offset,
-    const void *start, size_t start_len, goblin_refusal_t *why) GOBLIN_STATUS((3, 7));
+/* As goblin_string_is: whether the string begins with the `start_len` bytes of `start`, as it does with none.
+   Example: if (goblin_string_starts(&file, &names.file, section.sh_name, GOBLIN_LITERAL(".debug"))) index++; */
+bool goblin_string_starts(const goblin_file_t *file, const goblin_range_t *strings, uint64_t offset, const void *start,
+    size_t start_len) GOBLIN_STATUS((1, 2));
 
 /* ---- numbers ---- */
 
 /* Reads the number in `width` bytes at an offset of the file, in the byte order of the header. `width` is 1, 2, 4 or 8.
    GOBLIN_END if it is none of these. This is tested before any refusal.
-   GOBLIN_BAD_OFFSET or GOBLIN_TOO_BIG: the bytes are not inside the file.
-   Example: if (goblin_number(bytes, len, &header, section.file.offset, 4, &value, &why)) return 1; */
-uint32_t goblin_number(const uint8_t *bytes, size_t len, const goblin_header_t *header, uint64_t offset, uint64_t width,
-    uint64_t *value, goblin_refusal_t *why) GOBLIN_STATUS((3, 6, 7));
+   GOBLIN_REFUSED_BAD_OFFSET or GOBLIN_REFUSED_TOO_BIG: the bytes are not inside the file.
+   Example: if (goblin_number(&file, section.file.offset, 4, &value, &why)) return 1; */
+uint32_t goblin_number(const goblin_file_t *file, uint64_t offset, uint64_t width, uint64_t *value,
+    goblin_refusal_t *why) GOBLIN_STATUS((1, 4, 5));
 
 /* Reads the number in `width` bytes at an offset in a range of the file, as goblin_number does. The offset counts from
    the range's start. GOBLIN_END as for goblin_number, before any refusal.
-   GOBLIN_BAD_OFFSET or GOBLIN_TOO_BIG: the range is not inside the file, or then the number is not inside the range.
-   The numbers of the second refusal count from the range's start, with the range's end in place of the file's;
-   `why->offset` is an offset of the file. One that does not fit in 64 bits is reported as UINT64_MAX.
-   Example: if (goblin_number_in(bytes, len, &header, &section.file, 8, 4, &value, &why)) return 1; */
-uint32_t goblin_number_in(const uint8_t *bytes, size_t len, const goblin_header_t *header, const goblin_range_t *range,
-    uint64_t offset, uint64_t width, uint64_t *value, goblin_refusal_t *why) GOBLIN_STATUS((3, 4, 7, 8));
+   GOBLIN_REFUSED_BAD_OFFSET or GOBLIN_REFUSED_TOO_BIG: the range is not inside the file, or then the number is not
+   inside the range. The numbers of the second refusal count from the range's start, with the range's end in place of
+   the file's; `why->offset` is an offset of the file. One that does not fit in 64 bits is reported as UINT64_MAX.
+   Example: if (goblin_number_in(&file, &section.file, 8, 4, &value, &why)) return 1; */
+uint32_t goblin_number_in(const goblin_file_t *file, const goblin_range_t *range, uint64_t offset, uint64_t width,
+    uint64_t *value, goblin_refusal_t *why) GOBLIN_STATUS((1, 2, 5, 6));
 
 /* ---- ranges ---- */
 
 /* Cuts a range to the file: `*part` is the part of it that is inside the file. It is the range itself if that is inside
    the file. The part of a range that starts at `len` or past it has the offset `len` and the size 0; goblin_symbol
    refuses it. Cannot fail.
-   Example: goblin_range_in_file(bytes, len, &section.file, &range); */
-void goblin_range_in_file(const uint8_t *bytes, size_t len, const goblin_range_t *range, goblin_range_t *part)
-    GOBLIN_GIVEN((3, 4));
+   Example: goblin_range_in_file(&file, &section.file, &range); */
+void goblin_range_in_file(const goblin_file_t *file, const goblin_range_t *range, goblin_range_t *part)
+    GOBLIN_GIVEN((1, 2, 3));
 
 /* ---- writing ----
 
-   These calls write a record or a number into the caller's own bytes, in the class and byte order of the header. Each
+   These calls write a record or a number into the caller's own bytes, in the class and byte order of the header. The
+   bytes may be those of a goblin_file_t, and the header its header: then the file's calls read what is written. Each
    changes the bytes that the call without `put_` reads, and no other. That call then reads the same record, unless
    section 0 has the number of the list's items and the call changes it. A record that was read and is written back
    leaves the bytes as they are.
-   Each returns what the reading call returns at that index, GOBLIN_END or a refusal, and then GOBLIN_INTEGER_FIT if a
-   number does not fit its field: st_shndx has 2 bytes, sh_name and st_name have 4, and in a 32-bit file so have
-   addresses, offsets, sizes, alignments and sh_flags. Nothing is written unless the call returns GOBLIN_OK. */
+   Each returns what the reading call returns at that index, GOBLIN_END or a refusal, and then
+   GOBLIN_REFUSED_INTEGER_FIT if a number does not fit its field: in a 32-bit file addresses, offsets, sizes,
+   alignments, sh_flags, d_tag and d_val have 4 bytes. Nothing is written unless the call returns GOBLIN_OK. */
 
 /* Writes the header at the start of the file, in the class and byte order that it names. Writes the magic number, too,
    and leaves the padding, the bytes 9 to 15.
-   Returns GOBLIN_INVALID_CLASS, GOBLIN_DATA, GOBLIN_BAD_OFFSET or GOBLIN_TOO_BIG (the bytes have no room for a header
-   of the class) or GOBLIN_INTEGER_FIT, the first of these that applies, in this order. Never returns GOBLIN_END.
+   Returns GOBLIN_REFUSED_INVALID_CLASS, GOBLIN_REFUSED_DATA, GOBLIN_REFUSED_BAD_OFFSET or GOBLIN_REFUSED_TOO_BIG (the
+   bytes have no room for a header of the class) or GOBLIN_REFUSED_INTEGER_FIT, the first of these that applies, in this
+   order. Never returns GOBLIN_END.
    Example: header.e_type = GOBLIN_ET_DYN; if (goblin_put_header(own, len, &header, &why)) return 1; */
 uint32_t goblin_put_header(uint8_t *bytes, size_t len, const goblin_header_t *header, goblin_refusal_t *why)
     GOBLIN_STATUS((3, 4));
@@ -703,13 +774,21 @@ uint32_t goblin_put_segment(uint8_t *bytes, size_t len, const goblin_header_t *h
 uint32_t goblin_put_symbol(uint8_t *bytes, size_t len, const goblin_header_t *header, const goblin_range_t *table,
     uint64_t index, const goblin_symbol_t *symbol, goblin_refusal_t *why) GOBLIN_STATUS((3, 4, 6, 7));
 
-/* Writes the relocation at an index of a relocation section. If `is_rela`, has_addend must be 1. If not, has_addend and
-   r_addend must be 0. Else GOBLIN_INTEGER_FIT. In a 32-bit file r_sym has 3 bytes, r_type 1 and r_addend 4, else they
-   have 4, 4 and 8. In a little-endian MIPS64 file r_sym and r_type are written in the format of those files.
+/* Writes the relocation at an index of a relocation section. If not `is_rela`, r_addend must be 0: else
+   GOBLIN_REFUSED_INTEGER_FIT, with `item` GOBLIN_ITEM_ADDEND. In a 32-bit file r_sym has 3 bytes, r_type 1 and r_addend
+   4. In a little-endian MIPS64 file r_sym and r_type are written in the format of those files.
    Example: reloc.r_addend += 8; if (goblin_put_reloc(own, len, &header, &table.file, true, index, &reloc, &why))
             return 1; */
 uint32_t goblin_put_reloc(uint8_t *bytes, size_t len, const goblin_header_t *header, const goblin_range_t *table,
     bool is_rela, uint64_t index, const goblin_reloc_t *reloc, goblin_refusal_t *why) GOBLIN_STATUS((3, 4, 7, 8));
+
+/* Writes the entry at an index of a dynamic section, before its first one of tag GOBLIN_DT_NULL, at it or after it: at
+   each index below the number of those that lie in the range whole. GOBLIN_END at any other.
+   Example: entry.d_tag = GOBLIN_DT_NULL; entry.d_val = 0;
+            if (goblin_put_dynamic_entry(own, len, &header, &range, index, &entry, &why)) return 1; */
+uint32_t goblin_put_dynamic_entry(uint8_t *bytes, size_t len, const goblin_header_t *header,
+    const goblin_range_t *dynamic, uint64_t index, const goblin_dyn_t *entry, goblin_refusal_t *why)
+    GOBLIN_STATUS((3, 4, 6, 7));
 
 /* Writes a number of `width` bytes at an offset of the file, as goblin_number reads it. It must fit in these bytes: of
    a negative number pass the low ones, as (uint32_t)-8.
@@ -748,24 +827,25 @@ uint64_t goblin_pt_to_str(uint32_t p_type, void *text, size_t capacity);
 uint64_t goblin_sht_to_str(uint32_t sh_type, void *text, size_t capacity);
 /* Writes the name of one flag of a section (a single bit of sh_flags), such as SHF_WRITE, or SHF_UNKNOWN.
    Example: goblin_shf_to_str(GOBLIN_SHF_WRITE, text, sizeof text); */
-uint64_t goblin_shf_to_str(uint32_t flag, void *text, size_t capacity);
-/* Writes the name of a symbol's binding (st_info >> 4), such as GLOBAL, or UNKNOWN_STB.
-   Example: goblin_bind_to_str(symbol.st_info >> 4, text, sizeof text); */
+uint64_t goblin_shf_to_str(uint64_t flag, void *text, size_t capacity);
+/* Writes the name of a symbol's binding (GOBLIN_ST_BIND), such as GLOBAL, or UNKNOWN_STB.
+   Example: goblin_bind_to_str(GOBLIN_ST_BIND(symbol.st_info), text, sizeof text); */
 uint64_t goblin_bind_to_str(uint8_t binding, void *text, size_t capacity);
-/* Writes the name of a symbol's type (st_info & 15), such as FUNC, or UNKNOWN_STT.
-   Example: goblin_type_to_str(symbol.st_info & 15, text, sizeof text); */
+/* Writes the name of a symbol's type (GOBLIN_ST_TYPE), such as FUNC, or UNKNOWN_STT.
+   Example: goblin_type_to_str(GOBLIN_ST_TYPE(symbol.st_info), text, sizeof text); */
 uint64_t goblin_type_to_str(uint8_t type, void *text, size_t capacity);
-/* Writes the name of a symbol's visibility (st_other & 7), such as HIDDEN, or UNKNOWN_STV.
-   Example: goblin_visibility_to_str(symbol.st_other & 7, text, sizeof text); */
+/* Writes the name of a symbol's visibility (GOBLIN_ST_VISIBILITY), such as HIDDEN, or UNKNOWN_STV.
+   Example: goblin_visibility_to_str(GOBLIN_ST_VISIBILITY(symbol.st_other), text, sizeof text); */
 uint64_t goblin_visibility_to_str(uint8_t visibility, void *text, size_t capacity);
 /* Writes the name of a note's type (n_type), such as NT_GNU_BUILD_ID, or NT_UNKNOWN. It depends on the note's name. The
    names are goblin's: type 3 is NT_GNU_BUILD_ID for every name but CORE.
-   Example: goblin_note_type_to_str("GNU", 3, note.n_type, text, sizeof text); */
+   Example: goblin_note_type_to_str(GOBLIN_LITERAL("GNU"), note.n_type, text, sizeof text); */
 uint64_t goblin_note_type_to_str(const void *name, size_t name_len, uint32_t n_type, void *text, size_t capacity);
 /* Writes the text of a refusal in the library's words, such as "type is too big (64) for 52": 64 bytes are needed, and
-   52 are left. For goblin_note_bytes print the part (`item`), too, since the text has no word for it. The text depends
-   on `*why` alone, which a caller may fill itself: a `fourth` that means yes or no is yes unless it is 0; an `item`
-   that is none of GOBLIN_INVALID_UTF8 and the like has the empty name; a `kind` that is no refusal has the empty text.
+   52 are left. For GOBLIN_REFUSED_INTEGER_FIT print the number (`first`) and `offset`, too, and for goblin_note_whole
+   the part (`item`), since the text has no words for them. The text depends on `*why` alone, which a caller may fill
+   itself: a `fourth` that means yes or no is yes unless it is 0; an `item` that is none of GOBLIN_ITEM_INVALID_UTF8 and
+   the like has the empty name; a `kind` that is no refusal has the empty text.
    Example: goblin_refusal_to_str(&why, text, sizeof text); */
 uint64_t goblin_refusal_to_str(const goblin_refusal_t *why, void *text, size_t capacity) GOBLIN_GIVEN((1));
 
@@ -779,8 +859,8 @@ uint64_t goblin_refusal_to_str(const goblin_refusal_t *why, void *text, size_t c
 /* ---- constants ----
 
    The library's constants. Each has the standard's name after GOBLIN_, so this file and <elf.h> can be included
-   together. Flags of sections (sh_flags) and indices of sections (st_shndx) have 64 bits, as their fields have, so
-   `section.sh_flags & ~GOBLIN_SHF_WRITE` clears one bit alone.
+   together. Flags of sections (sh_flags) have 64 bits, as their field has, so `section.sh_flags & ~GOBLIN_SHF_WRITE`
+   clears one bit alone.
 
    Made by faces/constants.py of the library's constants: do not edit. */
 
@@ -1053,19 +1133,18 @@ uint64_t goblin_refusal_to_str(const goblin_refusal_t *why, void *text, size_t c
 /* -- section headers -- */
 
 /* Special section indices. */
-#define GOBLIN_SHN_UNDEF UINT64_C(0) /* No section. */
-#define GOBLIN_SHN_LORESERVE UINT64_C(0xff00) /* The first special index. */
-#define GOBLIN_SHN_LOPROC UINT64_C(0xff00) /* The first processor-specific index. */
-#define GOBLIN_SHN_BEFORE UINT64_C(0xff00) /* Before all other sections (Solaris). */
-#define GOBLIN_SHN_AFTER UINT64_C(0xff01) /* After all other sections (Solaris). */
-#define GOBLIN_SHN_HIPROC UINT64_C(0xff1f) /* The last processor-specific index. */
-#define GOBLIN_SHN_LOOS UINT64_C(0xff20) /* The first OS-specific index. */
-#define GOBLIN_SHN_HIOS UINT64_C(0xff3f) /* The last OS-specific index. */
-#define GOBLIN_SHN_ABS UINT64_C(0xfff1) /* The index of symbols with an absolute value. */
-#define GOBLIN_SHN_COMMON UINT64_C(0xfff2) /* The index of common symbols, which aren't allocated yet. */
-/* An escape: the index is stored elsewhere, since it doesn't fit its field. */
-#define GOBLIN_SHN_XINDEX UINT64_C(0xffff)
-#define GOBLIN_SHN_HIRESERVE UINT64_C(0xffff) /* The last special index. */
+#define GOBLIN_SHN_UNDEF 0u /* No section. */
+#define GOBLIN_SHN_LORESERVE 0xff00u /* The first special index. */
+#define GOBLIN_SHN_LOPROC 0xff00u /* The first processor-specific index. */
+#define GOBLIN_SHN_BEFORE 0xff00u /* Before all other sections (Solaris). */
+#define GOBLIN_SHN_AFTER 0xff01u /* After all other sections (Solaris). */
+#define GOBLIN_SHN_HIPROC 0xff1fu /* The last processor-specific index. */
+#define GOBLIN_SHN_LOOS 0xff20u /* The first OS-specific index. */
+#define GOBLIN_SHN_HIOS 0xff3fu /* The last OS-specific index. */
+#define GOBLIN_SHN_ABS 0xfff1u /* The index of symbols with an absolute value. */
+#define GOBLIN_SHN_COMMON 0xfff2u /* The index of common symbols, which aren't allocated yet. */
+#define GOBLIN_SHN_XINDEX 0xffffu /* An escape: the index is stored elsewhere, since it doesn't fit its field. */
+#define GOBLIN_SHN_HIRESERVE 0xffffu /* The last special index. */
 
 /* Section types. */
 #define GOBLIN_SHT_NULL 0u /* No section. */
@@ -1263,5 +1342,10 @@ uint64_t goblin_refusal_to_str(const goblin_refusal_t *why, void *text, size_t c
 #define GOBLIN_GNU_PROPERTY_X86_FEATURE_1_AND 0xc0000002u
 #define GOBLIN_GNU_PROPERTY_X86_FEATURE_1_IBT 1u /* Its bit for indirect branch tracking. */
 #define GOBLIN_GNU_PROPERTY_X86_FEATURE_1_SHSTK 2u /* Its bit for shadow stacks. */
+/* The table of the version of each symbol: System V gABI, "Symbol Versioning", and GNU's. */
+#define GOBLIN_DT_VERSYM UINT64_C(0x6ffffff0)
+/* The offset of the runtime linker's map from this entry, as position-independent programs have it (MIPS). */
+#define GOBLIN_DT_MIPS_RLD_MAP_REL UINT64_C(0x70000035)
+#define GOBLIN_PT_MIPS_ABIFLAGS 0x70000003u /* The segment of ABI flags (MIPS). */
 
 #endif

@@ -14,6 +14,14 @@ static size_t end, wide;
 static bool is_big;
 static int compared, wrong;
 
+static goblin_header_t none; /* (each field of which stays 0) */
+
+/* Returns the first bytes of the file with a header, up to the next call. */
+static const goblin_file_t *over(size_t len, const goblin_header_t *h) {
+    static goblin_file_t made;
+    return made.bytes = file, made.len = len, made.header = *h, &made;
+}
+
 static void same(const char *what, uint64_t is, uint64_t should) {
     compared++;
     if (is == should) return;
@@ -64,7 +72,7 @@ static void segment(goblin_segment_t *p) {
 /* Writes this section header after another one at e_shoff, and one more after it. */
 static void section(goblin_section_t *s) {
     end = 0x456 + (wide == 8 ? 64 : 40);
-    s->sh_name = any(4), s->sh_type = (uint32_t)any(4), s->sh_flags = any(wide), s->sh_addr = any(wide);
+    s->sh_name = (uint32_t)any(4), s->sh_type = (uint32_t)any(4), s->sh_flags = any(wide), s->sh_addr = any(wide);
     s->file.offset = any(wide), s->file.size = any(wide), s->sh_link = (uint32_t)any(4), s->sh_info = (uint32_t)any(4);
     s->sh_addralign = any(wide), s->sh_entsize = any(wide);
 }
@@ -72,9 +80,9 @@ static void section(goblin_section_t *s) {
 /* Writes this symbol as the second of the table at 0x700. */
 static void symbol(goblin_symbol_t *s) {
     end = 0x700 + (wide == 8 ? 24 : 16);
-    s->st_name = any(4);
+    s->st_name = (uint32_t)any(4);
     if (wide == 4) s->st_value = any(4), s->st_size = any(4);
-    s->st_info = (uint8_t)any(1), s->st_other = (uint8_t)any(1), s->st_shndx = any(2);
+    s->st_info = (uint8_t)any(1), s->st_other = (uint8_t)any(1), s->st_shndx = (uint16_t)any(2);
     if (wide == 8) s->st_value = any(8), s->st_size = any(8);
 }
 
@@ -83,8 +91,8 @@ static void reloc(goblin_reloc_t *r) {
     end = 0x800 + 3 * wide;
     r->r_offset = any(wide);
     uint64_t info = any(wide), addend = any(wide);
-    r->r_sym = wide == 8 ? info >> 32 : info >> 8, r->r_type = (uint32_t)(wide == 8 ? info : info & 0xff);
-    r->r_addend = wide == 8 ? (int64_t)addend : (int32_t)addend, r->has_addend = 1;
+    r->r_sym = (uint32_t)(wide == 8 ? info >> 32 : info >> 8), r->r_type = (uint32_t)(wide == 8 ? info : info & 0xff);
+    r->r_addend = wide == 8 ? (int64_t)addend : (int32_t)addend;
 }
 
 /* Writes this note at 0x900. Its name has seven bytes and a zero byte, its descriptor five and three of padding. */
@@ -108,24 +116,26 @@ static void dynamic_all(const goblin_header_t *h, const goblin_dyn_t *wanted, go
                         goblin_refusal_t *why) {
     goblin_range_t dynamic = {0xe00, 8 * wide}, found;
     goblin_dyn_t both[3];
-    uint64_t number = 0;
-    same("goblin_dynamic", goblin_dynamic(file, sizeof file, h, &found, why), GOBLIN_END);
+    uint64_t number = 0, index = 0;
+    same("goblin_dynamic", goblin_dynamic(over(sizeof file, h), &found, why), GOBLIN_END);
     same("goblin_dynamic_entries",
-         goblin_dynamic_entries(file, sizeof file, h, &dynamic, 1, got, 1, &number, why), GOBLIN_OK);
+         goblin_dynamic_entries(over(sizeof file, h), &dynamic, 1, got, 1, &number, why), GOBLIN_OK);
     same("goblin_dynamic_entries",
-         goblin_dynamic_entries(file, sizeof file, h, &dynamic, 0, both, 3, &number, why), GOBLIN_OK);
+         goblin_dynamic_entries(over(sizeof file, h), &dynamic, 0, both, 3, &number, why), GOBLIN_OK);
     same("goblin_dynamic_entries", number, 2), same("goblin_dynamic_entries", both[1].d_val, wanted->d_val);
     same("goblin_dynamic_entries",
-         goblin_dynamic_entries(file, sizeof file, h, &dynamic, 2, both, 3, &number, why), GOBLIN_END);
+         goblin_dynamic_entries(over(sizeof file, h), &dynamic, 2, both, 3, &number, why), GOBLIN_END);
+    same("goblin_dynamic_count", goblin_dynamic_count(over(sizeof file, h), &dynamic, &number, why), GOBLIN_OK);
+    same("goblin_dynamic_count", number, 2);
     same("goblin_dynamic_value",
-         goblin_dynamic_value(file, sizeof file, h, &dynamic, GOBLIN_DT_SONAME, &number, why), GOBLIN_OK);
-    same("goblin_dynamic_value", number, 0x21);
+         goblin_dynamic_value(over(sizeof file, h), &dynamic, wanted->d_tag, 0, &index, &number, why), GOBLIN_OK);
+    same("goblin_dynamic_value", number, wanted->d_val), same("goblin_dynamic_value", index, 1);
     same("goblin_dynamic_value",
-         goblin_dynamic_value(file, sizeof file, h, &dynamic, GOBLIN_DT_NULL, &number, why), GOBLIN_END);
-    same("goblin_dynamic_strings", goblin_dynamic_strings(file, sizeof file, h, &dynamic, &found, why), GOBLIN_END);
+         goblin_dynamic_value(over(sizeof file, h), &dynamic, GOBLIN_DT_NULL, 0, &index, &number, why), GOBLIN_END);
+    same("goblin_dynamic_strings", goblin_dynamic_strings(over(sizeof file, h), &dynamic, &found, why), GOBLIN_END);
     dynamic.size = sizeof file;
     same("entries outside",
-         goblin_dynamic_entries(file, sizeof file, h, &dynamic, 0, both, 0, &number, why), GOBLIN_TOO_BIG);
+         goblin_dynamic_entries(over(sizeof file, h), &dynamic, 0, both, 0, &number, why), GOBLIN_REFUSED_TOO_BIG);
     same("entries outside", why->offset, 0xe00);
 }
 
@@ -134,77 +144,82 @@ static void count_all(const goblin_header_t *h, const goblin_range_t *symbols, c
                       goblin_refusal_t *why) {
     goblin_section_t second, same_section;
     uint64_t number;
-    same("goblin_segment_count", goblin_segment_count(file, sizeof file, h, &number, why), GOBLIN_OK);
+    same("goblin_segment_count", goblin_segment_count(over(sizeof file, h), &number, why), GOBLIN_OK);
     same("goblin_segment_count", number, 2);
-    same("goblin_symbol_count", goblin_symbol_count(file, sizeof file, h, symbols, &number, why), GOBLIN_OK);
+    same("goblin_symbol_count", goblin_symbol_count(over(sizeof file, h), symbols, &number, why), GOBLIN_OK);
     same("goblin_symbol_count", number, 2);
-    same("goblin_reloc_count", goblin_reloc_count(file, sizeof file, h, relocs, true, &number, why), GOBLIN_OK);
+    same("goblin_reloc_count", goblin_reloc_count(over(sizeof file, h), relocs, true, &number, why), GOBLIN_OK);
     same("goblin_reloc_count", number, 2);
-    same("goblin_section", goblin_section(file, sizeof file, h, 1, &second, why), GOBLIN_OK);
+    same("goblin_section", goblin_section(over(sizeof file, h), 1, &second, why), GOBLIN_OK);
     same("goblin_section_by_type",
-         goblin_section_by_type(file, sizeof file, h, second.sh_type, 0, &number, &same_section, why), GOBLIN_OK);
+         goblin_section_by_type(over(sizeof file, h), second.sh_type, 0, &number, &same_section, why), GOBLIN_OK);
     same("goblin_section_by_type", number, 1);
     same("goblin_section_by_type, the section", same_section.sh_info, second.sh_info);
     same("goblin_section_by_type",
-         goblin_section_by_type(file, sizeof file, h, second.sh_type, 2, &number, &same_section, why), GOBLIN_END);
+         goblin_section_by_type(over(sizeof file, h), second.sh_type, 2, &number, &same_section, why), GOBLIN_END);
     for (size_t width = 1; width <= 8; width *= 2) {
         uint64_t value = (end = 0xd00, any(width));
-        same("goblin_number", goblin_number(file, sizeof file, h, 0xd00, width, &number, why), GOBLIN_OK);
+        same("goblin_number", goblin_number(over(sizeof file, h), 0xd00, width, &number, why), GOBLIN_OK);
         same("goblin_number", number, value);
     }
-    same("goblin_number of 3", goblin_number(file, sizeof file, h, 0xd00, 3, &number, why), GOBLIN_END);
+    same("goblin_number of 3", goblin_number(over(sizeof file, h), 0xd00, 3, &number, why), GOBLIN_END);
     same("goblin_number outside",
-         goblin_number(file, sizeof file, h, sizeof file - 1, 2, &number, why), GOBLIN_TOO_BIG);
+         goblin_number(over(sizeof file, h), sizeof file - 1, 2, &number, why), GOBLIN_REFUSED_TOO_BIG);
 }
 
 /* Tests the header that counts what is whole in a cut file, a number of segments that the first section has, and calls
    for ranges. */
 static void whole_all(const goblin_header_t *h, const goblin_layout_t *wanted, goblin_refusal_t *why) {
     size_t cut = 0x456 + 2 * (wide == 8 ? 64 : 40) + 1;
-    goblin_header_t whole, many = *h;
+    goblin_file_t whole;
+    goblin_header_t many = *h;
     goblin_section_t s;
     goblin_segment_t p;
     goblin_range_t part = {0, 0}, all = {0, sizeof file}, past = {sizeof file - 3, 9};
     uint64_t number = 0;
     memset(&s, 0, sizeof s), memset(&whole, 0, sizeof whole);
-    same("section of a cut file", goblin_section(file, cut, h, 1, &s, why), GOBLIN_TOO_BIG);
-    goblin_whole_header(file, cut, h, &whole);
-    same("goblin_whole_header", whole.e_shnum, 2), same("goblin_whole_header", whole.e_shoff, h->e_shoff);
-    same("goblin_whole_header", whole.e_phnum, 2), same("goblin_whole_header", whole.e_entry, h->e_entry);
-    same("whole section", goblin_section(file, cut, &whole, 1, &s, why), GOBLIN_OK);
+    same("section of a cut file", goblin_section(over(cut, h), 1, &s, why), GOBLIN_REFUSED_TOO_BIG);
+    goblin_whole_header(over(cut, h), &whole);
+    same("goblin_whole_header", whole.header.e_shnum, 2);
+    same("goblin_whole_header", whole.header.e_shoff, h->e_shoff);
+    same("goblin_whole_header", whole.header.e_phnum, 2), same("goblin_whole_header", whole.len, cut);
+    same("goblin_whole_header", whole.header.e_entry, h->e_entry), same("its bytes", whole.bytes == file, 1);
+    same("whole section", goblin_section(&whole, 1, &s, why), GOBLIN_OK);
     same("whole section", s.file.offset, wanted->section.file.offset);
-    same("whole section", goblin_section(file, cut, &whole, 2, &s, why), GOBLIN_END);
+    same("whole section", goblin_section(&whole, 2, &s, why), GOBLIN_END);
     cut = 0x123 + 2 * (wide == 8 ? 56 : 32) - 1;
-    same("segment of a cut file", goblin_segment(file, cut, h, 0, &p, why), GOBLIN_TOO_BIG);
-    goblin_whole_header(file, cut, h, &whole);
-    same("goblin_whole_header", whole.e_phnum, 1), same("goblin_whole_header", whole.e_shoff + whole.e_shnum, 0);
-    same("whole segment", goblin_segment(file, cut, &whole, 0, &p, why), GOBLIN_OK);
-    same("whole segment", goblin_segment(file, cut, &whole, 1, &p, why), GOBLIN_END);
-    same("no whole section", goblin_section(file, cut, &whole, 0, &s, why), GOBLIN_END);
+    same("segment of a cut file", goblin_segment(over(cut, h), 0, &p, why), GOBLIN_REFUSED_TOO_BIG);
+    goblin_whole_header(over(cut, h), &whole);
+    same("goblin_whole_header", whole.header.e_phnum, 1);
+    same("goblin_whole_header", whole.header.e_shoff + whole.header.e_shnum, 0);
+    same("whole segment", goblin_segment(&whole, 0, &p, why), GOBLIN_OK);
+    same("whole segment", goblin_segment(&whole, 1, &p, why), GOBLIN_END);
+    same("no whole section", goblin_section(&whole, 0, &s, why), GOBLIN_END);
     /* sh_info of the first section is the number of segments if e_phnum is 0xffff. */
     many.e_phnum = 0xffff;
     size_t at = 0x456 + (wide == 8 ? 44 : 28);
     uint64_t before = 0;
-    same("goblin_number", goblin_number(file, sizeof file, h, at, 4, &before, why), GOBLIN_OK);
+    same("goblin_number", goblin_number(over(sizeof file, h), at, 4, &before, why), GOBLIN_OK);
     same("goblin_put_number", goblin_put_number(file, sizeof file, h, at, 4, 3, why), GOBLIN_OK);
-    same("PN_XNUM", goblin_segment_count(file, sizeof file, &many, &number, why), GOBLIN_OK),
+    same("PN_XNUM", goblin_segment_count(over(sizeof file, &many), &number, why), GOBLIN_OK),
         same("PN_XNUM", number, 3);
-    same("PN_XNUM", goblin_segment(file, sizeof file, &many, 2, &p, why), GOBLIN_OK);
-    same("PN_XNUM", goblin_segment(file, sizeof file, &many, 3, &p, why), GOBLIN_END);
+    same("PN_XNUM", goblin_segment(over(sizeof file, &many), 2, &p, why), GOBLIN_OK);
+    same("PN_XNUM", goblin_segment(over(sizeof file, &many), 3, &p, why), GOBLIN_END);
     same("goblin_put_number", goblin_put_number(file, sizeof file, h, at, 4, before, why), GOBLIN_OK);
-    same("PN_XNUM, cut", goblin_segment_count(file, 0x460, &many, &number, why), GOBLIN_TOO_BIG),
+    same("PN_XNUM, cut", goblin_segment_count(over(0x460, &many), &number, why), GOBLIN_REFUSED_TOO_BIG),
         same("PN_XNUM, cut", why->offset, 0x456);
     many.e_shoff = 0;
-    same("PN_XNUM, no sections", goblin_segment_count(file, sizeof file, &many, &number, why), GOBLIN_BUFFER_TOO_SHORT);
+    same("PN_XNUM, no sections", goblin_segment_count(over(sizeof file, &many), &number, why),
+        GOBLIN_REFUSED_BUFFER_TOO_SHORT);
     same("PN_XNUM, no sections", why->first, 0xffff);
-    same("goblin_number_in", goblin_number_in(file, sizeof file, h, &all, 4, 1, &number, why), GOBLIN_OK);
+    same("goblin_number_in", goblin_number_in(over(sizeof file, h), &all, 4, 1, &number, why), GOBLIN_OK);
     same("goblin_number_in", number, wide / 4);
     part.offset = 0x700, part.size = 9;
     same("number past a range",
-         goblin_number_in(file, sizeof file, h, &part, part.size, 1, &number, why), GOBLIN_BAD_OFFSET);
-    goblin_range_in_file(file, sizeof file, &past, &part);
+         goblin_number_in(over(sizeof file, h), &part, part.size, 1, &number, why), GOBLIN_REFUSED_BAD_OFFSET);
+    goblin_range_in_file(over(sizeof file, &none), &past, &part);
     same("goblin_range_in_file", part.offset << 16 | part.size, 0xffd0003);
-    same("goblin_address_to_offset", goblin_address_to_offset(file, sizeof file, h, 0, &number, why), GOBLIN_END);
+    same("goblin_address_to_offset", goblin_address_to_offset(over(sizeof file, h), 0, &number, why), GOBLIN_END);
 }
 
 /* Tests that a call has written `size` bytes at an offset as they were in the first file, and that no other byte of the
@@ -249,31 +264,36 @@ static void refuse_to_write(const goblin_layout_t *wanted, const goblin_range_t 
                             goblin_refusal_t *why) {
     goblin_layout_t items = *wanted;
     const goblin_header_t *h = &wanted->header;
-    uint32_t wide_status = wide == 8 ? GOBLIN_OK : GOBLIN_INTEGER_FIT;
+    uint32_t wide_status = wide == 8 ? GOBLIN_OK : GOBLIN_REFUSED_INTEGER_FIT;
     memcpy(first, file, sizeof file);
-    items.section.sh_name = (uint64_t)1 << 32, items.symbol.st_shndx = 0x10000,
-        items.segment.p_align = items.section.sh_name;
-    same("a long name", goblin_put_section(file, sizeof file, h, 1, &items.section, why), GOBLIN_INTEGER_FIT);
-    same("a long name", why->first, items.section.sh_name), same("a long name", why->offset, wide == 8 ? 0x496 : 0x47e);
-    same("a high index", goblin_put_symbol(file, sizeof file, h, symbols, 1, &items.symbol, why), GOBLIN_INTEGER_FIT);
-    same("a high index", why->first, 0x10000), same("a high index", why->offset, wide == 8 ? 0x718 + 6 : 0x710 + 14);
-    same("no addends", goblin_put_reloc(file, sizeof file, h, relocs, false, 0, &items.reloc, why), GOBLIN_INTEGER_FIT);
+    items.section.sh_flags = items.symbol.st_size = items.segment.p_align = (uint64_t)1 << 32;
+    if (wide == 4) {
+        same("wide flags", goblin_put_section(file, sizeof file, h, 1, &items.section, why), wide_status);
+        same("wide flags", why->first, items.section.sh_flags), same("wide flags", why->offset, 0x47e + 8);
+        same("a wide size", goblin_put_symbol(file, sizeof file, h, symbols, 1, &items.symbol, why), wide_status);
+        same("a wide size", why->first, items.symbol.st_size), same("a wide size", why->offset, 0x710 + 8);
+    }
+    same("no addends", goblin_put_reloc(file, sizeof file, h, relocs, false, 0, &items.reloc, why),
+        GOBLIN_REFUSED_INTEGER_FIT);
     same("no addends", why->first, (uint64_t)items.reloc.r_addend), same("no addends", why->offset, 0x800 + 2 * wide);
-    same("a high number", goblin_put_number(file, sizeof file, h, 0x10, 2, 0x10000, why), GOBLIN_INTEGER_FIT);
+    same("no addends, item", why->item, GOBLIN_ITEM_ADDEND);
+    same("a high number", goblin_put_number(file, sizeof file, h, 0x10, 2, 0x10000, why), GOBLIN_REFUSED_INTEGER_FIT);
     same("a high number", why->first, 0x10000), same("a high number", why->offset, 0x10);
     items.header.ei_class = 3, items.header.ei_data = 3;
-    same("class 3", goblin_put_header(file, sizeof file, &items.header, why), GOBLIN_INVALID_CLASS),
+    same("class 3", goblin_put_header(file, sizeof file, &items.header, why), GOBLIN_REFUSED_INVALID_CLASS),
         same("class 3", why->first, 3);
     items.header.ei_class = h->ei_class;
-    same("order 3", goblin_put_header(file, sizeof file, &items.header, why), GOBLIN_DATA),
+    same("order 3", goblin_put_header(file, sizeof file, &items.header, why), GOBLIN_REFUSED_DATA),
         same("order 3", why->first, 3);
-    same("no bytes", goblin_put_header(file, 0, h, why), GOBLIN_BAD_OFFSET);
-    same("51 bytes", goblin_put_header(file, 51, h, why), GOBLIN_TOO_BIG);
-    same("sections outside", goblin_put_section(file, 0x456, h, 0, &wanted->section, why), GOBLIN_BAD_OFFSET);
-    same("segments outside", goblin_put_segment(file, 0x123, h, 0, &wanted->segment, why), GOBLIN_BAD_OFFSET);
-    same("symbols outside", goblin_put_symbol(file, 0x6ff, h, symbols, 0, &wanted->symbol, why), GOBLIN_SYMTAB_OFFSET);
-    same("relocs outside", goblin_put_reloc(file, 0x801, h, relocs, true, 0, &wanted->reloc, why), GOBLIN_TOO_BIG);
-    same("number outside", goblin_put_number(file, 7, h, 4, 4, 0, why), GOBLIN_TOO_BIG);
+    same("no bytes", goblin_put_header(file, 0, h, why), GOBLIN_REFUSED_BAD_OFFSET);
+    same("51 bytes", goblin_put_header(file, 51, h, why), GOBLIN_REFUSED_TOO_BIG);
+    same("sections outside", goblin_put_section(file, 0x456, h, 0, &wanted->section, why), GOBLIN_REFUSED_BAD_OFFSET);
+    same("segments outside", goblin_put_segment(file, 0x123, h, 0, &wanted->segment, why), GOBLIN_REFUSED_BAD_OFFSET);
+    same("symbols outside", goblin_put_symbol(file, 0x6ff, h, symbols, 0, &wanted->symbol, why),
+        GOBLIN_REFUSED_SYMTAB_OFFSET);
+    same("relocs outside", goblin_put_reloc(file, 0x801, h, relocs, true, 0, &wanted->reloc, why),
+        GOBLIN_REFUSED_TOO_BIG);
+    same("number outside", goblin_put_number(file, 7, h, 4, 4, 0, why), GOBLIN_REFUSED_TOO_BIG);
     same("nothing written", (uint64_t)memcmp(file, first, sizeof file), 0);
     same("a high alignment", goblin_put_segment(file, sizeof file, h, 1, &items.segment, why), wide_status);
     items.header = *h, items.header.e_entry = (uint64_t)1 << 32;
@@ -289,19 +309,29 @@ static void range_all(const goblin_layout_t *items, goblin_refusal_t *why) {
     goblin_segment_t p = items->segment;
     goblin_range_t found = {0, 0}, names = {0xc00, 4};
     s.sh_type = 1, s.file.offset = p.file.offset = 0xa00, s.file.size = p.file.size = 0x33, p.p_type = 1;
-    same("goblin_section_bytes", goblin_section_bytes(file, sizeof file, &s, &found, why), GOBLIN_OK);
-    same("goblin_section_bytes", found.offset << 16 | found.size, 0xa000033);
+    same("goblin_section_range", goblin_section_range(over(sizeof file, &none), &s, &found, why), GOBLIN_OK);
+    same("goblin_section_range", found.offset << 16 | found.size, 0xa000033);
     found.size = 0;
-    same("goblin_segment_bytes", goblin_segment_bytes(file, sizeof file, &p, &found, why), GOBLIN_OK);
-    same("goblin_segment_bytes", found.offset << 16 | found.size, 0xa000033);
-    same("goblin_string_bytes", goblin_string_bytes(file, sizeof file, &names, 1, &found, why), GOBLIN_OK);
-    same("goblin_string_bytes", found.offset << 16 | found.size, 0xc010003);
+    same("goblin_segment_range", goblin_segment_range(over(sizeof file, &none), &p, &found, why), GOBLIN_OK);
+    same("goblin_segment_range", found.offset << 16 | found.size, 0xa000033);
+    same("goblin_string", goblin_string(over(sizeof file, &none), &names, 1, &found, why), GOBLIN_OK);
+    same("goblin_string", found.offset << 16 | found.size, 0xc010003);
     s.file.size = p.file.size = sizeof file;
-    same("bytes outside", goblin_section_bytes(file, sizeof file, &s, &found, why), GOBLIN_TOO_BIG);
-    same("bytes outside", goblin_segment_bytes(file, sizeof file, &p, &found, why), GOBLIN_TOO_BIG);
+    same("bytes outside", goblin_section_range(over(sizeof file, &none), &s, &found, why), GOBLIN_REFUSED_TOO_BIG);
+    same("bytes outside", goblin_segment_range(over(sizeof file, &none), &p, &found, why), GOBLIN_REFUSED_TOO_BIG);
     s.sh_type = 8, p.p_type = 0;
-    same("no bytes", goblin_section_bytes(file, sizeof file, &s, &found, why), GOBLIN_END);
-    same("no bytes", goblin_segment_bytes(file, sizeof file, &p, &found, why), GOBLIN_END);
+    same("no bytes", goblin_section_range(over(sizeof file, &none), &s, &found, why), GOBLIN_END);
+    same("no bytes", goblin_segment_range(over(sizeof file, &none), &p, &found, why), GOBLIN_END);
+}
+
+/* Reads the header of the first bytes of the file. */
+static uint32_t read_header(size_t len, goblin_header_t *h, goblin_refusal_t *why) {
+    goblin_file_t read;
+    memset(&read, 0, sizeof read);
+    uint32_t status = goblin_file(file, len, &read, why);
+    if (status == GOBLIN_OK) same("goblin_file", read.bytes == file && read.len == len, 1), *h = read.header;
+    else same("goblin_file, refused", (uintptr_t)read.bytes + read.len + read.header.ei_class, 0);
+    return status;
 }
 
 /* Reads each item of a file, and compares it with what was written. */
@@ -312,33 +342,34 @@ static void read_all(void) {
     symbol(&wanted.symbol), reloc(&wanted.reloc), note(&wanted.note), entry(&wanted.dyn);
     goblin_header_t *h = &got.header;
     goblin_refusal_t *why = &got.refusal;
-    same("goblin_header", goblin_header(file, sizeof file, h, why), GOBLIN_OK);
-    same("goblin_segment", goblin_segment(file, sizeof file, h, 1, &got.segment, why), GOBLIN_OK);
-    same("goblin_segment", goblin_segment(file, sizeof file, h, 2, &got.segment, why), GOBLIN_END);
-    same("goblin_section_names", goblin_section_names(file, sizeof file, h, &got.section, why), GOBLIN_OK);
-    same("goblin_section", goblin_section(file, sizeof file, h, 1, &got.section, why), GOBLIN_OK);
-    same("goblin_section", goblin_section(file, sizeof file, h, 3, &got.section, why), GOBLIN_END);
+    same("goblin_header", read_header(sizeof file, h, why), GOBLIN_OK);
+    same("goblin_segment", goblin_segment(over(sizeof file, h), 1, &got.segment, why), GOBLIN_OK);
+    same("goblin_segment", goblin_segment(over(sizeof file, h), 2, &got.segment, why), GOBLIN_END);
+    same("goblin_names_section", goblin_names_section(over(sizeof file, h), &got.section, why), GOBLIN_OK);
+    same("goblin_section", goblin_section(over(sizeof file, h), 1, &got.section, why), GOBLIN_OK);
+    same("goblin_section", goblin_section(over(sizeof file, h), 3, &got.section, why), GOBLIN_END);
     goblin_range_t symbols = {0x700, wide == 8 ? 48U : 32U}, relocs = {0x800, wide * 6}, notes = {0x900, 28};
     count_all(h, &symbols, &relocs, why);
     range_all(&wanted, why);
     whole_all(h, &wanted, why);
     dynamic_all(h, &wanted.dyn, &got.dyn, why);
-    same("goblin_symbol", goblin_symbol(file, sizeof file, h, &symbols, 1, &got.symbol, why), GOBLIN_OK);
-    same("goblin_symbol", goblin_symbol(file, sizeof file, h, &symbols, 2, &got.symbol, why), GOBLIN_END);
-    same("goblin_reloc", goblin_reloc(file, sizeof file, h, &relocs, true, 1, &got.reloc, why), GOBLIN_OK);
-    same("goblin_reloc", goblin_reloc(file, sizeof file, h, &relocs, true, 2, &got.reloc, why), GOBLIN_END);
-    same("goblin_note", goblin_note(file, sizeof file, h, &notes, 4, 0x900, &got.note, why), GOBLIN_OK);
-    same("goblin_note", goblin_note(file, sizeof file, h, &notes, 4, got.note.next, &got.note, why), GOBLIN_END);
+    same("goblin_symbol", goblin_symbol(over(sizeof file, h), &symbols, 1, &got.symbol, why), GOBLIN_OK);
+    same("goblin_symbol", goblin_symbol(over(sizeof file, h), &symbols, 2, &got.symbol, why), GOBLIN_END);
+    same("goblin_reloc", goblin_reloc(over(sizeof file, h), &relocs, true, 1, &got.reloc, why), GOBLIN_OK);
+    same("goblin_reloc", goblin_reloc(over(sizeof file, h), &relocs, true, 2, &got.reloc, why), GOBLIN_END);
+    same("goblin_note_utf8", goblin_note_utf8(over(sizeof file, h), &notes, 4, 0x900, &got.note, why), GOBLIN_OK);
+    same("goblin_note_utf8", goblin_note_utf8(over(sizeof file, h), &notes, 4, got.note.next, &got.note, why),
+        GOBLIN_END);
     goblin_note_t whole;
-    same("goblin_note_bytes", goblin_note_bytes(file, sizeof file, h, &notes, 4, 0x900, &whole, why), GOBLIN_OK);
-    same("goblin_note_bytes.name", whole.name.offset << 16 | whole.name.size, wanted.note.name.offset << 16 | 8);
-    same("goblin_note_bytes.desc", whole.desc.offset << 16 | whole.desc.size, wanted.note.desc.offset << 16 | 5);
-    same("goblin_note_bytes.next", whole.next << 32 | whole.n_type, wanted.note.next << 32 | wanted.note.n_type);
+    same("goblin_note_whole", goblin_note_whole(over(sizeof file, h), &notes, 4, 0x900, &whole, why), GOBLIN_OK);
+    same("goblin_note_whole.name", whole.name.offset << 16 | whole.name.size, wanted.note.name.offset << 16 | 7);
+    same("goblin_note_whole.desc", whole.desc.offset << 16 | whole.desc.size, wanted.note.desc.offset << 16 | 5);
+    same("goblin_note_whole.next", whole.next << 32 | whole.n_type, wanted.note.next << 32 | wanted.note.n_type);
     /* In a little-endian MIPS64 file the bytes of the type are in the other order. */
     goblin_header_t mips = *h;
     mips.e_machine = 8;
     goblin_reloc_t pair;
-    same("goblin_reloc", goblin_reloc(file, sizeof file, &mips, &relocs, true, 1, &pair, why), GOBLIN_OK);
+    same("goblin_reloc", goblin_reloc(over(sizeof file, &mips), &relocs, true, 1, &pair, why), GOBLIN_OK);
     if (wide == 8 && !is_big) {
         uint32_t type = (uint32_t)wanted.reloc.r_sym;
         same("r_sym for MIPS", pair.r_sym, wanted.reloc.r_type);
@@ -353,12 +384,13 @@ static void read_all(void) {
     /* A refusal with four different numbers: its size, its offset, the file's length and 1. Its table begins at
        the offset. */
     goblin_range_t past = {0x321, UINT64_MAX};
-    goblin_refusal_t refusal = {GOBLIN_STRTAB_RANGE, 0, past.size, past.offset, sizeof file, 1, past.offset};
+    goblin_refusal_t refusal = {GOBLIN_REFUSED_STRTAB_RANGE, 0, past.size, past.offset, sizeof file, 1, past.offset};
     wanted.refusal = refusal;
-    same("goblin_string", goblin_string(file, sizeof file, &past, 0, &got.range, why), GOBLIN_STRTAB_RANGE);
+    same("goblin_string_utf8", goblin_string_utf8(over(sizeof file, &none), &past, 0, &got.range, why),
+        GOBLIN_REFUSED_STRTAB_RANGE);
     goblin_range_t names = {wanted.note.name.offset - 1, 9};
     wanted.range.offset = names.offset + 3, wanted.range.size = 5;
-    same("goblin_string", goblin_string(file, sizeof file, &names, 3, &got.range, why), GOBLIN_OK);
+    same("goblin_string_utf8", goblin_string_utf8(over(sizeof file, &none), &names, 3, &got.range, why), GOBLIN_OK);
 #define STRUCT(name)
 #define FIELD(name, field, number) same(#name "." #field, (uint64_t)got.name.field, (uint64_t)wanted.name.field);
 #include "fields.h"
@@ -382,63 +414,66 @@ static void refuse_all(void) {
     goblin_range_t text, names = {0xc00, 4}, range = {sizeof file, 0};
     goblin_refusal_t why;
     header(&given);
-    same("goblin_header", goblin_header(file, sizeof file, &h, &why), GOBLIN_OK);
+    same("goblin_header", read_header(sizeof file, &h, &why), GOBLIN_OK);
     given = h, given.e_shoff = sizeof file;
-    refused("sections outside", goblin_section(file, sizeof file, &given, 0, &s, &why),
-            GOBLIN_BAD_OFFSET, &why, sizeof file);
+    refused("sections outside", goblin_section(over(sizeof file, &given), 0, &s, &why),
+            GOBLIN_REFUSED_BAD_OFFSET, &why, sizeof file);
     given = h, given.e_shnum = given.e_phnum = 0xffff;
-    refused("many sections", goblin_section(file, sizeof file, &given, 0, &s, &why),
-            GOBLIN_BUFFER_TOO_SHORT, &why, h.e_shoff);
-    same("many sections, item", why.item, GOBLIN_SECTION_HEADERS);
-    refused("many segments", goblin_segment(file, sizeof file, &given, 0, &p, &why),
-            GOBLIN_BUFFER_TOO_SHORT, &why, h.e_phoff);
-    same("many segments, item", why.item, GOBLIN_PROGRAM_HEADERS);
-    refused("string of 0xee", goblin_string(file, sizeof file, &names, 0, &text, &why), GOBLIN_BAD_INPUT,
-            &why, names.offset);
-    same("string of 0xee, item", why.item, GOBLIN_INVALID_UTF8);
-    refused("alignment 16", goblin_note(file, sizeof file, &h, &names, 16, names.offset, &n, &why), GOBLIN_NOTE_ALIGN,
-            &why, names.offset);
+    refused("many sections", goblin_section(over(sizeof file, &given), 0, &s, &why),
+            GOBLIN_REFUSED_BUFFER_TOO_SHORT, &why, h.e_shoff);
+    same("many sections, item", why.item, GOBLIN_ITEM_SECTION_HEADERS);
+    refused("many segments", goblin_segment(over(sizeof file, &given), 0, &p, &why),
+            GOBLIN_REFUSED_BUFFER_TOO_SHORT, &why, h.e_phoff);
+    same("many segments, item", why.item, GOBLIN_ITEM_PROGRAM_HEADERS);
+    refused("string of 0xee", goblin_string_utf8(over(sizeof file, &none), &names, 0, &text, &why),
+            GOBLIN_REFUSED_BAD_INPUT, &why, names.offset);
+    same("string of 0xee, item", why.item, GOBLIN_ITEM_INVALID_UTF8);
+    refused("alignment 16", goblin_note_utf8(over(sizeof file, &h), &names, 16, names.offset, &n, &why),
+            GOBLIN_REFUSED_NOTE_ALIGN, &why, names.offset);
     note(&n);
     goblin_range_t cut = {0x900, 0};
     static const struct { uint64_t size; uint32_t status, item; } cuts[] = {
-        {11, GOBLIN_TOO_BIG, GOBLIN_NOTE_HEADER}, {12, GOBLIN_BAD_OFFSET, GOBLIN_NOTE_NAME},
-        {19, GOBLIN_TOO_BIG, GOBLIN_NOTE_NAME}, {20, GOBLIN_BAD_OFFSET, GOBLIN_NOTE_DESC},
-        {24, GOBLIN_TOO_BIG, GOBLIN_NOTE_DESC}};
+        {11, GOBLIN_REFUSED_TOO_BIG, GOBLIN_ITEM_NOTE_HEADER}, {12, GOBLIN_REFUSED_BAD_OFFSET, GOBLIN_ITEM_NOTE_NAME},
+        {19, GOBLIN_REFUSED_TOO_BIG, GOBLIN_ITEM_NOTE_NAME}, {20, GOBLIN_REFUSED_BAD_OFFSET, GOBLIN_ITEM_NOTE_DESC},
+        {24, GOBLIN_REFUSED_TOO_BIG, GOBLIN_ITEM_NOTE_DESC}};
     for (size_t i = 0; i < sizeof cuts / sizeof *cuts; i++) {
         cut.size = cuts[i].size;
-        refused("a note past its range", goblin_note_bytes(file, sizeof file, &h, &cut, 4, 0x900, &n, &why),
+        refused("a note past its range", goblin_note_whole(over(sizeof file, &h), &cut, 4, 0x900, &n, &why),
                 cuts[i].status, &why, 0x900);
         same("a note past its range, item", why.item, cuts[i].item);
     }
     cut.size = 25, file[0x900 + 12] = 0xee;
-    same("a name that is not UTF-8", goblin_note(file, sizeof file, &h, &cut, 4, 0x900, &n, &why), GOBLIN_BAD_INPUT);
-    same("a name that is not UTF-8", goblin_note_bytes(file, sizeof file, &h, &cut, 4, 0x900, &n, &why), GOBLIN_OK);
-    refused("alignment 16", goblin_note_bytes(file, sizeof file, &h, &cut, 16, 0x900, &n, &why),
-            GOBLIN_NOTE_ALIGN, &why, 0x900);
+    same("a name that is not UTF-8", goblin_note_utf8(over(sizeof file, &h), &cut, 4, 0x900, &n, &why),
+        GOBLIN_REFUSED_BAD_INPUT);
+    same("a name that is not UTF-8", goblin_note_whole(over(sizeof file, &h), &cut, 4, 0x900, &n, &why), GOBLIN_OK);
+    refused("alignment 16", goblin_note_whole(over(sizeof file, &h), &cut, 16, 0x900, &n, &why),
+            GOBLIN_REFUSED_NOTE_ALIGN, &why, 0x900);
     same("alignment 16, item", why.item, 0);
-    refused("symbols at the end", goblin_symbol(file, sizeof file, &h, &range, 0, &y, &why), GOBLIN_SYMTAB_OFFSET,
-            &why, range.offset);
+    refused("symbols at the end", goblin_symbol(over(sizeof file, &h), &range, 0, &y, &why),
+            GOBLIN_REFUSED_SYMTAB_OFFSET, &why, range.offset);
     range.offset--, range.size = 24;
-    refused("symbols past the end", goblin_symbol(file, sizeof file, &h, &range, 0, &y, &why), GOBLIN_SYMTAB_PAST,
-            &why, range.offset);
-    refused("strings past the end", goblin_string(file, sizeof file, &range, 0, &text, &why), GOBLIN_STRTAB_RANGE,
-            &why, range.offset);
+    refused("symbols past the end", goblin_symbol(over(sizeof file, &h), &range, 0, &y, &why),
+            GOBLIN_REFUSED_SYMTAB_PAST, &why, range.offset);
+    refused("strings past the end", goblin_string_utf8(over(sizeof file, &none), &range, 0, &text, &why),
+            GOBLIN_REFUSED_STRTAB_RANGE, &why, range.offset);
     range.offset += 2;
-    refused("strings outside", goblin_string(file, sizeof file, &range, 0, &text, &why), GOBLIN_STRTAB_OFFSET,
-            &why, range.offset);
-    refused("15 bytes", goblin_header(file, 15, &h, &why), GOBLIN_TOO_SMALL, &why, 0);
-    refused("51 bytes", goblin_header(file, 51, &h, &why), GOBLIN_TOO_BIG, &why, 0);
+    refused("strings outside", goblin_string_utf8(over(sizeof file, &none), &range, 0, &text, &why),
+            GOBLIN_REFUSED_STRTAB_OFFSET, &why, range.offset);
+    refused("15 bytes", read_header(15, &h, &why), GOBLIN_REFUSED_TOO_SMALL, &why, 0);
+    refused("51 bytes", read_header(51, &h, &why), GOBLIN_REFUSED_TOO_BIG, &why, 0);
     file[5] = 3;
-    refused("order 3", goblin_header(file, sizeof file, &h, &why), GOBLIN_DATA_TYPE, &why, 0);
+    refused("order 3", read_header(sizeof file, &h, &why), GOBLIN_REFUSED_DATA_TYPE, &why, 0);
     file[4] = 3;
-    refused("class 3", goblin_header(file, sizeof file, &h, &why), GOBLIN_ELF_CLASS, &why, 0);
+    refused("class 3", read_header(sizeof file, &h, &why), GOBLIN_REFUSED_ELF_CLASS, &why, 0);
     file[0] = 3;
-    refused("magic number", goblin_header(file, sizeof file, &h, &why), GOBLIN_BAD_MAGIC, &why, 0);
+    refused("magic number", read_header(sizeof file, &h, &why), GOBLIN_REFUSED_BAD_MAGIC, &why, 0);
 }
 
 /* Tests each call with null pointers for empty files, names and arrays. */
 static void call_with_nulls(goblin_refusal_t *why) {
-    goblin_header_t h, whole;
+    goblin_header_t h;
+    goblin_file_t empty_file, whole;
+    goblin_dyn_t d = {0, 0};
     goblin_section_t s;
     goblin_segment_t p;
     goblin_symbol_t y;
@@ -448,58 +483,71 @@ static void call_with_nulls(goblin_refusal_t *why) {
     uint64_t number;
     memset(&h, 0, sizeof h), memset(&s, 0, sizeof s), memset(&p, 0, sizeof p), memset(&y, 0, sizeof y),
         memset(&r, 0, sizeof r);
-    same("null: header", goblin_header(NULL, 0, &h, why), GOBLIN_TOO_SMALL);
+    memset(&empty_file, 0, sizeof empty_file);
+    same("null: file", goblin_file(NULL, 0, &empty_file, why), GOBLIN_REFUSED_TOO_SMALL);
+    same("null: layout", goblin_layout((goblin_layout_t *)(void *)&empty_file, sizeof empty_file), 0);
     for (int i = 0; i < 2; i++) {
-        uint32_t end = i ? GOBLIN_BAD_OFFSET : GOBLIN_END;
-        h.e_shoff = (uint64_t)i;
-        same("null: sections", goblin_section_count(NULL, 0, &h, &number, why), i ? GOBLIN_BAD_OFFSET : GOBLIN_OK);
-        same("null: section", goblin_section(NULL, 0, &h, 0, &s, why), end);
-        same("null: section names", goblin_section_names(NULL, 0, &h, &s, why), end);
-        same("null: table", goblin_linked_section(NULL, 0, &h, 1, &s, why), end);
-        same("null: section by name", goblin_section_by_name(NULL, 0, &h, &none, NULL, 0, 0, &number, &s, why), end);
-        same("null: section by type", goblin_section_by_type(NULL, 0, &h, 3, 0, &number, &s, why), end);
+        uint32_t end = i ? GOBLIN_REFUSED_BAD_OFFSET : GOBLIN_END;
+        h.e_shoff = empty_file.header.e_shoff = (uint64_t)i;
+        same("null: sections", goblin_section_count(&empty_file, &number, why), i ? GOBLIN_REFUSED_BAD_OFFSET
+            : GOBLIN_OK);
+        same("null: section", goblin_section(&empty_file, 0, &s, why), end);
+        same("null: section names", goblin_names_section(&empty_file, &s, why), end);
+        same("null: table", goblin_linked_section(&empty_file, 1, &s, why), end);
+        same("null: section by name", goblin_section_by_name(&empty_file, &none, NULL, 0, 0, &number, &s, why), end);
+        same("null: section by type", goblin_section_by_type(&empty_file, 3, 0, &number, &s, why), end);
         same("null: put section", goblin_put_section(NULL, 0, &h, 0, &s, why), end);
-        goblin_whole_header(NULL, 0, &h, &whole);
-        same("null: whole header", whole.e_shoff, 0);
-        same("null: sections", goblin_sections(NULL, 0, &h, 0, NULL, 0, &number, why), end);
+        goblin_whole_header(&empty_file, &whole);
+        same("null: whole header", whole.header.e_shoff + whole.len, 0);
+        same("null: sections", goblin_sections(&empty_file, 0, NULL, 0, &number, why), end);
     }
-    same("null: segment", goblin_segment(NULL, 0, &h, 0, &p, why), GOBLIN_END);
-    same("null: segments", goblin_segments(NULL, 0, &h, 0, NULL, 0, &number, why), GOBLIN_END);
-    same("null: address", goblin_address_to_offset(NULL, 0, &h, 0, &number, why), GOBLIN_END);
-    same("null: put header", goblin_put_header(NULL, 0, &h, why), GOBLIN_INVALID_CLASS);
+    same("null: segment", goblin_segment(&empty_file, 0, &p, why), GOBLIN_END);
+    same("null: segments", goblin_segments(&empty_file, 0, NULL, 0, &number, why), GOBLIN_END);
+    same("null: address", goblin_address_to_offset(&empty_file, 0, &number, why), GOBLIN_END);
+    same("null: put header", goblin_put_header(NULL, 0, &h, why), GOBLIN_REFUSED_INVALID_CLASS);
     same("null: put segment", goblin_put_segment(NULL, 0, &h, 0, &p, why), GOBLIN_END);
-    same("null: put symbol", goblin_put_symbol(NULL, 0, &h, &none, 0, &y, why), GOBLIN_SYMTAB_OFFSET);
+    same("null: put symbol", goblin_put_symbol(NULL, 0, &h, &none, 0, &y, why), GOBLIN_REFUSED_SYMTAB_OFFSET);
     same("null: put reloc", goblin_put_reloc(NULL, 0, &h, &none, true, 0, &r, why), GOBLIN_END);
-    same("null: put number", goblin_put_number(NULL, 0, &h, 0, 8, 0, why), GOBLIN_BAD_OFFSET);
-    same("null: put number in", goblin_put_number_in(NULL, 0, &h, &some, 0, 1, 0, why), GOBLIN_BAD_OFFSET);
-    same("null: number in", goblin_number_in(NULL, 0, &h, &some, 0, 1, &number, why), GOBLIN_BAD_OFFSET);
-    goblin_range_in_file(NULL, 0, &some, &text);
+    same("null: put number", goblin_put_number(NULL, 0, &h, 0, 8, 0, why), GOBLIN_REFUSED_BAD_OFFSET);
+    same("null: put number in", goblin_put_number_in(NULL, 0, &h, &some, 0, 1, 0, why), GOBLIN_REFUSED_BAD_OFFSET);
+    same("null: number in", goblin_number_in(&empty_file, &some, 0, 1, &number, why), GOBLIN_REFUSED_BAD_OFFSET);
+    goblin_range_in_file(&empty_file, &some, &text);
     same("null: range in file", text.size, 0);
-    same("null: symbol", goblin_symbol(NULL, 0, &h, &none, 0, &y, why), GOBLIN_SYMTAB_OFFSET);
-    same("null: symbols", goblin_symbols(NULL, 0, &h, &none, 0, NULL, 0, &number, why), GOBLIN_SYMTAB_OFFSET);
-    same("null: symbol by name", goblin_symbol_by_name(NULL, 0, &h, &none, &none, NULL, 0, 0, &number, &y, why),
-         GOBLIN_SYMTAB_OFFSET);
-    same("null: symbol by address", goblin_symbol_by_address(NULL, 0, &h, &none, 0, &number, why),
-         GOBLIN_SYMTAB_OFFSET);
-    same("null: reloc", goblin_reloc(NULL, 0, &h, &none, true, 0, &r, why), GOBLIN_END);
-    same("null: reloc", goblin_reloc(NULL, 0, &h, &some, true, 0, &r, why), GOBLIN_BAD_OFFSET);
-    same("null: relocs", goblin_relocs(NULL, 0, &h, &none, false, 0, NULL, 0, &number, why), GOBLIN_END);
-    same("null: note", goblin_note(NULL, 0, &h, &none, 4, 0, &n, why), GOBLIN_END);
-    same("null: note", goblin_note(NULL, 0, &h, &some, 4, 0, &n, why), GOBLIN_BAD_OFFSET);
-    same("null: note bytes", goblin_note_bytes(NULL, 0, &h, &none, 4, 0, &n, why), GOBLIN_END);
-    same("null: note bytes", goblin_note_bytes(NULL, 0, &h, &some, 4, 0, &n, why), GOBLIN_BAD_OFFSET);
-    same("null: segment count", goblin_segment_count(NULL, 0, &h, &number, why), GOBLIN_OK);
-    same("null: symbol count", goblin_symbol_count(NULL, 0, &h, &none, &number, why), GOBLIN_SYMTAB_OFFSET);
-    same("null: reloc count", goblin_reloc_count(NULL, 0, &h, &none, true, &number, why), GOBLIN_OK);
-    same("null: string bytes", goblin_string_bytes(NULL, 0, &none, 0, &text, why), GOBLIN_END);
-    same("null: number", goblin_number(NULL, 0, &h, 0, 8, &number, why), GOBLIN_BAD_OFFSET);
-    same("null: string", goblin_string(NULL, 0, &none, 0, &text, why), GOBLIN_END);
-    same("null: string", goblin_string(NULL, 0, &some, 0, &text, why), GOBLIN_STRTAB_RANGE);
-    same("null: strings", goblin_strings(NULL, 0, &some, NULL, 0, NULL, 0, &number, why), GOBLIN_OK);
+    same("null: symbol", goblin_symbol(&empty_file, &none, 0, &y, why), GOBLIN_REFUSED_SYMTAB_OFFSET);
+    same("null: symbols", goblin_symbols(&empty_file, &none, 0, NULL, 0, &number, why), GOBLIN_REFUSED_SYMTAB_OFFSET);
+    same("null: symbol by name", goblin_symbol_by_name(&empty_file, &none, &none, NULL, 0, 0, &number, &y, why),
+         GOBLIN_REFUSED_SYMTAB_OFFSET);
+    same("null: symbol by address", goblin_symbol_by_address(&empty_file, &none, 0, &number, why),
+         GOBLIN_REFUSED_SYMTAB_OFFSET);
+    same("null: reloc", goblin_reloc(&empty_file, &none, true, 0, &r, why), GOBLIN_END);
+    same("null: reloc", goblin_reloc(&empty_file, &some, true, 0, &r, why), GOBLIN_REFUSED_BAD_OFFSET);
+    same("null: relocs", goblin_relocs(&empty_file, &none, false, 0, NULL, 0, &number, why), GOBLIN_END);
+    same("null: note", goblin_note_utf8(&empty_file, &none, 4, 0, &n, why), GOBLIN_END);
+    same("null: note", goblin_note_utf8(&empty_file, &some, 4, 0, &n, why), GOBLIN_REFUSED_BAD_OFFSET);
+    same("null: note of bytes", goblin_note(&empty_file, &none, 4, 0, &n, why), GOBLIN_END);
+    same("null: note of bytes", goblin_note(&empty_file, &some, 4, 0, &n, why), GOBLIN_REFUSED_BAD_OFFSET);
+    same("null: whole note", goblin_note_whole(&empty_file, &none, 4, 0, &n, why), GOBLIN_END);
+    same("null: whole note", goblin_note_whole(&empty_file, &some, 4, 0, &n, why), GOBLIN_REFUSED_BAD_OFFSET);
+    same("null: dynamic", goblin_dynamic(&empty_file, &text, why), GOBLIN_REFUSED_BAD_OFFSET);
+    same("null: entries", goblin_dynamic_entries(&empty_file, &none, 0, NULL, 0, &number, why), GOBLIN_END);
+    same("null: entries", goblin_dynamic_count(&empty_file, &some, &number, why), GOBLIN_REFUSED_BAD_OFFSET);
+    same("null: value", goblin_dynamic_value(&empty_file, &none, 1, 0, &number, &number, why), GOBLIN_END);
+    same("null: its strings", goblin_dynamic_strings(&empty_file, &none, &text, why), GOBLIN_REFUSED_BAD_OFFSET);
+    same("null: put entry", goblin_put_dynamic_entry(NULL, 0, &h, &none, 0, &d, why), GOBLIN_END);
+    same("null: segment count", goblin_segment_count(&empty_file, &number, why), GOBLIN_OK);
+    same("null: symbol count", goblin_symbol_count(&empty_file, &none, &number, why), GOBLIN_REFUSED_SYMTAB_OFFSET);
+    same("null: reloc count", goblin_reloc_count(&empty_file, &none, true, &number, why), GOBLIN_OK);
+    same("null: string bytes", goblin_string(&empty_file, &none, 0, &text, why), GOBLIN_END);
+    same("null: number", goblin_number(&empty_file, 0, 8, &number, why), GOBLIN_REFUSED_BAD_OFFSET);
+    same("null: string", goblin_string_utf8(&empty_file, &none, 0, &text, why), GOBLIN_END);
+    same("null: string", goblin_string_utf8(&empty_file, &some, 0, &text, why), GOBLIN_REFUSED_STRTAB_RANGE);
+    same("null: strings", goblin_strings(&empty_file, &some, NULL, 0, NULL, 0, &number, why), GOBLIN_OK);
     same("null: strings, filled", number, 0);
-    same("null: string is", goblin_string_is(NULL, 0, &none, 0, NULL, 0, why), GOBLIN_END);
-    same("null: string starts", goblin_string_starts(NULL, 0, &some, 0, NULL, 0, why), GOBLIN_STRTAB_RANGE);
-    same("null: string closed", goblin_string_closed(NULL, 0, &none, 0, &text, why), GOBLIN_END);
+    same("null: string is", goblin_string_is(&empty_file, &none, 0, NULL, 0), false);
+    same("null: string starts", goblin_string_starts(&empty_file, &some, 0, NULL, 0), false);
+    same("null: closed strings", goblin_closed_strings(&empty_file, &none, &text, why), GOBLIN_OK);
+    same("null: closed strings", goblin_closed_strings(&empty_file, &some, &text, why), GOBLIN_REFUSED_STRTAB_RANGE);
+    same("null: string closed", goblin_string_closed(&empty_file, &none, 0, &text, why), GOBLIN_END);
     same("null: class", goblin_class_to_str(1, NULL, 0), strlen("ELF32"));
     same("null: file type", goblin_et_to_str(3, NULL, 0), strlen("DYN"));
     same("null: machine", goblin_machine_to_str(62, NULL, 0), strlen("X86_64"));
@@ -510,21 +558,22 @@ static void call_with_nulls(goblin_refusal_t *why) {
     same("null: type", goblin_type_to_str(2, NULL, 0), strlen("FUNC"));
     same("null: visibility", goblin_visibility_to_str(0, NULL, 0), strlen("DEFAULT"));
     same("null: note type", goblin_note_type_to_str(NULL, 0, 3, NULL, 0), strlen("NT_GNU_BUILD_ID"));
+    same("null: strings", goblin_string_utf8(&empty_file, &some, 0, &text, why), GOBLIN_REFUSED_STRTAB_RANGE);
     same("null: text", goblin_refusal_to_str(why, NULL, 0),
          strlen("Malformed entity: Strtable size (1) + offset (0) is out of bounds for 0 #bytes. Overflowed: false"));
     header(&h), symbol(&y), note(&n);
     goblin_range_t symbols = {0x700, wide == 8 ? 48U : 32U}, relocs = {0x800, wide * 6}, empty = {n.name.offset + 7, 1};
-    same("header", goblin_header(file, sizeof file, &h, why), GOBLIN_OK);
-    same("no sections", goblin_sections(file, sizeof file, &h, 1, NULL, 0, &number, why), GOBLIN_OK);
+    same("header", read_header(sizeof file, &h, why), GOBLIN_OK);
+    same("no sections", goblin_sections(over(sizeof file, &h), 1, NULL, 0, &number, why), GOBLIN_OK);
     same("no sections, filled", number, 0);
-    same("no segments", goblin_segments(file, sizeof file, &h, 1, NULL, 0, &number, why), GOBLIN_OK);
+    same("no segments", goblin_segments(over(sizeof file, &h), 1, NULL, 0, &number, why), GOBLIN_OK);
     same("no segments, filled", number, 0);
-    same("no symbols", goblin_symbols(file, sizeof file, &h, &symbols, 1, NULL, 0, &number, why), GOBLIN_OK);
+    same("no symbols", goblin_symbols(over(sizeof file, &h), &symbols, 1, NULL, 0, &number, why), GOBLIN_OK);
     same("no symbols, filled", number, 0);
-    same("no relocs", goblin_relocs(file, sizeof file, &h, &relocs, true, 1, NULL, 0, &number, why), GOBLIN_OK);
+    same("no relocs", goblin_relocs(over(sizeof file, &h), &relocs, true, 1, NULL, 0, &number, why), GOBLIN_OK);
     same("no relocs, filled", number, 0);
     /* The offset of the first symbol's name is 0xeeeeeeee, which is past these names. */
-    same("no name", goblin_symbol_by_name(file, sizeof file, &h, &symbols, &empty, NULL, 0, 0, &number, &y, why),
+    same("no name", goblin_symbol_by_name(over(sizeof file, &h), &symbols, &empty, NULL, 0, 0, &number, &y, why),
          GOBLIN_END);
 }
 
@@ -533,8 +582,8 @@ static void call_with_nulls(goblin_refusal_t *why) {
 static void close_texts(void) {
     char text[161];
     goblin_refusal_t why = {0, 0, UINT64_MAX, UINT64_MAX, UINT64_MAX, 0, 0};
-    for (why.kind = 0; why.kind <= GOBLIN_INTEGER_FIT + 1; why.kind++)
-        for (why.item = 0; why.item <= GOBLIN_PROGRAM_HEADERS; why.item++) {
+    for (why.kind = 0; why.kind <= GOBLIN_REFUSED_INTEGER_FIT + 1; why.kind++)
+        for (why.item = 0; why.item <= GOBLIN_ITEM_PROGRAM_HEADERS; why.item++) {
             memset(text, 0xee, sizeof text);
             uint64_t size = goblin_refusal_to_str(&why, text, 160);
             same("a text fits", size < 160, true);
@@ -548,6 +597,19 @@ static void close_texts(void) {
     same("a closed class", strcmp(text, "ELF64"), 0);
 }
 
+/* Tests the macros for sizes of records, as both classes have them, and for the parts of a symbol. */
+static void use_macros(void) {
+    goblin_header_t h = none;
+    for (int i = 0; i < 2; i++, h.ei_class = GOBLIN_ELFCLASS64) {
+        same("SHDR", GOBLIN_SIZEOF_SHDR(&h), i ? 64 : 40), same("PHDR", GOBLIN_SIZEOF_PHDR(&h), i ? 56 : 32);
+        same("SYM", GOBLIN_SIZEOF_SYM(&h), i ? 24 : 16), same("REL", GOBLIN_SIZEOF_REL(&h), i ? 16 : 8);
+        same("RELA", GOBLIN_SIZEOF_RELA(&h), i ? 24 : 12), same("DYN", GOBLIN_SIZEOF_DYN(&h), i ? 16 : 8);
+    }
+    same("ST_INFO", GOBLIN_ST_INFO(GOBLIN_STB_WEAK, GOBLIN_STT_FUNC), 0x22);
+    same("ST_BIND", GOBLIN_ST_BIND(0xa5), 10), same("ST_TYPE", GOBLIN_ST_TYPE(0xa5), 5);
+    same("ST_VISIBILITY", GOBLIN_ST_VISIBILITY(0xea), 2);
+}
+
 /* The strings "", "ab", "abc" and "x", whose end is that of the table. */
 static const uint8_t strings[] = "\0ab\0abc\0x";
 static const goblin_range_t string_table = {0, 9};
@@ -556,7 +618,8 @@ static const goblin_range_t string_table = {0, 9};
 static int closed_size(uint64_t at) {
     goblin_refusal_t why;
     goblin_range_t string;
-    uint32_t status = goblin_string_closed(strings, sizeof strings, &string_table, at, &string, &why);
+    const goblin_file_t all = {strings, sizeof strings, none};
+    uint32_t status = goblin_string_closed(&all, &string_table, at, &string, &why);
     return status == GOBLIN_OK && string.offset == at ? (int)strlen((const char *)strings + at) : -1;
 }
 
@@ -564,8 +627,9 @@ static void compare_strings(void) {
     static const goblin_range_t past = {8, 9}, outside = {12, 0};
     goblin_refusal_t why = {0, 0, 0, 0, 0, 0, 0};
     goblin_range_t unread;
-#define IS(at, text, size) !goblin_string_is(strings, sizeof strings, &string_table, at, text, size, &why)
-#define STARTS(at, text, size) !goblin_string_starts(strings, sizeof strings, &string_table, at, text, size, &why)
+    const goblin_file_t all = {strings, sizeof strings, none}, short_one = {strings, 10, none};
+#define IS(at, text, size) goblin_string_is(&all, &string_table, at, text, size)
+#define STARTS(at, text, size) goblin_string_starts(&all, &string_table, at, text, size)
     same("is", IS(1, "ab", 2), true), same("is", IS(1, "abc", 3), false), same("is", IS(4, "ab", 2), false);
     same("is", IS(5, "bc", 2), true), same("is", IS(0, "", 0), true), same("is", IS(1, "", 0), false);
     same("is", IS(8, "x", 1), true), same("is", IS(8, "x", 2), false), same("is", IS(1, "ab", 3), false);
@@ -575,13 +639,21 @@ static void compare_strings(void) {
     same("starts", STARTS(1, "ab", 3), false), same("starts", STARTS(8, "x", 2), false);
     same("starts", STARTS(8, "", 0), true), same("starts", STARTS(9, "", 0), false);
     same("is", IS(0, NULL, 0), true), same("starts", STARTS(1, NULL, 0), true);
-    same("why", why.kind, 0);
-    same("is", goblin_string_is(strings, 10, &past, 9, "x", 1, &why), GOBLIN_STRTAB_RANGE);
-    same("is", goblin_string_is(strings, 10, &string_table, 9, "", 0, &why), GOBLIN_END);
-    same("starts", goblin_string_starts(strings, 10, &outside, 0, "", 0, &why), GOBLIN_STRTAB_OFFSET);
+    same("is", goblin_string_is(&all, &string_table, 1, GOBLIN_LITERAL("ab")), true);
+    same("starts", goblin_string_starts(&all, &string_table, 4, GOBLIN_LITERAL("abc")), true);
+    same("is", goblin_string_is(&short_one, &past, 0, "x", 1), false);
+    same("is", goblin_string_is(&short_one, &string_table, 9, "", 0), false);
+    same("starts", goblin_string_starts(&short_one, &outside, 0, "", 0), false);
     same("closed", closed_size(1), 2), same("closed", closed_size(4), 3), same("closed", closed_size(7), 0);
     same("closed", closed_size(8), -1), same("closed", closed_size(9), -1);
-    same("closed", goblin_string_closed(strings, 10, &past, 0, &unread, &why), GOBLIN_STRTAB_RANGE);
+    same("closed", goblin_string_closed(&short_one, &past, 0, &unread, &why), GOBLIN_REFUSED_STRTAB_RANGE);
+    static const struct { uint64_t offset, size, closed; } parts[] = {{0, 9, 8}, {0, 8, 8}, {4, 3, 0}, {9, 0, 0}};
+    for (size_t i = 0; i < sizeof parts / sizeof *parts; i++) {
+        goblin_range_t part = {parts[i].offset, parts[i].size}, closed = {77, 77};
+        same("closed part", goblin_closed_strings(&all, &part, &closed, &why), GOBLIN_OK);
+        same("closed part", closed.offset, part.offset), same("closed part", closed.size, parts[i].closed);
+    }
+    same("closed part", goblin_closed_strings(&short_one, &past, &unread, &why), GOBLIN_REFUSED_STRTAB_RANGE);
 #undef IS
 #undef STARTS
 }
@@ -599,13 +671,14 @@ static void find_strings(void) {
         {{1, 4, 10}, 3, 3, GOBLIN_OK, 3, {2, 3, 1}}, {{5, 11, 4}, 3, 3, GOBLIN_END, 1, {2}},
         {{0, 4, 8}, 3, 3, GOBLIN_OK, 3, {0, 3, 1}}, {{1, 4, 11}, 3, 2, GOBLIN_OK, 2, {2, 3}},
         {{1, 4, 11}, 2, 3, GOBLIN_OK, 2, {2, 3}}, {{8}, 0, 3, GOBLIN_OK, 0, {0}}};
+    const goblin_file_t all = {named, 12, none};
     goblin_range_t ranges[3];
     uint64_t filled;
     goblin_refusal_t why;
     for (size_t i = 0; i < sizeof rows / sizeof *rows; i++) {
         for (size_t k = 0; k < 3; k++) ranges[k] = unread;
         memset(&why, 0, sizeof why);
-        same("goblin_strings", goblin_strings(named, 12, &table, rows[i].offsets, rows[i].asked, ranges,
+        same("goblin_strings", goblin_strings(&all, &table, rows[i].offsets, rows[i].asked, ranges,
                                               rows[i].capacity, &filled, &why), rows[i].status);
         same("goblin_strings, filled", filled, rows[i].filled);
         same("goblin_strings, why", why.kind, 0);
@@ -614,11 +687,11 @@ static void find_strings(void) {
             same("goblin_strings, a size", ranges[k].size, k < rows[i].filled ? rows[i].sizes[k] : unread.size);
         }
     }
-    same("goblin_strings", goblin_strings(named, 12, &past, rows[0].offsets, 3, ranges, 3, &filled, &why),
-         GOBLIN_STRTAB_RANGE);
+    same("goblin_strings", goblin_strings(&all, &past, rows[0].offsets, 3, ranges, 3, &filled, &why),
+         GOBLIN_REFUSED_STRTAB_RANGE);
     same("goblin_strings, where", why.offset, 1);
     same("goblin_strings, filled", filled, 0);
-    same("goblin_strings", goblin_strings(named, 12, &past, rows[0].offsets, 3, ranges, 0, &filled, &why), GOBLIN_OK);
+    same("goblin_strings", goblin_strings(&all, &past, rows[0].offsets, 3, ranges, 0, &filled, &why), GOBLIN_OK);
 }
 
 /* Tests each byte of a field that goblin_layout has filled. */
@@ -651,12 +724,15 @@ int main(int argc, char **argv) {
     goblin_layout_t layout;
     goblin_refusal_t why;
     memset(&layout, 0xee, sizeof layout);
-    goblin_layout(&layout);
+    same("a short layout", goblin_layout(&layout, sizeof layout - 1), 0);
+    filled("a short layout", &layout, sizeof layout, 0xee);
+    same("the layout", goblin_layout(&layout, sizeof layout), sizeof layout);
     if (argc == 2 && !strcmp(argv[1], "assertions")) {
         assert_all(&layout);
         return EXIT_SUCCESS;
     }
     /* (one type for compilers of C++, some of which warn of two) */
+    same("size of file", layout.size_of_file, sizeof(goblin_file_t));
     same("goblin_version", argc > 9 ? GOBLIN_END : goblin_version(), GOBLIN_VERSION);
 #define STRUCT(name) same("size of " #name, layout.size_of_##name, sizeof layout.name);
 #define FIELD(name, field, number) filled(#name "." #field, &layout.name.field, sizeof layout.name.field, number);
@@ -664,6 +740,7 @@ int main(int argc, char **argv) {
 #undef FIELD
 #undef STRUCT
     close_texts();
+    use_macros();
     compare_strings();
     find_strings();
     for (int kind = 0; kind < 4; kind++) {

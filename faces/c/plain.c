@@ -28,21 +28,22 @@ static uint32_t refuse(goblin_refusal_t *why, uint32_t kind, uint64_t first, uin
 
 /* Tests whether some bytes at an offset are inside the first `end` ones. `from` is where the refused thing begins. */
 static uint32_t inside(uint64_t end, uint64_t offset, uint64_t size, uint64_t from, goblin_refusal_t *why) {
-    if (offset > end || (offset == end && size > 0)) return refuse(why, GOBLIN_BAD_OFFSET, offset, 0, from);
-    return size > end - offset ? refuse(why, GOBLIN_TOO_BIG, size, end - offset, from) : (uint32_t)GOBLIN_OK;
+    if (offset > end || (offset == end && size > 0)) return refuse(why, GOBLIN_REFUSED_BAD_OFFSET, offset, 0, from);
+    return size > end - offset ? refuse(why, GOBLIN_REFUSED_TOO_BIG, size, end - offset, from) : (uint32_t)GOBLIN_OK;
 }
 
 /* A record is read or written field by field: `at` is the next field, and a writer has `out` there. `done` bytes lie
-   before it. The first number that doesn't fit is noted, and where its field is. */
+   before it. The first number that doesn't fit is noted, where its field is, and the item of its refusal. */
 typedef struct {
     const uint8_t *at;
     uint8_t *out;
     bool is_big, is_64, fits;
+    uint32_t what;
     uint64_t done, misfit, misfit_at;
 } cursor_t;
 
 static cursor_t cursor(const uint8_t *at, const goblin_header_t *h) {
-    cursor_t cursor = {at, NULL, is_big(h), is_64(h), true, 0, 0, 0};
+    cursor_t cursor = {at, NULL, is_big(h), is_64(h), true, 0, 0, 0, 0};
     return cursor;
 }
 
@@ -77,7 +78,7 @@ static void each_of_header(cursor_t *c, goblin_header_t *h) {
 }
 
 static void each_of_section(cursor_t *c, goblin_section_t *s) {
-    s->sh_name = field(c, 4, s->sh_name), s->sh_type = (uint32_t)field(c, 4, s->sh_type),
+    s->sh_name = (uint32_t)field(c, 4, s->sh_name), s->sh_type = (uint32_t)field(c, 4, s->sh_type),
         s->sh_flags = wide(c, s->sh_flags);
     s->sh_addr = wide(c, s->sh_addr), s->file.offset = wide(c, s->file.offset), s->file.size = wide(c, s->file.size);
     s->sh_link = (uint32_t)field(c, 4, s->sh_link), s->sh_info = (uint32_t)field(c, 4, s->sh_info);
@@ -94,10 +95,10 @@ static void each_of_segment(cursor_t *c, goblin_segment_t *p) {
 }
 
 static void each_of_symbol(cursor_t *c, goblin_symbol_t *s) {
-    s->st_name = field(c, 4, s->st_name);
+    s->st_name = (uint32_t)field(c, 4, s->st_name);
     if (!c->is_64) s->st_value = field(c, 4, s->st_value), s->st_size = field(c, 4, s->st_size);
     s->st_info = (uint8_t)field(c, 1, s->st_info), s->st_other = (uint8_t)field(c, 1, s->st_other);
-    s->st_shndx = field(c, 2, s->st_shndx);
+    s->st_shndx = (uint16_t)field(c, 2, s->st_shndx);
     if (c->is_64) s->st_value = field(c, 8, s->st_value), s->st_size = field(c, 8, s->st_size);
 }
 
@@ -109,31 +110,32 @@ static uint64_t reversed(uint64_t type) {
    little-endian MIPS64 file the symbol comes first, and then the bytes of the type in the other order. */
 static void each_of_reloc(cursor_t *c, const goblin_header_t *h, bool is_rela, goblin_reloc_t *r) {
     bool is_pair = h->e_machine == GOBLIN_EM_MIPS && c->is_64 && !c->is_big;
-    uint64_t info = !c->is_64 ? r->r_sym << 8 | r->r_type : is_pair ? reversed(r->r_type) << 32 | r->r_sym
-        : r->r_sym << 32 | r->r_type;
+    uint64_t sym = r->r_sym, info = !c->is_64 ? sym << 8 | r->r_type : is_pair ? reversed(r->r_type) << 32 | sym
+        : sym << 32 | r->r_type;
     r->r_offset = wide(c, r->r_offset);
-    if (!c->at) note(c, !(c->is_64 ? r->r_sym >> 32 : r->r_sym >> 24), r->r_sym);
+    if (!c->at) note(c, c->is_64 || !(sym >> 24), sym);
     if (!c->at) note(c, c->is_64 || !(r->r_type >> 8), r->r_type);
     info = c->is_64 ? field(c, 8, info) : field(c, 4, info & 0xffffffff);
-    r->r_sym = !c->is_64 ? info >> 8 : is_pair ? info & 0xffffffff : info >> 32;
+    r->r_sym = (uint32_t)(!c->is_64 ? info >> 8 : is_pair ? info & 0xffffffff : info >> 32);
     r->r_type = (uint32_t)(!c->is_64 ? info & 0xff : is_pair ? reversed(info >> 32) : info & 0xffffffff);
-    if (c->at) r->has_addend = is_rela, r->r_addend = 0;
-    bool is_small = r->r_addend >= INT32_MIN && r->r_addend <= INT32_MAX;
-    if (!c->at) note(c, r->has_addend == is_rela && (is_rela ? c->is_64 || is_small : r->r_addend == 0),
-                     (uint64_t)r->r_addend);
+    if (c->at) r->r_addend = 0;
+    bool is_small = r->r_addend >= INT32_MIN && r->r_addend <= INT32_MAX, fitted = c->fits;
+    if (!c->at) note(c, is_rela ? c->is_64 || is_small : r->r_addend == 0, (uint64_t)r->r_addend);
+    if (fitted && !c->fits && !is_rela) c->what = GOBLIN_ITEM_ADDEND;
     if (!is_rela) return;
     uint64_t addend = c->is_64 ? wide(c, (uint64_t)r->r_addend) : wide(c, (uint64_t)r->r_addend & 0xffffffff);
     r->r_addend = c->is_64 ? (int64_t)addend : (int32_t)addend;
 }
 
-/* Writes a record at an offset by one of these functions, if it fits. `item` is a copy of the caller's. */
-#define WRITE(each, bytes, h, offset, item, why, ...) \
+/* Writes a record at an offset by one of these functions, if it fits. `own` is a copy of the caller's. */
+#define WRITE(each, bytes, h, offset, own, why, ...) \
     do { \
         cursor_t c = cursor(NULL, h); \
-        each(&c, __VA_ARGS__ &(item)); \
-        if (!c.fits) return refuse(why, GOBLIN_INTEGER_FIT, c.misfit, 0, (offset) + c.misfit_at); \
+        each(&c, __VA_ARGS__ &(own)); \
+        if (!c.fits) refuse(why, GOBLIN_REFUSED_INTEGER_FIT, c.misfit, 0, (offset) + c.misfit_at); \
+        if (!c.fits) return (why)->item = c.what, (why)->kind; \
         c.out = (bytes) + (offset); \
-        each(&c, __VA_ARGS__ &(item)); \
+        each(&c, __VA_ARGS__ &(own)); \
         return GOBLIN_OK; \
     } while (0)
 #define NOTHING
@@ -148,36 +150,38 @@ static void fill(uint8_t *bytes, size_t size) {
     for (size_t i = 0; i < size; i++) bytes[i] = 0xee;
 }
 /* (what is tested by this call is the library's layout alone) */
-void goblin_layout(goblin_layout_t *layout) {
+size_t goblin_layout(goblin_layout_t *layout, size_t size) {
+    if (size < sizeof *layout) return 0;
     FILL(refusal, refusal), FILL(range, range), FILL(header, header), FILL(section, section), FILL(segment, segment);
     FILL(symbol, symbol), FILL(reloc, reloc), FILL(note, note), FILL(dyn, dyn);
+    return layout->size_of_file = sizeof(goblin_file_t), sizeof *layout;
 }
 
-uint32_t goblin_header(const uint8_t *bytes, size_t len, goblin_header_t *header, goblin_refusal_t *why) {
+uint32_t goblin_file(const uint8_t *bytes, size_t len, goblin_file_t *file, goblin_refusal_t *why) {
     goblin_header_t h;
-    if (len < 16) return refuse(why, GOBLIN_TOO_SMALL, 0, 0, 0);
-    if (get(bytes, 4, true) != 0x7f454c46) return refuse(why, GOBLIN_BAD_MAGIC, get(bytes, 8, false), 0, 0);
-    if (bytes[4] != 1 && bytes[4] != 2) return refuse(why, GOBLIN_ELF_CLASS, bytes[4], 0, 0);
-    if (bytes[5] != 1 && bytes[5] != 2) return refuse(why, GOBLIN_DATA_TYPE, bytes[5], 0, 0);
+    if (len < 16) return refuse(why, GOBLIN_REFUSED_TOO_SMALL, 0, 0, 0);
+    if (get(bytes, 4, true) != 0x7f454c46) return refuse(why, GOBLIN_REFUSED_BAD_MAGIC, get(bytes, 8, false), 0, 0);
+    if (bytes[4] != 1 && bytes[4] != 2) return refuse(why, GOBLIN_REFUSED_ELF_CLASS, bytes[4], 0, 0);
+    if (bytes[5] != 1 && bytes[5] != 2) return refuse(why, GOBLIN_REFUSED_DATA_TYPE, bytes[5], 0, 0);
     uint32_t status = inside(len, 0, bytes[4] == 2 ? HEADER_64 : HEADER_32, 0, why);
     if (status) return status;
     h.ei_class = bytes[4], h.ei_data = bytes[5], h.ei_version = bytes[6], h.ei_osabi = bytes[7],
         h.ei_abiversion = bytes[8];
     cursor_t c = cursor(bytes + 16, &h);
     each_of_header(&c, &h);
-    *header = h;
+    file->bytes = bytes, file->len = len, file->header = h;
     return GOBLIN_OK;
 }
 
 uint32_t goblin_put_header(uint8_t *bytes, size_t len, const goblin_header_t *header, goblin_refusal_t *why) {
     goblin_header_t h = *header;
-    if (h.ei_class != 1 && h.ei_class != 2) return refuse(why, GOBLIN_INVALID_CLASS, h.ei_class, 0, 0);
-    if (h.ei_data != 1 && h.ei_data != 2) return refuse(why, GOBLIN_DATA, h.ei_data, 0, 0);
+    if (h.ei_class != 1 && h.ei_class != 2) return refuse(why, GOBLIN_REFUSED_INVALID_CLASS, h.ei_class, 0, 0);
+    if (h.ei_data != 1 && h.ei_data != 2) return refuse(why, GOBLIN_REFUSED_DATA, h.ei_data, 0, 0);
     uint32_t status = inside(len, 0, is_64(&h) ? HEADER_64 : HEADER_32, 0, why);
     if (status) return status;
     cursor_t c = cursor(NULL, &h);
     each_of_header(&c, &h);
-    if (!c.fits) return refuse(why, GOBLIN_INTEGER_FIT, c.misfit, 0, 16 + c.misfit_at);
+    if (!c.fits) return refuse(why, GOBLIN_REFUSED_INTEGER_FIT, c.misfit, 0, 16 + c.misfit_at);
     c.out = bytes + 16;
     each_of_header(&c, &h);
     put(bytes, 4, true, 0x7f454c46);
@@ -209,9 +213,9 @@ static uint64_t whole(size_t len, uint64_t start, uint64_t size) { return start 
 static uint32_t list(size_t len, uint64_t start, uint64_t size, uint64_t number, uint32_t item, goblin_refusal_t *why) {
     uint64_t in_file = whole(len, start, size);
     if (number > len / size) {
-        refuse(why, GOBLIN_BUFFER_TOO_SHORT, number, 0, start);
+        refuse(why, GOBLIN_REFUSED_BUFFER_TOO_SHORT, number, 0, start);
         why->item = item;
-        return GOBLIN_BUFFER_TOO_SHORT;
+        return GOBLIN_REFUSED_BUFFER_TOO_SHORT;
     }
     return number <= in_file ? (uint32_t)GOBLIN_OK : inside(len, start + in_file * size, size, start, why);
 }
@@ -236,44 +240,45 @@ static uint32_t segments_stated(const uint8_t *bytes, size_t len, const goblin_h
     return status;
 }
 
-void goblin_whole_header(const uint8_t *bytes, size_t len, const goblin_header_t *header, goblin_header_t *result) {
+void goblin_whole_header(const goblin_file_t *file, goblin_file_t *result) {
     goblin_refusal_t unread;
-    uint64_t number, sections = whole(len, header->e_shoff, section_size(header)),
-        segments = whole(len, header->e_phoff, segment_size(header));
-    *result = *header;
-    if (sections_stated(bytes, len, header, &number, &unread) || number > sections) {
-        result->e_shnum = (uint16_t)(sections > 0xffff ? 0xffff : sections);
-        if (sections == 0) result->e_shoff = 0;
+    const goblin_header_t *header = &file->header;
+    uint64_t number, sections = whole(file->len, header->e_shoff, section_size(header)),
+        segments = whole(file->len, header->e_phoff, segment_size(header));
+    *result = *file;
+    if (sections_stated(file->bytes, file->len, header, &number, &unread) || number > sections) {
+        result->header.e_shnum = (uint16_t)(sections > 0xffff ? 0xffff : sections);
+        if (sections == 0) result->header.e_shoff = 0;
     }
-    bool is_stated = !segments_stated(bytes, len, header, &number, &unread);
+    bool is_stated = !segments_stated(file->bytes, file->len, header, &number, &unread);
     if (!is_stated || number > segments) {
         uint64_t counted = !is_stated && segments > 0xffff ? 0xffff : segments;
-        result->e_phnum = (uint16_t)(counted > 0xfffe ? 0xfffe : counted);
+        result->header.e_phnum = (uint16_t)(counted > 0xfffe ? 0xfffe : counted);
     }
 }
 
-uint32_t goblin_section_count(const uint8_t *bytes, size_t len, const goblin_header_t *h, uint64_t *count,
-                              goblin_refusal_t *why) {
+uint32_t goblin_section_count(const goblin_file_t *file, uint64_t *count, goblin_refusal_t *why) {
     uint64_t number;
-    uint32_t status = sections_stated(bytes, len, h, &number, why);
-    if (!status && number) status = list(len, h->e_shoff, section_size(h), number, GOBLIN_SECTION_HEADERS, why);
+    uint32_t status = sections_stated(file->bytes, file->len, &file->header, &number, why);
+    if (!status && number) status = list(file->len, file->header.e_shoff, section_size(&file->header), number,
+        GOBLIN_ITEM_SECTION_HEADERS, why);
     if (!status) *count = number;
     return status;
 }
 
-uint32_t goblin_section(const uint8_t *bytes, size_t len, const goblin_header_t *h, uint64_t index,
-                        goblin_section_t *section, goblin_refusal_t *why) {
+uint32_t goblin_section(const goblin_file_t *file, uint64_t index, goblin_section_t *section, goblin_refusal_t *why) {
     uint64_t count;
-    uint32_t status = goblin_section_count(bytes, len, h, &count, why);
+    uint32_t status = goblin_section_count(file, &count, why);
     if (status || index >= count) return status ? status : (uint32_t)GOBLIN_END;
-    *section = section_at(bytes, h, index);
+    *section = section_at(file->bytes, &file->header, index);
     return GOBLIN_OK;
 }
 
 uint32_t goblin_put_section(uint8_t *bytes, size_t len, const goblin_header_t *h, uint64_t index,
                             const goblin_section_t *section, goblin_refusal_t *why) {
+    goblin_file_t file = {bytes, len, *h};
     goblin_section_t unread, s = *section;
-    uint32_t status = goblin_section(bytes, len, h, index, &unread, why);
+    uint32_t status = goblin_section(&file, index, &unread, why);
     if (status) return status;
     WRITE(each_of_section, bytes, h, h->e_shoff + index * section_size(h), s, why, NOTHING);
 }
@@ -282,33 +287,33 @@ uint32_t goblin_put_section(uint8_t *bytes, size_t len, const goblin_header_t *h
 #define SEVERAL(one, ...) \
     uint64_t number = 0; \
     for (; status == GOBLIN_OK && number < capacity \
-         && one(bytes, len, __VA_ARGS__, first + number, items + number, why) == GOBLIN_OK;) \
+         && one(__VA_ARGS__, first + number, items + number, why) == GOBLIN_OK;) \
         number++; \
     if (status == GOBLIN_OK) *filled = number; \
     return status;
 
-uint32_t goblin_sections(const uint8_t *bytes, size_t len, const goblin_header_t *h, uint64_t first,
-                         goblin_section_t *items, size_t capacity, uint64_t *filled, goblin_refusal_t *why) {
+uint32_t goblin_sections(const goblin_file_t *file, uint64_t first, goblin_section_t *items, size_t capacity,
+                         uint64_t *filled, goblin_refusal_t *why) {
     goblin_section_t unread;
-    uint32_t status = goblin_section(bytes, len, h, first, &unread, why);
-    SEVERAL(goblin_section, h)
+    uint32_t status = goblin_section(file, first, &unread, why);
+    SEVERAL(goblin_section, file)
 }
 
-uint32_t goblin_linked_section(const uint8_t *bytes, size_t len, const goblin_header_t *h, uint64_t index,
-                               goblin_section_t *section, goblin_refusal_t *why) {
+uint32_t goblin_linked_section(const goblin_file_t *file, uint64_t index, goblin_section_t *section,
+                               goblin_refusal_t *why) {
     goblin_section_t s;
-    uint32_t status = goblin_section(bytes, len, h, index, &s, why);
+    uint32_t status = goblin_section(file, index, &s, why);
     if (status || index == 0 || s.sh_type == GOBLIN_SHT_NOBITS) return status ? status : (uint32_t)GOBLIN_END;
     *section = s;
     return GOBLIN_OK;
 }
 
-uint32_t goblin_section_names(const uint8_t *bytes, size_t len, const goblin_header_t *h, goblin_section_t *section,
-                              goblin_refusal_t *why) {
+uint32_t goblin_names_section(const goblin_file_t *file, goblin_section_t *section, goblin_refusal_t *why) {
     goblin_section_t first;
-    uint32_t status = goblin_section(bytes, len, h, 0, &first, why);
+    uint32_t status = goblin_section(file, 0, &first, why);
     return status ? status
-        : goblin_linked_section(bytes, len, h, h->e_shstrndx == 0xffff ? first.sh_link : h->e_shstrndx, section, why);
+        : goblin_linked_section(file, file->header.e_shstrndx == 0xffff ? first.sh_link : file->header.e_shstrndx,
+            section, why);
 }
 
 /* ---- strings ---- */
@@ -326,106 +331,105 @@ static bool is_utf8(const uint8_t *at, uint64_t size) {
 }
 
 static uint32_t strings_inside(size_t len, const goblin_range_t *strings, goblin_refusal_t *why) {
-    if (strings->offset > len) return refuse(why, GOBLIN_STRTAB_OFFSET, strings->offset, len, strings->offset);
+    if (strings->offset > len) return refuse(why, GOBLIN_REFUSED_STRTAB_OFFSET, strings->offset, len, strings->offset);
     if (strings->size <= len - strings->offset) return GOBLIN_OK;
-    refuse(why, GOBLIN_STRTAB_RANGE, strings->size, strings->offset, strings->offset);
+    refuse(why, GOBLIN_REFUSED_STRTAB_RANGE, strings->size, strings->offset, strings->offset);
     why->third = len, why->fourth = strings->size > UINT64_MAX - strings->offset;
-    return GOBLIN_STRTAB_RANGE;
+    return GOBLIN_REFUSED_STRTAB_RANGE;
 }
 
-uint32_t goblin_string_bytes(const uint8_t *bytes, size_t len, const goblin_range_t *strings, uint64_t offset,
-                             goblin_range_t *string, goblin_refusal_t *why) {
+uint32_t goblin_string(const goblin_file_t *file, const goblin_range_t *strings, uint64_t offset,
+                       goblin_range_t *string, goblin_refusal_t *why) {
     uint64_t end = offset;
-    uint32_t status = strings_inside(len, strings, why);
+    uint32_t status = strings_inside(file->len, strings, why);
     if (status || offset >= strings->size) return status ? status : (uint32_t)GOBLIN_END;
-    while (end < strings->size && bytes[strings->offset + end]) end++;
+    while (end < strings->size && file->bytes[strings->offset + end]) end++;
     string->offset = strings->offset + offset, string->size = end - offset;
     return GOBLIN_OK;
 }
 
-uint32_t goblin_string(const uint8_t *bytes, size_t len, const goblin_range_t *strings, uint64_t offset,
-                       goblin_range_t *string, goblin_refusal_t *why) {
+uint32_t goblin_string_utf8(const goblin_file_t *file, const goblin_range_t *strings, uint64_t offset,
+                            goblin_range_t *string, goblin_refusal_t *why) {
     goblin_range_t found;
-    uint32_t status = goblin_string_bytes(bytes, len, strings, offset, &found, why);
+    uint32_t status = goblin_string(file, strings, offset, &found, why);
     if (status) return status;
-    if (!is_utf8(bytes + found.offset, found.size)) {
-        refuse(why, GOBLIN_BAD_INPUT, strings->size - offset, 0, found.offset);
-        why->item = GOBLIN_INVALID_UTF8;
-        return GOBLIN_BAD_INPUT;
+    if (!is_utf8(file->bytes + found.offset, found.size)) {
+        refuse(why, GOBLIN_REFUSED_BAD_INPUT, strings->size - offset, 0, found.offset);
+        why->item = GOBLIN_ITEM_INVALID_UTF8;
+        return GOBLIN_REFUSED_BAD_INPUT;
     }
     *string = found;
     return GOBLIN_OK;
 }
 
-uint32_t goblin_strings(const uint8_t *bytes, size_t len, const goblin_range_t *strings, const uint64_t *offsets,
+uint32_t goblin_strings(const goblin_file_t *file, const goblin_range_t *strings, const uint64_t *offsets,
                         size_t offsets_len, goblin_range_t *ranges, size_t capacity, uint64_t *filled,
                         goblin_refusal_t *why) {
     uint32_t status = GOBLIN_OK;
     for (*filled = 0; *filled < offsets_len && *filled < capacity; ++*filled) {
-        status = goblin_string_bytes(bytes, len, strings, offsets[*filled], &ranges[*filled], why);
+        status = goblin_string(file, strings, offsets[*filled], &ranges[*filled], why);
         if (status) break;
     }
     return status;
 }
 
-uint32_t goblin_string_closed(const uint8_t *bytes, size_t len, const goblin_range_t *strings, uint64_t offset,
+uint32_t goblin_string_closed(const goblin_file_t *file, const goblin_range_t *strings, uint64_t offset,
                               goblin_range_t *string, goblin_refusal_t *why) {
     goblin_range_t found;
-    uint32_t status = goblin_string_bytes(bytes, len, strings, offset, &found, why);
+    uint32_t status = goblin_string(file, strings, offset, &found, why);
     if (!status && found.size == strings->size - offset) status = GOBLIN_END;
     if (!status) *string = found;
     return status;
 }
 
-uint32_t goblin_string_starts(const uint8_t *bytes, size_t len, const goblin_range_t *strings, uint64_t offset,
-                              const void *start, size_t start_len, goblin_refusal_t *why) {
-    goblin_range_t found;
-    uint32_t status = goblin_string_bytes(bytes, len, strings, offset, &found, why);
-    if (!status && found.size < start_len) status = GOBLIN_END;
-    for (size_t i = 0; !status && i < start_len; i++)
-        if (bytes[found.offset + i] != ((const uint8_t *)start)[i]) status = GOBLIN_END;
-    return status;
+uint32_t goblin_closed_strings(const goblin_file_t *file, const goblin_range_t *strings, goblin_range_t *closed,
+                               goblin_refusal_t *why) {
+    goblin_range_t found = *strings;
+    uint32_t status = strings_inside(file->len, strings, why);
+    if (status) return status;
+    while (found.size > 0 && file->bytes[found.offset + found.size - 1]) found.size--;
+    *closed = found;
+    return GOBLIN_OK;
 }
 
-uint32_t goblin_string_is(const uint8_t *bytes, size_t len, const goblin_range_t *strings, uint64_t offset,
-                          const void *name, size_t name_len, goblin_refusal_t *why) {
-    goblin_range_t found;
-    uint32_t status = goblin_string_starts(bytes, len, strings, offset, name, name_len, why);
-    if (!status) status = goblin_string_bytes(bytes, len, strings, offset, &found, why);
-    return !status && found.size != name_len ? (uint32_t)GOBLIN_END : status;
-}
-
-/* Tests whether a name is the string at an offset, and UTF-8. */
-static bool is_named(const uint8_t *bytes, size_t len, const goblin_range_t *names, uint64_t offset,
-                     const uint8_t *name, size_t name_len) {
+bool goblin_string_starts(const goblin_file_t *file, const goblin_range_t *strings, uint64_t offset, const void *start,
+                          size_t start_len) {
     goblin_range_t found;
     goblin_refusal_t unread;
-    if (goblin_string(bytes, len, names, offset, &found, &unread) || found.size != name_len) return false;
-    for (size_t i = 0; i < name_len; i++)
-        if (bytes[found.offset + i] != name[i]) return false;
+    if (goblin_string(file, strings, offset, &found, &unread) || found.size < start_len) return false;
+    for (size_t i = 0; i < start_len; i++)
+        if (file->bytes[found.offset + i] != ((const uint8_t *)start)[i]) return false;
     return true;
 }
 
-uint32_t goblin_section_by_name(const uint8_t *bytes, size_t len, const goblin_header_t *h, const goblin_range_t *names,
-                                const void *name, size_t name_len, uint64_t first, uint64_t *index,
-                                goblin_section_t *section, goblin_refusal_t *why) {
+bool goblin_string_is(const goblin_file_t *file, const goblin_range_t *strings, uint64_t offset, const void *name,
+                      size_t name_len) {
+    goblin_range_t found;
+    goblin_refusal_t unread;
+    return goblin_string_starts(file, strings, offset, name, name_len)
+        && !goblin_string(file, strings, offset, &found, &unread) && found.size == name_len;
+}
+
+uint32_t goblin_section_by_name(const goblin_file_t *file, const goblin_range_t *names, const void *name,
+                                size_t name_len, uint64_t first, uint64_t *index, goblin_section_t *section,
+                                goblin_refusal_t *why) {
     uint64_t count;
-    uint32_t status = goblin_section_count(bytes, len, h, &count, why);
-    if (!status) status = strings_inside(len, names, why);
+    uint32_t status = goblin_section_count(file, &count, why);
+    if (!status) status = strings_inside(file->len, names, why);
     for (uint64_t i = first; !status && i < count; i++) {
-        goblin_section_t s = section_at(bytes, h, i);
-        if (is_named(bytes, len, names, s.sh_name, (const uint8_t *)name, name_len))
+        goblin_section_t s = section_at(file->bytes, &file->header, i);
+        if (goblin_string_is(file, names, s.sh_name, name, name_len))
             return *index = i, *section = s, GOBLIN_OK;
     }
     return status ? status : (uint32_t)GOBLIN_END;
 }
 
-uint32_t goblin_section_by_type(const uint8_t *bytes, size_t len, const goblin_header_t *h, uint32_t sh_type,
-                                uint64_t first, uint64_t *index, goblin_section_t *section, goblin_refusal_t *why) {
+uint32_t goblin_section_by_type(const goblin_file_t *file, uint32_t sh_type, uint64_t first, uint64_t *index,
+                                goblin_section_t *section, goblin_refusal_t *why) {
     uint64_t count;
-    uint32_t status = goblin_section_count(bytes, len, h, &count, why);
+    uint32_t status = goblin_section_count(file, &count, why);
     for (uint64_t i = first; !status && i < count; i++) {
-        goblin_section_t s = section_at(bytes, h, i);
+        goblin_section_t s = section_at(file->bytes, &file->header, i);
         if (s.sh_type == sh_type) return *index = i, *section = s, GOBLIN_OK;
     }
     return status ? status : (uint32_t)GOBLIN_END;
@@ -439,63 +443,61 @@ static uint32_t bytes_of(size_t len, bool has_bytes, const goblin_range_t *file,
     return status;
 }
 
-uint32_t goblin_section_bytes(const uint8_t *bytes, size_t len, const goblin_section_t *s, goblin_range_t *range,
+uint32_t goblin_section_range(const goblin_file_t *file, const goblin_section_t *s, goblin_range_t *range,
                               goblin_refusal_t *why) {
-    (void)bytes;
-    return bytes_of(len, s->sh_type != GOBLIN_SHT_NULL && s->sh_type != GOBLIN_SHT_NOBITS, &s->file, range, why);
+    return bytes_of(file->len, s->sh_type != GOBLIN_SHT_NULL && s->sh_type != GOBLIN_SHT_NOBITS, &s->file, range, why);
 }
 
-uint32_t goblin_segment_bytes(const uint8_t *bytes, size_t len, const goblin_segment_t *p, goblin_range_t *range,
+uint32_t goblin_segment_range(const goblin_file_t *file, const goblin_segment_t *p, goblin_range_t *range,
                               goblin_refusal_t *why) {
-    (void)bytes;
-    return bytes_of(len, p->p_type != GOBLIN_PT_NULL, &p->file, range, why);
+    return bytes_of(file->len, p->p_type != GOBLIN_PT_NULL, &p->file, range, why);
 }
 
 /* ---- segments ---- */
 
-uint32_t goblin_segment_count(const uint8_t *bytes, size_t len, const goblin_header_t *h, uint64_t *count,
-                              goblin_refusal_t *why) {
+uint32_t goblin_segment_count(const goblin_file_t *file, uint64_t *count, goblin_refusal_t *why) {
     uint64_t number;
-    uint32_t status = segments_stated(bytes, len, h, &number, why);
-    if (!status && number) status = list(len, h->e_phoff, segment_size(h), number, GOBLIN_PROGRAM_HEADERS, why);
+    uint32_t status = segments_stated(file->bytes, file->len, &file->header, &number, why);
+    if (!status && number) status = list(file->len, file->header.e_phoff, segment_size(&file->header), number,
+        GOBLIN_ITEM_PROGRAM_HEADERS, why);
     if (!status) *count = number;
     return status;
 }
 
-uint32_t goblin_segment(const uint8_t *bytes, size_t len, const goblin_header_t *h, uint64_t index,
-                        goblin_segment_t *segment, goblin_refusal_t *why) {
+uint32_t goblin_segment(const goblin_file_t *file, uint64_t index, goblin_segment_t *segment, goblin_refusal_t *why) {
     uint64_t count;
-    uint32_t status = goblin_segment_count(bytes, len, h, &count, why);
+    uint32_t status = goblin_segment_count(file, &count, why);
     if (status || index >= count) return status ? status : (uint32_t)GOBLIN_END;
-    cursor_t c = cursor(bytes + h->e_phoff + index * segment_size(h), h);
+    cursor_t c = cursor(file->bytes + file->header.e_phoff + index * segment_size(&file->header), &file->header);
     each_of_segment(&c, segment);
     return GOBLIN_OK;
 }
 
-uint32_t goblin_segments(const uint8_t *bytes, size_t len, const goblin_header_t *h, uint64_t first,
-                         goblin_segment_t *items, size_t capacity, uint64_t *filled, goblin_refusal_t *why) {
+uint32_t goblin_segments(const goblin_file_t *file, uint64_t first, goblin_segment_t *items, size_t capacity,
+                         uint64_t *filled, goblin_refusal_t *why) {
     goblin_segment_t unread;
-    uint32_t status = goblin_segment(bytes, len, h, first, &unread, why);
-    SEVERAL(goblin_segment, h)
+    uint32_t status = goblin_segment(file, first, &unread, why);
+    SEVERAL(goblin_segment, file)
 }
 
 uint32_t goblin_put_segment(uint8_t *bytes, size_t len, const goblin_header_t *h, uint64_t index,
                             const goblin_segment_t *segment, goblin_refusal_t *why) {
+    goblin_file_t file = {bytes, len, *h};
     goblin_segment_t unread, p = *segment;
-    uint32_t status = goblin_segment(bytes, len, h, index, &unread, why);
+    uint32_t status = goblin_segment(&file, index, &unread, why);
     if (status) return status;
     WRITE(each_of_segment, bytes, h, h->e_phoff + index * segment_size(h), p, why, NOTHING);
 }
 
-uint32_t goblin_address_to_offset(const uint8_t *bytes, size_t len, const goblin_header_t *h, uint64_t address,
-                                  uint64_t *offset, goblin_refusal_t *why) {
+uint32_t goblin_address_to_offset(const goblin_file_t *file, uint64_t address, uint64_t *offset,
+                                  goblin_refusal_t *why) {
     goblin_segment_t p;
     uint32_t status;
-    for (uint64_t i = 0; (status = goblin_segment(bytes, len, h, i, &p, why)) == GOBLIN_OK; i++) {
+    for (uint64_t i = 0; (status = goblin_segment(file, i, &p, why)) == GOBLIN_OK; i++) {
         if (p.p_type != GOBLIN_PT_LOAD || p.p_vaddr > address || address - p.p_vaddr >= p.file.size) continue;
         uint64_t past = address - p.p_vaddr,
             found = past > UINT64_MAX - p.file.offset ? UINT64_MAX : p.file.offset + past;
-        if ((status = inside(len, found, 1, found, why)) == GOBLIN_OK) *offset = found;
+        if ((status = inside(file->len, found, 1, found, why)) == GOBLIN_OK) *offset = found;
         return status;
     }
     return status;
@@ -505,52 +507,53 @@ uint32_t goblin_address_to_offset(const uint8_t *bytes, size_t len, const goblin
 
 static uint64_t symbol_size(const goblin_header_t *h) { return is_64(h) ? GOBLIN_SIZEOF_SYM64 : GOBLIN_SIZEOF_SYM32; }
 
-uint32_t goblin_symbol_count(const uint8_t *bytes, size_t len, const goblin_header_t *h, const goblin_range_t *table,
-                             uint64_t *count, goblin_refusal_t *why) {
-    uint64_t number = table->size / symbol_size(h), size = number * symbol_size(h);
-    (void)bytes;
-    if (table->offset >= len) return refuse(why, GOBLIN_SYMTAB_OFFSET, table->offset, len, table->offset);
-    if (size > len - table->offset) return refuse(why, GOBLIN_SYMTAB_PAST, size, len - table->offset, table->offset);
+uint32_t goblin_symbol_count(const goblin_file_t *file, const goblin_range_t *table, uint64_t *count,
+                             goblin_refusal_t *why) {
+    uint64_t number = table->size / symbol_size(&file->header), size = number * symbol_size(&file->header);
+    if (table->offset >= file->len) return refuse(why, GOBLIN_REFUSED_SYMTAB_OFFSET, table->offset, file->len,
+        table->offset);
+    if (size > file->len - table->offset) return refuse(why, GOBLIN_REFUSED_SYMTAB_PAST, size,
+        file->len - table->offset, table->offset);
     *count = number;
     return GOBLIN_OK;
 }
 
-uint32_t goblin_symbol(const uint8_t *bytes, size_t len, const goblin_header_t *h, const goblin_range_t *table,
-                       uint64_t index, goblin_symbol_t *symbol, goblin_refusal_t *why) {
+uint32_t goblin_symbol(const goblin_file_t *file, const goblin_range_t *table, uint64_t index, goblin_symbol_t *symbol,
+                       goblin_refusal_t *why) {
     uint64_t count;
-    uint32_t status = goblin_symbol_count(bytes, len, h, table, &count, why);
+    uint32_t status = goblin_symbol_count(file, table, &count, why);
     if (status || index >= count) return status ? status : (uint32_t)GOBLIN_END;
-    cursor_t c = cursor(bytes + table->offset + index * symbol_size(h), h);
+    cursor_t c = cursor(file->bytes + table->offset + index * symbol_size(&file->header), &file->header);
     each_of_symbol(&c, symbol);
     return GOBLIN_OK;
 }
 
 uint32_t goblin_put_symbol(uint8_t *bytes, size_t len, const goblin_header_t *h, const goblin_range_t *table,
                            uint64_t index, const goblin_symbol_t *symbol, goblin_refusal_t *why) {
+    goblin_file_t file = {bytes, len, *h};
     goblin_symbol_t unread, s = *symbol;
-    uint32_t status = goblin_symbol(bytes, len, h, table, index, &unread, why);
+    uint32_t status = goblin_symbol(&file, table, index, &unread, why);
     if (status) return status;
     WRITE(each_of_symbol, bytes, h, table->offset + index * symbol_size(h), s, why, NOTHING);
 }
 
-uint32_t goblin_symbols(const uint8_t *bytes, size_t len, const goblin_header_t *h, const goblin_range_t *table,
-                        uint64_t first, goblin_symbol_t *items, size_t capacity, uint64_t *filled,
-                        goblin_refusal_t *why) {
+uint32_t goblin_symbols(const goblin_file_t *file, const goblin_range_t *table, uint64_t first, goblin_symbol_t *items,
+                        size_t capacity, uint64_t *filled, goblin_refusal_t *why) {
     goblin_symbol_t unread;
-    uint32_t status = goblin_symbol(bytes, len, h, table, first, &unread, why);
-    SEVERAL(goblin_symbol, h, table)
+    uint32_t status = goblin_symbol(file, table, first, &unread, why);
+    SEVERAL(goblin_symbol, file, table)
 }
 
-uint32_t goblin_symbol_by_name(const uint8_t *bytes, size_t len, const goblin_header_t *h, const goblin_range_t *table,
-                               const goblin_range_t *names, const void *name, size_t name_len, uint64_t first,
-                               uint64_t *index, goblin_symbol_t *symbol, goblin_refusal_t *why) {
+uint32_t goblin_symbol_by_name(const goblin_file_t *file, const goblin_range_t *table, const goblin_range_t *names,
+                               const void *name, size_t name_len, uint64_t first, uint64_t *index,
+                               goblin_symbol_t *symbol, goblin_refusal_t *why) {
     uint64_t count;
     goblin_symbol_t s;
-    uint32_t status = goblin_symbol_count(bytes, len, h, table, &count, why);
-    if (!status) status = strings_inside(len, names, why);
+    uint32_t status = goblin_symbol_count(file, table, &count, why);
+    if (!status) status = strings_inside(file->len, names, why);
     for (uint64_t i = first; !status && i < count; i++)
-        if (goblin_symbol(bytes, len, h, table, i, &s, why) == GOBLIN_OK
-            && is_named(bytes, len, names, s.st_name, (const uint8_t *)name, name_len))
+        if (goblin_symbol(file, table, i, &s, why) == GOBLIN_OK
+            && goblin_string_is(file, names, s.st_name, name, name_len))
             return *index = i, *symbol = s, GOBLIN_OK;
     return status ? status : (uint32_t)GOBLIN_END;
 }
@@ -565,22 +568,21 @@ static bool is_held(const uint8_t *bytes, const goblin_header_t *h, uint64_t cou
         && address - section.sh_addr < section.file.size;
 }
 
-uint32_t goblin_symbol_by_address(const uint8_t *bytes, size_t len, const goblin_header_t *h,
-                                  const goblin_range_t *table, uint64_t address, uint64_t *index,
-                                  goblin_refusal_t *why) {
+uint32_t goblin_symbol_by_address(const goblin_file_t *file, const goblin_range_t *table, uint64_t address,
+                                  uint64_t *index, goblin_refusal_t *why) {
     goblin_symbol_t s;
     uint64_t count, sections, best = 0, best_start = 0, label = 0, label_start = 0;
     bool has_best = false, has_label = false, has_start = false;
-    uint32_t status = goblin_symbol_count(bytes, len, h, table, &count, why);
-    if (!status) status = goblin_section_count(bytes, len, h, &sections, why);
+    uint32_t status = goblin_symbol_count(file, table, &count, why);
+    if (!status) status = goblin_section_count(file, &sections, why);
     for (uint64_t i = 0; !status && i < count; i++) {
-        if (goblin_symbol(bytes, len, h, table, i, &s, why)) break;
+        if (goblin_symbol(file, table, i, &s, why)) break;
         unsigned type = s.st_info & 15;
         if (!(s.st_shndx >= 1 && s.st_shndx <= 0xfeff) && s.st_shndx != 0xffff) continue;
         if ((type > GOBLIN_STT_FUNC && type != GOBLIN_STT_GNU_IFUNC) || s.st_value > address) continue;
         if (address - s.st_value < s.st_size && (!has_best || s.st_value > best_start))
             has_best = true, best = i, best_start = s.st_value;
-        if (!is_held(bytes, h, sections, &s, address)) continue;
+        if (!is_held(file->bytes, &file->header, sections, &s, address)) continue;
         if (!has_start || s.st_value > label_start) has_start = true, label_start = s.st_value, has_label = false;
         if (s.st_value == label_start && s.st_size == 0 && !has_label) has_label = true, label = i;
     }
@@ -595,40 +597,40 @@ static uint64_t reloc_size(const goblin_header_t *h, bool is_rela) {
     return (is_rela ? 3U : 2U) * (is_64(h) ? 8U : 4U);
 }
 
-uint32_t goblin_reloc_count(const uint8_t *bytes, size_t len, const goblin_header_t *h, const goblin_range_t *table,
-                            bool is_rela, uint64_t *count, goblin_refusal_t *why) {
-    uint32_t status = table->size ? inside(len, table->offset, table->size, table->offset, why) : (uint32_t)GOBLIN_OK;
-    (void)bytes;
-    if (!status) *count = table->size / reloc_size(h, is_rela);
+uint32_t goblin_reloc_count(const goblin_file_t *file, const goblin_range_t *table, bool is_rela, uint64_t *count,
+                            goblin_refusal_t *why) {
+    uint32_t status = table->size ? inside(file->len, table->offset, table->size, table->offset, why)
+        : (uint32_t)GOBLIN_OK;
+    if (!status) *count = table->size / reloc_size(&file->header, is_rela);
     return status;
 }
 
-uint32_t goblin_reloc(const uint8_t *bytes, size_t len, const goblin_header_t *h, const goblin_range_t *table,
-                      bool is_rela, uint64_t index, goblin_reloc_t *reloc, goblin_refusal_t *why) {
+uint32_t goblin_reloc(const goblin_file_t *file, const goblin_range_t *table, bool is_rela, uint64_t index,
+                      goblin_reloc_t *reloc, goblin_refusal_t *why) {
     uint64_t count;
-    goblin_reloc_t r = {0, 0, 0, 0, 0};
-    uint32_t status = goblin_reloc_count(bytes, len, h, table, is_rela, &count, why);
+    goblin_reloc_t r = {0, 0, 0, 0};
+    uint32_t status = goblin_reloc_count(file, table, is_rela, &count, why);
     if (status || index >= count) return status ? status : (uint32_t)GOBLIN_END;
-    cursor_t c = cursor(bytes + table->offset + index * reloc_size(h, is_rela), h);
-    each_of_reloc(&c, h, is_rela, &r);
+    cursor_t c = cursor(file->bytes + table->offset + index * reloc_size(&file->header, is_rela), &file->header);
+    each_of_reloc(&c, &file->header, is_rela, &r);
     *reloc = r;
     return GOBLIN_OK;
 }
 
 uint32_t goblin_put_reloc(uint8_t *bytes, size_t len, const goblin_header_t *h, const goblin_range_t *table,
                           bool is_rela, uint64_t index, const goblin_reloc_t *reloc, goblin_refusal_t *why) {
+    goblin_file_t file = {bytes, len, *h};
     goblin_reloc_t unread, r = *reloc;
-    uint32_t status = goblin_reloc(bytes, len, h, table, is_rela, index, &unread, why);
+    uint32_t status = goblin_reloc(&file, table, is_rela, index, &unread, why);
     if (status) return status;
     WRITE(each_of_reloc, bytes, h, table->offset + index * reloc_size(h, is_rela), r, why, h, is_rela,);
 }
 
-uint32_t goblin_relocs(const uint8_t *bytes, size_t len, const goblin_header_t *h, const goblin_range_t *table,
-                       bool is_rela, uint64_t first, goblin_reloc_t *items, size_t capacity, uint64_t *filled,
-                       goblin_refusal_t *why) {
+uint32_t goblin_relocs(const goblin_file_t *file, const goblin_range_t *table, bool is_rela, uint64_t first,
+                       goblin_reloc_t *items, size_t capacity, uint64_t *filled, goblin_refusal_t *why) {
     goblin_reloc_t unread;
-    uint32_t status = goblin_reloc(bytes, len, h, table, is_rela, first, &unread, why);
-    SEVERAL(goblin_reloc, h, table, is_rela)
+    uint32_t status = goblin_reloc(file, table, is_rela, first, &unread, why);
+    SEVERAL(goblin_reloc, file, table, is_rela)
 }
 
 /* ---- notes ---- */
@@ -641,25 +643,27 @@ static uint64_t aligned(uint64_t offset, uint64_t alignment) {
     return (offset + alignment - 1) / alignment * alignment;
 }
 
-/* Reads a note in the bytes from `offset` to `end`. Refusals have the part that is not there, if `has_parts`. */
+/* Reads a note in the bytes from `offset` to `end`. Refusals have the part that is not there, if the note must be
+   whole: else the last byte of its name may lie outside. */
 static uint32_t read_note(const uint8_t *bytes, uint64_t end, const goblin_header_t *h, uint64_t alignment,
-                          uint64_t offset, bool has_parts, goblin_note_t *note, goblin_refusal_t *why) {
+                          uint64_t offset, bool is_whole, bool is_text, goblin_note_t *note, goblin_refusal_t *why) {
     uint64_t left = end - offset;
     uint32_t status;
     if (alignment < 4) alignment = 4;
-    if (alignment != 4 && alignment != 8) return refuse(why, GOBLIN_NOTE_ALIGN, alignment, 0, offset);
+    if (alignment != 4 && alignment != 8) return refuse(why, GOBLIN_REFUSED_NOTE_ALIGN, alignment, 0, offset);
     if ((status = inside(left, 0, NOTE_SIZE, offset, why)))
-        return why->item = has_parts ? GOBLIN_NOTE_HEADER : 0, status;
+        return why->item = is_whole ? GOBLIN_ITEM_NOTE_HEADER : 0, status;
     uint64_t name = get(bytes + offset, 4, is_big(h)), desc = get(bytes + offset + 4, 4, is_big(h));
-    uint64_t at = aligned(NOTE_SIZE + name, alignment), name_size = !has_parts && name ? name - 1 : name;
-    if ((status = inside(left, NOTE_SIZE, name_size, offset, why)))
-        return why->item = has_parts ? GOBLIN_NOTE_NAME : 0, status;
-    if (!has_parts && !is_utf8(bytes + offset + NOTE_SIZE, name_size)) {
-        refuse(why, GOBLIN_BAD_INPUT, left - NOTE_SIZE, 0, offset);
-        why->item = GOBLIN_INVALID_UTF8;
-        return GOBLIN_BAD_INPUT;
+    uint64_t at = aligned(NOTE_SIZE + name, alignment), name_size = name ? name - 1 : 0;
+    if ((status = inside(left, NOTE_SIZE, is_whole ? name : name_size, offset, why)))
+        return why->item = is_whole ? GOBLIN_ITEM_NOTE_NAME : 0, status;
+    if (is_text && !is_utf8(bytes + offset + NOTE_SIZE, name_size)) {
+        refuse(why, GOBLIN_REFUSED_BAD_INPUT, left - NOTE_SIZE, 0, offset);
+        why->item = GOBLIN_ITEM_INVALID_UTF8;
+        return GOBLIN_REFUSED_BAD_INPUT;
     }
-    if ((status = inside(left, at, desc, offset, why))) return why->item = has_parts ? GOBLIN_NOTE_DESC : 0, status;
+    if ((status = inside(left, at, desc, offset, why)))
+        return why->item = is_whole ? GOBLIN_ITEM_NOTE_DESC : 0, status;
     note->n_type = (uint32_t)get(bytes + offset + 8, 4, is_big(h));
     note->name.offset = offset + NOTE_SIZE, note->name.size = name_size;
     note->desc.offset = offset + at, note->desc.size = desc;
@@ -667,31 +671,54 @@ static uint32_t read_note(const uint8_t *bytes, uint64_t end, const goblin_heade
     return GOBLIN_OK;
 }
 
-uint32_t goblin_note(const uint8_t *bytes, size_t len, const goblin_header_t *h, const goblin_range_t *notes,
-                     uint64_t alignment, uint64_t offset, goblin_note_t *note, goblin_refusal_t *why) {
+static uint32_t any_note(const goblin_file_t *file, const goblin_range_t *notes, uint64_t alignment, uint64_t offset,
+                         bool is_text, goblin_note_t *note, goblin_refusal_t *why) {
     if (is_past(notes, offset)) return GOBLIN_END;
-    if (offset >= len) return refuse(why, GOBLIN_BAD_OFFSET, offset, 0, offset);
-    return read_note(bytes, len, h, alignment, offset, false, note, why);
+    if (offset >= file->len) return refuse(why, GOBLIN_REFUSED_BAD_OFFSET, offset, 0, offset);
+    return read_note(file->bytes, file->len, &file->header, alignment, offset, false, is_text, note, why);
 }
 
-uint32_t goblin_note_bytes(const uint8_t *bytes, size_t len, const goblin_header_t *h, const goblin_range_t *notes,
-                           uint64_t alignment, uint64_t offset, goblin_note_t *note, goblin_refusal_t *why) {
-    uint64_t end = notes->size > UINT64_MAX - notes->offset || notes->offset + notes->size > len ? len
+uint32_t goblin_note(const goblin_file_t *file, const goblin_range_t *notes, uint64_t alignment, uint64_t offset,
+                     goblin_note_t *note, goblin_refusal_t *why) {
+    return any_note(file, notes, alignment, offset, false, note, why);
+}
+
+uint32_t goblin_note_utf8(const goblin_file_t *file, const goblin_range_t *notes, uint64_t alignment, uint64_t offset,
+                          goblin_note_t *note, goblin_refusal_t *why) {
+    return any_note(file, notes, alignment, offset, true, note, why);
+}
+
+uint32_t goblin_note_whole(const goblin_file_t *file, const goblin_range_t *notes, uint64_t alignment, uint64_t offset,
+                           goblin_note_t *note, goblin_refusal_t *why) {
+    uint64_t end = notes->size > UINT64_MAX - notes->offset || notes->offset + notes->size > file->len ? file->len
         : notes->offset + notes->size;
     if (is_past(notes, offset)) return GOBLIN_END;
-    return read_note(bytes, end < offset ? offset : end, h, alignment, offset, true, note, why);
+    return read_note(file->bytes, end < offset ? offset : end, &file->header, alignment, offset, true, false, note,
+                     why);
 }
 
 /* ---- the dynamic section ---- */
 
-uint32_t goblin_dynamic(const uint8_t *bytes, size_t len, const goblin_header_t *h, goblin_range_t *dynamic,
-                        goblin_refusal_t *why) {
+/* Finds the first section of type GOBLIN_SHT_DYNAMIC in a file without segments, and sets `*is_by_sections`. */
+static uint32_t by_sections(const goblin_file_t *file, bool *is_by_sections, goblin_section_t *section,
+                            goblin_refusal_t *why) {
+    uint64_t count, index;
+    uint32_t status = goblin_segment_count(file, &count, why);
+    *is_by_sections = !status && count == 0;
+    return *is_by_sections ? goblin_section_by_type(file, GOBLIN_SHT_DYNAMIC, 0, &index, section, why) : status;
+}
+
+uint32_t goblin_dynamic(const goblin_file_t *file, goblin_range_t *dynamic, goblin_refusal_t *why) {
     goblin_segment_t p;
-    uint32_t status;
-    for (uint64_t i = 0; !(status = goblin_segment(bytes, len, h, i, &p, why)); i++)
+    goblin_section_t s;
+    bool is_by_sections;
+    uint32_t status = by_sections(file, &is_by_sections, &s, why);
+    for (uint64_t i = 0; !is_by_sections && !status && !(status = goblin_segment(file, i, &p, why)); i++)
         if (p.p_type == GOBLIN_PT_DYNAMIC) break;
-    if (!status) status = inside(len, p.file.offset, p.file.size, p.file.offset, why);
-    if (!status) *dynamic = p.file;
+    if (status) return status;
+    goblin_range_t found = is_by_sections ? s.file : p.file;
+    status = inside(file->len, found.offset, found.size, found.offset, why);
+    if (!status) *dynamic = found;
     return status;
 }
 
@@ -705,43 +732,77 @@ static bool has_entry(const uint8_t *bytes, const goblin_header_t *h, const gobl
     return entry->d_tag != GOBLIN_DT_NULL;
 }
 
-uint32_t goblin_dynamic_entries(const uint8_t *bytes, size_t len, const goblin_header_t *h,
-                                const goblin_range_t *dynamic, uint64_t first, goblin_dyn_t *entries, size_t capacity,
-                                uint64_t *filled, goblin_refusal_t *why) {
+uint32_t goblin_dynamic_entries(const goblin_file_t *file, const goblin_range_t *dynamic, uint64_t first,
+                                goblin_dyn_t *entries, size_t capacity, uint64_t *filled, goblin_refusal_t *why) {
     goblin_dyn_t entry;
     uint64_t number = 0;
-    uint32_t status = inside(len, dynamic->offset, dynamic->size, dynamic->offset, why);
+    uint32_t status = inside(file->len, dynamic->offset, dynamic->size, dynamic->offset, why);
     if (status) return status;
-    if (!has_entry(bytes, h, dynamic, first, &entry)) return GOBLIN_END;
-    for (; number < capacity && has_entry(bytes, h, dynamic, first + number, &entry); number++)
+    if (!has_entry(file->bytes, &file->header, dynamic, first, &entry)) return GOBLIN_END;
+    for (; number < capacity && has_entry(file->bytes, &file->header, dynamic, first + number, &entry); number++)
         entries[number] = entry;
     *filled = number;
     return GOBLIN_OK;
 }
 
-uint32_t goblin_dynamic_value(const uint8_t *bytes, size_t len, const goblin_header_t *h, const goblin_range_t *dynamic,
-                              uint64_t tag, uint64_t *value, goblin_refusal_t *why) {
+uint32_t goblin_dynamic_count(const goblin_file_t *file, const goblin_range_t *dynamic, uint64_t *count,
+                              goblin_refusal_t *why) {
     goblin_dyn_t entry;
-    uint32_t status = inside(len, dynamic->offset, dynamic->size, dynamic->offset, why);
-    for (uint64_t i = 0; !status && has_entry(bytes, h, dynamic, i, &entry); i++)
-        if (entry.d_tag == tag) return *value = entry.d_val, GOBLIN_OK;
+    uint64_t number = 0;
+    uint32_t status = inside(file->len, dynamic->offset, dynamic->size, dynamic->offset, why);
+    while (!status && has_entry(file->bytes, &file->header, dynamic, number, &entry)) number++;
+    if (!status) *count = number;
+    return status;
+}
+
+uint32_t goblin_dynamic_value(const goblin_file_t *file, const goblin_range_t *dynamic, uint64_t tag, uint64_t first,
+                              uint64_t *index, uint64_t *value, goblin_refusal_t *why) {
+    goblin_dyn_t entry;
+    uint64_t count;
+    uint32_t status = goblin_dynamic_count(file, dynamic, &count, why);
+    for (uint64_t i = first; !status && i < count; i++)
+        if (has_entry(file->bytes, &file->header, dynamic, i, &entry) && entry.d_tag == tag)
+            return *index = i, *value = entry.d_val, GOBLIN_OK;
     return status ? status : (uint32_t)GOBLIN_END;
 }
 
-uint32_t goblin_dynamic_strings(const uint8_t *bytes, size_t len, const goblin_header_t *h,
-                                const goblin_range_t *dynamic, goblin_range_t *strings, goblin_refusal_t *why) {
-    uint64_t address, count;
+uint32_t goblin_put_dynamic_entry(uint8_t *bytes, size_t len, const goblin_header_t *h, const goblin_range_t *dynamic,
+                                  uint64_t index, const goblin_dyn_t *entry, goblin_refusal_t *why) {
+    uint64_t width = is_64(h) ? 8 : 4, place = dynamic->offset + index * 2 * width;
+    uint32_t status = inside(len, dynamic->offset, dynamic->size, dynamic->offset, why);
+    if (status) return status;
+    if (index >= dynamic->size / (2 * width)) return GOBLIN_END;
+    if (!is_64(h) && entry->d_tag >> 32) return refuse(why, GOBLIN_REFUSED_INTEGER_FIT, entry->d_tag, 0, place);
+    if (!is_64(h) && entry->d_val >> 32) return refuse(why, GOBLIN_REFUSED_INTEGER_FIT, entry->d_val, 0, place + 4);
+    put(bytes + place, (unsigned)width, is_big(h), entry->d_tag);
+    put(bytes + place + width, (unsigned)width, is_big(h), entry->d_val);
+    return GOBLIN_OK;
+}
+
+uint32_t goblin_dynamic_strings(const goblin_file_t *file, const goblin_range_t *dynamic, goblin_range_t *strings,
+                                goblin_refusal_t *why) {
+    uint64_t address, index, count;
+    bool is_by_sections;
     goblin_range_t found;
     goblin_segment_t p;
-    uint32_t no_address = goblin_dynamic_value(bytes, len, h, dynamic, GOBLIN_DT_STRTAB, &address, why);
-    uint32_t no_size = goblin_dynamic_value(bytes, len, h, dynamic, GOBLIN_DT_STRSZ, &found.size, why);
-    uint32_t status = no_address > GOBLIN_END ? no_address : goblin_segment_count(bytes, len, h, &count, why);
+    goblin_section_t s, linked;
+    uint32_t no_address = goblin_dynamic_value(file, dynamic, GOBLIN_DT_STRTAB, 0, &index, &address, why);
+    uint32_t no_size = goblin_dynamic_value(file, dynamic, GOBLIN_DT_STRSZ, 0, &index, &found.size, why);
+    if (no_address > GOBLIN_END) return no_address;
+    uint32_t status = by_sections(file, &is_by_sections, &s, why);
+    if (is_by_sections) {
+        if (!status) status = goblin_linked_section(file, s.sh_link, &linked, why);
+        if (!status) status = inside(file->len, linked.file.offset, linked.file.size, linked.file.offset, why);
+        if (!status) *strings = linked.file;
+        return status;
+    }
+    if (!status) status = goblin_segment_count(file, &count, why);
     for (uint64_t i = 0; !status && !no_address && !no_size && i < count; i++) {
-        if (goblin_segment(bytes, len, h, i, &p, why)) break;
+        if (goblin_segment(file, i, &p, why)) break;
         if (p.p_type != GOBLIN_PT_LOAD || p.p_vaddr > address || address - p.p_vaddr >= p.file.size) continue;
         uint64_t more = address - p.p_vaddr;
         found.offset = more > UINT64_MAX - p.file.offset ? UINT64_MAX : p.file.offset + more;
-        status = inside(len, found.offset, found.size, found.offset, why);
+        status = inside(file->len, found.offset, found.size, found.offset, why);
         if (!status) *strings = found;
         return status;
     }
@@ -752,46 +813,47 @@ uint32_t goblin_dynamic_strings(const uint8_t *bytes, size_t len, const goblin_h
 
 static bool is_width(uint64_t width) { return width == 1 || width == 2 || width == 4 || width == 8; }
 
-uint32_t goblin_number(const uint8_t *bytes, size_t len, const goblin_header_t *h, uint64_t offset, uint64_t width,
-                       uint64_t *value, goblin_refusal_t *why) {
+uint32_t goblin_number(const goblin_file_t *file, uint64_t offset, uint64_t width, uint64_t *value,
+                       goblin_refusal_t *why) {
     if (!is_width(width)) return GOBLIN_END;
-    uint32_t status = inside(len, offset, width, offset, why);
-    if (!status) *value = get(bytes + offset, (unsigned)width, is_big(h));
+    uint32_t status = inside(file->len, offset, width, offset, why);
+    if (!status) *value = get(file->bytes + offset, (unsigned)width, is_big(&file->header));
     return status;
 }
 
-uint32_t goblin_number_in(const uint8_t *bytes, size_t len, const goblin_header_t *h, const goblin_range_t *range,
-                          uint64_t offset, uint64_t width, uint64_t *value, goblin_refusal_t *why) {
+uint32_t goblin_number_in(const goblin_file_t *file, const goblin_range_t *range, uint64_t offset, uint64_t width,
+                          uint64_t *value, goblin_refusal_t *why) {
     if (!is_width(width)) return GOBLIN_END;
     uint64_t from = offset > UINT64_MAX - range->offset ? UINT64_MAX : range->offset + offset;
-    uint32_t status = inside(len, range->offset, range->size, range->offset, why);
+    uint32_t status = inside(file->len, range->offset, range->size, range->offset, why);
     if (!status) status = inside(range->size, offset, width, from, why);
-    if (!status) *value = get(bytes + from, (unsigned)width, is_big(h));
+    if (!status) *value = get(file->bytes + from, (unsigned)width, is_big(&file->header));
     return status;
 }
 
 uint32_t goblin_put_number(uint8_t *bytes, size_t len, const goblin_header_t *h, uint64_t offset, uint64_t width,
                            uint64_t value, goblin_refusal_t *why) {
+    goblin_file_t file = {bytes, len, *h};
     uint64_t unread;
-    uint32_t status = goblin_number(bytes, len, h, offset, width, &unread, why);
+    uint32_t status = goblin_number(&file, offset, width, &unread, why);
     if (status) return status;
-    if (width < 8 && value >> (8 * width)) return refuse(why, GOBLIN_INTEGER_FIT, value, 0, offset);
+    if (width < 8 && value >> (8 * width)) return refuse(why, GOBLIN_REFUSED_INTEGER_FIT, value, 0, offset);
     put(bytes + offset, (unsigned)width, is_big(h), value);
     return GOBLIN_OK;
 }
 
 uint32_t goblin_put_number_in(uint8_t *bytes, size_t len, const goblin_header_t *h, const goblin_range_t *range,
                               uint64_t offset, uint64_t width, uint64_t value, goblin_refusal_t *why) {
+    goblin_file_t file = {bytes, len, *h};
     uint64_t unread;
-    uint32_t status = goblin_number_in(bytes, len, h, range, offset, width, &unread, why);
+    uint32_t status = goblin_number_in(&file, range, offset, width, &unread, why);
     return status ? status : goblin_put_number(bytes, len, h, range->offset + offset, width, value, why);
 }
 
-void goblin_range_in_file(const uint8_t *bytes, size_t len, const goblin_range_t *range, goblin_range_t *part) {
+void goblin_range_in_file(const goblin_file_t *file, const goblin_range_t *range, goblin_range_t *part) {
     goblin_range_t found = *range;
-    (void)bytes;
-    if (found.offset >= len) found.offset = len, found.size = 0;
-    if (found.size > len - found.offset) found.size = len - found.offset;
+    if (found.offset >= file->len) found.offset = file->len, found.size = 0;
+    if (found.size > file->len - found.offset) found.size = file->len - found.offset;
     *part = found;
 }
 
@@ -861,7 +923,7 @@ NAME(goblin_et_to_str, uint16_t)
 NAME(goblin_machine_to_str, uint16_t)
 NAME(goblin_pt_to_str, uint32_t)
 NAME(goblin_sht_to_str, uint32_t)
-NAME(goblin_shf_to_str, uint32_t)
+NAME(goblin_shf_to_str, uint64_t)
 NAME(goblin_bind_to_str, uint8_t)
 NAME(goblin_type_to_str, uint8_t)
 NAME(goblin_visibility_to_str, uint8_t)

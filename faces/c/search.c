@@ -19,19 +19,17 @@ static double since(clock_t start) { return 1e6 * (double)(clock() - start) / CL
 /* Searches for a name that no section and no symbol has. Their names start at different offsets of one string, whose
    length is STRINGS. */
 static int search(uint8_t *bytes, size_t len, const char *what, const uint8_t *name, size_t name_len) {
-    goblin_header_t header;
+    goblin_file_t file;
     goblin_range_t symbols = {64 + SECTIONS * sizeof(Elf64_Shdr), SYMBOLS * sizeof(Elf64_Sym)};
     goblin_range_t strings = {symbols.offset + symbols.size, STRINGS};
     goblin_section_t section;
     goblin_symbol_t symbol;
     uint64_t index;
     clock_t start = clock();
-    memset(&header, 0, sizeof header);
-    header.ei_class = 2, header.ei_data = 1, header.e_shoff = 64, header.e_shnum = SECTIONS;
-    int none = goblin_section_by_name(bytes, len, &header, &strings, name, name_len, 0, &index, &section,
-                                      &why) == GOBLIN_END
-        && goblin_symbol_by_name(bytes, len, &header, &symbols, &strings, name, name_len, 0, &index, &symbol,
-                                 &why) == GOBLIN_END;
+    memset(&file, 0, sizeof file), file.bytes = bytes, file.len = len;
+    file.header.ei_class = 2, file.header.ei_data = 1, file.header.e_shoff = 64, file.header.e_shnum = SECTIONS;
+    int none = goblin_section_by_name(&file, &strings, name, name_len, 0, &index, &section, &why) == GOBLIN_END
+        && goblin_symbol_by_name(&file, &symbols, &strings, name, name_len, 0, &index, &symbol, &why) == GOBLIN_END;
     double took = since(start);
     printf("%d sections and %d symbols over a string of 4 MB, searched for %s: %.0f microseconds\n", SECTIONS,
            SYMBOLS, what, took);
@@ -72,24 +70,25 @@ static int search_made(void) {
 /* Times a search for a name that no symbol has, by the library and by strcmp, each the best of nine runs. */
 static int time_search(const uint8_t *bytes, size_t len) {
     static const char name[] = "_ZNSt8no_suchD0Ev";
-    goblin_header_t header;
-    goblin_section_t table, longest = {{0, 0}, 0, 0, 0, 0, 0, 0, 0, 0}, strings;
+    goblin_file_t file;
+    goblin_section_t table, longest = {0, 0, 0, 0, {0, 0}, 0, 0, 0, 0}, strings;
     goblin_symbol_t unread;
     uint64_t index = 0, count;
     double ours = 1e9, theirs = 1e9;
-    if (goblin_header(bytes, len, &header, &why) != GOBLIN_OK || header.ei_class != 2 || header.ei_data != 1) return 1;
-    for (uint64_t i = 0; goblin_section(bytes, len, &header, i, &table, &why) == GOBLIN_OK; i++)
+    if (goblin_file(bytes, len, &file, &why) != GOBLIN_OK || file.header.ei_class != 2 || file.header.ei_data != 1)
+        return 1;
+    for (uint64_t i = 0; goblin_section(&file, i, &table, &why) == GOBLIN_OK; i++)
         if ((table.sh_type == SHT_SYMTAB || table.sh_type == SHT_DYNSYM) && table.file.size > longest.file.size)
             longest = table;
-    if (goblin_linked_section(bytes, len, &header, longest.sh_link, &strings, &why) != GOBLIN_OK) return 1;
+    if (goblin_linked_section(&file, longest.sh_link, &strings, &why) != GOBLIN_OK) return 1;
     count = longest.file.size / sizeof(Elf64_Sym);
     /* (strcmp must end inside the table) */
     if (strings.file.size == 0 || bytes[strings.file.offset + strings.file.size - 1] != 0) return 1;
-    for (uint64_t i = 0; goblin_symbol(bytes, len, &header, &longest.file, i, &unread, &why) == GOBLIN_OK; i++)
+    for (uint64_t i = 0; goblin_symbol(&file, &longest.file, i, &unread, &why) == GOBLIN_OK; i++)
         if (unread.st_name >= strings.file.size) return 1;
     for (int run = 0; run < 9; run++) {
         clock_t start = clock();
-        if (goblin_symbol_by_name(bytes, len, &header, &longest.file, &strings.file, (const uint8_t *)name,
+        if (goblin_symbol_by_name(&file, &longest.file, &strings.file, (const uint8_t *)name,
                                   sizeof name - 1, 0, &index, &unread, &why) != GOBLIN_END)
             return 1;
         double took = since(start);
@@ -110,8 +109,8 @@ static int time_search(const uint8_t *bytes, size_t len) {
 }
 
 int main(int argc, char **argv) {
-    FILE *file = argc == 2 ? fopen(argv[1], "rb") : NULL;
+    FILE *stream = argc == 2 ? fopen(argv[1], "rb") : NULL;
     if (argc == 1) return search_made();
     uint8_t *bytes = (uint8_t *)malloc((size_t)1 << 30);
-    return file && bytes ? time_search(bytes, fread(bytes, 1, (size_t)1 << 30, file)) : 2;
+    return stream && bytes ? time_search(bytes, fread(bytes, 1, (size_t)1 << 30, stream)) : 2;
 }

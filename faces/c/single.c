@@ -13,7 +13,7 @@ enum { ROUNDS = 100, ROOM = 1 << 24, MOST = 1 << 16, LEAST = 4, LENGTHS = 64, NA
 
 static uint8_t *bytes;
 static size_t len;
-static goblin_header_t header;
+static goblin_file_t file;
 static goblin_refusal_t why;
 /* The name that others are compared with, which the compiler doesn't know. */
 static const char *volatile wanted = "main";
@@ -31,7 +31,7 @@ static goblin_section_t longest(uint32_t type) {
     goblin_section_t most, sections[64];
     uint64_t filled, first = 0;
     memset(&most, 0, sizeof most);
-    while (goblin_sections(bytes, len, &header, first, sections, 64, &filled, &why) == GOBLIN_OK) {
+    while (goblin_sections(&file, first, sections, 64, &filled, &why) == GOBLIN_OK) {
         for (uint64_t i = 0; i < filled; i++)
             if (sections[i].sh_type == type && sections[i].file.size > most.file.size) most = sections[i];
         first += filled;
@@ -47,21 +47,20 @@ static bool count_strings(const goblin_section_t *table) {
     goblin_section_t strings;
     goblin_symbol_t symbols[64];
     uint64_t count = 0, singles = 0, found = 0, filled = 0, same = 0;
-    if (goblin_linked_section(bytes, len, &header, table->sh_link, &strings, &why) != GOBLIN_OK) return false;
-    while (count <= MOST - 64
-           && !goblin_symbols(bytes, len, &header, &table->file, count, symbols, 64, &filled, &why))
+    if (goblin_linked_section(&file, table->sh_link, &strings, &why) != GOBLIN_OK) return false;
+    while (count <= MOST - 64 && !goblin_symbols(&file, &table->file, count, symbols, 64, &filled, &why))
         for (uint64_t i = 0; i < filled; i++) offsets[count++] = symbols[i].st_name;
     for (uint64_t i = 0; i < count; i++) {
-        singles += goblin_string_bytes(bytes, len, &strings.file, offsets[i], &name, &why) == GOBLIN_OK;
-        same += goblin_string_is(bytes, len, &strings.file, offsets[i], wanted, wanted_size, &why) == GOBLIN_OK;
-        same += goblin_string_starts(bytes, len, &strings.file, offsets[i], wanted, wanted_size, &why) == GOBLIN_OK;
+        singles += goblin_string(&file, &strings.file, offsets[i], &name, &why) == GOBLIN_OK;
+        same += goblin_string_is(&file, &strings.file, offsets[i], wanted, wanted_size);
+        same += goblin_string_starts(&file, &strings.file, offsets[i], wanted, wanted_size);
         same += plain_is(strings.file, offsets[i], wanted, wanted_size);
     }
     while (found < count
-           && !goblin_strings(bytes, len, &strings.file, offsets + found, count - found, ranges, 64, &filled, &why))
+           && !goblin_strings(&file, &strings.file, offsets + found, count - found, ranges, 64, &filled, &why))
         found += filled;
     if (count == 0 || singles != count || found != count || same != 3) return false;
-    printf("plain_is %" PRIu64 "\ngoblin_string_bytes %" PRIu64 "\ngoblin_strings %" PRIu64
+    printf("plain_is %" PRIu64 "\ngoblin_string %" PRIu64 "\ngoblin_strings %" PRIu64
            "\ngoblin_string_is %" PRIu64 "\ngoblin_string_starts %" PRIu64 "\n", count, count, count, count, count);
     return true;
 }
@@ -72,19 +71,20 @@ static int count_made(void) {
     goblin_range_t all = {0, ROOM}, name, ranges[64];
     len = ROOM;
     memset(bytes, 0, ROOM);
+    file.bytes = bytes, file.len = len;
     for (size_t i = 0; i < NAMES; i++) {
         size_t size = LEAST + i % LENGTHS;
         offsets[i] = place;
         memset(bytes + place, 'a', size);
-        singles += goblin_string_bytes(bytes, len, &all, place, &name, &why) == GOBLIN_OK && name.size == size;
-        same += goblin_string_is(bytes, len, &all, place, bytes + place, size, &why) == GOBLIN_OK;
+        singles += goblin_string(&file, &all, place, &name, &why) == GOBLIN_OK && name.size == size;
+        same += goblin_string_is(&file, &all, place, bytes + place, size);
         same += plain_is(all, place, bytes + place, size);
         place += size + 1;
     }
-    while (found < NAMES && !goblin_strings(bytes, len, &all, offsets + found, 64, ranges, 64, &filled, &why)
+    while (found < NAMES && !goblin_strings(&file, &all, offsets + found, 64, ranges, 64, &filled, &why)
            && ranges[63].size == LEAST + LENGTHS - 1)
         found += filled;
-    printf("plain_is %d\ngoblin_string_bytes %d\ngoblin_strings %d\ngoblin_string_is %d\n", NAMES, NAMES, NAMES, NAMES);
+    printf("plain_is %d\ngoblin_string %d\ngoblin_strings %d\ngoblin_string_is %d\n", NAMES, NAMES, NAMES, NAMES);
     return singles == NAMES && found == NAMES && same == 2 * NAMES ? EXIT_SUCCESS : EXIT_FAILURE;
 }
 
@@ -96,34 +96,33 @@ static int count_calls(void) {
     goblin_reloc_t reloc;
     goblin_note_t note;
     goblin_range_t name;
-    if (goblin_section_names(bytes, len, &header, &names, &why) != GOBLIN_OK) return EXIT_FAILURE;
+    if (goblin_names_section(&file, &names, &why) != GOBLIN_OK) return EXIT_FAILURE;
     for (int i = 0; i < ROUNDS; i++) {
-        headers += goblin_header(bytes, len, &header, &why) == GOBLIN_OK;
-        notes += goblin_note(bytes, len, &header, &noted.file, noted.sh_addralign, noted.file.offset,
-                             &note, &why) == GOBLIN_OK;
-        strings += goblin_string(bytes, len, &names.file, 1, &name, &why) == GOBLIN_OK;
+        headers += goblin_file(bytes, len, &file, &why) == GOBLIN_OK;
+        notes += goblin_note_utf8(&file, &noted.file, noted.sh_addralign, noted.file.offset, &note, &why) == GOBLIN_OK;
+        strings += goblin_string_utf8(&file, &names.file, 1, &name, &why) == GOBLIN_OK;
     }
-    for (uint64_t i = 0; i < header.e_shnum; i++)
-        sections += goblin_section(bytes, len, &header, i, &section, &why) == GOBLIN_OK;
+    for (uint64_t i = 0; i < file.header.e_shnum; i++)
+        sections += goblin_section(&file, i, &section, &why) == GOBLIN_OK;
     for (uint64_t i = 0; i < table.file.size / 24; i++)
-        symbols += goblin_symbol(bytes, len, &header, &table.file, i, &symbol, &why) == GOBLIN_OK;
+        symbols += goblin_symbol(&file, &table.file, i, &symbol, &why) == GOBLIN_OK;
     for (uint64_t i = 0; i < relas.file.size / 24; i++)
-        relocs += goblin_reloc(bytes, len, &header, &relas.file, true, i, &reloc, &why) == GOBLIN_OK;
+        relocs += goblin_reloc(&file, &relas.file, true, i, &reloc, &why) == GOBLIN_OK;
     bool has_strings = count_strings(&table);
-    printf("goblin_header %" PRIu64 "\ngoblin_section %" PRIu64 "\ngoblin_symbol %" PRIu64 "\ngoblin_reloc %" PRIu64
-           "\ngoblin_note %" PRIu64 "\ngoblin_string %" PRIu64 "\n",
+    printf("goblin_file %" PRIu64 "\ngoblin_section %" PRIu64 "\ngoblin_symbol %" PRIu64 "\ngoblin_reloc %" PRIu64
+           "\ngoblin_note_utf8 %" PRIu64 "\ngoblin_string_utf8 %" PRIu64 "\n",
            headers, sections, symbols, relocs, notes, strings);
     return has_strings && headers && sections && symbols && relocs && notes && strings ? EXIT_SUCCESS : EXIT_FAILURE;
 }
 
 int main(int argc, char **argv) {
-    FILE *file = argc == 2 ? fopen(argv[1], "rb") : NULL;
+    FILE *stream = argc == 2 ? fopen(argv[1], "rb") : NULL;
     bytes = (uint8_t *)malloc(ROOM);
     if (argc == 1 && bytes) return count_made();
-    if (!file || !bytes) return EXIT_FAILURE;
-    len = fread(bytes, 1, ROOM, file);
-    fclose(file);
-    if (goblin_header(bytes, len, &header, &why) != GOBLIN_OK || header.ei_class != GOBLIN_ELFCLASS64)
+    if (!stream || !bytes) return EXIT_FAILURE;
+    len = fread(bytes, 1, ROOM, stream);
+    fclose(stream);
+    if (goblin_file(bytes, len, &file, &why) != GOBLIN_OK || file.header.ei_class != GOBLIN_ELFCLASS64)
         return EXIT_FAILURE;
     int status = count_calls();
     free(bytes);

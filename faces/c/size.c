@@ -10,9 +10,9 @@ enum { BATCH = 64 };
 static int add_up(const char *path) {
     goblin_section_t sections[BATCH];
     uint64_t text = 0, data = 0, bss = 0, filled = 0;
-    uint32_t status = goblin_header(bytes, len, &header, &why);
+    uint32_t status = goblin_file(bytes, len, &file, &why);
     for (uint64_t first = 0; status == GOBLIN_OK; first += filled) {
-        status = goblin_sections(bytes, len, &header, first, sections, BATCH, &filled, &why);
+        status = goblin_sections(&file, first, sections, BATCH, &filled, &why);
         for (uint64_t i = 0; status == GOBLIN_OK && i < filled; i++) {
             const goblin_section_t *section = &sections[i];
             if (section->sh_type == GOBLIN_SHT_NULL || !(section->sh_flags & GOBLIN_SHF_ALLOC)) continue;

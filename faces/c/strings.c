@@ -8,7 +8,7 @@
 static uint32_t list_strings(const goblin_range_t *strings) {
     goblin_range_t string;
     uint32_t status;
-    for (uint64_t at = 0; (status = goblin_string_bytes(bytes, len, strings, at, &string, &why)) == GOBLIN_OK;
+    for (uint64_t at = 0; (status = goblin_string(&file, strings, at, &string, &why)) == GOBLIN_OK;
          at += string.size + 1) {
         bool is_closed = string.offset + string.size < strings->offset + strings->size;
         if (string.size > 0) {
@@ -28,13 +28,13 @@ int main(int argc, char **argv) {
     goblin_section_t names, section;
     goblin_range_t strings;
     uint64_t index;
-    uint32_t status = goblin_header(bytes, len, &header, &why);
-    if (status == GOBLIN_OK) status = goblin_section_names(bytes, len, &header, &names, &why);
+    uint32_t status = goblin_file(bytes, len, &file, &why);
+    if (status == GOBLIN_OK) status = goblin_names_section(&file, &names, &why);
     if (status == GOBLIN_OK)
-        status = goblin_section_by_name(bytes, len, &header, &names.file, name, strlen(name), 0,
+        status = goblin_section_by_name(&file, &names.file, name, strlen(name), 0,
                                         &index, &section, &why);
     if (status == GOBLIN_END) return fprintf(stderr, "strings: there is no section %s\n", name), 1;
-    if (status == GOBLIN_OK) status = goblin_section_bytes(bytes, len, &section, &strings, &why);
+    if (status == GOBLIN_OK) status = goblin_section_range(&file, &section, &strings, &why);
     if (status == GOBLIN_END) return fprintf(stderr, "strings: the section %s has no bytes in the file\n", name), 1;
     if (status == GOBLIN_OK) status = list_strings(&strings);
     if (status <= GOBLIN_END) return written(0);

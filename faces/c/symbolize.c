@@ -53,13 +53,13 @@ static void add_span(const goblin_symbol_t *symbol, uint64_t index, uint64_t fir
 /* Adds the spans of a symbol, if it is of a section and has one of the types that can contain an address. There is one
    in its section if that is in memory. In a relocatable file addresses are offsets in any section. */
 static void add(const goblin_symbol_t *symbol, uint64_t index) {
-    unsigned type = symbol->st_info & 15;
-    bool is_index = symbol->st_shndx < GOBLIN_SHN_LORESERVE, is_object = header.e_type == GOBLIN_ET_REL;
+    unsigned type = GOBLIN_ST_TYPE(symbol->st_info);
+    bool is_index = symbol->st_shndx < GOBLIN_SHN_LORESERVE, is_object = file.header.e_type == GOBLIN_ET_REL;
     if (symbol->st_shndx == GOBLIN_SHN_UNDEF || !(is_index || symbol->st_shndx == GOBLIN_SHN_XINDEX)) return;
     if (type > GOBLIN_STT_FUNC && type != GOBLIN_STT_GNU_IFUNC) return;
     add_span(symbol, index, symbol->st_value, symbol->st_size, true);
     goblin_section_t section;
-    if (is_index && goblin_section(bytes, len, &header, symbol->st_shndx, &section, &why) == GOBLIN_OK
+    if (is_index && goblin_section(&file, symbol->st_shndx, &section, &why) == GOBLIN_OK
         && (is_object || section.sh_flags & GOBLIN_SHF_ALLOC))
         add_span(symbol, index, is_object ? 0 : section.sh_addr, section.file.size, false);
 }
@@ -105,13 +105,13 @@ static void make_pieces(void) {
 static uint32_t read_symbols(const goblin_range_t *table) {
     goblin_symbol_t symbols[BATCH];
     uint64_t count, filled = 0;
-    uint32_t status = goblin_symbol_count(bytes, len, &header, table, &count, &why);
+    uint32_t status = goblin_symbol_count(&file, table, &count, &why);
     if (status != GOBLIN_OK) return status;
     spans = (span_t *)malloc((size_t)(2 * count + 1) * sizeof *spans);
     pieces = (piece_t *)malloc((size_t)(4 * count + 1) * sizeof *pieces);
     if (!spans || !pieces) perror("symbolize"), exit(2);
     for (uint64_t first = 0;
-         goblin_symbols(bytes, len, &header, table, first, symbols, BATCH, &filled, &why) == GOBLIN_OK; first += filled)
+         goblin_symbols(&file, table, first, symbols, BATCH, &filled, &why) == GOBLIN_OK; first += filled)
         for (uint64_t i = 0; i < filled; i++) add(&symbols[i], first + i);
     make_pieces();
     return GOBLIN_OK;
@@ -128,17 +128,17 @@ static uint32_t find(uint64_t address, uint64_t *index) {
 /* Finds the symbol table, or the dynamic one if there is none, and its strings. */
 static uint32_t find_table(goblin_section_t *table, goblin_section_t *names) {
     uint64_t index;
-    uint32_t status = goblin_section_by_type(bytes, len, &header, GOBLIN_SHT_SYMTAB, 0, &index, table, &why);
+    uint32_t status = goblin_section_by_type(&file, GOBLIN_SHT_SYMTAB, 0, &index, table, &why);
     if (status == GOBLIN_END)
-        status = goblin_section_by_type(bytes, len, &header, GOBLIN_SHT_DYNSYM, 0, &index, table, &why);
-    return status == GOBLIN_OK ? goblin_linked_section(bytes, len, &header, table->sh_link, names, &why) : status;
+        status = goblin_section_by_type(&file, GOBLIN_SHT_DYNSYM, 0, &index, table, &why);
+    return status == GOBLIN_OK ? goblin_linked_section(&file, table->sh_link, names, &why) : status;
 }
 
 int main(int argc, char **argv) {
     bool one_by_one = argc > 2 && strcmp(argv[1], "-1") == 0;
     if (argc < 2 + one_by_one) return fputs("usage: symbolize [-1] FILE ADDRESS..\n", stderr), 2;
     if (!load(argv[1 + one_by_one])) return perror(argv[1 + one_by_one]), 2;
-    if (goblin_header(bytes, len, &header, &why) != GOBLIN_OK) return print_refusal("symbolize: header");
+    if (goblin_file(bytes, len, &file, &why) != GOBLIN_OK) return print_refusal("symbolize: header");
     goblin_section_t table, names;
     uint32_t found = find_table(&table, &names);
     if (found == GOBLIN_OK && !one_by_one) found = read_symbols(&table.file);
@@ -149,10 +149,10 @@ int main(int argc, char **argv) {
         goblin_symbol_t symbol;
         goblin_range_t name;
         if (status == GOBLIN_OK)
-            status = one_by_one ? goblin_symbol_by_address(bytes, len, &header, &table.file, address, &index, &why)
+            status = one_by_one ? goblin_symbol_by_address(&file, &table.file, address, &index, &why)
                 : find(address, &index);
-        if (status == GOBLIN_OK) status = goblin_symbol(bytes, len, &header, &table.file, index, &symbol, &why);
-        if (status == GOBLIN_OK) status = goblin_string_closed(bytes, len, &names.file, symbol.st_name, &name, &why);
+        if (status == GOBLIN_OK) status = goblin_symbol(&file, &table.file, index, &symbol, &why);
+        if (status == GOBLIN_OK) status = goblin_string_closed(&file, &names.file, symbol.st_name, &name, &why);
         if (status > GOBLIN_END) return print_refusal("symbolize: symbols");
         printf("%s\n??:0\n", status == GOBLIN_OK ? (const char *)bytes + name.offset : "??");
     }

@@ -7,6 +7,7 @@
 
 static uint8_t *bytes;
 static size_t len;
+static goblin_file_t file;
 static goblin_refusal_t why;
 static goblin_section_t none; /* (for symbols without names) */
 
@@ -18,19 +19,18 @@ static int refused(void) {
 }
 
 static int list(void) {
-    goblin_header_t header;
     goblin_section_t table;
     goblin_symbol_t symbol;
     uint32_t status;
-    if (goblin_header(bytes, len, &header, &why) != GOBLIN_OK) return refused();
-    for (uint64_t i = 0; (status = goblin_section(bytes, len, &header, i, &table, &why)) == GOBLIN_OK; i++) {
+    if (goblin_file(bytes, len, &file, &why) != GOBLIN_OK) return refused();
+    for (uint64_t i = 0; (status = goblin_section(&file, i, &table, &why)) == GOBLIN_OK; i++) {
         if (table.sh_type != GOBLIN_SHT_SYMTAB && table.sh_type != GOBLIN_SHT_DYNSYM) continue;
         goblin_section_t strings = none;
-        if (goblin_linked_section(bytes, len, &header, table.sh_link, &strings, &why) > GOBLIN_END) return refused();
+        if (goblin_linked_section(&file, table.sh_link, &strings, &why) > GOBLIN_END) return refused();
         for (uint64_t k = 0;
-             (status = goblin_symbol(bytes, len, &header, &table.file, k, &symbol, &why)) == GOBLIN_OK; k++) {
+             (status = goblin_symbol(&file, &table.file, k, &symbol, &why)) == GOBLIN_OK; k++) {
             goblin_range_t name = {0, 0};
-            if (goblin_string(bytes, len, &strings.file, symbol.st_name, &name, &why) > GOBLIN_END) return refused();
+            if (goblin_string_utf8(&file, &strings.file, symbol.st_name, &name, &why) > GOBLIN_END) return refused();
             printf("%" PRIx64 " ", symbol.st_value),
                 fwrite(bytes + name.offset, 1, (size_t)name.size, stdout), puts("");
         }
@@ -41,18 +41,18 @@ static int list(void) {
 
 /* Reads a file, and returns whether all of it is read. */
 static bool load(const char *path) {
-    FILE *file = fopen(path, "rb");
-    bool is_read = file && (getc(file) != EOF || feof(file)); /* (no byte of a folder can be read) */
-    long size = is_read && fseek(file, 0, SEEK_END) == 0 ? ftell(file) : -1;
+    FILE *stream = fopen(path, "rb");
+    bool is_read = stream && (getc(stream) != EOF || feof(stream)); /* (no byte of a folder can be read) */
+    long size = is_read && fseek(stream, 0, SEEK_END) == 0 ? ftell(stream) : -1;
     if (size < 0 || !(bytes = (uint8_t *)malloc((size_t)size + 1))) {
         int reason = errno;
-        if (file) fclose(file);
+        if (stream) fclose(stream);
         return errno = reason, false;
     }
-    rewind(file);
-    len = fread(bytes, 1, (size_t)size, file);
-    is_read = !ferror(file);
-    return fclose(file) == 0 && is_read;
+    rewind(stream);
+    len = fread(bytes, 1, (size_t)size, stream);
+    is_read = !ferror(stream);
+    return fclose(stream) == 0 && is_read;
 }
 
 int main(int argc, char **argv) {

@@ -7,7 +7,10 @@ use Rattle.goblin_c.proofs.Common.{Option, Some, Result, Ok, Err, refl, sym, ap,
 use Rattle.goblin_c.proofs.Common.{get_or-drop, get_or-take, length-drop, length-take, length-take-le, slice_get-get_or}
 use Rattle.goblin_c.proofs.Common.{position_or_len, piece, Refused, RefusalAt, Returns, GoblinRange, GoblinRefusal}
 use Rattle.goblin_c.proofs.Common.{Stores, refusal_at, refuse_as, strings_expected, fails_before_first, passes_at_first}
-use Rattle.goblin_c.proofs.Common.{prefix_len-le-length, IsCString, string_closed_expected}
+use Rattle.goblin_c.proofs.Common.{prefix_len-le-length, IsCString, string_closed_expected, ◌≤◌, if◌then◌else◌}
+use Rattle.goblin_c.proofs.Common.{zero, suc}
+use Rattle.goblin_c.proofs.Common.{[], ◌∷◌, slice_index}
+use Rattle.goblin_c.specs.Bytes.{closed_len}
 use Rattle.std.specs.Prelude.{All, not, ◌≢◌}
 use Rattle.goblin_c.proofs.EachLemmas.{stored_item}
 use Rattle.goblin_c.proofs.StringLemmas.{piece_short, in_range, place_of, piece_is_there}
@@ -52,11 +55,11 @@ module _ (bytes : List ℕ) (range : GoblinRange) (offset : ℕ) (strings : List
 
   -- and none of it is
   none-before : All (λ b. b ≢ 0) (take end rest)
-  none-before k d inside zero =
+  none-before k d inside is_zero =
       let early : k < end = omega (arith, inside, length-take end rest) in
       let same : get_or (take end rest) k d ≡ get_or rest k d = get_or-take end rest k d early in
       let other : (get_or rest k d == 0) ≡ false = fails_before_first (λ b. b == 0) rest k d early in
-      grind (arith, nat_tests, same, other, zero)
+      grind (arith, nat_tests, same, other, is_zero)
 
   closed_is : IsCString bytes (place_of range offset (piece strings 0 offset))
   closed_is =
@@ -74,6 +77,30 @@ closed_from bytes range offset found (Ok strings) read is =
     let same : place_of range offset (piece strings 0 offset) ≡ found = grind (arith, nat_tests) in
     subst (IsCString bytes) same (closed_is bytes range offset strings read closed)
 closed_from bytes range offset found (Err e) read is = let refused = rw read at is in absurd (cc)
+
+-- of the first bytes the last one is the last zero byte, or it doesn't count
+pub closed_last : (bytes : List ℕ) (n : ℕ)
+    → n < length bytes
+    → closed_len (take (suc n) bytes) ≡ (if slice_index bytes n == 0 then suc n else closed_len (take n bytes))
+closed_last [] n before = absurd (omega (arith, before))
+closed_last (b ∷ rest) zero before = grind (arith, nat_tests)
+closed_last (b ∷ rest) (suc n) before =
+    let inside : n < length rest = omega (arith, before) in
+    let own = closed_last rest n inside in
+    grind (arith, nat_tests, own)
+
+pub closed_shorter : (bytes : List ℕ) (n : ℕ)
+    → 0 < n → n ≤ length bytes → slice_index bytes (n - 1) ≢ 0
+    → closed_len (take n bytes) ≡ closed_len (take (n - 1) bytes)
+closed_shorter bytes zero some few other = absurd (omega (arith, some))
+closed_shorter bytes (suc n) some few other =
+    let last = closed_last bytes n (omega (arith, few)) in grind (arith, nat_tests, last)
+
+pub closed_whole : (bytes : List ℕ) (n : ℕ)
+    → 0 < n → n ≤ length bytes → slice_index bytes (n - 1) ≡ 0 → closed_len (take n bytes) ≡ n
+closed_whole bytes zero some few is = absurd (omega (arith, some))
+closed_whole bytes (suc n) some few is =
+    let last = closed_last bytes n (omega (arith, few)) in grind (arith, nat_tests, last)
 
 -- what a call stores at 0 is a C string
 pub is_c_string : (bytes : List ℕ) (range : GoblinRange) (offset : ℕ) (result : Result (Option GoblinRange) Refused)

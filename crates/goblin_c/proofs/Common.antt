@@ -23,7 +23,7 @@ pub use Rattle.goblin_base.specs.Texts.{are_short, each_short, facts_of, is_shor
 pub use Rattle.goblin_base.specs.declared.container.Container.{Container}
 pub use Rattle.goblin_base.specs.declared.container.Container.TheVariants.{Big, Little}
 pub use Rattle.goblin_base.specs.declared.container.Endian.{Endian}
-pub use Rattle.goblin_c.specs.Bytes.{IsCString, is_width, number_expected, range_expected, string_bytes_expected}
+pub use Rattle.goblin_c.specs.Bytes.{IsCString, is_width, number_expected, range_expected, string_expected}
 pub use Rattle.goblin_c.specs.Bytes.{string_closed_expected}
 pub use Rattle.goblin_c.specs.Common.{Ctx, Error, GoblinHeader, GoblinRange, GoblinRefusal, GoblinSection, Header}
 pub use Rattle.goblin_c.specs.Common.{Layout, ProgramHeader, Refusal, Refused, Reloc, SectionHeader, Sym}
@@ -36,11 +36,12 @@ pub use Rattle.goblin_c.specs.Expected.{count_of, ctx_of, each_converted, first_
 pub use Rattle.goblin_c.specs.Expected.{is_mips64el, is_named, item_at, items_from, reloc_count_expected}
 pub use Rattle.goblin_c.specs.Expected.{reloc_expected, relocs_converted, relocs_expected, section_expected}
 pub use Rattle.goblin_c.specs.Expected.{sections_converted, sections_expected, segment_expected, segments_converted}
-pub use Rattle.goblin_c.specs.Expected.{segments_expected, string_expected, strings_expected, symbol_count_expected}
+pub use Rattle.goblin_c.specs.Expected.{segments_expected, string_utf8_expected, strings_expected}
+pub use Rattle.goblin_c.specs.Expected.{symbol_count_expected}
 pub use Rattle.goblin_c.specs.Expected.{symbol_expected, symbols_converted, symbols_expected, table_at, whole_header}
 pub use Rattle.goblin_c.specs.FilledBuffer.{laid}
 pub use Rattle.goblin_c.specs.Laws.{FindsItemFrom, LiesIn, bytes_in}
-pub use Rattle.goblin_c.specs.Notes.{bytes_from, note_bytes_expected, note_expected}
+pub use Rattle.goblin_c.specs.Notes.{bytes_from, note_whole_expected, note_utf8_expected}
 pub use Rattle.goblin_c.specs.Places.{cut_range, in_file, number_in_expected}
 pub use Rattle.goblin_c.specs.Refused.{RefusalAt, Returns, refusal_at, refused_at}
 pub use Rattle.goblin_c.specs.Status.{FillsEach, StopsAt, Stores, converted_list}

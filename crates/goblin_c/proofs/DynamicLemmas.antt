@@ -12,11 +12,12 @@ use Rattle.std.proofs.Common.{not}
 use Rattle.std.proofs.lemmas.List.Folds.{length-prefix_len}
 use Rattle.std.proofs.lemmas.List.Sums.{take_while-cons}
 use Rattle.std.specs.Option.{option_and_then}
-use Rattle.goblin_dynamic.specs.Dynamic.{entries_up_to_null, whole_entries_in}
+use Rattle.goblin_dynamic.specs.Dynamic.{entries_up_to_null, first_value, whole_entries_in}
+use Rattle.goblin_c.proofs.Common.{ap, first_item, option_map, RefusalAt}
 use Rattle.goblin_dynamic.specs.declared.dynamic.FileRange.{FileRange}
 use Rattle.goblin_dynamic.specs.declared.entry.Dyn.{Dyn}
 use Rattle.goblin_c.specs.Dynamic.{file_range_of, range_in_file, unless_empty}
-use Rattle.goblin_c.specs.DynamicLaws.{DynamicLiesInFile, EntriesAreListed}
+use Rattle.goblin_c.specs.DynamicLaws.{DynamicLiesInFile, EntriesAreCounted, EntriesAreListed, ValueIsTheFirst}
 use Rattle.goblin_c.specs.declared.types.GoblinDyn.{GoblinDyn}
 use Rattle.goblin_c.proofs.IndexLemmas.{get_drop}
 use Rattle.goblin_c.proofs.StringLemmas.{range_lies}
@@ -67,6 +68,27 @@ pub entries_are_listed : EntriesAreListed
 entries_are_listed bytes h range first entries is within =
     listed (whole_entries_in bytes (file_range_of range) (ctx_of h)) range.offset first entries is within
 
+pub entries_are_counted : EntriesAreCounted
+entries_are_counted bytes h range entries is = rw is refl
+
+-- the first value among all is that of the first entry with the tag
+first_there : (tag : ℕ) (all : List Dyn)
+    → option_map (λ (p : ℕ × ℕ). p.1) (first_item (λ (d : Dyn). d.d_val) (λ d. d.d_tag == tag) 0 all)
+    ≡ first_value tag all
+first_there tag [] = refl
+first_there tag (d ∷ rest) = grind (arith, nat_tests, first_there tag rest)
+
+-- what is found among the entries that were read is what is expected
+pub found_is_expected : (expected : Result (List Dyn) RefusalAt) (all : List Dyn)
+    (found : Option (ℕ × ℕ)) (tag first : ℕ)
+    → expected ≡ Ok all
+    → found ≡ first_item (λ (d : Dyn). d.d_val) (λ d. d.d_tag == tag) first all
+    → (expected >>= λ entries. Ok (first_item (λ (d : Dyn). d.d_val) (λ d. d.d_tag == tag) first entries)) ≡ Ok found
+found_is_expected expected all found tag first is value = rw (is, value) refl
+
+pub value_is_the_first : ValueIsTheFirst
+value_is_the_first bytes h range tag entries is = rw is (ap Ok (first_there tag entries))
+
 lies : (bytes : List ℕ) (range : Option FileRange) (found : GoblinRange)
     → range_in_file bytes range ≡ Ok (Some found) → LiesIn bytes found
 lies bytes range found is = grind (arith, range_lies)
@@ -77,4 +99,4 @@ dynamic_lies_in_file = record {
   strings = λ bytes h range found is. grind (arith, lies);
 }
 
-pub ruleset dynamic_laws = (entries_are_listed, dynamic_lies_in_file)
+pub ruleset dynamic_laws = (entries_are_listed, entries_are_counted, value_is_the_first, dynamic_lies_in_file)

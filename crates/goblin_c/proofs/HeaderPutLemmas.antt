@@ -1,9 +1,9 @@
 -- A header that is put is read again.
 use Rattle.goblin_c.proofs.Common.{◌≡◌, ◌≤◌, ℕ, List, ◌++◌, length, take, drop, Some, None, Result, Ok, refl, arith}
-use Rattle.goblin_c.proofs.Common.{nat_tests, length-drop, length-take-le, Container, Ctx, Endian, Error, fits-room_of}
+use Rattle.goblin_c.proofs.Common.{nat_tests, length-drop, length-take-le, Ctx, Error, fits-room_of}
 use Rattle.goblin_c.proofs.Common.{refusal_of, ◌>>=◌, refuse_as, Header, reads_back, ctx_of, header_expected}
 use Rattle.goblin_c.proofs.Common.{refused_at, GoblinHeader, put_unless, refusal_converted}
-use Rattle.goblin.specs.Header.{HeaderFits, class_named, header_layout, header_size, order_named, Identifies}
+use Rattle.goblin.specs.Header.{class_named, header_layout, header_size, order_named, Identifies}
 use Rattle.goblin_c.specs.Write.{FitsClass, header_of, ident_of, named_ctx}
 use Rattle.goblin_c.specs.WriteLaws.{HeadersAreRead}
 
@@ -19,9 +19,6 @@ named bytes h ctx is = record {
   order_is = grind (arith, nat_tests);
   room = grind (arith, nat_tests, fits-room_of (length bytes) 0);
 }
-
-fits_in : (class : Container) (order : Endian) (h : Header) → HeaderFits class h → (header_layout class order).Fits h
-fits_in class order h fits = grind (arith, nat_tests)
 
 is_read : (bytes : List ℕ) (h : GoblinHeader) (ctx : Ctx)
     → FitsClass bytes h → Named bytes h ctx
@@ -39,8 +36,7 @@ is_read bytes h ctx fits names =
       names_order = record { long = omega (arith, padding); named = names.order_is };
     } in
     let same : (ctx_of h).container ≡ ctx.container = grind (arith, nat_tests, names.class_is) in
-    rw (reads_back ctx.container ctx.le own (drop (header_size ctx.container) bytes) identifies
-    (fits_in ctx.container ctx.le own (rw same at fits))) refl
+    rw (reads_back ctx.container ctx.le own (drop (header_size ctx.container) bytes) identifies (rw same at fits)) refl
 
 -- what is put is put in a context
 put_in : (answer : Result Ctx Error) (after : Ctx → List ℕ) (new : List ℕ)

@@ -7,6 +7,7 @@ pub mod OffsetLemmas
 pub mod ClosedLemmas
 pub mod DynamicLemmas
 pub mod EachLemmas
+pub mod FitLemmas
 pub mod HeaderPutLemmas
 pub mod IndexLemmas
 pub mod InsideLemmas

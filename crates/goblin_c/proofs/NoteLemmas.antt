@@ -7,16 +7,22 @@ use Rattle.goblin_c.proofs.Common.{◌≡◌, ◌+◌, ◌-◌, ◌<◌, ◌≤�
 use Rattle.goblin_c.proofs.Common.{length, take, drop, Option, Some, None, Result, Ok, refl, sym, ap, ◌∙◌, arith}
 use Rattle.goblin_c.proofs.Common.{leb-false, drop-take, take-nil, Ctx, Refusal, ◌>>=◌, RefusalAt, refused_at}
 use Rattle.goblin_c.proofs.Common.{GoblinHeader, GoblinRange, ctx_of, note_converted, nat_tests, ◌==◌, drop_all}
-use Rattle.goblin_c.proofs.Common.{length-drop, length-take, take_all, lt-leb, bytes_from, note_expected}
+use Rattle.goblin_c.proofs.Common.{length-drop, length-take, take_all, lt-leb, bytes_from, note_utf8_expected}
 use Rattle.std.proofs.Math.Seq.{drop-drop}
 use Rattle.goblin.specs.declared.elf.note.NotePlaces.{NotePlaces}
 use Rattle.goblin.specs.Nhdr.{nhdr32_of}
 use Rattle.goblin.specs.Note.{NoteParts, note_there, places_at, note_at, note_items, item_and_rest, read_places}
-use Rattle.goblin.proofs.NoteLemmas.{places_at-before}
-use Rattle.goblin.specs.NoteLaws.{at_ok, note_by_note, places_lie_within, whole_is_note}
+use Rattle.goblin.specs.Note.{bytes_at, note_align, note_places}
+use Rattle.goblin.specs.Notes.{LieWithin}
+use Rattle.goblin.specs.Nhdr.{nhdr32_size}
+use Rattle.goblin.specs.declared.elf.note.Nhdr32.{Nhdr32}
+use Rattle.goblin_c.proofs.Common.{true, Err, fits-room_of, refuse_as, refusal_of, read_within, Endian, bytes_in}
+use Rattle.goblin_c.specs.Notes.{note_expected, parts_at, read_parts, without_last}
+use Rattle.std.specs.Str.{is_utf8}
+use Rattle.goblin.specs.NoteLaws.{note_by_note, whole_is_note}
 use Rattle.goblin_c.specs.declared.types.GoblinNote.{GoblinNote}
 use Rattle.goblin_c.specs.Laws.{NotesAreItems, NotesInARow, NotesLieInFile, items_reported, note_in, WholeNotesAreNotes}
-use Rattle.goblin_c.specs.Laws.{notes_reported}
+use Rattle.goblin_c.specs.Laws.{NotesAreText, notes_reported}
 use Rattle.goblin_c.proofs.ListedLemmas.{one_converted}
 use Rattle.goblin_base.specs.declared.container.Endian.TheVariants as endian
 
@@ -42,7 +48,7 @@ items_of past bytes answer offset rest = grind (arith, nat_tests, note_same)
 
 items_there : (bytes : List ℕ) (h : GoblinHeader) (range : GoblinRange) (alignment offset : ℕ)
     → note_items bytes (range.offset + range.size) offset (alignment, ctx_of h)
-    ≡ items_reported bytes (note_expected bytes h range alignment offset)
+    ≡ items_reported bytes (note_utf8_expected bytes h range alignment offset)
     (λ next. note_items bytes (range.offset + range.size) next (alignment, ctx_of h))
 unfolding note_at
 items_there bytes h range alignment offset =
@@ -67,19 +73,122 @@ in_a_row : (calls : ℕ) (bytes : List ℕ) (h : GoblinHeader) (range : GoblinRa
 in_a_row zero bytes h range alignment offset = refl
 in_a_row (suc calls) bytes h range alignment offset =
     rw (items_there bytes h range alignment offset)
-    (one_more bytes (note_expected bytes h range alignment offset) calls _ _ (in_a_row calls bytes h range alignment))
+    (one_more bytes (note_utf8_expected bytes h range alignment offset) calls _ _
+    (in_a_row calls bytes h range alignment))
 
 pub notes_in_a_row : NotesInARow
 notes_in_a_row calls notes h range alignment over =
     rw (over.0, over.1) (in_a_row calls notes.bytes.now h range alignment notes.offset)
 
+-- the parts of a note that are read lie in the bytes
+align_range : (alignment align : ℕ) → note_align alignment ≡ Ok align → (4 ≤ align) × (align ≤ 8)
+align_range alignment align is = grind (arith, nat_tests)
+
+fits_there : (bytes : List ℕ) (place size : ℕ) (part : List ℕ)
+    → bytes_at bytes place size ≡ Ok part → place + size ≤ length bytes
+fits_there bytes place size part is = grind (arith, fits-room_of (length bytes) place size)
+
+parts_last : (name desc : Result (List ℕ) Refusal) (p places : NotePlaces)
+    → (name >>= λ _. desc >>= λ _. Ok p) ≡ Ok places
+    → (places ≡ p) × ((part : List ℕ) × (name ≡ Ok part)) × ((part : List ℕ) × (desc ≡ Ok part))
+parts_last (Ok name) (Ok desc) p places is = (cc, (name, refl), (desc, refl))
+parts_last (Ok name) (Err e) p places is = absurd (cc)
+parts_last (Err e) desc p places is = absurd (cc)
+
+parts_lie : (align : Result ℕ Refusal) (header : Result Nhdr32 Refusal) (bytes : List ℕ) (places : NotePlaces)
+    → ((a : ℕ) → align ≡ Ok a → (4 ≤ a) × (a ≤ 8))
+    → (align >>= λ a. header >>= λ h. Ok (note_places a h) >>= λ p. bytes_at bytes p.name p.name_size >>= λ _.
+    bytes_at bytes p.desc p.desc_size >>= λ _. Ok p) ≡ Ok places
+    → LieWithin (length bytes) 0 places
+parts_lie (Ok a) (Ok h) bytes places aligned is =
+    let p = note_places a h in
+    let last = parts_last (bytes_at bytes p.name p.name_size) (bytes_at bytes p.desc p.desc_size) p places is in
+    let name = fits_there bytes p.name p.name_size last.1.0 last.1.1 in
+    let desc = fits_there bytes p.desc p.desc_size last.2.0 last.2.1 in
+    let range = aligned a refl in
+    rw last.0 (record {
+      name = omega (arith, name);
+      desc = omega (arith, desc);
+      least = omega (arith, range.0);
+      most = omega (arith, desc, range.0, range.1);
+    })
+parts_lie (Ok a) (Err e) bytes places aligned is = absurd (cc)
+parts_lie (Err e) header bytes places aligned is = absurd (cc)
+
+-- and those of a note at an offset in the file
+parts_from : (bytes : List ℕ) (offset : ℕ) (ctx : ℕ × Ctx) (places : NotePlaces)
+    → parts_at bytes offset ctx ≡ Ok places
+    → (offset < length bytes) × (read_parts ctx.0 ctx.1.le (drop offset bytes) ≡ Ok places)
+unfolding parts_at
+parts_from bytes offset ctx places is = (grind (arith, nat_tests), grind (arith, nat_tests))
+
+parts_within : (bytes : List ℕ) (offset : ℕ) (ctx : ℕ × Ctx) (places : NotePlaces)
+    → parts_at bytes offset ctx ≡ Ok places → LieWithin (length bytes) offset places
+unfolding read_parts
+parts_within bytes offset ctx places is =
+    let from = parts_from bytes offset ctx places is in
+    let part = drop offset bytes in
+    let header = refuse_as refusal_of (read_within nhdr32_size (nhdr32_of ctx.1.le) part) in
+    let lie = parts_lie (note_align ctx.0) header part places (λ a. align_range ctx.0 a) from.1 in
+    let long = length-drop offset bytes in
+    record {
+      name = omega (arith, lie.name, long, from.0);
+      desc = omega (arith, lie.desc, long, from.0);
+      least = lie.least;
+      most = omega (arith, lie.most, long, from.0);
+    }
+
 pub notes_lie_in_file : NotesLieInFile
 notes_lie_in_file bytes h range alignment offset note is =
     let ctx : ℕ × Ctx = (alignment, ctx_of h) in
-    let steps = one_converted (nat_le (range.offset + range.size) offset) offset (places_at bytes offset ctx)
+    let steps = one_converted (nat_le (range.offset + range.size) offset) offset (parts_at bytes offset ctx)
     (note_converted offset) note is in
-    let within = at_ok (places_at bytes offset ctx) steps.0 _ steps.2 (places_lie_within bytes offset ctx) in
+    let within = parts_within bytes offset ctx steps.0 steps.2 in
     rw steps.3 (within.name, within.desc, omega (arith, within.least))
+
+-- a note with a name that is text is read alike
+text_of_parts : (alignment : ℕ) (order : Endian) (bytes : List ℕ) (places : NotePlaces)
+    → read_places alignment order bytes ≡ Ok places → read_parts alignment order bytes ≡ Ok places
+unfolding read_places read_parts
+text_of_parts alignment order bytes places is = grind (arith, nat_tests)
+
+parts_of_text : (alignment : ℕ) (order : Endian) (bytes : List ℕ) (places : NotePlaces)
+    → read_parts alignment order bytes ≡ Ok places
+    → is_utf8 (take places.name_size (drop places.name bytes)) ≡ true → read_places alignment order bytes ≡ Ok places
+unfolding read_places read_parts
+parts_of_text alignment order bytes places is text = grind (arith, nat_tests)
+
+parts_of_note : (bytes : List ℕ) (offset : ℕ) (ctx : ℕ × Ctx) (places : NotePlaces)
+    → places_at bytes offset ctx ≡ Ok places → parts_at bytes offset ctx ≡ Ok places
+unfolding places_at parts_at
+parts_of_note bytes offset ctx places is =
+    grind (arith, nat_tests, text_of_parts ctx.0 ctx.1.le (drop offset bytes) places)
+
+note_of_parts : (bytes : List ℕ) (offset : ℕ) (ctx : ℕ × Ctx) (places : NotePlaces)
+    → parts_at bytes offset ctx ≡ Ok places
+    → is_utf8 (take places.name_size (drop places.name (drop offset bytes))) ≡ true
+    → places_at bytes offset ctx ≡ Ok places
+unfolding places_at parts_at
+note_of_parts bytes offset ctx places is text =
+    grind (arith, nat_tests, parts_of_text ctx.0 ctx.1.le (drop offset bytes) places, text)
+
+pub notes_are_text : NotesAreText
+notes_are_text = record {
+  bytes = λ bytes h range alignment offset note is.
+      let ctx : ℕ × Ctx = (alignment, ctx_of h) in
+      let steps = one_converted (nat_le (range.offset + range.size) offset) offset (places_at bytes offset ctx)
+      (note_converted offset) note is in
+      rw (steps.1, parts_of_note bytes offset ctx steps.0 steps.2)
+      (ap (λ (n : GoblinNote). Ok (Some n)) (sym steps.3));
+  text = λ bytes h range alignment offset note is text.
+      let ctx : ℕ × Ctx = (alignment, ctx_of h) in
+      let steps = one_converted (nat_le (range.offset + range.size) offset) offset (parts_at bytes offset ctx)
+      (note_converted offset) note is in
+      let name : is_utf8 (take steps.0.name_size (drop steps.0.name (drop offset bytes))) ≡ true =
+      rw (drop-drop steps.0.name offset bytes) (rw steps.3 at text) in
+      rw (steps.1, note_of_parts bytes offset ctx steps.0 steps.2 name)
+      (ap (λ (n : GoblinNote). Ok (Some n)) (sym steps.3));
+}
 
 -- a note that is read at an offset is read from there on
 read_at : (bytes : List ℕ) (offset : ℕ) (ctx : ℕ × Ctx) (places : NotePlaces)
@@ -101,24 +210,31 @@ whole_notes_are_notes bytes h range alignment offset note is within =
     let room : places.desc + places.desc_size ≤ end - offset = omega (arith, within, before, last) in
     let whole = whole_is_note alignment (ctx_of h).le (drop offset bytes) (end - offset) places
     (read_at bytes offset ctx places steps.2) room in
-    let size = (nhdr32_of (ctx_of h).le (drop offset bytes)).n_namesz in (
-      size,
-      ap (λ (n : GoblinNote). n.name.size) steps.3 ∙ whole.0,
-      rw (steps.1, part, whole.1)
-          (ap (λ (n : GoblinNote).
-          Ok (Some (record n { name = record { offset = n.name.offset; size = size } }))) (sym steps.3)),
-    )
+    let last : without_last (record places { name_size = (nhdr32_of (ctx_of h).le (drop offset bytes)).n_namesz })
+    ≡ places = ap (λ (size : ℕ). record places { name_size = size }) (sym whole.0) in
+    rw (steps.1, part, whole.1)
+    (ap (λ (p : NotePlaces). Ok (Some (note_converted offset p))) last
+    ∙ ap (λ (n : GoblinNote). Ok (Some n)) (sym steps.3))
 
--- the note of a little-endian file whose places were read before the end of the bytes and of its range
+-- the note of a little-endian file whose parts were read before the end of the bytes and of its range
+parts_at-before : (bytes : List ℕ) (offset : ℕ) (ctx : ℕ × Ctx)
+    → offset < length bytes
+    → parts_at bytes offset ctx ≡ read_parts ctx.0 ctx.1.le (take (length bytes - offset) (drop offset bytes))
+unfolding parts_at
+parts_at-before bytes offset ctx before =
+    let all = take_all (length bytes - offset) (drop offset bytes) (omega (arith, length-drop offset bytes)) in
+    rw (lt-leb (length bytes) offset before, all) refl
+
 pub usual_note_is : (bytes : List ℕ) (h : GoblinHeader) (range : GoblinRange) (alignment offset : ℕ)
     (places : NotePlaces) → (h.ei_data ≡ 2 → ⊥) → offset < length bytes → offset < range.offset + range.size
-    → read_places alignment endian.Little (take (length bytes - offset) (drop offset bytes)) ≡ Ok places
+    → read_parts alignment endian.Little (take (length bytes - offset) (drop offset bytes)) ≡ Ok places
     → note_expected bytes h range alignment offset ≡ Ok (Some (note_converted offset places))
 usual_note_is bytes h range alignment offset places other there before is =
     let test : (h.ei_data == 2) ≡ false = grind (arith, nat_tests) in
     let past = lt-leb (range.offset + range.size) offset before in
-    rw (past, places_at-before bytes offset (alignment, ctx_of h) there, test, is) refl
+    rw (past, parts_at-before bytes offset (alignment, ctx_of h) there, test, is) refl
 
-pub ruleset note_laws = (notes_are_items, notes_in_a_row, notes_lie_in_file, whole_notes_are_notes)
+pub ruleset note_laws =
+    (notes_are_items, notes_in_a_row, notes_lie_in_file, whole_notes_are_notes, notes_are_text)
 
 pub ruleset windows = (drop_all, length-drop, length-take, take_all)

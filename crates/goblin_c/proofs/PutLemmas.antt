@@ -17,8 +17,16 @@ use Rattle.goblin_c.specs.Write.{segment_layout, segment_of, symbol_layout, symb
 use Rattle.goblin_c.specs.WriteLaws.{ChangesOnly, CountsStay, IsUnfit, PutsAreRead, PutsChangeOne, ReadsArePut}
 use Rattle.goblin_c.specs.WriteLaws.{UnfitAreRefused}
 use Rattle.goblin_c.specs.declared.types.GoblinReloc.{GoblinReloc}
-use Rattle.goblin_c.proofs.ReadLemmas.{Lists, found_at, lists_relocs, lists_sections, lists_segments, lists_symbols}
-use Rattle.goblin_records.specs.RelocLaws.{reloc_laws_in}
+use Rattle.goblin_c.specs.declared.types.GoblinSection.{GoblinSection}
+use Rattle.goblin_c.specs.declared.types.GoblinSymbol.{GoblinSymbol}
+use Rattle.goblin_c.proofs.Common.{length-take}
+use Rattle.goblin_c.specs.Common.{Dyn, GoblinDyn}
+use Rattle.goblin_c.specs.Dynamic.{entry_expected, whole_entries_expected}
+use Rattle.goblin_c.specs.Write.{DynFits, dyn_layout, dyn_of, dyn_put_expected}
+use Rattle.goblin_c.proofs.FitLemmas.{Read, entries, relocs, reloc_same, reloc_whole, sections, section_same}
+use Rattle.goblin_c.proofs.FitLemmas.{section_whole, segments}
+use Rattle.goblin_c.proofs.FitLemmas.{symbols, symbol_same, symbol_whole}
+use Rattle.goblin_c.proofs.ReadLemmas.{found_at, same_items}
 
 -- the front of a list
 take_at : (front rest : List ℕ) (n : ℕ) → length front ≡ n → take n (front ++ rest) ≡ front
@@ -77,13 +85,6 @@ still_there (Ok items) (Ok others) index x same found =
 still_there (Ok items) (Err e) index x same found = absurd (cc)
 still_there (Err e) others index x same found = absurd (cc)
 
--- records of a layout that a call reads from an offset on, and converts for C
-record Read
-    {R Y : Type 0} (l : Layout R) (convert : R → Y) (start : ℕ)
-    (list : List ℕ → Result (List R) RefusalAt) : Type 0 where
-  laws : IsRecord l
-  lists : (bytes : List ℕ) → Lists l.size l.read bytes start (list bytes)
-
 module _ {R Y : Type 0} {l : Layout R} {convert : R → Y} {start : ℕ} {list : List ℕ → Result (List R) RefusalAt}
     (own : Read l convert start list) where
   was_read : (bytes : List ℕ) (index : ℕ) (y : Y)
@@ -122,7 +123,7 @@ module _ {R Y : Type 0} {l : Layout R} {convert : R → Y} {start : ℕ} {list :
 
   -- what such a call stores fits if what is read does, and is put without a change
   read_is_put : (back : Y → R) (bytes : List ℕ) (index : ℕ) (y : Y)
-      → ((x : R) → back (convert x) ≡ x) → IsBytes bytes
+      → ((x : R) → l.Fits x → back (convert x) ≡ x) → IsBytes bytes
       → item_at (each_converted convert (list bytes)) index ≡ Ok (Some y)
       → l.Fits (back y)
       × (put_if_there (item_at (each_converted convert (list bytes)) index) (put_at l bytes start index (back y) None)
@@ -133,8 +134,9 @@ module _ {R Y : Type 0} {l : Layout R} {convert : R → Y} {start : ℕ} {list :
       let there = take l.size (drop place bytes) in
       let long : length there ≡ l.size = length-part bytes place l.size read.0 in
       let some = IsBytes-part bytes place l.size are in
-      rw (ap back read.1 ∙ same (l.read there)) (
-        own.laws.reads_fit there some (omega (arith, long)),
+      let fits = own.laws.reads_fit there some (omega (arith, long)) in
+      rw (ap back read.1 ∙ same (l.read there) fits) (
+        fits,
         rw (
           found,
           own.laws.writes_back there some (omega (arith, long)),
@@ -143,53 +145,71 @@ module _ {R Y : Type 0} {l : Layout R} {convert : R → Y} {start : ℕ} {list :
         ) refl,
       )
 
-reloc_back : (x : Reloc) → reloc_of (reloc_converted x) ≡ x
-reloc_back x = grind arith
+-- entries, which are not converted
+module _ (h : GoblinHeader) (range : GoblinRange) where
+  all_entries : List ℕ → Result (List Dyn) RefusalAt
+  all_entries xs = whole_entries_expected xs h range
 
-module _ (h : GoblinHeader) where
-  sections : Read (section_layout h) section_converted h.e_shoff (λ xs. sections_expected xs h)
-  sections = record {
-    laws = section_header_laws (ctx_of h).container (ctx_of h).le;
-    lists = λ xs. lists_sections xs h;
-  }
+  as_item : (bytes : List ℕ) (index : ℕ) (misfit : Option Misfit) (d : GoblinDyn) (new : Option (List ℕ))
+      → dyn_put_expected bytes h range index d misfit ≡ Ok new
+      → put_if_there (item_at (each_converted (λ (x : Dyn). x) (whole_entries_expected bytes h range)) index)
+      (put_at (dyn_layout h) bytes range.offset index (dyn_of d) misfit) ≡ Ok new
+  as_item bytes index misfit d new is =
+      rw (same_items (whole_entries_expected bytes h range) index) is
 
-  segments : Read (segment_layout h) segment_converted h.e_phoff (λ xs. segments_expected xs h)
-  segments = record {
-    laws = program_header_laws (ctx_of h).container (ctx_of h).le;
-    lists = λ xs. lists_segments xs h;
-  }
+  entry_changes_one : (bytes new : List ℕ) (index : ℕ) (d : GoblinDyn) (misfit : Option Misfit)
+      → dyn_put_expected bytes h range index d misfit ≡ Ok (Some new)
+      → ChangesOnly (range.offset + index * (dyn_layout h).size) (dyn_layout h).size bytes new
+  entry_changes_one bytes new index d misfit is =
+      put_changes_one (entries h range) bytes new index (dyn_of d) misfit (as_item bytes index misfit d (Some new) is)
 
-  symbols : (table : GoblinRange)
-      → Read (symbol_layout h) symbol_converted table.offset (λ xs. symbols_expected xs h table)
-  symbols table = record {
-    laws = sym_laws (ctx_of h).container (ctx_of h).le;
-    lists = λ xs. lists_symbols xs h table;
-  }
+  as_many : (bytes new : List ℕ) → length new ≡ length bytes
+      → count_of (each_converted (λ (x : Dyn). x) (whole_entries_expected new h range))
+      ≡ count_of (each_converted (λ (x : Dyn). x) (whole_entries_expected bytes h range))
+  as_many bytes new same =
+      rw same (grind (arith, length-map, length_records, length-take, length-drop))
 
-  relocs : (table : GoblinRange) (is_rela : Bool)
-      → Read (reloc_layout h is_rela) reloc_converted table.offset (λ xs. relocs_expected xs h table is_rela)
-  relocs table is_rela = record {
-    laws = reloc_laws_in (reloc_ctx h is_rela);
-    lists = λ xs. lists_relocs xs h table is_rela;
-  }
+  entry_is_read : (bytes new : List ℕ) (index : ℕ) (d : GoblinDyn)
+      → DynFits h d → dyn_put_expected bytes h range index d None ≡ Ok (Some new)
+      → entry_expected new h range index ≡ Ok (Some (dyn_of d))
+  entry_is_read bytes new index d fits is =
+      let same = (entry_changes_one bytes new index d None is).same_length in
+      rw (← same_items (whole_entries_expected new h range) index)
+      (put_is_read (entries h range) bytes new index (dyn_of d) fits (as_item bytes index None d (Some new) is)
+      (as_many bytes new same))
+
+  entry_is_put : (bytes : List ℕ) (index : ℕ) (d : GoblinDyn)
+      → IsBytes bytes → entry_expected bytes h range index ≡ Ok (Some (dyn_of d))
+      → DynFits h d × (dyn_put_expected bytes h range index d None ≡ Ok (Some bytes))
+  entry_is_put bytes index d are is =
+      let item = same_items (whole_entries_expected bytes h range) index in
+      let put = read_is_put (entries h range) (λ x. x) bytes index (dyn_of d) (λ x fits. refl) are (item ∙ is) in
+      (put.0, rw (← item) put.1)
 
 pub reads_are_put : ReadsArePut
 reads_are_put = record {
-  section = λ bytes h index s. read_is_put (sections h) section_of bytes index s (λ x. refl);
-  segment = λ bytes h index s. read_is_put (segments h) segment_of bytes index s (λ x. refl);
-  symbol = λ bytes h table index s. read_is_put (symbols h table) symbol_of bytes index s (λ x. refl);
+  section = λ bytes h index s. read_is_put (sections h) section_of bytes index s (section_whole h);
+  segment = λ bytes h index s. read_is_put (segments h) segment_of bytes index s (λ x fits. refl);
+  symbol = λ bytes h table index s. read_is_put (symbols h table) symbol_of bytes index s (symbol_whole h);
   reloc = λ bytes h table is_rela index r are found.
-      (read_is_put (relocs h table is_rela) reloc_of bytes index r reloc_back are found).1;
+      (read_is_put (relocs h table is_rela) (reloc_of is_rela) bytes index r (reloc_whole (reloc_ctx h is_rela)) are
+      found).1;
+  entry = λ bytes h range index d. entry_is_put h range bytes index d;
 }
 
 pub puts_are_read : PutsAreRead
 puts_are_read = record {
-  section = λ bytes new h index s. put_is_read (sections h) bytes new index (section_of s);
+  section = λ bytes new h index s fits put same.
+      put_is_read (sections h) bytes new index (section_of s) fits put same
+      ∙ ap (λ (y : GoblinSection). Ok (Some y)) (section_same h s fits);
   segment = λ bytes new h index s. put_is_read (segments h) bytes new index (segment_of s);
-  symbol = λ bytes new h table index s. put_is_read (symbols h table) bytes new index (symbol_of s);
+  symbol = λ bytes new h table index s fits put same.
+      put_is_read (symbols h table) bytes new index (symbol_of s) fits put same
+      ∙ ap (λ (y : GoblinSymbol). Ok (Some y)) (symbol_same h s fits);
   reloc = λ bytes new h table is_rela index r fits put same.
-      put_is_read (relocs h table is_rela) bytes new index (reloc_of r) fits.0 put same
-      ∙ ap (λ (y : GoblinReloc). Ok (Some y)) fits.1;
+      put_is_read (relocs h table is_rela) bytes new index (reloc_of is_rela r) fits.0 put same
+      ∙ ap (λ (y : GoblinReloc). Ok (Some y)) (reloc_same h is_rela r fits);
+  entry = λ bytes new h range index d. entry_is_read h range bytes new index d;
 }
 
 pub puts_change_one : PutsChangeOne
@@ -197,7 +217,9 @@ puts_change_one = record {
   section = λ bytes new h index s. put_changes_one (sections h) bytes new index (section_of s);
   segment = λ bytes new h index s. put_changes_one (segments h) bytes new index (segment_of s);
   symbol = λ bytes new h table index s. put_changes_one (symbols h table) bytes new index (symbol_of s);
-  reloc = λ bytes new h table is_rela index r. put_changes_one (relocs h table is_rela) bytes new index (reloc_of r);
+  reloc = λ bytes new h table is_rela index r. put_changes_one (relocs h table is_rela) bytes new index
+      (reloc_of is_rela r);
+  entry = λ bytes new h range index d misfit. entry_changes_one h range bytes new index d misfit;
 }
 
 -- files of the same length have as many symbols and relocations in a range
@@ -218,6 +240,7 @@ unfit_are_refused = record {
   segment = λ bytes h index s found misfit is. unfit_put _ found _ misfit is;
   symbol = λ bytes h table index s found misfit is. unfit_put _ found _ misfit is;
   reloc = λ bytes h table is_rela index r found misfit is. unfit_put _ found _ misfit is;
+  entry = λ bytes h range index d found misfit is. unfit_put _ found _ misfit is;
   number = λ bytes h offset width value found misfit is. unfit_put _ found _ misfit is;
   number_in = λ bytes h range offset width value found misfit is. unfit_put _ found _ misfit is;
 }

@@ -17,6 +17,11 @@ use Rattle.std.proofs.lemmas.List.{take-take}
 use Rattle.goblin_c.proofs.ListedLemmas.{IsListed, bind_ok, listed_at, listed_from, none_at, refused_at_ok}
 use Rattle.goblin_c.proofs.ListedLemmas.{sections_listed, symbols_listed}
 use Rattle.goblin.specs.Header.{HeaderFits, as32, as64, header32, header64}
+use Rattle.goblin_c.proofs.Common.{None, ap, length-part, option_map, room_of_fits}
+use Rattle.goblin_c.specs.Common.{Dyn}
+use Rattle.goblin_c.specs.Dynamic.{entry_expected, file_range_of, whole_entries_expected}
+use Rattle.goblin_dynamic.specs.Dyn.{entry_of, entry_size}
+use Rattle.goblin_dynamic.specs.Dynamic.{whole_entries_in}
 
 -- a list that is not refused has so many records
 abbrev pub Lists : {R : Type 0} → ℕ → (List ℕ → R) → List ℕ → ℕ → Result (List R) RefusalAt → Type 0
@@ -44,6 +49,17 @@ module _ {R Y : Type 0} (convert : R → Y) (size : ℕ) (read : List ℕ → R)
   found_at (Ok items) y lists is =
       let listed = lists items refl in found_in items listed.0 (nat_le listed.0 index) y refl listed.1 (cc)
   found_at (Err e) y lists is = absurd (cc)
+
+-- the items of a list that is not converted
+same_item : {R : Type 0} (found : Option R) → option_map (λ (x : R). x) found ≡ found
+same_item (Some x) = refl
+same_item None = refl
+
+pub same_items : {R : Type 0} (all : Result (List R) RefusalAt) (index : ℕ)
+    → item_at (each_converted (λ (x : R). x) all) index ≡ item_at all index
+same_items {R} (Ok items) index =
+    ap Ok (slice_get-map (λ (x : R). x) items index ∙ same_item (slice_get items index))
+same_items (Err e) index = refl
 
 -- a list for C that was made of what a call of the library returned
 pub converted_is : {L R Y : Type 0} (convert : R → Y) (view : L → List R) (answer : Result L Refused)
@@ -109,6 +125,26 @@ lists_relocs bytes h table is_rela items is =
     in_range (reloc_size is_rela (ctx_of h).container) (reloc_in (reloc_ctx h is_rela)) bytes table.offset table.size
     items (table.size == 0) read
 
+-- the entries of a range of the dynamic section, which must lie in the file
+pub lists_entries : (bytes : List ℕ) (h : GoblinHeader) (range : GoblinRange)
+    → Lists (entry_size (ctx_of h).container) (entry_of (ctx_of h).container (ctx_of h).le) bytes range.offset
+    (whole_entries_expected bytes h range)
+lists_entries bytes h range items is =
+    let size = entry_size (ctx_of h).container in
+    let read = entry_of (ctx_of h).container (ctx_of h).le in
+    let whole = whole_entries_in bytes (file_range_of range) (ctx_of h) in
+    let found = found_within refusal_of whole items
+    (refused_at_ok range.offset (refuse_as refusal_of whole) items is) in
+    let part = take range.size (drop range.offset bytes) in
+    let all = records size read (length part / size) part in
+    let parts = unless_fault-is (room_of (length bytes) range.offset range.size) items all (sym found) in
+    let room = fits-room_of (length bytes) range.offset range.size tt parts.0 in
+    let long : length part ≡ range.size = length-part bytes range.offset range.size room in
+    let are : items ≡ records size read (range.size / size) part =
+    parts.1 ∙ ap (λ (n : ℕ). records size read (n / size) part) long in
+    in_range size read bytes range.offset range.size items false
+    (rw (room_of_fits (length bytes) range.offset range.size room) (ap Ok (sym are)))
+
 -- ---- puts: a record that is found is put at its place, in range, and the library's test decides whether it fits
 
 -- an item that a call found in a list lies in the file
@@ -122,6 +158,18 @@ pub room_for : {L R Y : Type 0} (convert : R → Y) (view : L → List R) {size 
 room_for convert view {size} {read} {bytes} {start} index answer {expected} found y lists is stored there =
     (found_at convert size read bytes start index expected y lists
     (rw (there, converted_is convert view answer expected is) at stored)).0
+
+-- so does an entry
+pub entry_within : (bytes : List ℕ) (h : GoblinHeader) (range : GoblinRange) (index : ℕ)
+    (found : Result (Option Dyn) Refused) (d : Dyn)
+    → Returns (λ x. x) found (entry_expected bytes h range index) → found ≡ Ok (Some d)
+    → let size = entry_size (ctx_of h).container in range.offset + index * size + size ≤ length bytes
+entry_within bytes h range index found d stored there =
+    let all = whole_entries_expected bytes h range in
+    let size = entry_size (ctx_of h).container in
+    let read = entry_of (ctx_of h).container (ctx_of h).le in
+    (found_at (λ (x : Dyn). x) size read bytes range.offset index all d (lists_entries bytes h range)
+    (same_items all index ∙ rw there at stored)).0
 
 -- fields fit, or not
 fields_decided : (fields : List Field) → FieldsFit fields ⊎ (¬ (FieldsFit fields))

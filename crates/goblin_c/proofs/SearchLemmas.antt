@@ -42,35 +42,37 @@ there items first i x after found =
     rw (← get_drop items first (i - first), place) found
 
 -- the items for C from an index on that pass a test
-module _ {X Y : Type 0} (convert : X → Y) (IsSo : Y → Type 0) (test : X → Bool)
-    (decides : (x : X) → Decides (test x) (IsSo (convert x))) where
-  not_so : (items : List X) (first k : ℕ) (y : Y)
+module _ {X Y : Type 0} (convert : X → Y) (IsSo : Y → Type 0) (test : X → Bool) (items : List X)
+    (decides : (k : ℕ) (x : X) → slice_get items k ≡ Some x → Decides (test x) (IsSo (convert x))) where
+  not_so : (first k : ℕ) (y : Y)
       → first ≤ k → ◌≡◌ {A = Result (Option Y) RefusalAt} (Ok (slice_get (map convert items) k)) (Ok (Some y))
       → ((x : X) → slice_get (drop first items) (k - first) ≡ Some x → test x ≡ false)
       → ¬ (IsSo y)
-  not_so items first k y after stored fails so =
+  not_so first k y after stored fails so =
       let one = converted_one convert items k y stored in
-      true≢false (sym ((decides one.0).1 (subst IsSo one.2 so)) ∙ fails one.0 (there items first k one.0 after one.1))
+      true≢false (sym ((decides k one.0 one.1).1 (subst IsSo one.2 so))
+      ∙ fails one.0 (there items first k one.0 after one.1))
 
-  pub finds : (Refuses : RefusalAt → Type 0) (items : List X) (first : ℕ) (found : Option ℕ)
+  pub finds : (Refuses : RefusalAt → Type 0) (first : ℕ) (found : Option ℕ)
       → position test (drop first items) ≡ found
       → FindsFrom first
       (λ index. Ok (slice_get (map convert items) index)) IsSo Refuses (Ok (option_map (λ place. first + place) found))
-  finds Refuses items first (Some i) is =
-      let one = first_passes test (drop first items) i is in (
+  finds Refuses first (Some i) is =
+      let one = first_passes test (drop first items) i is in
+      let own = get_drop items first i ∙ one.1 in (
         omega arith,
         (
           convert one.0,
-          ap Ok (slice_get-map convert items (first + i) ∙ ap (option_map convert) (get_drop items first i ∙ one.1)),
-          (decides one.0).0 one.2,
+          ap Ok (slice_get-map convert items (first + i) ∙ ap (option_map convert) own),
+          (decides (first + i) one.0 own).0 one.2,
         ),
         λ k y after before stored.
-            not_so items first k y after stored
+            not_so first k y after stored
             (λ x found. fails_before test (drop first items) (k - first) x found (grind (arith, nat_tests))),
       )
-  finds Refuses items first None is =
+  finds Refuses first None is =
       λ k y after stored.
-      not_so items first k y after stored (λ x found. fails_before test (drop first items) (k - first) x found
+      not_so first k y after stored (λ x found. fails_before test (drop first items) (k - first) x found
       (grind (arith, nat_tests, slice_get_within (drop first items) (k - first) x found)))
 
 -- the item that is found is the one that a call stores at its index
@@ -85,21 +87,24 @@ with_item convert IsSo Refuses items first (Some i) is =
     rw one.1 (is, ap Ok (slice_get-map convert items i ∙ ap (option_map convert) one.1))
 
 -- the first of all items that passes a test
-module _ {X Y : Type 0} (convert : X → Y) (IsSo : Y → Type 0) (test : X → Bool)
-    (decides : (x : X) → Decides (test x) (IsSo (convert x))) where
-  pub first_found : (Refuses : RefusalAt → Type 0) (items : List X) (first : ℕ)
+module _ {X Y : Type 0} (convert : X → Y) (IsSo : Y → Type 0) (test : X → Bool) where
+  pub first_found : (items : List X)
+      → ((k : ℕ) (x : X) → slice_get items k ≡ Some x → Decides (test x) (IsSo (convert x)))
+      → (Refuses : RefusalAt → Type 0) (first : ℕ)
       → FindsItemFrom first
       (λ index. Ok (slice_get (map convert items) index)) IsSo Refuses (Ok (first_item convert test first items))
-  first_found Refuses items first =
+  first_found items decides Refuses first =
       with_item convert IsSo Refuses items first
       (option_map (λ place. first + place) (position test (drop first items)))
-      (finds convert IsSo test decides Refuses items first (position test (drop first items)) refl)
+      (finds convert IsSo test items decides Refuses first (position test (drop first items)) refl)
 
-  first_of_list : (all : Result (List X) RefusalAt) (first : ℕ)
+  first_of_list : ((x : X) → Decides (test x) (IsSo (convert x)))
+      → (all : Result (List X) RefusalAt) (first : ℕ)
       → let call = item_at (each_converted convert all) in
       FindsItemFrom first call IsSo (RefusesAll call) (all >>= λ items. Ok (first_item convert test first items))
-  first_of_list (Ok items) first = first_found (RefusesAll (item_at (each_converted convert (Ok items)))) items first
-  first_of_list (Err e) first = λ index. refl
+  first_of_list decides (Ok items) first =
+      first_found items (λ k x found. decides x) (RefusesAll (item_at (each_converted convert (Ok items)))) first
+  first_of_list decides (Err e) first = λ index. refl
 
 pub sections_by_type : SectionsByType
 sections_by_type bytes h sh_type first =

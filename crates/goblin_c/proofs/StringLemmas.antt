@@ -8,14 +8,17 @@ use Rattle.goblin_c.proofs.Common.{◌≡◌, ◌+◌, ◌-◌, ◌<◌, ◌≤�
 use Rattle.goblin_c.proofs.Common.{Result, Ok, Err, inl, inr, refl, sym, ap, subst, ◌∙◌, arith, nat_tests, drop-take}
 use Rattle.goblin_c.proofs.Common.{length-take, take_min, take-take, Decides, before_first, position_or_len, piece}
 use Rattle.goblin_c.proofs.Common.{◌>>=◌, RefusalAt, refused_at, GoblinRange, each_converted, first_item, is_named}
-use Rattle.goblin_c.proofs.Common.{item_at, sections_expected, string_expected, strings_expected, symbols_expected}
+use Rattle.goblin_c.proofs.Common.{item_at, sections_expected, string_utf8_expected, strings_expected, symbols_expected}
 use Rattle.goblin_c.proofs.Common.{section_converted, symbol_converted, bytes_eq-Decides, FindsItemFrom, bytes_in, true}
 use Rattle.goblin_c.proofs.Common.{if◌then◌else◌, Option, None, length-drop, fits-room_of, range_expected, LiesIn}
+use Rattle.goblin_c.proofs.Common.{ctx_of, slice_get, mod-eq_of_lt, string_expected}
+use Rattle.goblin_c.specs.Expected.{passes}
+use Rattle.goblin_c.proofs.FitLemmas.{fits_in, section_name, sections, symbol_parts, symbols}
 use Rattle.std.proofs.Math.Seq.{drop-drop}
 use Rattle.goblin_base.specs.Strtab.{has_name, plain, range_in}
 use Rattle.goblin_c.specs.Laws.{IsNameAt, RefusesInTurn, SectionsByName, StringsAreThere, SymbolsByName}
 use Rattle.goblin_c.specs.Laws.{StringsAreCompared, range_is, range_starts, BytesLieInFile, EmptyHaveNoBytes}
-use Rattle.goblin_c.specs.Laws.{StringsAreBytes, StringsLieInFile}
+use Rattle.goblin_c.specs.Laws.{StringsAreBytes, StringsLieInFile, TextIsFound, TextIsUtf8}
 use Rattle.goblin_c.proofs.SearchLemmas.{first_found}
 use Rattle.goblin_c.proofs.ListedLemmas.{one_converted}
 use Rattle.std.specs.Prelude.{IsErr}
@@ -73,7 +76,7 @@ text_there bytes range offset strings text found before is =
 
 -- a string whose range is stored was read in the string table, and lies at that range
 string_is : (bytes : List ℕ) (range : GoblinRange) (offset : ℕ) (strings : List ℕ) (place : GoblinRange)
-    → strings_expected bytes range ≡ Ok strings → string_expected bytes range offset ≡ Ok (Some place)
+    → strings_expected bytes range ≡ Ok strings → string_utf8_expected bytes range offset ≡ Ok (Some place)
     → (text : List ℕ) × (offset < length strings) × (plain strings 0 offset ≡ Ok text) × (bytes_in bytes place ≡ text)
 string_is bytes range offset strings place found is =
     let steps = one_converted (nat_le (length strings) offset) (range.offset + offset) (plain strings 0 offset)
@@ -86,7 +89,7 @@ string_is bytes range offset strings place found is =
 -- there is a string table if there is one of its strings
 strings_there : (bytes : List ℕ) (range : GoblinRange) (offset : ℕ) (place : GoblinRange)
     (answer : Result (List ℕ) RefusalAt)
-    → strings_expected bytes range ≡ answer → string_expected bytes range offset ≡ Ok (Some place)
+    → strings_expected bytes range ≡ answer → string_utf8_expected bytes range offset ≡ Ok (Some place)
     → (answer >>= λ strings. refused_at (range.offset + offset) (plain strings 0 offset)) ≡ Ok (bytes_in bytes place)
 strings_there bytes range offset place (Ok strings) found is =
     let there = string_is bytes range offset strings place found is in rw (there.2, there.3) refl
@@ -96,57 +99,6 @@ pub strings_are_there : StringsAreThere
 strings_are_there bytes range offset place is =
     strings_there bytes range offset place (strings_expected bytes range) refl is
 
--- a string has a name where the library's look-up says so, which is if a call stores the range of a string with these
--- bytes
-named-Decides : (bytes : List ℕ) (names : GoblinRange) (name strings : List ℕ) (offset : ℕ)
-    → strings_expected bytes names ≡ Ok strings
-    → Decides (is_named strings name offset) (IsNameAt bytes names offset name)
-unfolding has_name
-named-Decides bytes names name strings offset found = (
-  λ is.
-      let before : offset < length strings = grind (arith, nat_tests) in
-      let read : plain strings 0 offset ≡ Ok name = grind (arith, nat_tests, bytes_eq-Decides) in
-      let there = text_there bytes names offset strings name found before read in
-      (place_of names offset name, grind (arith, nat_tests), there),
-  λ place.
-      let there = string_is bytes names offset strings place.0 found place.1 in
-      grind (arith, nat_tests, there.1, bytes_eq-Decides name name),
-)
-
--- the first item with a name, from an index on
-module _ {X Y : Type 0} (convert : X → Y) (bytes : List ℕ) (names : GoblinRange) (HasTheName : Y → Type 0)
-    (test : List ℕ → X → Bool) where
-  by_name : (first : ℕ) (all : Result (List X) RefusalAt) (strings : Result (List ℕ) RefusalAt)
-      → strings_expected bytes names ≡ strings
-      → ((read : List ℕ) → strings_expected bytes names ≡ Ok read → (x : X)
-      → Decides (test read x) (HasTheName (convert x)))
-      → let call = item_at (each_converted convert all) in
-      FindsItemFrom first call HasTheName (RefusesInTurn call (string_expected bytes names))
-      (all >>= λ items. strings >>= λ read. Ok (first_item convert (test read) first items))
-  by_name first (Ok items) (Ok read) found decides =
-      first_found convert HasTheName (test read) (decides read found)
-      (RefusesInTurn (item_at (each_converted convert (Ok items))) (string_expected bytes names)) items first
-  by_name first (Ok items) (Err e) found decides = inr ((λ k other refused. cc), (λ offset. rw found refl))
-  by_name first (Err e) strings found decides = inl (λ index. refl)
-
-pub sections_by_name : SectionsByName
-sections_by_name bytes h names name first =
-    by_name section_converted bytes names (λ section. IsNameAt bytes names section.sh_name name)
-    (λ strings section. is_named strings name section.sh_name) first (sections_expected bytes h)
-    (strings_expected bytes names) refl
-    (λ strings found section. named-Decides bytes names name strings section.sh_name found)
-
-pub symbols_by_name : SymbolsByName
-symbols_by_name bytes h range names name first =
-    by_name symbol_converted bytes names (λ symbol. IsNameAt bytes names symbol.st_name name)
-    (λ strings symbol. is_named strings name symbol.st_name) first (symbols_expected bytes h range)
-    (strings_expected bytes names) refl
-    (λ strings found symbol. named-Decides bytes names name strings symbol.st_name found)
-
--- ---- strings that are compared where they lie
--- The bytes at the range of a string are the piece at its offset (`piece_is_there`). So comparing the piece is
--- comparing these bytes (`strings_are_compared`).
-
 -- the bytes at the range of a string are the piece at its offset
 pub piece_is_there : (bytes : List ℕ) (range : GoblinRange) (offset : ℕ) (strings : List ℕ)
     → strings_expected bytes range ≡ Ok strings → offset < length strings
@@ -154,6 +106,73 @@ pub piece_is_there : (bytes : List ℕ) (range : GoblinRange) (offset : ℕ) (st
 piece_is_there bytes range offset strings found before =
     let of_range = (in_range bytes range strings found).0 in
     rw of_range (piece_there bytes range offset (subst (λ (xs : List ℕ). offset < length xs) of_range before))
+
+-- the range that a call stores for a string is that of the piece
+range_is_there : (bytes : List ℕ) (range : GoblinRange) (offset : ℕ) (strings : List ℕ) (place : GoblinRange)
+    → strings_expected bytes range ≡ Ok strings → string_expected bytes range offset ≡ Ok (Some place)
+    → (offset < length strings) × (place ≡ place_of range offset (piece strings 0 offset))
+range_is_there bytes range offset strings place found is =
+    (grind (arith, nat_tests), grind (arith, nat_tests))
+
+-- a string has a name where the piece is the name, which is if a call stores the range of a string with these bytes
+named-Decides : (bytes : List ℕ) (names : GoblinRange) (name strings : List ℕ) (offset : ℕ)
+    → strings_expected bytes names ≡ Ok strings
+    → Decides (is_named strings name offset) (IsNameAt bytes names offset name)
+unfolding is_piece
+named-Decides bytes names name strings offset found = (
+  λ is.
+      let before : offset < length strings = grind (arith, nat_tests) in
+      let same : piece strings 0 offset ≡ name =
+      grind (arith, nat_tests, bytes_eq-Decides (piece strings 0 offset) name) in
+      let there = piece_is_there bytes names offset strings found before in
+      (place_of names offset (piece strings 0 offset), grind (arith, nat_tests), there ∙ same),
+  λ place.
+      let own = range_is_there bytes names offset strings place.0 found place.1 in
+      let there = piece_is_there bytes names offset strings found own.0 in
+      let same : piece strings 0 offset ≡ name = sym there ∙ ap (bytes_in bytes) (sym own.1) ∙ place.2 in
+      grind (arith, nat_tests, own.0, bytes_eq-Decides (piece strings 0 offset) name),
+)
+
+-- the first item with a name, from an index on
+module _ {X Y : Type 0} (convert : X → Y) (bytes : List ℕ) (names : GoblinRange) (HasTheName : Y → Type 0)
+    (test : List ℕ → X → Bool) where
+  by_name : (first : ℕ) (all : Result (List X) RefusalAt) (strings : Result (List ℕ) RefusalAt)
+      → strings_expected bytes names ≡ strings
+      → ((read : List ℕ) (items : List X) (k : ℕ) (x : X)
+      → strings_expected bytes names ≡ Ok read → all ≡ Ok items → slice_get items k ≡ Some x
+      → Decides (test read x) (HasTheName (convert x)))
+      → let call = item_at (each_converted convert all) in
+      FindsItemFrom first call HasTheName (RefusesInTurn call (string_expected bytes names))
+      (all >>= λ items. strings >>= λ read. Ok (first_item convert (test read) first items))
+  by_name first (Ok items) (Ok read) found decides =
+      first_found convert HasTheName (test read) items (λ k x. decides read items k x found refl)
+      (RefusesInTurn (item_at (each_converted convert (Ok items))) (string_expected bytes names)) first
+  by_name first (Ok items) (Err e) found decides = inr ((λ k other refused. cc), (λ offset. rw found refl))
+  by_name first (Err e) strings found decides = inl (λ index. refl)
+
+pub sections_by_name : SectionsByName
+sections_by_name bytes h names name first are =
+    by_name section_converted bytes names (λ section. IsNameAt bytes names section.sh_name name)
+    (λ strings section. is_named strings name section.sh_name) first (sections_expected bytes h)
+    (strings_expected bytes names) refl
+    (λ strings items k section found is own.
+    let fits = fits_in (sections h) bytes items k section are is own in
+    rw (mod-eq_of_lt (section_name (ctx_of h).container (ctx_of h).le section fits))
+    (named-Decides bytes names name strings section.sh_name found))
+
+pub symbols_by_name : SymbolsByName
+symbols_by_name bytes h range names name first are =
+    by_name symbol_converted bytes names (λ symbol. IsNameAt bytes names symbol.st_name name)
+    (λ strings symbol. is_named strings name symbol.st_name) first (symbols_expected bytes h range)
+    (strings_expected bytes names) refl
+    (λ strings items k symbol found is own.
+    let fits = fits_in (symbols h range) bytes items k symbol are is own in
+    rw (mod-eq_of_lt (symbol_parts (ctx_of h).container (ctx_of h).le symbol fits).0)
+    (named-Decides bytes names name strings symbol.st_name found))
+
+-- ---- strings that are compared where they lie
+-- The bytes at the range of a string are the piece at its offset (`piece_is_there`). So comparing the piece is
+-- comparing these bytes (`strings_are_compared`).
 
 -- where a string lies, if the strings were read
 abbrev place_in : GoblinRange → ℕ → Result (List ℕ) RefusalAt → Result (Option GoblinRange) RefusalAt
@@ -165,35 +184,38 @@ place_in range offset answer = do
 module _ (bytes : List ℕ) (range : GoblinRange) (offset : ℕ) where
   compared : (name : List ℕ) (answer : Result (List ℕ) RefusalAt)
       → strings_expected bytes range ≡ answer
-      → (answer >>= λ strings. Ok (is_piece strings 0 offset name))
-      ≡ (place_in range offset answer >>= λ found. Ok (range_is bytes name found))
+      → passes (λ strings. is_piece strings 0 offset name) answer
+      ≡ passes (range_is bytes name) (place_in range offset answer)
   unfolding is_piece
   compared name answer found = grind (arith, nat_tests, piece_is_there bytes range offset)
 
   start-compared : (start : List ℕ) (answer : Result (List ℕ) RefusalAt)
       → strings_expected bytes range ≡ answer
-      → (answer >>= λ strings. Ok (starts_piece strings 0 offset start))
-      ≡ (place_in range offset answer >>= λ found. Ok (range_starts bytes start found))
+      → passes (λ strings. starts_piece strings 0 offset start) answer
+      ≡ passes (range_starts bytes start) (place_in range offset answer)
   unfolding starts_piece
   start-compared start answer found = grind (arith, nat_tests, piece_is_there bytes range offset)
-
--- whether a piece is a name that is UTF-8: it has the same bytes, and so is UTF-8, too
-name_compared : (strings : List ℕ) (offset : ℕ) (name : List ℕ)
-    → is_utf8 name ≡ true → is_piece strings 0 offset name ≡ has_name strings 0 offset name
-unfolding is_piece has_name
-name_compared strings offset name is = grind (arith, nat_tests, bytes_eq-Decides (piece strings 0 offset) name)
-
-named : (offset : ℕ) (name : List ℕ) (answer : Result (List ℕ) RefusalAt)
-    → is_utf8 name ≡ true
-    → (answer >>= λ strings. Ok (is_piece strings 0 offset name))
-    ≡ (answer >>= λ strings. Ok (is_named strings name offset))
-named offset name answer is = grind (arith, name_compared)
 
 pub strings_are_compared : StringsAreCompared
 strings_are_compared = record {
   whole = λ bytes range offset name. compared bytes range offset name (strings_expected bytes range) refl;
   start = λ bytes range offset start. start-compared bytes range offset start (strings_expected bytes range) refl;
-  named = λ bytes range offset name is. named offset name (strings_expected bytes range) is;
+}
+
+-- whether a piece is a name that is UTF-8: it has the same bytes, and so is UTF-8, too
+name_compared : (strings : List ℕ) (name : List ℕ) (offset : ℕ)
+    → is_utf8 name ≡ true → is_piece strings 0 offset name ≡ has_name strings 0 offset name
+unfolding is_piece has_name
+name_compared strings name offset is = grind (arith, nat_tests, bytes_eq-Decides (piece strings 0 offset) name)
+
+pub text_is_found : TextIsFound
+text_is_found = record {
+  section = λ bytes h names name first is j.
+      sections_expected bytes h >>= λ sections. strings_expected bytes names >>= λ strings.
+      Ok (first_item section_converted (λ section. name_compared strings name section.sh_name is j) first sections);
+  symbol = λ bytes h range names name first is j.
+      symbols_expected bytes h range >>= λ symbols. strings_expected bytes names >>= λ strings.
+      Ok (first_item symbol_converted (λ symbol. name_compared strings name symbol.st_name is j) first symbols);
 }
 
 -- a range that lies in the file has its bytes, and any other is refused
@@ -244,8 +266,27 @@ empty_have_no_bytes = record {
 pub strings_are_bytes : StringsAreBytes
 strings_are_bytes bytes range offset found is = grind (arith, nat_tests, plain_is)
 
+-- and one that is UTF-8 is read as text
+utf8_from : (bytes : List ℕ) (range : GoblinRange) (offset : ℕ) (found : GoblinRange)
+    (answer : Result (List ℕ) RefusalAt)
+    → strings_expected bytes range ≡ answer → string_expected bytes range offset ≡ Ok (Some found)
+    → is_utf8 (bytes_in bytes found) ≡ true → string_utf8_expected bytes range offset ≡ Ok (Some found)
+utf8_from bytes range offset found (Ok strings) read is text =
+    let own = range_is_there bytes range offset strings found read is in
+    let there = piece_is_there bytes range offset strings read own.0 in
+    let utf8 : is_utf8 (piece strings 0 offset) ≡ true =
+    ap is_utf8 (sym there ∙ ap (bytes_in bytes) (sym own.1)) ∙ text in
+    let read : string_utf8_expected bytes range offset ≡ Ok (Some (place_of range offset (piece strings 0 offset))) =
+    grind (arith, nat_tests, own.0, utf8) in
+    read ∙ ap (λ (place : GoblinRange). Ok (Some place)) (sym own.1)
+utf8_from bytes range offset found (Err e) read is text = let refused = rw read at is in absurd (cc)
+
+pub text_is_utf8 : TextIsUtf8
+text_is_utf8 bytes range offset found is text =
+    utf8_from bytes range offset found (strings_expected bytes range) refl is text
+
 pub strings_lie_in_file : StringsLieInFile
 strings_lie_in_file bytes range offset found is =
     bytes_lie_in_file.string bytes range offset found (strings_are_bytes bytes range offset found is)
 
-pub ruleset place_laws = (bytes_lie_in_file, empty_have_no_bytes, strings_are_bytes)
+pub ruleset place_laws = (bytes_lie_in_file, empty_have_no_bytes, strings_are_bytes, text_is_utf8)

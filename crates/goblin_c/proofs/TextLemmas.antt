@@ -2,7 +2,7 @@
 use Rattle.goblin_c.proofs.Common.{◌≡◌, ◌+◌, ◌<◌, ◌≤◌, ℕ, zero, suc, IsTrue, nat_le, List, [], ◌∷◌, ◌++◌, length}
 use Rattle.goblin_c.proofs.Common.{get_or, take, drop, ap, length-append, arith, and_parts, leb-true, are_short}
 use Rattle.goblin_c.proofs.Common.{each_short, is_short, laid, Endian, Err, Ok, Refusal, Result, buffer_too_short}
-use Rattle.goblin_c.proofs.Common.{ctx_of, misplaced, refuse_as, room_of, read_within, bytes_from, note_bytes_expected}
+use Rattle.goblin_c.proofs.Common.{ctx_of, misplaced, refuse_as, room_of, read_within, bytes_from, note_whole_expected}
 use Rattle.goblin_base.specs.declared.texts.Part.{Part}
 use Rattle.goblin_base.specs.Refusal.{bad_input}
 use Rattle.goblin.specs.Note.{PartRefusal, whole_places}
@@ -68,5 +68,5 @@ same_text_of_part offset (Err e) itemless = grind arith
 
 pub parts_have_same_text : PartsHaveSameText
 parts_have_same_text bytes h range alignment offset =
-    same_text_of_part offset (note_bytes_expected bytes h range alignment offset)
+    same_text_of_part offset (note_whole_expected bytes h range alignment offset)
     (grind (arith, itemless_whole alignment (ctx_of h).le (bytes_from bytes range offset)))

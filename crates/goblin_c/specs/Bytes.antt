@@ -1,7 +1,7 @@
 -- The expected ranges of bytes of a section, a segment and a string, and the number of some bytes.
 use Rattle.goblin_base.specs.Pieces.{piece}
 use Rattle.std.specs.Prelude.{◌≡◌, ◌≢◌, ℕ, ◌+◌, ◌==◌, ◌||◌, not, nat_le, nat_lt, if◌then◌else◌, Bool, List, All, length}
-use Rattle.std.specs.Prelude.{take, drop, slice_get, Option, Some, None, Result, Ok}
+use Rattle.std.specs.Prelude.{[], ◌∷◌, suc, take, drop, slice_get, Option, Some, None, Result, Ok}
 use Rattle.goblin_c.specs.Common.{misplaced, room_of, ◌>>=◌, refuse_as, is_nobits, GoblinHeader, GoblinRange}
 use Rattle.goblin_c.specs.Common.{GoblinSection, GoblinSegment, number_at}
 use Rattle.goblin_c.specs.Refused.{RefusalAt, refused_at}
@@ -23,16 +23,16 @@ range_expected bytes range = do
   Ok (Some range)
 
 -- the bytes of a section, and of a segment, if it has some
-abbrev pub section_bytes_expected : List ℕ → GoblinSection → Result (Option GoblinRange) RefusalAt
-section_bytes_expected bytes s = if section_has_bytes s then range_expected bytes s.file else Ok None
+abbrev pub section_range_expected : List ℕ → GoblinSection → Result (Option GoblinRange) RefusalAt
+section_range_expected bytes s = if section_has_bytes s then range_expected bytes s.file else Ok None
 
-abbrev pub segment_bytes_expected : List ℕ → GoblinSegment → Result (Option GoblinRange) RefusalAt
-segment_bytes_expected bytes s = if segment_has_bytes s then range_expected bytes s.file else Ok None
+abbrev pub segment_range_expected : List ℕ → GoblinSegment → Result (Option GoblinRange) RefusalAt
+segment_range_expected bytes s = if segment_has_bytes s then range_expected bytes s.file else Ok None
 
 -- where the string at an offset of the strings of a range lies in the file, text or not: up to the next zero byte or
 -- the range's end
-abbrev pub string_bytes_expected : List ℕ → GoblinRange → ℕ → Result (Option GoblinRange) RefusalAt
-string_bytes_expected bytes range offset = do
+abbrev pub string_expected : List ℕ → GoblinRange → ℕ → Result (Option GoblinRange) RefusalAt
+string_expected bytes range offset = do
   strings ← strings_expected bytes range
   if nat_le (length strings) offset then Ok None
       else Ok (Some (record { offset = range.offset + offset; size = length (piece strings 0 offset) }))
@@ -43,6 +43,17 @@ string_closed_expected bytes range offset = do
   strings ← strings_expected bytes range
   if nat_lt (offset + length (piece strings 0 offset)) (length strings)
       then Ok (Some (record { offset = range.offset + offset; size = length (piece strings 0 offset) })) else Ok None
+
+-- how many bytes there are up to the last zero byte, with that byte
+abbrev pub closed_len : List ℕ → ℕ
+closed_len [] = 0
+closed_len (b ∷ bytes) = if closed_len bytes == 0 then (if b == 0 then 1 else 0) else suc (closed_len bytes)
+
+-- the part of the strings of a range up to the last zero byte
+abbrev pub closed_strings_expected : List ℕ → GoblinRange → Result (Option GoblinRange) RefusalAt
+closed_strings_expected bytes range = do
+  strings ← strings_expected bytes range
+  Ok (Some (record { offset = range.offset; size = closed_len strings }))
 
 -- the bytes from the start of a range on are a C string of the range's size: the byte after the range is 0, and none in
 -- it is

@@ -1,7 +1,7 @@
 -- The expected results of calls, by the library's definitions: an item, none past the last one, or a refusal.
 use Rattle.std.specs.Prelude.{ℕ, ◌+◌, ◌/◌, ◌==◌, nat_le, if◌then◌else◌, List, length, drop, map, position, slice_get}
-use Rattle.std.specs.Prelude.{Bool, Option, Some, None, Result, Ok}
-use Rattle.goblin_c.specs.Common.{option_map, Ctx, malformed, refusal_of, ◌>>=◌, refuse_as, range_in, plain, has_name}
+use Rattle.std.specs.Prelude.{Bool, false, Option, Some, None, Result, Ok, Err}
+use Rattle.goblin_c.specs.Common.{option_map, Ctx, malformed, refusal_of, ◌>>=◌, refuse_as, range_in, plain}
 use Rattle.goblin_c.specs.Common.{is_piece, starts_piece, SectionHeader, read_header, linked, section_headers_of, Sym}
 use Rattle.goblin_c.specs.Common.{sym_size, ProgramHeader, program_headers_from, Reloc, is_mips64el_in, relocs_of}
 use Rattle.goblin_c.specs.Common.{symtab_of, segment_count, GoblinHeader, GoblinRange, GoblinSection, GoblinSegment}
@@ -105,6 +105,15 @@ abbrev pub first_item : {X Y : Type 0} → (X → Y) → (X → Bool) → ℕ �
 first_item convert test first items =
     found_item convert items (option_map (λ place. first + place) (position test (drop first items)))
 
+-- whether the string at an offset of some strings is a name, text or not: past the strings there is none
+abbrev pub is_named : List ℕ → List ℕ → ℕ → Bool
+is_named strings name offset = is_piece strings 0 offset name
+
+-- whether a section has a type, or if none is wanted a name
+abbrev pub is_wanted : Option ℕ → List ℕ → List ℕ → SectionHeader → Bool
+is_wanted (Some sh_type) strings name section = section.sh_type == sh_type
+is_wanted None strings name section = is_named strings name section.sh_name
+
 -- the first section of a type, from an index on, and its index
 abbrev pub section_by_type_expected : List ℕ → GoblinHeader → ℕ → ℕ → Result (Option (ℕ × GoblinSection)) RefusalAt
 section_by_type_expected bytes h sh_type first = do
@@ -162,29 +171,28 @@ strings_expected bytes range =
 
 -- where the string at an offset of the strings of a range lies in the file, without the zero byte that closes it: the
 -- plain reading
-abbrev pub string_expected : List ℕ → GoblinRange → ℕ → Result (Option GoblinRange) RefusalAt
-string_expected bytes range offset = do
+abbrev pub string_utf8_expected : List ℕ → GoblinRange → ℕ → Result (Option GoblinRange) RefusalAt
+string_utf8_expected bytes range offset = do
   strings ← strings_expected bytes range
   if nat_le (length strings) offset then Ok None
       else do
         text ← refused_at (range.offset + offset) (plain strings 0 offset)
         Ok (Some (record { offset = range.offset + offset; size = length text }))
 
--- whether the string at an offset of the strings of a range is a name, text or not: past the strings there is none
-abbrev pub string_is_expected : List ℕ → GoblinRange → ℕ → List ℕ → Result Bool RefusalAt
-string_is_expected bytes range offset name = do
-  strings ← strings_expected bytes range
-  Ok (is_piece strings 0 offset name)
+-- whether a result passes a test, which a refusal does not
+abbrev pub passes : {X : Type 0} → (X → Bool) → Result X RefusalAt → Bool
+passes test (Ok x) = test x
+passes test (Err e) = false
 
--- whether it starts with some bytes
-abbrev pub string_starts_expected : List ℕ → GoblinRange → ℕ → List ℕ → Result Bool RefusalAt
-string_starts_expected bytes range offset start = do
-  strings ← strings_expected bytes range
-  Ok (starts_piece strings 0 offset start)
+-- so it is with the strings of a range, if that lies in the file
+abbrev pub string_is_expected : List ℕ → GoblinRange → ℕ → List ℕ → Bool
+string_is_expected bytes range offset name =
+    passes (λ strings. is_named strings name offset) (strings_expected bytes range)
 
--- whether the plain reading at an offset of some strings is a name
-abbrev pub is_named : List ℕ → List ℕ → ℕ → Bool
-is_named strings name offset = has_name strings 0 offset name
+-- and whether such a string starts with some bytes
+abbrev pub string_starts_expected : List ℕ → GoblinRange → ℕ → List ℕ → Bool
+string_starts_expected bytes range offset start =
+    passes (λ strings. starts_piece strings 0 offset start) (strings_expected bytes range)
 
 -- the first section with a name, from an index on, and its index
 abbrev pub section_by_name_expected :
@@ -219,7 +227,7 @@ table_expected bytes h index = do
   Ok (table_at sections index)
 
 -- the section that holds the sections' names, if it is a table
-abbrev pub section_names_expected : List ℕ → GoblinHeader → Result (Option GoblinSection) RefusalAt
-section_names_expected bytes h = do
+abbrev pub names_section_expected : List ℕ → GoblinHeader → Result (Option GoblinSection) RefusalAt
+names_section_expected bytes h = do
   sections ← sections_expected bytes h
   Ok (table_at sections (names_index_of h (slice_get sections 0)))

@@ -7,6 +7,7 @@ use Rattle.goblin_c.specs.Common.{refuse_as, plain, Header, class_of, order_of, 
 use Rattle.goblin_c.specs.Common.{is_of_mips64el, relocs_of, is_table, section_headers_of, Sym, sym_size, symtab_of}
 use Rattle.goblin_c.specs.Common.{segment_count, ProgramHeader, GoblinHeader, GoblinNote, GoblinRange, GoblinReloc}
 use Rattle.goblin_c.specs.Common.{GoblinSection, GoblinSegment, GoblinSymbol, bytes_eq, is_utf8, NoteParts}
+use Rattle.goblin_c.specs.Common.{IsBytes, has_name}
 use Rattle.goblin.specs.WholePart.{whole_header as library_whole}
 use Rattle.goblin.specs.declared.elf.note.NoteDataIterator.{NoteDataIterator}
 use Rattle.goblin.specs.declared.elf.note.NotePart.TheVariants as part
@@ -15,14 +16,15 @@ use Rattle.goblin.specs.Notes.{items_left}
 use Rattle.goblin_c.specs.Refused.{RefusalAt, refused_at}
 use Rattle.goblin_c.specs.Expected.{ctx_of, is_mips64el, section_by_type_expected, section_count_expected}
 use Rattle.goblin_c.specs.Expected.{section_expected, segment_count_expected, segment_expected, symbol_expected}
-use Rattle.goblin_c.specs.Expected.{reloc_expected, string_expected, symbol_count_expected, reloc_count_expected}
+use Rattle.goblin_c.specs.Expected.{reloc_expected, string_utf8_expected, symbol_count_expected, reloc_count_expected}
 use Rattle.goblin_c.specs.Expected.{sections_from_expected, symbols_from_expected, relocs_from_expected}
-use Rattle.goblin_c.specs.Expected.{section_names_expected, section_by_name_expected, symbol_by_name_expected}
-use Rattle.goblin_c.specs.Expected.{segments_from_expected, is_named, string_is_expected, string_starts_expected}
-use Rattle.goblin_c.specs.Expected.{strings_expected, table_expected, whole_header}
-use Rattle.goblin_c.specs.Bytes.{section_bytes_expected, segment_bytes_expected, string_bytes_expected}
+use Rattle.goblin_c.specs.Expected.{names_section_expected, section_by_name_expected, symbol_by_name_expected}
+use Rattle.goblin_c.specs.Expected.{segments_from_expected, string_is_expected, string_starts_expected, passes}
+use Rattle.goblin_c.specs.Expected.{strings_expected, table_expected, whole_header, first_item, sections_expected}
+use Rattle.goblin_c.specs.Expected.{symbols_expected}
+use Rattle.goblin_c.specs.Bytes.{section_range_expected, segment_range_expected, string_expected}
 use Rattle.goblin_c.specs.FilledBuffer.{closed, laid}
-use Rattle.goblin_c.specs.Notes.{note_bytes_expected, note_expected, part_number}
+use Rattle.goblin_c.specs.Notes.{note_expected, note_whole_expected, note_utf8_expected, part_number}
 use Rattle.goblin_c.specs.Types.{header_converted, refusal_converted, reloc_converted, section_converted}
 use Rattle.goblin_c.specs.Types.{segment_converted, symbol_converted}
 
@@ -53,14 +55,15 @@ abbrev pub NotesAreItems : Type 0
 NotesAreItems =
     (notes : NoteDataIterator) (h : GoblinHeader) (range : GoblinRange) (alignment : ℕ)
     → IsOver notes h range alignment
-    → let found = note_expected notes.bytes.now h range alignment notes.offset in
+    → let found = note_utf8_expected notes.bytes.now h range alignment notes.offset in
     items_left notes ≡ items_reported notes.bytes.now found (λ next. items_left (record notes { offset = next }))
 
 -- the items that so many calls store: the first at an offset, and each other at the next offset of the one before
 abbrev pub notes_reported : ℕ → List ℕ → GoblinHeader → GoblinRange → ℕ → ℕ → List (Result NoteParts Refusal)
 notes_reported zero bytes h range alignment offset = []
 notes_reported (suc calls) bytes h range alignment offset =
-    items_reported bytes (note_expected bytes h range alignment offset) (notes_reported calls bytes h range alignment)
+    items_reported bytes (note_utf8_expected bytes h range alignment offset)
+    (notes_reported calls bytes h range alignment)
 
 -- so many calls, one after another from the iterator's offset on, store the first so many items that it has left
 abbrev pub NotesInARow : Type 0
@@ -231,7 +234,7 @@ pub record BufferIsFilled : Type 0 where
 abbrev pub StringsAreThere : Type 0
 StringsAreThere =
     (bytes : List ℕ) (range : GoblinRange) (offset : ℕ) (found : GoblinRange)
-    → string_expected bytes range offset ≡ Ok (Some found)
+    → string_utf8_expected bytes range offset ≡ Ok (Some found)
     → (strings_expected bytes range >>= λ strings. refused_at (range.offset + offset) (plain strings 0 offset))
     ≡ Ok (bytes_in bytes found)
 
@@ -239,7 +242,7 @@ StringsAreThere =
 abbrev pub StringsLieInFile : Type 0
 StringsLieInFile =
     (bytes : List ℕ) (range : GoblinRange) (offset : ℕ) (found : GoblinRange)
-    → string_expected bytes range offset ≡ Ok (Some found) → LiesIn bytes found
+    → string_utf8_expected bytes range offset ≡ Ok (Some found) → LiesIn bytes found
 
 -- a section, if it is a table that others name by its index
 abbrev pub section_if_table : ℕ → Option GoblinSection → Option GoblinSection
@@ -262,9 +265,9 @@ TablesByIndex =
 abbrev pub NamesByIndex : Type 0
 NamesByIndex =
     (bytes : List ℕ) (h : GoblinHeader)
-    → (h.e_shstrndx ≢ 0xffff → section_names_expected bytes h ≡ table_expected bytes h h.e_shstrndx)
+    → (h.e_shstrndx ≢ 0xffff → names_section_expected bytes h ≡ table_expected bytes h h.e_shstrndx)
     × ((first : GoblinSection) → h.e_shstrndx ≡ 0xffff → section_expected bytes h 0 ≡ Ok (Some first)
-    → section_names_expected bytes h ≡ table_expected bytes h first.sh_link)
+    → names_section_expected bytes h ≡ table_expected bytes h first.sh_link)
 
 -- a call stores a range for the string at an offset, whose bytes are this name
 abbrev pub IsNameAt : List ℕ → GoblinRange → ℕ → List ℕ → Type 0
@@ -301,6 +304,7 @@ RefusesInTurn call strings refusal =
 abbrev pub SectionsByName : Type 0
 SectionsByName =
     (bytes : List ℕ) (h : GoblinHeader) (names : GoblinRange) (name : List ℕ) (first : ℕ)
+    → IsBytes bytes
     → let HasTheName = λ (section : GoblinSection). IsNameAt bytes names section.sh_name name in
     let Refuses = RefusesInTurn (section_expected bytes h) (string_expected bytes names) in
     FindsItemFrom first (section_expected bytes h) HasTheName Refuses
@@ -309,6 +313,7 @@ SectionsByName =
 abbrev pub SymbolsByName : Type 0
 SymbolsByName =
     (bytes : List ℕ) (h : GoblinHeader) (range names : GoblinRange) (name : List ℕ) (first : ℕ)
+    → IsBytes bytes
     → let HasTheName = λ (symbol : GoblinSymbol). IsNameAt bytes names symbol.st_name name in
     let Refuses = RefusesInTurn (symbol_expected bytes h range) (string_expected bytes names) in
     FindsItemFrom first (symbol_expected bytes h range) HasTheName Refuses
@@ -326,28 +331,35 @@ SectionsByType =
 pub record BytesLieInFile : Type 0 where
   pub section :
       (bytes : List ℕ) (s : GoblinSection) (found : GoblinRange)
-      → section_bytes_expected bytes s ≡ Ok (Some found) → LiesIn bytes found
+      → section_range_expected bytes s ≡ Ok (Some found) → LiesIn bytes found
   pub segment :
       (bytes : List ℕ) (s : GoblinSegment) (found : GoblinRange)
-      → segment_bytes_expected bytes s ≡ Ok (Some found) → LiesIn bytes found
+      → segment_range_expected bytes s ≡ Ok (Some found) → LiesIn bytes found
   pub string :
       (bytes : List ℕ) (range : GoblinRange) (offset : ℕ) (found : GoblinRange)
-      → string_bytes_expected bytes range offset ≡ Ok (Some found) → LiesIn bytes found
+      → string_expected bytes range offset ≡ Ok (Some found) → LiesIn bytes found
 
 -- a section of type 0 or 8 or without a size has no bytes, nor has a segment of type 0 or without a size
 pub record EmptyHaveNoBytes : Type 0 where
   pub section :
       (bytes : List ℕ) (s : GoblinSection)
-      → (s.sh_type ≡ 0) ⊎ (s.sh_type ≡ 8) ⊎ (s.file.size ≡ 0) → section_bytes_expected bytes s ≡ Ok None
+      → (s.sh_type ≡ 0) ⊎ (s.sh_type ≡ 8) ⊎ (s.file.size ≡ 0) → section_range_expected bytes s ≡ Ok None
   pub segment :
       (bytes : List ℕ) (s : GoblinSegment)
-      → (s.p_type ≡ 0) ⊎ (s.file.size ≡ 0) → segment_bytes_expected bytes s ≡ Ok None
+      → (s.p_type ≡ 0) ⊎ (s.file.size ≡ 0) → segment_range_expected bytes s ≡ Ok None
 
 -- the range that a call stores for a string is the one that is stored for it, UTF-8 or not
 abbrev pub StringsAreBytes : Type 0
 StringsAreBytes =
     (bytes : List ℕ) (range : GoblinRange) (offset : ℕ) (found : GoblinRange)
-    → string_expected bytes range offset ≡ Ok (Some found) → string_bytes_expected bytes range offset ≡ Ok (Some found)
+    → string_utf8_expected bytes range offset ≡ Ok (Some found) → string_expected bytes range offset ≡ Ok (Some found)
+
+-- and one that is UTF-8 is stored as such
+abbrev pub TextIsUtf8 : Type 0
+TextIsUtf8 =
+    (bytes : List ℕ) (range : GoblinRange) (offset : ℕ) (found : GoblinRange)
+    → string_expected bytes range offset ≡ Ok (Some found) → is_utf8 (bytes_in bytes found) ≡ true
+    → string_utf8_expected bytes range offset ≡ Ok (Some found)
 
 -- whether a range that a call stored has these bytes, and whether it starts with them
 abbrev pub range_is : List ℕ → List ℕ → Option GoblinRange → Bool
@@ -358,21 +370,31 @@ abbrev pub range_starts : List ℕ → List ℕ → Option GoblinRange → Bool
 range_starts bytes start (Some found) = bytes_eq (take (length start) (bytes_in bytes found)) start
 range_starts bytes start None = false
 
--- a string that is compared is compared as the bytes at its range are, and with a name that is UTF-8 as the searches by
--- a name do
+-- a string that is compared is compared as the bytes at its range are; where none is stored, it is no name and does not
+-- start with any bytes
 pub record StringsAreCompared : Type 0 where
   pub whole :
       (bytes : List ℕ) (range : GoblinRange) (offset : ℕ) (name : List ℕ)
-      → string_is_expected bytes range offset name
-      ≡ (string_bytes_expected bytes range offset >>= λ found. Ok (range_is bytes name found))
+      → string_is_expected bytes range offset name ≡ passes (range_is bytes name) (string_expected bytes range offset)
   pub start :
       (bytes : List ℕ) (range : GoblinRange) (offset : ℕ) (start : List ℕ)
       → string_starts_expected bytes range offset start
-      ≡ (string_bytes_expected bytes range offset >>= λ found. Ok (range_starts bytes start found))
-  pub named :
-      (bytes : List ℕ) (range : GoblinRange) (offset : ℕ) (name : List ℕ) → is_utf8 name ≡ true
-      → string_is_expected bytes range offset name
-      ≡ (strings_expected bytes range >>= λ strings. Ok (is_named strings name offset))
+      ≡ passes (range_starts bytes start) (string_expected bytes range offset)
+
+-- with a name that is UTF-8 a search finds what it finds by strings that are read as UTF-8
+pub record TextIsFound : Type 0 where
+  pub section :
+      (bytes : List ℕ) (h : GoblinHeader) (names : GoblinRange) (name : List ℕ) (first : ℕ)
+      → is_utf8 name ≡ true
+      → section_by_name_expected bytes h names name first
+      ≡ (sections_expected bytes h >>= λ sections. strings_expected bytes names >>= λ strings.
+      Ok (first_item section_converted (λ section. has_name strings 0 section.sh_name name) first sections))
+  pub symbol :
+      (bytes : List ℕ) (h : GoblinHeader) (range names : GoblinRange) (name : List ℕ) (first : ℕ)
+      → is_utf8 name ≡ true
+      → symbol_by_name_expected bytes h range names name first
+      ≡ (symbols_expected bytes h range >>= λ symbols. strings_expected bytes names >>= λ strings.
+      Ok (first_item symbol_converted (λ symbol. has_name strings 0 symbol.st_name name) first symbols))
 
 -- a text that is shorter than the buffer stands at its start, and a zero byte after it
 abbrev pub TextIsClosed : Type 0
@@ -381,16 +403,24 @@ TextIsClosed =
     → (take (length text) (laid (closed text) old) ≡ text)
     × (slice_get (laid (closed text) old) (length text) ≡ Some 0)
 
--- a note that a call stores, and whose descriptor lies in the range, is the one that is stored as a whole note; only
--- its name is longer, by the byte that closes it
+-- a note that a call stores, and whose descriptor lies in the range, is the one that is stored as a whole note
 abbrev pub WholeNotesAreNotes : Type 0
 WholeNotesAreNotes =
     (bytes : List ℕ) (h : GoblinHeader) (range : GoblinRange) (alignment offset : ℕ) (note : GoblinNote)
-    → note_expected bytes h range alignment offset ≡ Ok (Some note)
+    → note_utf8_expected bytes h range alignment offset ≡ Ok (Some note)
     → note.desc.offset + note.desc.size ≤ range.offset + range.size
-    → (size : ℕ) × (note.name.size ≡ size - 1)
-    × (note_bytes_expected bytes h range alignment offset
-    ≡ Ok (Some (record note { name = record { offset = note.name.offset; size = size } })))
+    → note_whole_expected bytes h range alignment offset ≡ Ok (Some note)
+
+-- a note whose name is text is stored by either call, and the same
+pub record NotesAreText : Type 0 where
+  pub bytes :
+      (bytes : List ℕ) (h : GoblinHeader) (range : GoblinRange) (alignment offset : ℕ) (note : GoblinNote)
+      → note_utf8_expected bytes h range alignment offset ≡ Ok (Some note)
+      → note_expected bytes h range alignment offset ≡ Ok (Some note)
+  pub text :
+      (bytes : List ℕ) (h : GoblinHeader) (range : GoblinRange) (alignment offset : ℕ) (note : GoblinNote)
+      → note_expected bytes h range alignment offset ≡ Ok (Some note) → is_utf8 (bytes_in bytes note.name) ≡ true
+      → note_utf8_expected bytes h range alignment offset ≡ Ok (Some note)
 
 -- the numbers of no part of a note, the header, the name and the descriptor
 abbrev pub PartsAreNumbered : Type 0

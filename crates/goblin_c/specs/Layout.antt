@@ -19,17 +19,18 @@ range_marked mark = record { offset = each_byte 8 mark; size = each_byte 8 (mark
 
 -- The sizes, and one of each struct, whose fields have the marks from 1 on, those of a range in it too. It is converted
 -- from a record of the library, except those of a refusal, a range and a relocation.
-abbrev pub layout : GoblinLayout
-layout = record {
+abbrev pub marked : GoblinLayout
+marked = record {
   size_of_refusal = 48;
   size_of_range = 16;
   size_of_header = 56;
-  size_of_section = 72;
+  size_of_section = 64;
   size_of_segment = 56;
-  size_of_symbol = 40;
-  size_of_reloc = 32;
+  size_of_symbol = 24;
+  size_of_reloc = 24;
   size_of_note = 48;
   size_of_dyn = 16;
+  size_of_file = 72;
   refusal = record {
     kind = each_byte 4 1;
     item = each_byte 4 2;
@@ -43,18 +44,17 @@ layout = record {
   header = header_converted (header_of_values (0 ∷ 0 ∷ 0 ∷ 0 ∷ 14 ∷ 15 ∷ 16 ∷ 17 ∷ 18 ∷ [])
       (each_byte 2 6 ∷ each_byte 2 7 ∷ each_byte 4 4 ∷ each_byte 8 1 ∷ each_byte 8 2 ∷ each_byte 8 3 ∷ each_byte 4 5
       ∷ each_byte 2 8 ∷ each_byte 2 9 ∷ each_byte 2 10 ∷ each_byte 2 11 ∷ each_byte 2 12 ∷ each_byte 2 13 ∷ []));
-  section = section_converted (section_header_of_values (each_byte 8 3 ∷ each_byte 4 8 ∷ each_byte 8 4 ∷ each_byte 8 5
-      ∷ each_byte 8 1 ∷ each_byte 8 2 ∷ each_byte 4 9 ∷ each_byte 4 10 ∷ each_byte 8 6 ∷ each_byte 8 7 ∷ []));
-  segment = segment_converted (program_header_of_values (each_byte 4 7 ∷ each_byte 4 8 ∷ each_byte 8 1 ∷ each_byte 8 3
-      ∷ each_byte 8 4 ∷ each_byte 8 2 ∷ each_byte 8 5 ∷ each_byte 8 6 ∷ []));
+  section = section_converted (section_header_of_values (each_byte 4 1 ∷ each_byte 4 2 ∷ each_byte 8 3 ∷ each_byte 8 4
+      ∷ each_byte 8 5 ∷ each_byte 8 6 ∷ each_byte 4 7 ∷ each_byte 4 8 ∷ each_byte 8 9 ∷ each_byte 8 10 ∷ []));
+  segment = segment_converted (program_header_of_values (each_byte 4 1 ∷ each_byte 4 2 ∷ each_byte 8 3 ∷ each_byte 8 5
+      ∷ each_byte 8 6 ∷ each_byte 8 4 ∷ each_byte 8 7 ∷ each_byte 8 8 ∷ []));
   symbol = symbol_converted (sym_of_values
-      (each_byte 8 1 ∷ 5 ∷ 6 ∷ each_byte 8 4 ∷ each_byte 8 2 ∷ each_byte 8 3 ∷ []));
+      (each_byte 4 1 ∷ 2 ∷ 3 ∷ each_byte 2 4 ∷ each_byte 8 5 ∷ each_byte 8 6 ∷ []));
   reloc = record {
     r_offset = each_byte 8 1;
-    r_sym = each_byte 8 2;
-    r_addend = pos (each_byte 8 3);
-    r_type = each_byte 4 4;
-    has_addend = each_byte 4 5;
+    r_type = each_byte 4 2;
+    r_sym = each_byte 4 3;
+    r_addend = pos (each_byte 8 4);
   };
   note = note_converted 0 (record {
     n_type = each_byte 4 6;

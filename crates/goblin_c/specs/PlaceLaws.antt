@@ -6,7 +6,7 @@ use Rattle.goblin_c.specs.Common.{GoblinHeader, GoblinRange, GoblinSection, Gobl
 use Rattle.goblin_c.specs.Expected.{segment_expected}
 use Rattle.goblin_c.specs.Laws.{LiesIn, RefusesAll, bytes_in}
 use Rattle.goblin_c.specs.Places.{address_to_offset_expected, cut_range, number_in_expected}
-use Rattle.goblin_c.specs.Bytes.{number_expected, section_bytes_expected, segment_bytes_expected}
+use Rattle.goblin_c.specs.Bytes.{number_expected, section_range_expected, segment_range_expected}
 use Rattle.goblin_c.specs.Notes.{part_converted}
 use Rattle.goblin_c.specs.Refused.{RefusalAt}
 
@@ -33,10 +33,10 @@ IsRange bytes range (Err refusal) = (¬ (LiesIn bytes range)) × (refusal.offset
 pub record BytesAreFound : Type 0 where
   pub section :
       (bytes : List ℕ) (s : GoblinSection)
-      → s.sh_type ≢ 0 → s.sh_type ≢ 8 → s.file.size ≢ 0 → IsRange bytes s.file (section_bytes_expected bytes s)
+      → s.sh_type ≢ 0 → s.sh_type ≢ 8 → s.file.size ≢ 0 → IsRange bytes s.file (section_range_expected bytes s)
   pub segment :
       (bytes : List ℕ) (s : GoblinSegment)
-      → s.p_type ≢ 0 → s.file.size ≢ 0 → IsRange bytes s.file (segment_bytes_expected bytes s)
+      → s.p_type ≢ 0 → s.file.size ≢ 0 → IsRange bytes s.file (segment_range_expected bytes s)
 
 -- a number has so many bytes
 abbrev pub IsWidth : ℕ → Type 0

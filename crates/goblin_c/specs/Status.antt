@@ -1,7 +1,7 @@
 -- What a call for C returns, a number, and what it stores where its caller points.
 use Rattle.goblin_c.specs.Refused.{RefusalAt, refusal_at}
 use Rattle.std.specs.Prelude.{◌≡◌, ◌≤◌, ℕ, List, length, take, drop, map, min, slice_get, Option, Some, None, Result}
-use Rattle.std.specs.Prelude.{Ok, Err, Bool, if◌then◌else◌}
+use Rattle.std.specs.Prelude.{Ok, Err}
 use Rattle.goblin_c.specs.Common.{Refused, OK, END, GoblinRefusal}
 use Rattle.goblin_c.specs.FilledBuffer.{laid}
 use Rattle.goblin_c.specs.Types.{refusal_converted}
@@ -24,12 +24,6 @@ abbrev pub StoresBoth : {X Y : Type 0}
     → Result (Option (X × Y)) RefusalAt → X → Y → GoblinRefusal → ℕ → X → Y → GoblinRefusal → Type 0
 StoresBoth expected first second was status new_first new_second why =
     Stores expected (first, second) was status (new_first, new_second) why
-
--- What a call returns and stores that reports whether something is so: 0 if it is, 1 if it is not, or the number of the
--- kind, and the refusal. All else is unchanged.
-abbrev pub Reports : Result Bool RefusalAt → GoblinRefusal → ℕ → GoblinRefusal → Type 0
-Reports (Ok is_so) was status why = (status ≡ (if is_so then OK else END)) × (why ≡ was)
-Reports (Err refusal) was status why = (status ≡ (refusal_converted refusal).kind) × (why ≡ refusal_converted refusal)
 
 -- What a call returns and stores that fills a buffer with the items from an index on: 0, as many items as the buffer
 -- holds, and how many those are; 1 past the last item; or the number of the kind, and the refusal. All else is

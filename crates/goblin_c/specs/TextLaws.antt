@@ -13,17 +13,20 @@ use Rattle.goblin_base.specs.Record.{read_within}
 use Rattle.goblin_c.specs.Refused.{RefusalAt, refused_at}
 use Rattle.goblin_c.specs.Expected.{ctx_of, header_expected, reloc_count_expected, reloc_expected, relocs_from_expected}
 use Rattle.goblin_c.specs.Expected.{relocs_expected, section_by_name_expected, section_by_type_expected}
-use Rattle.goblin_c.specs.Expected.{section_count_expected, section_names_expected, section_expected}
+use Rattle.goblin_c.specs.Expected.{section_count_expected, names_section_expected, section_expected}
 use Rattle.goblin_c.specs.Expected.{sections_from_expected, sections_expected, segment_count_expected, segment_expected}
-use Rattle.goblin_c.specs.Expected.{segments_from_expected, segments_expected, string_expected, string_is_expected}
-use Rattle.goblin_c.specs.Expected.{string_starts_expected, strings_expected, symbol_by_address_expected}
+use Rattle.goblin_c.specs.Expected.{segments_from_expected, segments_expected, string_utf8_expected}
+use Rattle.goblin_c.specs.Expected.{strings_expected, symbol_by_address_expected}
 use Rattle.goblin_c.specs.Expected.{symbol_by_name_expected, symbol_count_expected, symbol_expected}
 use Rattle.goblin_c.specs.Expected.{symbols_from_expected, symbols_expected, table_expected}
-use Rattle.goblin_c.specs.Bytes.{number_expected, section_bytes_expected, segment_bytes_expected, string_bytes_expected}
-use Rattle.goblin_c.specs.Bytes.{string_closed_expected}
+use Rattle.goblin_c.specs.Bytes.{number_expected, section_range_expected, segment_range_expected, string_expected}
+use Rattle.goblin_c.specs.Bytes.{closed_strings_expected, string_closed_expected}
 use Rattle.goblin_c.specs.Dynamic.{dynamic_expected, dynamic_strings_expected, dynamic_value_expected}
-use Rattle.goblin_c.specs.Dynamic.{entries_from_expected}
-use Rattle.goblin_c.specs.Notes.{note_bytes_expected, note_expected, part_converted}
+use Rattle.goblin_c.specs.Dynamic.{dynamic_count_expected, entries_from_expected, entry_expected}
+use Rattle.goblin_c.specs.Common.{GoblinDyn}
+use Rattle.goblin_c.specs.Write.{dyn_put_expected}
+use Rattle.goblin_c.specs.Notes.{note_expected, note_whole_expected, note_utf8_expected, part_converted, parts_at}
+use Rattle.goblin_c.specs.Notes.{read_parts}
 use Rattle.goblin_c.specs.Places.{address_to_offset_expected, number_in_expected}
 use Rattle.goblin_c.specs.Types.{refusal_converted}
 use Rattle.goblin_c.specs.Write.{Put, header_put_expected, named_ctx, number_in_put_expected, number_put_expected}
@@ -54,7 +57,7 @@ PartHasSameText offset (Err e) = converted_text (part_converted offset e) ≡ re
 abbrev pub PartsHaveSameText : Type 0
 PartsHaveSameText =
     (bytes : List ℕ) (h : GoblinHeader) (range : GoblinRange) (alignment offset : ℕ)
-    → PartHasSameText offset (note_bytes_expected bytes h range alignment offset)
+    → PartHasSameText offset (note_whole_expected bytes h range alignment offset)
 
 -- the refusal of a result names no item, or one that has a number
 abbrev Known : {X : Type 0} → Result X Refusal → Type 0
@@ -120,6 +123,10 @@ known_note : (bytes : List ℕ) (offset : ℕ) (ctx : ℕ × Ctx) → Known (pla
 unfolding places_at read_places read_within
 known_note bytes offset ctx = grind (arith, known_room)
 
+known_parts : (bytes : List ℕ) (offset : ℕ) (ctx : ℕ × Ctx) → Known (parts_at bytes offset ctx)
+unfolding parts_at read_parts read_within
+known_parts bytes offset ctx = grind (arith, known_room)
+
 -- what is put, and the header
 known_put : {X : Type 0} (found : Result (Option X) RefusalAt) (misfit : Option Misfit) (place : ℕ) (put : List ℕ)
     → KnownAt found → PutHasSameText (put_if_there found (put_unless misfit place put))
@@ -138,12 +145,12 @@ known_header_put (Err why) misfit put known = inl (why, refl, text_same why know
 pub record HaveSameText
     (bytes : List ℕ) (h : GoblinHeader) (range names : GoblinRange) (name : List ℕ) (is_rela : Bool)
     (index offset address alignment width sh_type value : ℕ) (s : GoblinSection) (p : GoblinSegment)
-    (y : GoblinSymbol) (r : GoblinReloc) (misfit : Option Misfit) : Type 0 where
+    (y : GoblinSymbol) (r : GoblinReloc) (d : GoblinDyn) (misfit : Option Misfit) : Type 0 where
   pub header : HasSameText (header_expected bytes)
   pub section_count : HasSameText (section_count_expected bytes h)
   pub section : HasSameText (section_expected bytes h index)
   pub sections : HasSameText (sections_from_expected bytes h index)
-  pub section_names : HasSameText (section_names_expected bytes h)
+  pub names_section : HasSameText (names_section_expected bytes h)
   pub table : HasSameText (table_expected bytes h index)
   pub segment : HasSameText (segment_expected bytes h index)
   pub segments : HasSameText (segments_from_expected bytes h index)
@@ -151,7 +158,8 @@ pub record HaveSameText
   pub symbols : HasSameText (symbols_from_expected bytes h range index)
   pub reloc : HasSameText (reloc_expected bytes h range is_rela index)
   pub relocs : HasSameText (relocs_from_expected bytes h range is_rela index)
-  pub string : HasSameText (string_expected bytes range offset)
+  pub string_utf8 : HasSameText (string_utf8_expected bytes range offset)
+  pub note_utf8 : HasSameText (note_utf8_expected bytes h range alignment offset)
   pub note : HasSameText (note_expected bytes h range alignment offset)
   pub section_by_name : HasSameText (section_by_name_expected bytes h names name index)
   pub symbol_by_name : HasSameText (symbol_by_name_expected bytes h range names name index)
@@ -160,24 +168,25 @@ pub record HaveSameText
   pub reloc_count : HasSameText (reloc_count_expected bytes h range is_rela)
   pub symbol_by_address : HasSameText (symbol_by_address_expected bytes h range address)
   pub section_by_type : HasSameText (section_by_type_expected bytes h sh_type index)
-  pub section_bytes : HasSameText (section_bytes_expected bytes s)
-  pub segment_bytes : HasSameText (segment_bytes_expected bytes p)
-  pub string_bytes : HasSameText (string_bytes_expected bytes range offset)
+  pub section_range : HasSameText (section_range_expected bytes s)
+  pub segment_range : HasSameText (segment_range_expected bytes p)
+  pub string : HasSameText (string_expected bytes range offset)
   pub string_closed : HasSameText (string_closed_expected bytes range offset)
-  pub string_is : HasSameText (string_is_expected bytes range offset name)
-  pub string_starts : HasSameText (string_starts_expected bytes range offset name)
+  pub closed_strings : HasSameText (closed_strings_expected bytes range)
   pub number : HasSameText (number_expected bytes h offset width)
   pub number_in : HasSameText (number_in_expected bytes h range offset width)
   pub address_to_offset : HasSameText (address_to_offset_expected bytes h address)
   pub dynamic : HasSameText (dynamic_expected bytes h)
   pub dynamic_entries : HasSameText (entries_from_expected bytes h range index)
-  pub dynamic_value : HasSameText (dynamic_value_expected bytes h range value)
+  pub dynamic_count : HasSameText (dynamic_count_expected bytes h range)
+  pub dynamic_value : HasSameText (dynamic_value_expected bytes h range value index)
   pub dynamic_strings : HasSameText (dynamic_strings_expected bytes h range)
   pub put_header : PutHasSameText (header_put_expected bytes h misfit)
   pub put_section : PutHasSameText (section_put_expected bytes h index s misfit)
   pub put_segment : PutHasSameText (segment_put_expected bytes h index p misfit)
   pub put_symbol : PutHasSameText (symbol_put_expected bytes h range index y misfit)
   pub put_reloc : PutHasSameText (reloc_put_expected bytes h range is_rela index r misfit)
+  pub put_entry : PutHasSameText (dyn_put_expected bytes h range index d misfit)
   pub put_number : PutHasSameText (number_put_expected bytes h offset width value misfit)
   pub put_number_in : PutHasSameText (number_in_put_expected bytes h range offset width value misfit)
 
@@ -186,11 +195,11 @@ abbrev pub RefusalsHaveSameText : Type 0
 RefusalsHaveSameText =
     (bytes : List ℕ) (h : GoblinHeader) (range names : GoblinRange) (name : List ℕ) (is_rela : Bool)
     (index offset address alignment width sh_type value : ℕ) (s : GoblinSection) (p : GoblinSegment)
-    (y : GoblinSymbol) (r : GoblinReloc) (misfit : Option Misfit)
-    → HaveSameText bytes h range names name is_rela index offset address alignment width sh_type value s p y r misfit
+    (y : GoblinSymbol) (r : GoblinReloc) (d : GoblinDyn) (misfit : Option Misfit)
+    → HaveSameText bytes h range names name is_rela index offset address alignment width sh_type value s p y r d misfit
 
 pub refusals_have_same_text : RefusalsHaveSameText
-refusals_have_same_text bytes h range names name is_rela index offset address alignment width sh_type value s p y r
+refusals_have_same_text bytes h range names name is_rela index offset address alignment width sh_type value s p y r d
     misfit =
     let sections = known_sections bytes h in
     let segments = known_segments bytes h in
@@ -199,12 +208,13 @@ refusals_have_same_text bytes h range names name is_rela index offset address al
     let strings = known_strings bytes range in
     let names_known = known_strings bytes names in
     let note_known = known_note bytes offset (alignment, ctx_of h) in
+    let parts_known = known_parts bytes offset (alignment, ctx_of h) in
     record {
       header = same_text (header_expected bytes) (grind (arith, known_header bytes));
       section_count = same_text (section_count_expected bytes h) (grind (arith, sections));
       section = same_text (section_expected bytes h index) (grind (arith, sections));
       sections = same_text (sections_from_expected bytes h index) (grind (arith, sections));
-      section_names = same_text (section_names_expected bytes h) (grind (arith, sections));
+      names_section = same_text (names_section_expected bytes h) (grind (arith, sections));
       table = same_text (table_expected bytes h index) (grind (arith, sections));
       segment = same_text (segment_expected bytes h index) (grind (arith, segments));
       segments = same_text (segments_from_expected bytes h index) (grind (arith, segments));
@@ -212,8 +222,9 @@ refusals_have_same_text bytes h range names name is_rela index offset address al
       symbols = same_text (symbols_from_expected bytes h range index) (grind (arith, symbols));
       reloc = same_text (reloc_expected bytes h range is_rela index) (grind (arith, relocs));
       relocs = same_text (relocs_from_expected bytes h range is_rela index) (grind (arith, relocs));
-      string = same_text (string_expected bytes range offset) (grind (arith, strings));
-      note = same_text (note_expected bytes h range alignment offset) (grind (arith, note_known));
+      string_utf8 = same_text (string_utf8_expected bytes range offset) (grind (arith, strings));
+      note_utf8 = same_text (note_utf8_expected bytes h range alignment offset) (grind (arith, note_known));
+      note = same_text (note_expected bytes h range alignment offset) (grind (arith, parts_known));
       section_by_name = same_text (section_by_name_expected bytes h names name index)
           (grind (arith, sections, names_known));
       symbol_by_name = same_text (symbol_by_name_expected bytes h range names name index)
@@ -224,25 +235,27 @@ refusals_have_same_text bytes h range names name is_rela index offset address al
       symbol_by_address = same_text (symbol_by_address_expected bytes h range address)
           (grind (arith, symbols, sections));
       section_by_type = same_text (section_by_type_expected bytes h sh_type index) (grind (arith, sections));
-      section_bytes = same_text (section_bytes_expected bytes s) (grind (arith, known_room));
-      segment_bytes = same_text (segment_bytes_expected bytes p) (grind (arith, known_room));
-      string_bytes = same_text (string_bytes_expected bytes range offset) (grind (arith, strings));
+      section_range = same_text (section_range_expected bytes s) (grind (arith, known_room));
+      segment_range = same_text (segment_range_expected bytes p) (grind (arith, known_room));
+      string = same_text (string_expected bytes range offset) (grind (arith, strings));
       string_closed = same_text (string_closed_expected bytes range offset) (grind (arith, strings));
-      string_is = same_text (string_is_expected bytes range offset name) (grind (arith, strings));
-      string_starts = same_text (string_starts_expected bytes range offset name) (grind (arith, strings));
+      closed_strings = same_text (closed_strings_expected bytes range) (grind (arith, strings));
       number = same_text (number_expected bytes h offset width) (grind (arith, known_room));
       number_in = same_text (number_in_expected bytes h range offset width) (grind (arith, known_room));
       address_to_offset = same_text (address_to_offset_expected bytes h address) (grind (arith, segments, known_room));
-      dynamic = same_text (dynamic_expected bytes h) (grind (arith, segments, known_room));
+      dynamic = same_text (dynamic_expected bytes h) (grind (arith, segments, sections, known_room));
       dynamic_entries = same_text (entries_from_expected bytes h range index) (grind (arith, known_room));
-      dynamic_value = same_text (dynamic_value_expected bytes h range value) (grind (arith, known_room));
-      dynamic_strings = same_text (dynamic_strings_expected bytes h range) (grind (arith, segments, known_room));
+      dynamic_count = same_text (dynamic_count_expected bytes h range) (grind (arith, known_room));
+      dynamic_value = same_text (dynamic_value_expected bytes h range value index) (grind (arith, known_room));
+      dynamic_strings = same_text (dynamic_strings_expected bytes h range)
+          (grind (arith, segments, sections, known_room));
       put_header = known_header_put (refused_at 0 (refuse_as refusal_of (named_ctx bytes h))) misfit _
           (grind (arith, known_room));
       put_section = known_put (section_expected bytes h index) misfit _ _ (grind (arith, sections));
       put_segment = known_put (segment_expected bytes h index) misfit _ _ (grind (arith, segments));
       put_symbol = known_put (symbol_expected bytes h range index) misfit _ _ (grind (arith, symbols));
       put_reloc = known_put (reloc_expected bytes h range is_rela index) misfit _ _ (grind (arith, relocs));
+      put_entry = known_put (entry_expected bytes h range index) misfit _ _ (grind (arith, known_room));
       put_number = known_put (number_expected bytes h offset width) misfit _ _ (grind (arith, known_room));
       put_number_in = known_put (number_in_expected bytes h range offset width) misfit _ _ (grind (arith, known_room));
     }

@@ -1,10 +1,16 @@
 -- The text of a refusal that C has.
 use Rattle.goblin_base.specs.declared.texts.Kind.{Kind}
-use Rattle.std.specs.Prelude.{◌≡◌, ◌⊎◌, ⊤, ℕ, ◌==◌, not, if◌then◌else◌, List, [], codes, Option, Some, None}
+use Rattle.goblin.specs.SectionNames.{section_flag_name}
+use Rattle.std.specs.Prelude.{◌≡◌, ◌⊎◌, ⊤, ℕ, ◌==◌, ◌^◌, nat_lt, not, if◌then◌else◌, List, [], codes, Option, Some}
+use Rattle.std.specs.Prelude.{None}
 use Rattle.goblin_c.specs.Common.{Refusal, buffer_too_short, Facts, facts_text, kind_with, refusal_text, INVALID_UTF8}
 use Rattle.goblin_c.specs.Common.{SECTION_HEADERS, PROGRAM_HEADERS, GoblinRefusal, bad_input}
 use Rattle.goblin_c.specs.Refused.{RefusalAt}
 use Rattle.goblin_c.specs.Types.{refusal_converted}
+
+-- the name of one flag of a section, of which one that isn't among the low 32 has none, as 0 has
+abbrev pub flag_name : ℕ → List ℕ
+flag_name flag = section_flag_name (if nat_lt flag (2 ^ 32) then flag else 0)
 
 -- the item with a number, and the empty text for any other number
 abbrev pub item_text : ℕ → List ℕ

@@ -1,8 +1,8 @@
 -- The structs that calls share with C, each as it is converted from what the library reads.
-use Rattle.std.specs.Prelude.{ℕ, ◌+◌, if◌then◌else◌, Bool, List, codes, slice_index, pos, unwrap_or, Option}
+use Rattle.std.specs.Prelude.{ℕ, ◌+◌, ◌%◌, ◌^◌, if◌then◌else◌, Bool, List, codes, slice_index, pos, unwrap_or, Option}
 use Rattle.goblin_c.specs.Common.{Facts, kind_number, refusal_facts, Header, ProgramHeader, Reloc, SectionHeader, Sym}
 use Rattle.goblin_c.specs.Common.{names_index, INVALID_UTF8, SECTION_HEADERS, PROGRAM_HEADERS, GoblinHeader, GoblinNote}
-use Rattle.goblin_c.specs.Common.{GoblinRefusal, GoblinReloc, GoblinSection, GoblinSegment, GoblinSymbol, is_some}
+use Rattle.goblin_c.specs.Common.{GoblinRefusal, GoblinReloc, GoblinSection, GoblinSegment, GoblinSymbol}
 use Rattle.goblin_c.specs.Common.{bytes_eq, Dyn, GoblinDyn}
 use Rattle.goblin.specs.declared.elf.note.NotePlaces.{NotePlaces}
 use Rattle.goblin_c.specs.Refused.{RefusalAt}
@@ -62,51 +62,50 @@ header_converted h = record {
 abbrev pub names_index_of : GoblinHeader → Option SectionHeader → ℕ
 names_index_of h first = names_index h.e_shstrndx first
 
--- a section header for C
+-- a section header for C: of its name the low 32 bits, which are all of one that was read (`ItemsAreWhole`)
 abbrev pub section_converted : SectionHeader → GoblinSection
 section_converted s = record {
-  file = record { offset = s.sh_offset; size = s.sh_size };
-  sh_name = s.sh_name;
+  sh_name = s.sh_name % 2 ^ 32;
+  sh_type = s.sh_type;
   sh_flags = s.sh_flags;
   sh_addr = s.sh_addr;
-  sh_addralign = s.sh_addralign;
-  sh_entsize = s.sh_entsize;
-  sh_type = s.sh_type;
+  file = record { offset = s.sh_offset; size = s.sh_size };
   sh_link = s.sh_link;
   sh_info = s.sh_info;
+  sh_addralign = s.sh_addralign;
+  sh_entsize = s.sh_entsize;
 }
 
 -- a program header for C
 abbrev pub segment_converted : ProgramHeader → GoblinSegment
 segment_converted s = record {
+  p_type = s.p_type;
+  p_flags = s.p_flags;
   file = record { offset = s.p_offset; size = s.p_filesz };
   p_vaddr = s.p_vaddr;
   p_paddr = s.p_paddr;
   p_memsz = s.p_memsz;
   p_align = s.p_align;
-  p_type = s.p_type;
-  p_flags = s.p_flags;
 }
 
--- a symbol for C
+-- a symbol for C: of its name the low 32 bits, and of its section's index the low 16
 abbrev pub symbol_converted : Sym → GoblinSymbol
 symbol_converted s = record {
-  st_name = s.st_name;
-  st_shndx = s.st_shndx;
-  st_value = s.st_value;
-  st_size = s.st_size;
+  st_name = s.st_name % 2 ^ 32;
   st_info = s.st_info;
   st_other = s.st_other;
+  st_shndx = s.st_shndx % 2 ^ 16;
+  st_value = s.st_value;
+  st_size = s.st_size;
 }
 
--- a relocation for C
+-- a relocation for C: of its symbol's index the low 32 bits
 abbrev pub reloc_converted : Reloc → GoblinReloc
 reloc_converted r = record {
   r_offset = r.r_offset;
-  r_sym = r.r_sym;
-  r_addend = unwrap_or r.r_addend (pos 0);
   r_type = r.r_type;
-  has_addend = number_of_bool (is_some r.r_addend);
+  r_sym = r.r_sym % 2 ^ 32;
+  r_addend = unwrap_or r.r_addend (pos 0);
 }
 
 -- the note at an offset for C, whose parts lie at these places, counted from the offset

@@ -1,31 +1,34 @@
 -- Putting records and numbers into the bytes of a file: the bytes after, or the refusal.
 use Rattle.std.specs.Prelude.{◌≡◌, ◌⊎◌, ℕ, ◌+◌, ◌*◌, ◌==◌, ◌<◌, ◌^◌, nat_lt, not, Bool, if◌then◌else◌, List, [], ◌∷◌}
+use Rattle.std.specs.Prelude.{false, pos}
 use Rattle.std.specs.Prelude.{◌++◌, length, take, drop, Option, Some, None, Result, Ok, Err}
 use Rattle.goblin_c.specs.Common.{Ctx, Error, Data, InvalidClass, Layout, refusal_of, room_of, OK, END, ◌>>=◌}
 use Rattle.goblin_c.specs.Common.{refuse_as, Header, ProgramHeader, Reloc, SectionHeader, Sym, HeaderFits, class_of}
 use Rattle.goblin_c.specs.Common.{header_layout, header_size, magic, order_of, sym_layout, GoblinHeader, GoblinRange}
 use Rattle.goblin_c.specs.Common.{GoblinRefusal, GoblinReloc, GoblinSection, GoblinSegment, GoblinSymbol, word_size}
-use Rattle.goblin_c.specs.Common.{Little, Big, Misfit}
+use Rattle.goblin_c.specs.Common.{Misfit}
+use Rattle.goblin_c.specs.declared.kinds.TheConstants.{ADDEND}
 use Rattle.goblin_base.specs.declared.error.Error.TheVariants.{Scroll}
 use Rattle.goblin_base.specs.Fields.{Field}
 use Rattle.goblin_base.specs.Place.{with_number}
 use Rattle.goblin_base.specs.Signed.{complement}
 use Rattle.goblin_base.specs.declared.container.Container.{Container}
 use Rattle.goblin.specs.declared.elf.reloc.RelocCtx.{RelocCtx}
-use Rattle.goblin.specs.Header.{header32, header64, as32 as header_as32, as64 as header_as64}
-use Rattle.goblin.specs.ProgramHeader.{program_header_layout, program_header32, program_header64}
-use Rattle.goblin.specs.ProgramHeader.{as32 as segment_as32, as64 as segment_as64}
+use Rattle.goblin.specs.Header.{header32, as32 as header_as32}
+use Rattle.goblin.specs.ProgramHeader.{program_header_layout, program_header32, as32 as segment_as32}
 use Rattle.goblin.specs.Reloc.{reloc_layout_in}
 use Rattle.goblin.specs.RelocInfo.{symbols, types}
-use Rattle.goblin.specs.SectionHeader.{section_header_layout, section_header32, section_header64}
-use Rattle.goblin.specs.SectionHeader.{as32 as section_as32, as64 as section_as64}
-use Rattle.goblin.specs.Sym.{sym32, sym64, as32 as symbol_as32, as64 as symbol_as64}
+use Rattle.goblin.specs.SectionHeader.{section_header_layout, section_header32, as32 as section_as32}
+use Rattle.goblin.specs.Sym.{sym32, as32 as symbol_as32}
 use Rattle.goblin_c.specs.Bytes.{number_expected}
 use Rattle.goblin_c.specs.Expected.{ctx_of, is_mips64el, reloc_expected, section_expected, segment_expected}
 use Rattle.goblin_c.specs.Expected.{symbol_expected}
+use Rattle.goblin_c.specs.Dynamic.{entry_expected}
 use Rattle.goblin_c.specs.Places.{number_in_expected}
+use Rattle.goblin_c.specs.Common.{Dyn, GoblinDyn}
+use Rattle.goblin_dynamic.specs.Dyn.{entry, entry_layout}
 use Rattle.goblin_c.specs.Refused.{RefusalAt, refused_at}
-use Rattle.goblin_c.specs.Types.{refusal_converted, reloc_converted}
+use Rattle.goblin_c.specs.Types.{refusal_converted}
 
 -- ---- one record
 -- the bytes after others were written over them at an offset
@@ -34,16 +37,16 @@ with_bytes bytes place own = take place bytes ++ own ++ drop (place + length own
 
 -- the first of these fields from an offset on whose value is out of the range of its width; if none is, 0 after them
 abbrev pub misfit_from : ℕ → List Field → Misfit
-misfit_from offset [] = record { value = 0; offset = offset }
+misfit_from offset [] = record { value = 0; offset = offset; item = 0 }
 misfit_from offset (f ∷ fields) =
     if nat_lt f.value (256 ^ f.width) then misfit_from (offset + f.width) fields
-    else record { value = f.value; offset = offset }
+    else record { value = f.value; offset = offset; item = 0 }
 
 -- the refusal of a record at an offset for a value that doesn't fit its field
 abbrev pub unfit : ℕ → Misfit → GoblinRefusal
 unfit place m = record {
   kind = 24;
-  item = 0;
+  item = m.item;
   first = m.value;
   second = 0;
   third = 0;
@@ -117,11 +120,11 @@ symbol_of s = record {
   st_size = s.st_size;
 }
 
--- a relocation, with an addend exactly if the one for C says so
-abbrev pub reloc_of : GoblinReloc → Reloc
-reloc_of r = record {
+-- a relocation of a table with addends or without
+abbrev pub reloc_of : Bool → GoblinReloc → Reloc
+reloc_of is_rela r = record {
   r_offset = r.r_offset;
-  r_addend = if r.has_addend == 0 then None else Some r.r_addend;
+  r_addend = if is_rela then Some r.r_addend else None;
   r_sym = r.r_sym;
   r_type = r.r_type;
 }
@@ -189,9 +192,9 @@ symbol_put_expected bytes h table index s misfit =
 abbrev pub reloc_put_expected : List ℕ → GoblinHeader → GoblinRange → Bool → ℕ → GoblinReloc → Option Misfit → Put
 reloc_put_expected bytes h table is_rela index r misfit =
     put_if_there (reloc_expected bytes h table is_rela index)
-    (put_at (reloc_layout h is_rela) bytes table.offset index (reloc_of r) misfit)
+    (put_at (reloc_layout h is_rela) bytes table.offset index (reloc_of is_rela r) misfit)
 
--- each field fits the class; a relocation's addend is 0 if it isn't there
+-- each field fits the class; a relocation's addend is 0 if its table has none
 abbrev pub SectionFits : GoblinHeader → GoblinSection → Type 0
 SectionFits h s = (section_layout h).Fits (section_of s)
 
@@ -202,29 +205,46 @@ abbrev pub SymbolFits : GoblinHeader → GoblinSymbol → Type 0
 SymbolFits h s = (symbol_layout h).Fits (symbol_of s)
 
 abbrev pub RelocFits : GoblinHeader → Bool → GoblinReloc → Type 0
-RelocFits h is_rela r = (reloc_layout h is_rela).Fits (reloc_of r) × (reloc_converted (reloc_of r) ≡ r)
+RelocFits h is_rela r =
+    (reloc_layout h is_rela).Fits (reloc_of is_rela r) × (is_rela ≡ false → r.r_addend ≡ pos 0)
 
--- the first value of a record, in file order, that doesn't fit its field in a class
-abbrev pub section_misfit : Container → SectionHeader → Misfit
-section_misfit Little s = misfit_from 0 (section_header32.fields (section_as32 s))
-section_misfit Big s = misfit_from 0 (section_header64.fields (section_as64 s))
+-- the first value of a record, in file order, that doesn't fit its field in the 32-bit class; in the other class each
+-- value that C has fits
+abbrev pub section_misfit : SectionHeader → Misfit
+section_misfit s = misfit_from 0 (section_header32.fields (section_as32 s))
 
-abbrev pub segment_misfit : Container → ProgramHeader → Misfit
-segment_misfit Little s = misfit_from 0 (program_header32.fields (segment_as32 s))
-segment_misfit Big s = misfit_from 0 (program_header64.fields (segment_as64 s))
+abbrev pub segment_misfit : ProgramHeader → Misfit
+segment_misfit s = misfit_from 0 (program_header32.fields (segment_as32 s))
 
-abbrev pub symbol_misfit : Container → Sym → Misfit
-symbol_misfit Little s = misfit_from 0 (sym32.fields (symbol_as32 s))
-symbol_misfit Big s = misfit_from 0 (sym64.fields (symbol_as64 s))
+abbrev pub symbol_misfit : Sym → Misfit
+symbol_misfit s = misfit_from 0 (sym32.fields (symbol_as32 s))
 
--- the same of a relocation, whose symbol and type share `r_info`; the addend doesn't fit if all others do
-abbrev pub reloc_misfit : Container → GoblinReloc → Misfit
-reloc_misfit class r =
+-- the same of a relocation, whose symbol and type share `r_info`; the addend doesn't fit if all others do, and is
+-- marked where the table has none
+abbrev pub reloc_misfit : Container → Bool → GoblinReloc → Misfit
+reloc_misfit class is_rela r =
     let width = word_size class in
-    if not (nat_lt r.r_offset (256 ^ width)) then record { value = r.r_offset; offset = 0 }
-    else if not (nat_lt r.r_sym (symbols class)) then record { value = r.r_sym; offset = width }
-    else if not (nat_lt r.r_type (types class)) then record { value = r.r_type; offset = width }
-    else record { value = complement 8 r.r_addend; offset = 2 * width }
+    if not (nat_lt r.r_offset (256 ^ width)) then record { value = r.r_offset; offset = 0; item = 0 }
+    else if not (nat_lt r.r_sym (symbols class)) then record { value = r.r_sym; offset = width; item = 0 }
+    else if not (nat_lt r.r_type (types class)) then record { value = r.r_type; offset = width; item = 0 }
+    else record { value = complement 8 r.r_addend; offset = 2 * width; item = if is_rela then 0 else ADDEND }
+
+-- an entry of the dynamic section is put at an index of those that lie in the range whole
+abbrev pub dyn_of : GoblinDyn → Dyn
+dyn_of d = record { d_tag = d.d_tag; d_val = d.d_val }
+
+abbrev pub dyn_layout : GoblinHeader → Layout Dyn
+dyn_layout h = entry_layout (ctx_of h).container (ctx_of h).le
+
+abbrev pub DynFits : GoblinHeader → GoblinDyn → Type 0
+DynFits h d = (dyn_layout h).Fits (dyn_of d)
+
+abbrev pub dyn_misfit : Dyn → Misfit
+dyn_misfit d = misfit_from 0 ((entry 4).fields d)
+
+abbrev pub dyn_put_expected : List ℕ → GoblinHeader → GoblinRange → ℕ → GoblinDyn → Option Misfit → Put
+dyn_put_expected bytes h range index d misfit =
+    put_if_there (entry_expected bytes h range index) (put_at (dyn_layout h) bytes range.offset index (dyn_of d) misfit)
 
 -- a number is put where the call that reads one of this width finds it
 abbrev pub number_put_expected : List ℕ → GoblinHeader → ℕ → ℕ → ℕ → Option Misfit → Put
@@ -244,7 +264,7 @@ abbrev pub NumberFits : ℕ → ℕ → Type 0
 NumberFits width value = value < 256 ^ width
 
 abbrev pub number_misfit : ℕ → Misfit
-number_misfit value = record { value = value; offset = 0 }
+number_misfit value = record { value = value; offset = 0; item = 0 }
 
 -- the header is put at the start of the file, in the class and the byte order that it names: first the class is
 -- refused, then the byte order, and then the room
@@ -264,6 +284,5 @@ header_put_expected bytes h misfit = do
 abbrev pub FitsClass : List ℕ → GoblinHeader → Type 0
 FitsClass bytes h = HeaderFits (ctx_of h).container (header_of bytes h)
 
-abbrev pub header_misfit : Container → Header → Misfit
-header_misfit Little h = misfit_from 16 (header32.fields (header_as32 h))
-header_misfit Big h = misfit_from 16 (header64.fields (header_as64 h))
+abbrev pub header_misfit : Header → Misfit
+header_misfit h = misfit_from 16 (header32.fields (header_as32 h))

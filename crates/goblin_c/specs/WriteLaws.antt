@@ -2,16 +2,21 @@
 -- and what doesn't fit is refused.
 use Rattle.goblin_c.specs.Expected.{reloc_count_expected, reloc_expected, section_count_expected, section_expected}
 use Rattle.goblin_c.specs.Expected.{segment_count_expected, segment_expected, symbol_count_expected, symbol_expected}
-use Rattle.goblin_c.specs.Expected.{header_expected}
+use Rattle.goblin_c.specs.Expected.{header_expected, relocs_expected, sections_expected, symbols_expected}
 use Rattle.goblin_c.specs.Bytes.{number_expected}
 use Rattle.goblin_c.specs.Places.{number_in_expected}
 use Rattle.goblin_c.specs.Write.{FitsClass, NumberFits, Put, header_put_expected, number_in_put_expected}
 use Rattle.goblin_c.specs.Write.{number_put_expected, RelocFits, SectionFits, SegmentFits, SymbolFits, reloc_layout}
 use Rattle.goblin_c.specs.Write.{reloc_put_expected, section_layout, section_put_expected, segment_layout}
-use Rattle.goblin_c.specs.Write.{segment_put_expected, symbol_layout, symbol_put_expected}
-use Rattle.std.specs.Prelude.{◌≡◌, ◌+◌, ◌*◌, ℕ, Bool, List, length, take, drop, Option, Some, None, Ok, Err}
+use Rattle.goblin_c.specs.Write.{segment_put_expected, symbol_layout, symbol_put_expected, reloc_of, section_of}
+use Rattle.goblin_c.specs.Write.{segment_of, symbol_of, DynFits, dyn_layout, dyn_of, dyn_put_expected}
+use Rattle.goblin_c.specs.Dynamic.{entry_expected}
+use Rattle.goblin_c.specs.Common.{Dyn, GoblinDyn}
+use Rattle.goblin_c.specs.Types.{reloc_converted, section_converted, segment_converted, symbol_converted}
+use Rattle.std.specs.Prelude.{◌≡◌, ◌+◌, ◌*◌, ℕ, Bool, List, length, slice_get, take, drop, Option, Some, None, Ok}
+use Rattle.std.specs.Prelude.{Err}
 use Rattle.goblin_c.specs.Common.{GoblinHeader, GoblinRange, GoblinReloc, GoblinSection, GoblinSegment, GoblinSymbol}
-use Rattle.goblin_c.specs.Common.{IsBytes, Misfit}
+use Rattle.goblin_c.specs.Common.{IsBytes, Misfit, ProgramHeader, Reloc, SectionHeader, Sym}
 
 -- a record that fits and was put is stored by the call that reads it, if the list has as many items as before
 pub record PutsAreRead : Type 0 where
@@ -35,6 +40,10 @@ pub record PutsAreRead : Type 0 where
       → RelocFits h is_rela r → reloc_put_expected bytes h table is_rela index r None ≡ Ok (Some new)
       → reloc_count_expected new h table is_rela ≡ reloc_count_expected bytes h table is_rela
       → reloc_expected new h table is_rela index ≡ Ok (Some r)
+  pub entry :
+      (bytes new : List ℕ) (h : GoblinHeader) (range : GoblinRange) (index : ℕ) (d : GoblinDyn)
+      → DynFits h d → dyn_put_expected bytes h range index d None ≡ Ok (Some new)
+      → entry_expected new h range index ≡ Ok (Some (dyn_of d))
 
 -- files of the same length have as many symbols and relocations in a range
 pub record CountsStay : Type 0 where
@@ -72,6 +81,10 @@ pub record PutsChangeOne : Type 0 where
       (misfit : Option Misfit)
       → reloc_put_expected bytes h table is_rela index r misfit ≡ Ok (Some new)
       → let size = (reloc_layout h is_rela).size in ChangesOnly (table.offset + index * size) size bytes new
+  pub entry :
+      (bytes new : List ℕ) (h : GoblinHeader) (range : GoblinRange) (index : ℕ) (d : GoblinDyn) (misfit : Option Misfit)
+      → dyn_put_expected bytes h range index d misfit ≡ Ok (Some new)
+      → ChangesOnly (range.offset + index * (dyn_layout h).size) (dyn_layout h).size bytes new
 
 -- what the call that reads stores fits, and if it is put at its index, no byte changes; a relocation may be put back
 -- so, too
@@ -92,6 +105,27 @@ pub record ReadsArePut : Type 0 where
       (bytes : List ℕ) (h : GoblinHeader) (table : GoblinRange) (is_rela : Bool) (index : ℕ) (r : GoblinReloc)
       → IsBytes bytes → reloc_expected bytes h table is_rela index ≡ Ok (Some r)
       → reloc_put_expected bytes h table is_rela index r None ≡ Ok (Some bytes)
+  pub entry :
+      (bytes : List ℕ) (h : GoblinHeader) (range : GoblinRange) (index : ℕ) (d : GoblinDyn)
+      → IsBytes bytes → entry_expected bytes h range index ≡ Ok (Some (dyn_of d))
+      → DynFits h d × (dyn_put_expected bytes h range index d None ≡ Ok (Some bytes))
+
+-- of an item that the library reads C has all
+pub record ItemsAreWhole : Type 0 where
+  pub section :
+      (bytes : List ℕ) (h : GoblinHeader) (sections : List SectionHeader) (index : ℕ) (s : SectionHeader)
+      → IsBytes bytes → sections_expected bytes h ≡ Ok sections → slice_get sections index ≡ Some s
+      → section_of (section_converted s) ≡ s
+  pub segment : (s : ProgramHeader) → segment_of (segment_converted s) ≡ s
+  pub symbol :
+      (bytes : List ℕ) (h : GoblinHeader) (table : GoblinRange) (symbols : List Sym) (index : ℕ) (s : Sym)
+      → IsBytes bytes → symbols_expected bytes h table ≡ Ok symbols → slice_get symbols index ≡ Some s
+      → symbol_of (symbol_converted s) ≡ s
+  pub reloc :
+      (bytes : List ℕ) (h : GoblinHeader) (table : GoblinRange) (is_rela : Bool) (relocs : List Reloc) (index : ℕ)
+      (r : Reloc)
+      → IsBytes bytes → relocs_expected bytes h table is_rela ≡ Ok relocs → slice_get relocs index ≡ Some r
+      → reloc_of is_rela (reloc_converted r) ≡ r
 
 -- a number that fits its width and was put is read again, nothing else changes, and what was read is put without a
 -- change
@@ -125,7 +159,8 @@ HeadersAreRead =
 -- a result is a refusal of kind 24 that names a value and the offset of its field, of a record at an offset
 abbrev pub IsUnfit : ℕ → Misfit → Put → Type 0
 IsUnfit place misfit (Ok put) = ⊥
-IsUnfit place misfit (Err why) = (why.kind ≡ 24) × (why.first ≡ misfit.value) × (why.offset ≡ place + misfit.offset)
+IsUnfit place misfit (Err why) =
+    (why.kind ≡ 24) × (why.item ≡ misfit.item) × (why.first ≡ misfit.value) × (why.offset ≡ place + misfit.offset)
 
 -- so is what doesn't fit, if the call that reads stores an item there
 pub record UnfitAreRefused : Type 0 where
@@ -151,6 +186,12 @@ pub record UnfitAreRefused : Type 0 where
       → reloc_expected bytes h table is_rela index ≡ Ok (Some found)
       → let place = table.offset + index * (reloc_layout h is_rela).size in
       IsUnfit place misfit (reloc_put_expected bytes h table is_rela index r (Some misfit))
+  pub entry :
+      (bytes : List ℕ) (h : GoblinHeader) (range : GoblinRange) (index : ℕ) (d : GoblinDyn) (found : Dyn)
+      (misfit : Misfit)
+      → entry_expected bytes h range index ≡ Ok (Some found)
+      → IsUnfit (range.offset + index * (dyn_layout h).size) misfit
+      (dyn_put_expected bytes h range index d (Some misfit))
   pub number :
       (bytes : List ℕ) (h : GoblinHeader) (offset width value found : ℕ) (misfit : Misfit)
       → number_expected bytes h offset width ≡ Ok (Some found)

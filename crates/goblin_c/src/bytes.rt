@@ -4,7 +4,7 @@ ghost use Rattle.goblin.specs.Refusal.{misplaced};
 ghost use Rattle.goblin.specs.Room.{room_of};
 ghost use Rattle.goblin.specs.Steps.{refuse_as};
 ghost use Rattle.goblin_c.specs.Refused.{Returns, refused_at};
-ghost use Rattle.goblin_c.specs.Bytes.{is_width, number_expected, range_expected, section_bytes_expected, segment_bytes_expected, string_bytes_expected};
+ghost use Rattle.goblin_c.specs.Bytes.{is_width, number_expected, range_expected, section_range_expected, segment_range_expected, string_expected};
 ghost use Rattle.goblin_c.specs.Status.{Stores};
 
 use crate::headers::ctx_of;
@@ -12,7 +12,9 @@ use crate::kinds::END;
 use crate::refused::{Refused, Result};
 use crate::status::store;
 use crate::strings::string_table_bytes;
-use crate::types::{GoblinHeader, GoblinRange, GoblinRefusal, GoblinSection, GoblinSegment};
+use crate::types::{
+    GoblinFile, GoblinHeader, GoblinRange, GoblinRefusal, GoblinSection, GoblinSegment,
+};
 use goblin::elf::program_header::PT_NULL;
 use goblin::elf::section_header::{SHT_NOBITS, SHT_NULL};
 use goblin_base::number::{get_u8, get_u16, get_u32, get_u64};
@@ -44,50 +46,53 @@ fn range_in(bytes: &[u8], range: &GoblinRange) -> Result<Option<GoblinRange>>
 
 /// Stores the range of a section's bytes in the file.
 #[unsafe(no_mangle)]
-pub extern "C" fn goblin_section_bytes(
-    bytes: &[u8],
+pub extern "C" fn goblin_section_range(
+    file: &GoblinFile<'_>,
     section: &GoblinSection,
     range: &mut GoblinRange,
     why: &mut GoblinRefusal,
 ) -> u32
-    ensures { Stores (section_bytes_expected bytes.now section.now) range.old why.old result range.new why.new }
+    ensures { Stores (section_range_expected file.now.bytes.now section.now)
+        range.old why.old result range.new why.new }
 {
     let sh_type = section.sh_type;
     if sh_type == SHT_NULL || sh_type == SHT_NOBITS || section.file.size == 0 {
         return END;
     }
-    store(range_in(bytes, &section.file), range, why)
+    store(range_in(file.bytes, &section.file), range, why)
 }
 
 /// Stores the range of a segment's bytes in the file.
 #[unsafe(no_mangle)]
-pub extern "C" fn goblin_segment_bytes(
-    bytes: &[u8],
+pub extern "C" fn goblin_segment_range(
+    file: &GoblinFile<'_>,
     segment: &GoblinSegment,
     range: &mut GoblinRange,
     why: &mut GoblinRefusal,
 ) -> u32
-    ensures { Stores (segment_bytes_expected bytes.now segment.now) range.old why.old result range.new why.new }
+    ensures { Stores (segment_range_expected file.now.bytes.now segment.now)
+        range.old why.old result range.new why.new }
 {
     if segment.p_type == PT_NULL || segment.file.size == 0 {
         return END;
     }
-    store(range_in(bytes, &segment.file), range, why)
+    store(range_in(file.bytes, &segment.file), range, why)
 }
 
 /// Stores the range in the file of the string at an offset of a string table, which need not be UTF-8.
 #[unsafe(no_mangle)]
-pub extern "C" fn goblin_string_bytes(
-    bytes: &[u8],
+pub extern "C" fn goblin_string(
+    file: &GoblinFile<'_>,
     strings: &GoblinRange,
     offset: u64,
     string: &mut GoblinRange,
     why: &mut GoblinRefusal,
 ) -> u32
-    ensures { Stores (string_bytes_expected bytes.now strings.now offset) string.old why.old result string.new why.new }
+    ensures { Stores (string_expected file.now.bytes.now strings.now offset)
+        string.old why.old result string.new why.new }
 {
     let start = offset as usize;
-    let found = string_table_bytes(bytes, strings).map(|table| {
+    let found = string_table_bytes(file.bytes, strings).map(|table| {
         if start >= table.len() {
             return None;
         }
@@ -127,14 +132,14 @@ pub fn number(bytes: &[u8], header: &GoblinHeader, offset: u64, width: u64) -> R
 /// Stores the number of 1, 2, 4 or 8 bytes at an offset, in the file's byte order.
 #[unsafe(no_mangle)]
 pub extern "C" fn goblin_number(
-    bytes: &[u8],
-    header: &GoblinHeader,
+    file: &GoblinFile<'_>,
     offset: u64,
     width: u64,
     value: &mut u64,
     why: &mut GoblinRefusal,
 ) -> u32
-    ensures { Stores (number_expected bytes.now header.now offset width) value.old why.old result value.new why.new }
+    ensures { Stores (number_expected file.now.bytes.now file.now.header offset width)
+        value.old why.old result value.new why.new }
 {
-    store(number(bytes, header, offset, width), value, why)
+    store(number(file.bytes, &file.header, offset, width), value, why)
 }

@@ -1,7 +1,7 @@
 //! The header, the section headers and the program headers, as the library reads them.
-ghost use Rattle.std.specs.Prelude.{◌≡◌, ◌+◌, ◌<◌, ◌==◌, ◌^◌, IfSome, drop, map, position};
+ghost use Rattle.std.specs.Prelude.{◌≡◌, ◌+◌, ◌<◌, ◌==◌, ◌^◌, if◌then◌else◌, IfSome, drop, map, position};
 ghost use Rattle.goblin_c.specs.Refused.{Returns};
-ghost use Rattle.goblin_c.specs.Expected.{ctx_of, found_item, header_expected, section_by_type_expected, section_names_expected, sections_expected, segments_expected, table_at, table_expected, whole_header, section_count_expected, sections_from_expected, segment_count_expected, segments_from_expected};
+ghost use Rattle.goblin_c.specs.Expected.{ctx_of, found_item, header_expected, is_wanted, section_by_type_expected, names_section_expected, sections_expected, segments_expected, table_at, table_expected, whole_header, section_count_expected, sections_from_expected, segment_count_expected, segments_from_expected};
 ghost use Rattle.goblin_c.specs.Status.{Stores, Fills, StoresBoth};
 ghost use Rattle.goblin_c.specs.Types.{section_converted, segment_converted};
 
@@ -10,14 +10,15 @@ use crate::lists::{Listed, count_of, store_from};
 use crate::refused::{Refused, Result, refused_at};
 use crate::status::{refuse, store, store_both};
 use crate::types::{
-    GoblinHeader, GoblinRefusal, GoblinSection, GoblinSegment, convert_header, convert_section,
-    convert_segment,
+    GoblinFile, GoblinHeader, GoblinRefusal, GoblinSection, GoblinSegment, convert_header,
+    convert_section, convert_segment,
 };
 use goblin::container::{Container, Ctx, Endian};
 use goblin::elf::header::{ELFCLASS64, ELFDATA2MSB, Header};
 use goblin::elf::program_header::ProgramHeader;
 use goblin::elf::section_header::SectionHeader;
 use goblin::scroll::{LE, TryFromCtx};
+use goblin::strtab::is_piece;
 use goblin_base::table::Table;
 
 /// Returns the class and the byte order of a header.
@@ -37,19 +38,21 @@ pub fn ctx_of(header: &GoblinHeader) -> Ctx
     Ctx::new(container, order)
 }
 
-/// Stores the header at the file's start.
+/// Stores a file: its bytes, and the header at their start.
 #[unsafe(no_mangle)]
-pub extern "C" fn goblin_header(
-    bytes: &[u8],
-    header: &mut GoblinHeader,
+pub extern "C" fn goblin_file<'a>(
+    bytes: &'a [u8],
+    file: &mut GoblinFile<'a>,
     why: &mut GoblinRefusal,
 ) -> u32
-    ensures { Stores (header_expected bytes.now) header.old why.old result header.new why.new }
+    ensures header { Stores (header_expected bytes.now) file.old.header why.old result file.new.header why.new }
+    ensures bytes { file.new.bytes.now ≡ (if result == OK then bytes.now else file.old.bytes.now) }
 {
     // (it is converted where it is read, since a copy of it takes as long as reading it)
     match Header::try_from_ctx(bytes, LE) {
         Ok((found, _)) => {
-            *header = convert_header(&found);
+            file.bytes = bytes;
+            file.header = convert_header(&found);
             OK
         }
         Err(error) => refuse(&Refused { error, offset: 0 }, why),
@@ -72,30 +75,30 @@ pub fn sections_of<'a>(
 /// Stores the section headers from an index on, as many as the buffer holds.
 #[unsafe(no_mangle)]
 pub extern "C" fn goblin_sections(
-    bytes: &[u8],
-    header: &GoblinHeader,
+    file: &GoblinFile<'_>,
     first: u64,
     sections: &mut [GoblinSection],
     filled: &mut u64,
     why: &mut GoblinRefusal,
 ) -> u32
-    ensures { Fills (sections_from_expected bytes.now header.now first)
+    ensures { Fills (sections_from_expected file.now.bytes.now file.now.header first)
         sections.old filled.old why.old result sections.new filled.new why.new }
 {
-    store_from(sections_of(bytes, header), first, sections, filled, why)
+    let list = sections_of(file.bytes, &file.header);
+    store_from(list, first, sections, filled, why)
 }
 
 /// Stores the number of section headers.
 #[unsafe(no_mangle)]
 pub extern "C" fn goblin_section_count(
-    bytes: &[u8],
-    header: &GoblinHeader,
+    file: &GoblinFile<'_>,
     count: &mut u64,
     why: &mut GoblinRefusal,
 ) -> u32
-    ensures { Stores (section_count_expected bytes.now header.now) count.old why.old result count.new why.new }
+    ensures { Stores (section_count_expected file.now.bytes.now file.now.header)
+        count.old why.old result count.new why.new }
 {
-    store(count_of(sections_of(bytes, header)), count, why)
+    store(count_of(sections_of(file.bytes, &file.header)), count, why)
 }
 
 impl Listed for Table<'_, SectionHeader, Ctx> {
@@ -113,15 +116,26 @@ impl Listed for Table<'_, SectionHeader, Ctx> {
     }
 }
 
-// Returns the position of the first section of a type among those from an index on.
-fn find_type(sections: &Table<'_, SectionHeader, Ctx>, sh_type: u32, first: usize) -> Option<usize>
-    ensures value { result ≡ position (λ section. section.sh_type == sh_type) (drop first sections.now) }
+/// Returns the position of the first section of a type, or if that is `None` with a name, among those from an index on.
+/// (Of two searches, each with such an iterator, neither would skip sections without a step for each.)
+pub fn find_section(
+    sections: &Table<'_, SectionHeader, Ctx>,
+    sh_type: Option<u32>,
+    strings: &[u8],
+    name: &[u8],
+    first: usize,
+) -> Option<usize>
+    ensures value { let test = is_wanted sh_type strings.now name.now in
+        result ≡ position (λ section. test section) (drop first sections.now) }
     ensures bound { IfSome result (λ place. first + place < 2 ^ 64) }
 {
     sections
         .iter()
         .skip(first)
-        .position(|section| section.sh_type == sh_type)
+        .position(|section| match sh_type {
+            Some(sh_type) => section.sh_type == sh_type,
+            None => is_piece(strings, 0, section.sh_name, name),
+        })
 }
 
 /// Returns a section that was found, and its index.
@@ -139,20 +153,20 @@ pub fn section_at(
 /// Stores the first section of a type, from an index on, and its index.
 #[unsafe(no_mangle)]
 pub extern "C" fn goblin_section_by_type(
-    bytes: &[u8],
-    header: &GoblinHeader,
+    file: &GoblinFile<'_>,
     sh_type: u32,
     first: u64,
     index: &mut u64,
     section: &mut GoblinSection,
     why: &mut GoblinRefusal,
 ) -> u32
-    ensures { StoresBoth (section_by_type_expected bytes.now header.now sh_type first)
+    ensures { StoresBoth (section_by_type_expected file.now.bytes.now file.now.header sh_type first)
         index.old section.old why.old result index.new section.new why.new }
 {
     let first = first as usize;
-    let found = sections_of(bytes, header).map(|sections| {
-        let found = find_type(&sections, sh_type, first).map(|place| first + place);
+    let found = sections_of(file.bytes, &file.header).map(|sections| {
+        let found = find_section(&sections, Some(sh_type), &[], &[], first);
+        let found = found.map(|place| first + place);
         section_at(&sections, found)
     });
     store_both(found, index, section, why)
@@ -169,50 +183,54 @@ fn converted_table(sections: &Table<'_, SectionHeader, Ctx>, index: usize) -> Op
 /// and not a section of the type without bytes in the file.
 #[unsafe(no_mangle)]
 pub extern "C" fn goblin_linked_section(
-    bytes: &[u8],
-    header: &GoblinHeader,
+    file: &GoblinFile<'_>,
     index: u64,
     section: &mut GoblinSection,
     why: &mut GoblinRefusal,
 ) -> u32
-    ensures { Stores (table_expected bytes.now header.now index) section.old why.old result section.new why.new }
+    ensures { Stores (table_expected file.now.bytes.now file.now.header index)
+        section.old why.old result section.new why.new }
 {
-    let sections = sections_of(bytes, header);
+    let sections = sections_of(file.bytes, &file.header);
     let found = sections.map(|sections| converted_table(&sections, index as usize));
     store(found, section, why)
 }
 
 /// Stores the section that holds the sections' names, if it is such a table.
 #[unsafe(no_mangle)]
-pub extern "C" fn goblin_section_names(
-    bytes: &[u8],
-    header: &GoblinHeader,
+pub extern "C" fn goblin_names_section(
+    file: &GoblinFile<'_>,
     section: &mut GoblinSection,
     why: &mut GoblinRefusal,
 ) -> u32
-    ensures { Stores (section_names_expected bytes.now header.now) section.old why.old result section.new why.new }
+    ensures { Stores (names_section_expected file.now.bytes.now file.now.header)
+        section.old why.old result section.new why.new }
 {
-    let found = sections_of(bytes, header).map(|sections| {
+    let header = &file.header;
+    let found = sections_of(file.bytes, header).map(|sections| {
         let index = header.names_index(sections.get(0).as_ref());
         converted_table(&sections, index)
     });
     store(found, section, why)
 }
 
-/// Stores a copy of a header that counts only the section headers and program headers that lie whole in the file.
+/// Stores a copy of a file whose header counts only the section headers and program headers that lie whole in it.
 #[unsafe(no_mangle)]
-pub extern "C" fn goblin_whole_header(bytes: &[u8], header: &GoblinHeader, whole: &mut GoblinHeader)
-    ensures { whole.new ≡ whole_header bytes.now header.now }
+pub extern "C" fn goblin_whole_header<'a>(file: &GoblinFile<'a>, whole: &mut GoblinFile<'a>)
+    ensures header { whole.new.header ≡ whole_header file.now.bytes.now file.now.header }
+    ensures bytes { whole.new.bytes.now ≡ file.now.bytes.now }
 {
+    let (bytes, header) = (file.bytes, &file.header);
     let ctx = ctx_of(header);
     let (start, offset) = (header.e_shoff as usize, header.e_phoff as usize);
     let sections = SectionHeader::whole_part(bytes, start, header.e_shnum, ctx);
-    *whole = GoblinHeader {
+    whole.header = GoblinHeader {
         e_shoff: sections.offset as u64,
         e_shnum: sections.count,
         e_phnum: ProgramHeader::whole_part(bytes, header.e_phnum, offset, start, ctx),
         ..*header
     };
+    whole.bytes = bytes;
 }
 
 /// Returns the program headers.
@@ -234,30 +252,30 @@ pub fn segments_of<'a>(
 /// Stores the program headers from an index on, as many as the buffer holds.
 #[unsafe(no_mangle)]
 pub extern "C" fn goblin_segments(
-    bytes: &[u8],
-    header: &GoblinHeader,
+    file: &GoblinFile<'_>,
     first: u64,
     segments: &mut [GoblinSegment],
     filled: &mut u64,
     why: &mut GoblinRefusal,
 ) -> u32
-    ensures { Fills (segments_from_expected bytes.now header.now first)
+    ensures { Fills (segments_from_expected file.now.bytes.now file.now.header first)
         segments.old filled.old why.old result segments.new filled.new why.new }
 {
-    store_from(segments_of(bytes, header), first, segments, filled, why)
+    let list = segments_of(file.bytes, &file.header);
+    store_from(list, first, segments, filled, why)
 }
 
 /// Stores the number of program headers.
 #[unsafe(no_mangle)]
 pub extern "C" fn goblin_segment_count(
-    bytes: &[u8],
-    header: &GoblinHeader,
+    file: &GoblinFile<'_>,
     count: &mut u64,
     why: &mut GoblinRefusal,
 ) -> u32
-    ensures { Stores (segment_count_expected bytes.now header.now) count.old why.old result count.new why.new }
+    ensures { Stores (segment_count_expected file.now.bytes.now file.now.header)
+        count.old why.old result count.new why.new }
 {
-    store(count_of(segments_of(bytes, header)), count, why)
+    store(count_of(segments_of(file.bytes, &file.header)), count, why)
 }
 
 impl Listed for Table<'_, ProgramHeader, Ctx> {

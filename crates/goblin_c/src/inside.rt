@@ -13,8 +13,8 @@ use crate::lists::item_at;
 use crate::status::store;
 use crate::tables::{relocs_of, symbols_of};
 use crate::types::{
-    GoblinHeader, GoblinRange, GoblinRefusal, GoblinReloc, GoblinSection, GoblinSegment,
-    GoblinSymbol, convert_reloc, convert_section, convert_segment,
+    GoblinFile, GoblinHeader, GoblinRange, GoblinRefusal, GoblinReloc, GoblinSection,
+    GoblinSegment, GoblinSymbol, convert_reloc, convert_section, convert_segment,
 };
 use goblin::container::{Container, Ctx, Endian};
 use goblin::elf::header::{ELFCLASS64, ELFDATA2MSB, EM_MIPS};
@@ -60,20 +60,6 @@ fn record_in<R: LaidOut<C>, C: Copy>(
     Some(R::get(&bytes[start..start + own as usize], ctx))
 }
 
-/// What a call for one item is asked for. The steps that may refuse get one pointer to it. If they took its parts, the
-/// compiler would pass them the fields that they read, and each call would load these before it needs them.
-#[derive(Clone, Copy)]
-pub struct Asked<'a> {
-    /// The file.
-    pub bytes: &'a [u8],
-    /// Its header.
-    pub header: &'a GoblinHeader,
-    /// The range of the items.
-    pub range: &'a GoblinRange,
-    /// The index of the item, or the offset of a note.
-    pub index: u64,
-}
-
 // Reports whether a file is of the 64-bit class and in little endian, as most are. What is read of such a file at once
 // asks for neither again.
 #[inline(always)]
@@ -105,73 +91,71 @@ fn symbol_inside(
 fn store_fields(s: &Sym, symbol: &mut GoblinSymbol)
     ensures { symbol.new ≡ symbol_converted s.now }
 {
-    symbol.st_name = s.st_name as u64;
-    symbol.st_value = s.st_value;
-    symbol.st_size = s.st_size;
-    symbol.st_shndx = s.st_shndx as u64;
+    symbol.st_name = (s.st_name % 0x1_0000_0000) as u32;
     symbol.st_info = s.st_info;
     symbol.st_other = s.st_other;
+    symbol.st_shndx = (s.st_shndx % 0x1_0000) as u16;
+    symbol.st_value = s.st_value;
+    symbol.st_size = s.st_size;
 }
 
 /// Stores the symbol at an index of the table that lies in a range.
 #[unsafe(no_mangle)]
 pub extern "C" fn goblin_symbol(
-    bytes: &[u8],
-    header: &GoblinHeader,
+    file: &GoblinFile<'_>,
     range: &GoblinRange,
     index: u64,
     symbol: &mut GoblinSymbol,
     why: &mut GoblinRefusal,
 ) -> u32
-    ensures { Stores (symbol_expected bytes.now header.now range.now index)
+    ensures { Stores (symbol_expected file.now.bytes.now file.now.header range.now index)
         symbol.old why.old result symbol.new why.new }
 {
-    if is_usual(header) {
+    if is_usual(&file.header) {
         let usual = Ctx::new(Container::Big, Endian::Little);
-        if let Some(found) = symbol_inside(bytes, header, range, index, usual) {
+        if let Some(found) = symbol_inside(file.bytes, &file.header, range, index, usual) {
             store_fields(&found, symbol);
             return OK;
         }
     }
-    store_other_symbol(bytes, header, range, index, symbol, why)
+    store_other_symbol(file, range, index, symbol, why)
 }
 
 // Does the same for files of each class and byte order.
 #[inline(never)]
 fn store_other_symbol(
-    bytes: &[u8],
-    header: &GoblinHeader,
+    file: &GoblinFile<'_>,
     range: &GoblinRange,
     index: u64,
     symbol: &mut GoblinSymbol,
     why: &mut GoblinRefusal,
 ) -> u32
-    ensures { Stores (symbol_expected bytes.now header.now range.now index)
+    ensures { Stores (symbol_expected file.now.bytes.now file.now.header range.now index)
         symbol.old why.old result symbol.new why.new }
 {
-    if let Some(found) = symbol_inside(bytes, header, range, index, ctx_of(header)) {
+    let ctx = ctx_of(&file.header);
+    if let Some(found) = symbol_inside(file.bytes, &file.header, range, index, ctx) {
         store_fields(&found, symbol);
         return OK;
     }
-    let asked = Asked {
-        bytes,
-        header,
-        range,
-        index,
-    };
-    store_any_symbol(&asked, symbol, why)
+    store_any_symbol(file, range, index, symbol, why)
 }
 
 // Does the same for any range.
 #[cold]
 #[inline(never)]
-fn store_any_symbol(asked: &Asked<'_>, symbol: &mut GoblinSymbol, why: &mut GoblinRefusal) -> u32
-    ensures { let a = asked.now in
-        Stores (symbol_expected a.bytes.now a.header.now a.range.now a.index)
+fn store_any_symbol(
+    file: &GoblinFile<'_>,
+    range: &GoblinRange,
+    index: u64,
+    symbol: &mut GoblinSymbol,
+    why: &mut GoblinRefusal,
+) -> u32
+    ensures { Stores (symbol_expected file.now.bytes.now file.now.header range.now index)
         symbol.old why.old result symbol.new why.new }
 {
-    let list = symbols_of(asked.bytes, asked.header, asked.range);
-    store(item_at(list, asked.index), symbol, why)
+    let list = symbols_of(file.bytes, &file.header, range);
+    store(item_at(list, index), symbol, why)
 }
 
 // Returns the section header at an index of a list that lies in the file and whose number the header states.
@@ -191,34 +175,38 @@ fn section_inside(bytes: &[u8], header: &GoblinHeader, index: u64) -> Option<Gob
 /// Stores the section header at an index.
 #[unsafe(no_mangle)]
 pub extern "C" fn goblin_section(
-    bytes: &[u8],
-    header: &GoblinHeader,
+    file: &GoblinFile<'_>,
     index: u64,
     section: &mut GoblinSection,
     why: &mut GoblinRefusal,
 ) -> u32
-    ensures { Stores (section_expected bytes.now header.now index) section.old why.old result section.new why.new }
+    ensures { Stores (section_expected file.now.bytes.now file.now.header index)
+        section.old why.old result section.new why.new }
 {
-    if let Some(found) = section_inside(bytes, header, index) {
+    if let Some(found) = section_inside(file.bytes, &file.header, index) {
         *section = found;
         return OK;
     }
-    store_any_section(bytes, header, index, section, why)
+    store_any_section(file, index, section, why)
 }
 
 // Does the same for any list.
 #[cold]
 #[inline(never)]
 fn store_any_section(
-    bytes: &[u8],
-    header: &GoblinHeader,
+    file: &GoblinFile<'_>,
     index: u64,
     section: &mut GoblinSection,
     why: &mut GoblinRefusal,
 ) -> u32
-    ensures { Stores (section_expected bytes.now header.now index) section.old why.old result section.new why.new }
+    ensures { Stores (section_expected file.now.bytes.now file.now.header index)
+        section.old why.old result section.new why.new }
 {
-    store(item_at(sections_of(bytes, header), index), section, why)
+    store(
+        item_at(sections_of(file.bytes, &file.header), index),
+        section,
+        why,
+    )
 }
 
 // Returns the program header at an index of a list that lies in the file and whose number the header states.
@@ -238,34 +226,38 @@ fn segment_inside(bytes: &[u8], header: &GoblinHeader, index: u64) -> Option<Gob
 /// Stores the program header at an index.
 #[unsafe(no_mangle)]
 pub extern "C" fn goblin_segment(
-    bytes: &[u8],
-    header: &GoblinHeader,
+    file: &GoblinFile<'_>,
     index: u64,
     segment: &mut GoblinSegment,
     why: &mut GoblinRefusal,
 ) -> u32
-    ensures { Stores (segment_expected bytes.now header.now index) segment.old why.old result segment.new why.new }
+    ensures { Stores (segment_expected file.now.bytes.now file.now.header index)
+        segment.old why.old result segment.new why.new }
 {
-    if let Some(found) = segment_inside(bytes, header, index) {
+    if let Some(found) = segment_inside(file.bytes, &file.header, index) {
         *segment = found;
         return OK;
     }
-    store_any_segment(bytes, header, index, segment, why)
+    store_any_segment(file, index, segment, why)
 }
 
 // Does the same for any list.
 #[cold]
 #[inline(never)]
 fn store_any_segment(
-    bytes: &[u8],
-    header: &GoblinHeader,
+    file: &GoblinFile<'_>,
     index: u64,
     segment: &mut GoblinSegment,
     why: &mut GoblinRefusal,
 ) -> u32
-    ensures { Stores (segment_expected bytes.now header.now index) segment.old why.old result segment.new why.new }
+    ensures { Stores (segment_expected file.now.bytes.now file.now.header index)
+        segment.old why.old result segment.new why.new }
 {
-    store(item_at(segments_of(bytes, header), index), segment, why)
+    store(
+        item_at(segments_of(file.bytes, &file.header), index),
+        segment,
+        why,
+    )
 }
 
 // Returns the relocation at an index of a range that lies in the file, which has this class and byte order. For MIPS it
@@ -297,67 +289,61 @@ fn reloc_inside(
 /// Stores the relocation at an index of those that lie in a range, with addends or without.
 #[unsafe(no_mangle)]
 pub extern "C" fn goblin_reloc(
-    bytes: &[u8],
-    header: &GoblinHeader,
+    file: &GoblinFile<'_>,
     range: &GoblinRange,
     is_rela: bool,
     index: u64,
     reloc: &mut GoblinReloc,
     why: &mut GoblinRefusal,
 ) -> u32
-    ensures { Stores (reloc_expected bytes.now header.now range.now is_rela index)
+    ensures { Stores (reloc_expected file.now.bytes.now file.now.header range.now is_rela index)
         reloc.old why.old result reloc.new why.new }
 {
-    if is_rela && is_usual(header) {
+    if is_rela && is_usual(&file.header) {
         let usual = Ctx::new(Container::Big, Endian::Little);
-        if let Some(found) = reloc_inside(bytes, header, range, true, index, usual) {
+        if let Some(found) = reloc_inside(file.bytes, &file.header, range, true, index, usual) {
             *reloc = found;
             return OK;
         }
     }
-    store_other_reloc(bytes, header, range, is_rela, index, reloc, why)
+    store_other_reloc(file, range, is_rela, index, reloc, why)
 }
 
 // Does the same for files of each class and byte order, and for relocations without addends.
 #[inline(never)]
 fn store_other_reloc(
-    bytes: &[u8],
-    header: &GoblinHeader,
+    file: &GoblinFile<'_>,
     range: &GoblinRange,
     is_rela: bool,
     index: u64,
     reloc: &mut GoblinReloc,
     why: &mut GoblinRefusal,
 ) -> u32
-    ensures { Stores (reloc_expected bytes.now header.now range.now is_rela index)
+    ensures { Stores (reloc_expected file.now.bytes.now file.now.header range.now is_rela index)
         reloc.old why.old result reloc.new why.new }
 {
-    if let Some(found) = reloc_inside(bytes, header, range, is_rela, index, ctx_of(header)) {
+    let ctx = ctx_of(&file.header);
+    if let Some(found) = reloc_inside(file.bytes, &file.header, range, is_rela, index, ctx) {
         *reloc = found;
         return OK;
     }
-    let asked = Asked {
-        bytes,
-        header,
-        range,
-        index,
-    };
-    store_any_reloc(&asked, is_rela, reloc, why)
+    store_any_reloc(file, range, is_rela, index, reloc, why)
 }
 
 // Does the same for any range.
 #[cold]
 #[inline(never)]
 fn store_any_reloc(
-    asked: &Asked<'_>,
+    file: &GoblinFile<'_>,
+    range: &GoblinRange,
     is_rela: bool,
+    index: u64,
     reloc: &mut GoblinReloc,
     why: &mut GoblinRefusal,
 ) -> u32
-    ensures { let a = asked.now in
-        Stores (reloc_expected a.bytes.now a.header.now a.range.now is_rela a.index)
+    ensures { Stores (reloc_expected file.now.bytes.now file.now.header range.now is_rela index)
         reloc.old why.old result reloc.new why.new }
 {
-    let list = relocs_of(asked.bytes, asked.header, asked.range, is_rela);
-    store(item_at(list, asked.index), reloc, why)
+    let list = relocs_of(file.bytes, &file.header, range, is_rela);
+    store(item_at(list, index), reloc, why)
 }

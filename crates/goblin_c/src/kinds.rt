@@ -21,9 +21,13 @@ pub const NOTE_NAME: u32 = 5;
 /// A note's descriptor, which the range doesn't hold.
 pub const NOTE_DESC: u32 = 6;
 
+/// An addend, which the table has no field for.
+pub const ADDEND: u32 = 7;
+
 /// Laws: the number of each constant.
 pub fn constants()
     ensures answers { OK ∷ END ∷ [] ≡ 0 ∷ 1 ∷ [] }
     ensures items { INVALID_UTF8 ∷ SECTION_HEADERS ∷ PROGRAM_HEADERS ∷ [] ≡ 1 ∷ 2 ∷ 3 ∷ [] }
     ensures notes { NOTE_HEADER ∷ NOTE_NAME ∷ NOTE_DESC ∷ [] ≡ 4 ∷ 5 ∷ 6 ∷ [] }
+    ensures relocs { ADDEND ≡ 7 }
 {}

@@ -1,23 +1,24 @@
 //! Laws of the calls: the items that they store one by one are those that the library reads at once.
 ghost use Rattle.goblin_c.specs.TextLaws.{PartsHaveSameText, RefusalsHaveSameText};
-ghost use Rattle.goblin_c.specs.Laws.{WholeHeaderIsTheLibrarys, WholeHeaderKeeps, WholeNotesAreNotes, TextIsClosed, NotesAreItems, NotesInARow, NotesLieInFile, ContextIsTheHeaders, SectionsByIndex, SegmentsByIndex, SymbolsByIndex, RelocsByIndex, FilledByIndex, BufferIsFilled, NamesByIndex, StringsAreThere, StringsLieInFile, SectionsByName, SymbolsByName, SectionsByType, BytesLieInFile, StringsAreBytes, StringsAreCompared, EmptyHaveNoBytes, PartsAreNumbered, TablesByIndex, KindsAreAboveOne};
+ghost use Rattle.goblin_c.specs.Laws.{WholeHeaderIsTheLibrarys, WholeHeaderKeeps, WholeNotesAreNotes, NotesAreText, TextIsClosed, NotesAreItems, NotesInARow, NotesLieInFile, ContextIsTheHeaders, SectionsByIndex, SegmentsByIndex, SymbolsByIndex, RelocsByIndex, FilledByIndex, BufferIsFilled, NamesByIndex, StringsAreThere, StringsLieInFile, SectionsByName, SymbolsByName, SectionsByType, BytesLieInFile, StringsAreBytes, StringsAreCompared, TextIsFound, TextIsUtf8, EmptyHaveNoBytes, PartsAreNumbered, TablesByIndex, KindsAreAboveOne};
 
-/// Laws: calls of `goblin_note` at a range's start and then at each `next` store exactly the notes of the
-/// library's iterator over the range, in its order, up to the end or the first refusal. The ranges that
-/// they store are the note's name and descriptor, and lie in the file. `next` is past the note's header. If such a
-/// note's descriptor lies in the range, `goblin_note_bytes` stores the same note with its whole name. The parts that it
-/// names have the numbers of `goblin.h`.
+/// Laws: calls of `goblin_note_utf8` at a range's start and then at each `next` store exactly the notes of the
+/// library's iterator over the range, in its order, up to the end or the first refusal. `goblin_note` stores each of
+/// them, and no other note whose name is UTF-8. The ranges that it stores are the note's name and descriptor, and lie
+/// in the file. `next` is past the note's header. If the descriptor of a note of `goblin_note_utf8` lies in the range,
+/// `goblin_note_whole` stores the same note. The parts that it names have the numbers of `goblin.h`.
 #[tactic(auto, using(crate::proofs::NoteLemmas::note_laws))]
 pub fn notes()
     ensures first { NotesAreItems }
     ensures row { NotesInARow }
     ensures within { NotesLieInFile }
     ensures whole { WholeNotesAreNotes }
+    ensures text { NotesAreText }
     ensures numbers { PartsAreNumbered }
 {}
 
 /// Laws: for each refusal that a call stores, `goblin_refusal_to_str` writes the text that the library's
-/// own error prints. So it does for those of `goblin_note_bytes`, whose item is the part.
+/// own error prints. So it does for those of `goblin_note_whole`, whose item is the part.
 pub fn texts()
     ensures calls { RefusalsHaveSameText }
     ensures notes { PartsHaveSameText }
@@ -56,7 +57,7 @@ pub fn whole()
 {}
 
 /// Laws: `goblin_linked_section` stores what `goblin_section` stores at an index, but nothing at index 0 or of a
-/// section without bytes in the file. `goblin_section_names` stores the table at the index in the header,
+/// section without bytes in the file. `goblin_names_section` stores the table at the index in the header,
 /// or if that is 0xffff at the index that the first section links to.
 #[tactic(auto, using(crate::proofs::IndexLemmas::tables_by_index, crate::proofs::IndexLemmas::names_by_index))]
 pub fn names()
@@ -74,7 +75,7 @@ pub fn buffers()
     ensures closed { TextIsClosed }
 {}
 
-/// Laws: the range that `goblin_string` stores has the string that the library reads there, and lies in
+/// Laws: the range that `goblin_string_utf8` stores has the string that the library reads there, and lies in
 /// the file.
 #[tactic(auto, using(crate::proofs::StringLemmas::strings_are_there, crate::proofs::StringLemmas::strings_lie_in_file))]
 pub fn strings()
@@ -82,12 +83,13 @@ pub fn strings()
     ensures within { StringsLieInFile }
 {}
 
-/// Laws: `goblin_string_is` and `goblin_string_starts` return 0 exactly if `goblin_string_bytes` stores a range whose
-/// bytes are the name, or start with it. They return the same refusals. With a name that is UTF-8 `goblin_string_is`
-/// compares as `goblin_section_by_name` and `goblin_symbol_by_name` do.
-#[tactic(auto, using(crate::proofs::StringLemmas::strings_are_compared))]
+/// Laws: `goblin_string_is` and `goblin_string_starts` return true exactly if `goblin_string` stores a range whose
+/// bytes are the name, or start with it. With a name that is UTF-8 `goblin_section_by_name` and `goblin_symbol_by_name`
+/// find what has the name by strings that are read as UTF-8.
+#[tactic(auto, using(crate::proofs::StringLemmas::strings_are_compared, crate::proofs::StringLemmas::text_is_found))]
 pub fn comparisons()
-    ensures { StringsAreCompared }
+    ensures compared { StringsAreCompared }
+    ensures text { TextIsFound }
 {}
 
 /// Laws: `goblin_section_by_name` and `goblin_symbol_by_name` store the index of the first item from an index on whose
@@ -107,12 +109,13 @@ pub fn types()
     ensures { SectionsByType }
 {}
 
-/// Laws: the ranges that `goblin_section_bytes`, `goblin_segment_bytes` and `goblin_string_bytes` store lie
+/// Laws: the ranges that `goblin_section_range`, `goblin_segment_range` and `goblin_string` store lie
 /// in the file. A section of type 0 or 8 or without a size has none, nor has a segment of type 0 or without a size. If
-/// `goblin_string` stores a range, `goblin_string_bytes` stores the same one.
+/// `goblin_string_utf8` stores a range, `goblin_string` stores the same one, and the reverse if its bytes are UTF-8.
 #[tactic(auto, using(crate::proofs::StringLemmas::place_laws))]
 pub fn places()
     ensures within { BytesLieInFile }
     ensures none { EmptyHaveNoBytes }
     ensures same { StringsAreBytes }
+    ensures text { TextIsUtf8 }
 {}

@@ -1,10 +1,10 @@
 //! One of each struct that calls share with C, with numbers by which C can check the place of each field.
-ghost use Rattle.std.specs.Prelude.{◌≡◌, ◌<◌, ◌^◌};
-ghost use Rattle.goblin_c.specs.Layout.{each_byte, layout, range_marked};
+ghost use Rattle.std.specs.Prelude.{◌≡◌, ◌<◌, ◌==◌, ◌^◌, if◌then◌else◌, nat_lt};
+ghost use Rattle.goblin_c.specs.Layout.{each_byte, marked, range_marked};
 
 use crate::types::{
-    GoblinDyn, GoblinHeader, GoblinNote, GoblinRange, GoblinRefusal, GoblinReloc, GoblinSection,
-    GoblinSegment, GoblinSymbol,
+    GoblinDyn, GoblinFile, GoblinHeader, GoblinNote, GoblinRange, GoblinRefusal, GoblinReloc,
+    GoblinSection, GoblinSegment, GoblinSymbol,
 };
 
 /// The sizes of the structs in bytes, and one of each, in which each byte of the first field is 1, of
@@ -21,6 +21,7 @@ pub struct GoblinLayout {
     pub size_of_reloc: u64,
     pub size_of_note: u64,
     pub size_of_dyn: u64,
+    pub size_of_file: u64,
     pub refusal: GoblinRefusal,
     pub range: GoblinRange,
     pub header: GoblinHeader,
@@ -34,7 +35,7 @@ pub struct GoblinLayout {
 
 /// Returns the sizes, and one of each struct.
 pub fn marked_layout() -> GoblinLayout
-    ensures { result ≡ layout }
+    ensures { result ≡ marked }
 {
     GoblinLayout {
         size_of_refusal: size_of::<GoblinRefusal>() as u64,
@@ -46,6 +47,7 @@ pub fn marked_layout() -> GoblinLayout
         size_of_reloc: size_of::<GoblinReloc>() as u64,
         size_of_note: size_of::<GoblinNote>() as u64,
         size_of_dyn: size_of::<GoblinDyn>() as u64,
+        size_of_file: size_of::<GoblinFile>() as u64,
         refusal: GoblinRefusal {
             kind: word(1),
             item: word(2),
@@ -77,39 +79,38 @@ pub fn marked_layout() -> GoblinLayout
             ei_abiversion: 18,
         },
         section: GoblinSection {
-            file: marked_range(1),
-            sh_name: wide(3),
-            sh_flags: wide(4),
-            sh_addr: wide(5),
-            sh_addralign: wide(6),
-            sh_entsize: wide(7),
-            sh_type: word(8),
-            sh_link: word(9),
-            sh_info: word(10),
+            sh_name: word(1),
+            sh_type: word(2),
+            sh_flags: wide(3),
+            sh_addr: wide(4),
+            file: marked_range(5),
+            sh_link: word(7),
+            sh_info: word(8),
+            sh_addralign: wide(9),
+            sh_entsize: wide(10),
         },
         segment: GoblinSegment {
-            file: marked_range(1),
-            p_vaddr: wide(3),
-            p_paddr: wide(4),
-            p_memsz: wide(5),
-            p_align: wide(6),
-            p_type: word(7),
-            p_flags: word(8),
+            p_type: word(1),
+            p_flags: word(2),
+            file: marked_range(3),
+            p_vaddr: wide(5),
+            p_paddr: wide(6),
+            p_memsz: wide(7),
+            p_align: wide(8),
         },
         symbol: GoblinSymbol {
-            st_name: wide(1),
-            st_value: wide(2),
-            st_size: wide(3),
-            st_shndx: wide(4),
-            st_info: 5,
-            st_other: 6,
+            st_name: word(1),
+            st_info: 2,
+            st_other: 3,
+            st_shndx: half(4),
+            st_value: wide(5),
+            st_size: wide(6),
         },
         reloc: GoblinReloc {
             r_offset: wide(1),
-            r_sym: wide(2),
-            r_addend: wide(3) as i64,
-            r_type: word(4),
-            has_addend: word(5),
+            r_type: word(2),
+            r_sym: word(3),
+            r_addend: wide(4) as i64,
         },
         note: GoblinNote {
             name: marked_range(1),
@@ -124,12 +125,19 @@ pub fn marked_layout() -> GoblinLayout
     }
 }
 
-/// Stores the sizes of the structs, and one of each, whose fields are numbered.
+/// Stores the sizes of the structs, and one of each, whose fields are numbered, if so many bytes hold them. Returns how
+/// many bytes are stored. A later version may store more for a larger size.
 #[unsafe(no_mangle)]
-pub extern "C" fn goblin_layout(marks: &mut GoblinLayout)
-    ensures { marks.new ≡ layout }
+pub extern "C" fn goblin_layout(layout: &mut GoblinLayout, size: usize) -> usize
+    ensures stored { layout.new ≡ (if result == 0 then layout.old else marked) }
+    ensures value { result ≡ (if nat_lt size 432 then 0 else 432) }
 {
-    *marks = marked_layout();
+    let own = size_of::<GoblinLayout>();
+    if size < own {
+        return 0;
+    }
+    *layout = marked_layout();
+    own
 }
 
 // Returns a range whose fields have a mark and the next one.

@@ -30,13 +30,14 @@ mod write;
 mod write_laws;
 mod writer;
 
-pub use bytes::{goblin_number, goblin_section_bytes, goblin_segment_bytes, goblin_string_bytes};
+pub use bytes::{goblin_number, goblin_section_range, goblin_segment_range, goblin_string};
 pub use dynamic::{
-    goblin_dynamic, goblin_dynamic_entries, goblin_dynamic_strings, goblin_dynamic_value,
+    goblin_dynamic, goblin_dynamic_count, goblin_dynamic_entries, goblin_dynamic_strings,
+    goblin_dynamic_value,
 };
 pub use headers::{
-    goblin_header, goblin_linked_section, goblin_section_by_type, goblin_section_count,
-    goblin_section_names, goblin_sections, goblin_segment_count, goblin_segments,
+    goblin_file, goblin_linked_section, goblin_names_section, goblin_section_by_type,
+    goblin_section_count, goblin_sections, goblin_segment_count, goblin_segments,
     goblin_whole_header,
 };
 pub use inside::{goblin_reloc, goblin_section, goblin_segment, goblin_symbol};
@@ -46,10 +47,11 @@ pub use names::{
     goblin_note_type_to_str, goblin_pt_to_str, goblin_shf_to_str, goblin_sht_to_str,
     goblin_type_to_str, goblin_visibility_to_str,
 };
-pub use notes::{goblin_note, goblin_note_bytes};
+pub use notes::{goblin_note, goblin_note_utf8, goblin_note_whole};
 pub use places::{goblin_address_to_offset, goblin_number_in, goblin_range_in_file};
 pub use strings::{
-    goblin_string, goblin_string_closed, goblin_string_is, goblin_string_starts, goblin_strings,
+    goblin_closed_strings, goblin_string_closed, goblin_string_is, goblin_string_starts,
+    goblin_string_utf8, goblin_strings,
 };
 pub use tables::{
     goblin_reloc_count, goblin_relocs, goblin_section_by_name, goblin_symbol_by_address,
@@ -57,18 +59,18 @@ pub use tables::{
 };
 pub use texts::goblin_refusal_to_str;
 pub use write::{
-    goblin_put_header, goblin_put_number, goblin_put_number_in, goblin_put_reloc,
-    goblin_put_section, goblin_put_segment, goblin_put_symbol,
+    goblin_put_dynamic_entry, goblin_put_header, goblin_put_number, goblin_put_number_in,
+    goblin_put_reloc, goblin_put_section, goblin_put_segment, goblin_put_symbol,
 };
 
 /// The version of these calls and of their structs.
-pub const VERSION: u32 = 7;
+pub const VERSION: u32 = 8;
 
 /// Returns the version of the library.
 #[unsafe(no_mangle)]
 pub extern "C" fn goblin_version() -> u32
-    ensures number { result ≡ 7 }
-    ensures constant { VERSION ≡ 7 }
+    ensures number { result ≡ 8 }
+    ensures constant { VERSION ≡ 8 }
 {
     VERSION
 }

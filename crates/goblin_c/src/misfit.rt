@@ -2,16 +2,18 @@
 ghost use Rattle.std.specs.Prelude.{◌≡◌, ◌≤◌, ◌<◌, ◌+◌, ◌*◌, ◌^◌, All, IsTrue, length, map};
 ghost use Rattle.goblin_base.specs.Fields.{field};
 ghost use Rattle.goblin_c.specs.Bytes.{is_width};
-ghost use Rattle.goblin_c.specs.Write.{header_misfit, misfit_from, reloc_misfit, section_misfit, segment_misfit, symbol_misfit, unfit};
+ghost use Rattle.goblin_c.specs.Write.{dyn_misfit, header_misfit, misfit_from, reloc_misfit, section_misfit, segment_misfit, symbol_misfit, unfit};
 
+use crate::kinds::ADDEND;
 use crate::types::{GoblinRefusal, GoblinReloc};
 use crate::write::number_fits;
-use goblin::container::{Container, Ctx};
+use goblin::container::Container;
 use goblin::elf::header::Header;
 use goblin::elf::program_header::ProgramHeader;
 use goblin::elf::section_header::SectionHeader;
 use goblin::elf::sym::Sym;
 use goblin_base::texts::Kind;
+use goblin_dynamic::entry::Dyn;
 
 /// A value that doesn't fit its field.
 #[derive(Clone, Copy, Debug)]
@@ -20,6 +22,8 @@ pub struct Misfit {
     pub value: u64,
     /// The offset of the field in its record.
     pub offset: u8,
+    /// The number of an item that the refusal names, or 0.
+    pub item: u32,
 }
 
 impl Misfit {
@@ -31,7 +35,7 @@ impl Misfit {
     {
         *why = GoblinRefusal {
             kind: Kind::IntegerFit.number(),
-            item: 0,
+            item: self.item,
             first: self.value,
             second: 0,
             third: 0,
@@ -52,88 +56,98 @@ fn first_misfit(start: u8, fields: &[(u8, u64)]) -> Misfit
     let mut offset = start;
     for &(width, value) in fields {
         if !number_fits(u64::from(width), value) {
-            return Misfit { value, offset };
+            return Misfit {
+                value,
+                offset,
+                item: 0,
+            };
         }
         offset += width;
     }
-    Misfit { value: 0, offset }
+    Misfit {
+        value: 0,
+        offset,
+        item: 0,
+    }
 }
 
-/// Returns the first value of a section header that doesn't fit its field in a class.
-pub fn section_misfit(s: &SectionHeader, class: Container) -> Misfit
-    ensures { result ≡ section_misfit class s.now }
+/// Returns the first value of a section header that doesn't fit its field in the 32-bit class.
+pub fn section_misfit(s: &SectionHeader) -> Misfit
+    ensures { result ≡ section_misfit s.now }
 {
-    let word = Ctx::from(class).size() as u8;
     first_misfit(
         0,
         &[
             (4, s.sh_name as u64),
             (4, u64::from(s.sh_type)),
-            (word, s.sh_flags),
-            (word, s.sh_addr),
-            (word, s.sh_offset),
-            (word, s.sh_size),
+            (4, s.sh_flags),
+            (4, s.sh_addr),
+            (4, s.sh_offset),
+            (4, s.sh_size),
             (4, u64::from(s.sh_link)),
             (4, u64::from(s.sh_info)),
-            (word, s.sh_addralign),
-            (word, s.sh_entsize),
+            (4, s.sh_addralign),
+            (4, s.sh_entsize),
         ],
     )
 }
 
-/// Returns the first value of a program header that doesn't fit its field in a class.
-pub fn segment_misfit(s: &ProgramHeader, class: Container) -> Misfit
-    ensures { result ≡ segment_misfit class s.now }
+/// Returns the first value of a program header that doesn't fit its field in the 32-bit class.
+pub fn segment_misfit(s: &ProgramHeader) -> Misfit
+    ensures { result ≡ segment_misfit s.now }
 {
-    let word = Ctx::from(class).size() as u8;
-    let (kind, flags) = ((4, u64::from(s.p_type)), (4, u64::from(s.p_flags)));
-    let [offset, vaddr, paddr] = [(word, s.p_offset), (word, s.p_vaddr), (word, s.p_paddr)];
-    let [filesz, memsz, align] = [(word, s.p_filesz), (word, s.p_memsz), (word, s.p_align)];
-    match class {
-        Container::Little => first_misfit(
-            0,
-            &[kind, offset, vaddr, paddr, filesz, memsz, flags, align],
-        ),
-        Container::Big => first_misfit(
-            0,
-            &[kind, flags, offset, vaddr, paddr, filesz, memsz, align],
-        ),
-    }
+    first_misfit(
+        0,
+        &[
+            (4, u64::from(s.p_type)),
+            (4, s.p_offset),
+            (4, s.p_vaddr),
+            (4, s.p_paddr),
+            (4, s.p_filesz),
+            (4, s.p_memsz),
+            (4, u64::from(s.p_flags)),
+            (4, s.p_align),
+        ],
+    )
 }
 
-/// Returns the first value of a symbol that doesn't fit its field in a class.
-pub fn symbol_misfit(s: &Sym, class: Container) -> Misfit
-    ensures { result ≡ symbol_misfit class s.now }
+/// Returns the first value of a symbol that doesn't fit its field in the 32-bit class.
+pub fn symbol_misfit(s: &Sym) -> Misfit
+    ensures { result ≡ symbol_misfit s.now }
 {
-    let name = (4, s.st_name as u64);
-    let (info, other) = ((1, u64::from(s.st_info)), (1, u64::from(s.st_other)));
-    let section = (2, s.st_shndx as u64);
-    match class {
-        Container::Little => first_misfit(
-            0,
-            &[name, (4, s.st_value), (4, s.st_size), info, other, section],
-        ),
-        Container::Big => first_misfit(
-            0,
-            &[name, info, other, section, (8, s.st_value), (8, s.st_size)],
-        ),
-    }
+    first_misfit(
+        0,
+        &[
+            (4, s.st_name as u64),
+            (4, s.st_value),
+            (4, s.st_size),
+            (1, u64::from(s.st_info)),
+            (1, u64::from(s.st_other)),
+            (2, s.st_shndx as u64),
+        ],
+    )
 }
 
-/// Returns the first value of a header that doesn't fit its field in a class.
-pub fn header_misfit(h: &Header, class: Container) -> Misfit
-    ensures { result ≡ header_misfit class h.now }
+/// Returns the first value of an entry of the dynamic section that doesn't fit its field in the 32-bit class.
+pub fn dyn_misfit(d: &Dyn) -> Misfit
+    ensures { result ≡ dyn_misfit d.now }
 {
-    let word = Ctx::from(class).size() as u8;
+    first_misfit(0, &[(4, d.d_tag), (4, d.d_val)])
+}
+
+/// Returns the first value of a header that doesn't fit its field in the 32-bit class.
+pub fn header_misfit(h: &Header) -> Misfit
+    ensures { result ≡ header_misfit h.now }
+{
     first_misfit(
         16,
         &[
             (2, u64::from(h.e_type)),
             (2, u64::from(h.e_machine)),
             (4, u64::from(h.e_version)),
-            (word, h.e_entry),
-            (word, h.e_phoff),
-            (word, h.e_shoff),
+            (4, h.e_entry),
+            (4, h.e_phoff),
+            (4, h.e_shoff),
             (4, u64::from(h.e_flags)),
             (2, u64::from(h.e_ehsize)),
             (2, u64::from(h.e_phentsize)),
@@ -145,22 +159,29 @@ pub fn header_misfit(h: &Header, class: Container) -> Misfit
     )
 }
 
-/// Returns the first value of a relocation that doesn't fit its field in a class. If all others do, that is the addend.
-pub fn reloc_misfit(r: &GoblinReloc, class: Container) -> Misfit
-    ensures { result ≡ reloc_misfit class r.now }
+/// Returns the first value of a relocation that doesn't fit its field in a class. If all others do, that is the addend,
+/// which is marked if the table has none.
+pub fn reloc_misfit(r: &GoblinReloc, is_rela: bool, class: Container) -> Misfit
+    ensures { result ≡ reloc_misfit class is_rela r.now }
 {
     let (word, most, symbols, types) = match class {
         Container::Little => (4, u64::from(u32::MAX), 1 << 24, 1 << 8),
         Container::Big => (8, u64::MAX, 1 << 32, 1 << 32),
     };
-    let (value, offset) = if r.r_offset > most {
-        (r.r_offset, 0)
-    } else if r.r_sym >= symbols {
-        (r.r_sym, word)
-    } else if u64::from(r.r_type) >= types {
-        (u64::from(r.r_type), word)
+    let (sym, typ) = (u64::from(r.r_sym), u64::from(r.r_type));
+    let (value, offset, item) = if r.r_offset > most {
+        (r.r_offset, 0, 0)
+    } else if sym >= symbols {
+        (sym, word, 0)
+    } else if typ >= types {
+        (typ, word, 0)
     } else {
-        (r.r_addend.cast_unsigned(), 2 * word)
+        let item = if is_rela { 0 } else { ADDEND };
+        (r.r_addend.cast_unsigned(), 2 * word, item)
     };
-    Misfit { value, offset }
+    Misfit {
+        value,
+        offset,
+        item,
+    }
 }

@@ -1,11 +1,13 @@
 //! The names of numbers, written for C.
+ghost use Rattle.std.specs.Prelude.{◌≡◌};
 ghost use Rattle.goblin.specs.HeaderNames.{class_name, file_type_name};
 ghost use Rattle.goblin.specs.Machines.{machine_name};
 ghost use Rattle.goblin.specs.NoteType.{note_type_name};
-ghost use Rattle.goblin.specs.SectionNames.{section_flag_name, section_name};
+ghost use Rattle.goblin.specs.SectionNames.{section_name};
 ghost use Rattle.goblin.specs.SegmentNames.{segment_name};
 ghost use Rattle.goblin.specs.SymParts.{bind_name, type_name, visibility_name};
 ghost use Rattle.goblin_c.specs.FilledBuffer.{WritesText};
+ghost use Rattle.goblin_c.specs.Texts.{flag_name};
 
 use crate::notes::note_type;
 use crate::writer::write_text;
@@ -56,10 +58,18 @@ pub extern "C" fn goblin_sht_to_str(sh_type: u32, text: &mut [u8]) -> u64
 
 /// Writes the name of one flag of a section.
 #[unsafe(no_mangle)]
-pub extern "C" fn goblin_shf_to_str(flag: u32, text: &mut [u8]) -> u64
-    ensures { WritesText (section_flag_name flag) text.old result text.new }
+pub extern "C" fn goblin_shf_to_str(flag: u64, text: &mut [u8]) -> u64
+    ensures { WritesText (flag_name flag) text.old result text.new }
 {
-    write_text(shf_to_str(flag), text)
+    write_text(flag_name(flag), text)
+}
+
+// Returns the name of one flag of a section. Those of more than 32 bits have none.
+fn flag_name(flag: u64) -> &'static str
+    ensures { result.now ≡ flag_name flag }
+{
+    let low = if flag < 1 << 32 { flag as u32 } else { 0 };
+    shf_to_str(low)
 }
 
 /// Writes the name of a symbol's binding.

@@ -1,65 +1,132 @@
 //! Notes, as the library reads them, and the names of their types.
-ghost use Rattle.std.specs.Prelude.{◌≡◌, ◌+◌, ◌-◌, ◌≤◌, length, take};
+ghost use Rattle.std.specs.Prelude.{◌≡◌, ◌+◌, ◌-◌, ◌≤◌, IfOk, length, take};
+ghost use Rattle.goblin.specs.Notes.{LieWithin};
 ghost use Rattle.goblin.specs.Refusal.{refusal_of};
+ghost use Rattle.goblin_base.specs.Common.{Returns as Gives};
 ghost use Rattle.goblin.specs.NoteType.{note_type_name};
-ghost use Rattle.goblin_c.specs.Notes.{StoresNote, bytes_from, note_bytes_expected, note_expected, part_converted, part_number};
+ghost use Rattle.goblin_c.specs.Notes.{StoresNote, bytes_from, note_expected, note_whole_expected, note_utf8_expected, part_converted, part_number, parts_at, without_last};
 ghost use Rattle.goblin_c.specs.Status.{Stores};
 
 use crate::headers::ctx_of;
-use crate::inside::Asked;
 use crate::kinds::{END, NOTE_DESC, NOTE_HEADER, NOTE_NAME, OK};
 use crate::refused::{Refused, refused_at};
 use crate::status::{refuse, store};
-use crate::types::{GoblinHeader, GoblinNote, GoblinRange, GoblinRefusal, convert_note};
-use crate::usual_note::usual_note;
-use goblin::elf::note::{Note, NotePart, NotePlaces, NoteRefusal};
+use crate::types::{GoblinFile, GoblinNote, GoblinRange, GoblinRefusal, convert_note};
+use crate::usual_note::{usual_note, usual_text_note};
+use goblin::container::Ctx;
+use goblin::elf::note::{Nhdr32, Note, NotePart, NotePlaces, NoteRefusal};
+use goblin::error::{Error, Fault};
+use goblin::scroll;
+use goblin::scroll::TryFromCtx;
+use goblin_base::room::room;
+
+// Finds the parts of the note at an offset of the file, whose name need not be UTF-8.
+#[tactic(auto, unfolding(crate::specs::Notes::parts_at, crate::specs::Notes::read_parts))]
+fn parts_at(
+    bytes: &[u8],
+    offset: usize,
+    alignment: usize,
+    ctx: Ctx,
+) -> goblin::error::Result<NotePlaces>
+    ensures value { Gives (λ places. places) result (parts_at bytes.now offset (alignment, ctx)) }
+    ensures within { IfOk result (LieWithin (length bytes.now) offset) }
+{
+    if offset >= bytes.len() {
+        return Err(Error::Scroll(scroll::Error::BadOffset(offset)));
+    }
+    let part = &bytes[offset..];
+    let align = alignment.max(4);
+    if align != 4 && align != 8 {
+        return Err(Error::Malformed(Fault::NoteAlign(align)));
+    }
+    let (header, _) = Nhdr32::try_from_ctx(part, ctx.le)?;
+    let places = NotePlaces::of(&header, align);
+    room(part.len(), places.name, places.name_size)?;
+    room(part.len(), places.desc, places.desc_size)?;
+    Ok(places)
+}
 
 /// Stores the note at an offset of the file, among those of a range. The first one is at the range's
 /// start, and each has the offset of the next one.
 #[unsafe(no_mangle)]
 pub extern "C" fn goblin_note(
-    bytes: &[u8],
-    header: &GoblinHeader,
+    file: &GoblinFile<'_>,
     notes: &GoblinRange,
     alignment: u64,
     offset: u64,
     note: &mut GoblinNote,
     why: &mut GoblinRefusal,
 ) -> u32
-    ensures { Stores (note_expected bytes.now header.now notes.now alignment offset)
+    ensures { Stores (note_expected file.now.bytes.now file.now.header notes.now alignment offset)
         note.old why.old result note.new why.new }
 {
-    if let Some(found) = usual_note(bytes, header, notes, alignment, offset) {
+    if let Some(found) = usual_note(file.bytes, &file.header, notes, alignment, offset) {
         *note = found;
         return OK;
     }
-    let asked = Asked {
-        bytes,
-        header,
-        range: notes,
-        index: offset,
-    };
-    store_any_note(&asked, alignment, note, why)
+    store_any_note(file, notes, alignment, offset, note, why)
 }
 
 // Does the same for any note.
 #[inline(never)]
 fn store_any_note(
-    asked: &Asked<'_>,
+    file: &GoblinFile<'_>,
+    range: &GoblinRange,
     alignment: u64,
+    offset: u64,
     note: &mut GoblinNote,
     why: &mut GoblinRefusal,
 ) -> u32
-    ensures { let a = asked.now in
-        Stores (note_expected a.bytes.now a.header.now a.range.now alignment a.index)
+    ensures { Stores (note_expected file.now.bytes.now file.now.header range.now alignment offset)
         note.old why.old result note.new why.new }
 {
-    let (range, offset) = (asked.range, asked.index);
     if offset >= range.offset && offset - range.offset >= range.size {
         return END;
     }
-    let ctx = (alignment as usize, ctx_of(asked.header));
-    let found = refused_at(offset, Note::at(asked.bytes, offset as usize, ctx));
+    let ctx = ctx_of(&file.header);
+    let found = parts_at(file.bytes, offset as usize, alignment as usize, ctx);
+    let found = refused_at(offset, found).map(|places| Some(convert_note(offset, &places)));
+    store(found, note, why)
+}
+
+/// Stores the note at an offset of the file, if its name is UTF-8.
+#[unsafe(no_mangle)]
+pub extern "C" fn goblin_note_utf8(
+    file: &GoblinFile<'_>,
+    notes: &GoblinRange,
+    alignment: u64,
+    offset: u64,
+    note: &mut GoblinNote,
+    why: &mut GoblinRefusal,
+) -> u32
+    ensures { Stores (note_utf8_expected file.now.bytes.now file.now.header notes.now alignment offset)
+        note.old why.old result note.new why.new }
+{
+    if let Some(found) = usual_text_note(file.bytes, &file.header, notes, alignment, offset) {
+        *note = found;
+        return OK;
+    }
+    store_any_text_note(file, notes, alignment, offset, note, why)
+}
+
+// Does the same for any note.
+#[inline(never)]
+fn store_any_text_note(
+    file: &GoblinFile<'_>,
+    range: &GoblinRange,
+    alignment: u64,
+    offset: u64,
+    note: &mut GoblinNote,
+    why: &mut GoblinRefusal,
+) -> u32
+    ensures { Stores (note_utf8_expected file.now.bytes.now file.now.header range.now alignment offset)
+        note.old why.old result note.new why.new }
+{
+    if offset >= range.offset && offset - range.offset >= range.size {
+        return END;
+    }
+    let ctx = (alignment as usize, ctx_of(&file.header));
+    let found = refused_at(offset, Note::at(file.bytes, offset as usize, ctx));
     let found = found.map(|(_, places)| Some(convert_note(offset, &places)));
     store(found, note, why)
 }
@@ -117,28 +184,36 @@ fn refuse_note(e: NoteRefusal, offset: u64, why: &mut GoblinRefusal) -> u32
     kind
 }
 
-/// Stores the note at an offset of the file as `goblin_note` does, but with all of its name, UTF-8 or not, if the note
-/// lies in the range whole.
+// Returns the places of a note, without the last byte of its name.
+fn without_last(places: &NotePlaces) -> NotePlaces
+    ensures { result ≡ without_last places.now }
+{
+    NotePlaces {
+        name_size: places.name_size.saturating_sub(1),
+        ..*places
+    }
+}
+
+/// Stores the note at an offset of the file as `goblin_note` does, if the note lies in the range whole.
 #[unsafe(no_mangle)]
-pub extern "C" fn goblin_note_bytes(
-    bytes: &[u8],
-    header: &GoblinHeader,
+pub extern "C" fn goblin_note_whole(
+    file: &GoblinFile<'_>,
     range: &GoblinRange,
     alignment: u64,
     offset: u64,
     note: &mut GoblinNote,
     why: &mut GoblinRefusal,
 ) -> u32
-    ensures { StoresNote offset (note_bytes_expected bytes.now header.now range.now alignment offset)
+    ensures { StoresNote offset (note_whole_expected file.now.bytes.now file.now.header range.now alignment offset)
         note.old why.old result note.new why.new }
 {
     if offset >= range.offset && offset - range.offset >= range.size {
         return END;
     }
-    let part = bytes_from(bytes, range, offset);
-    match NotePlaces::whole(part, (alignment as usize, ctx_of(header))) {
+    let part = bytes_from(file.bytes, range, offset);
+    match NotePlaces::whole(part, (alignment as usize, ctx_of(&file.header))) {
         Ok(places) => {
-            *note = convert_note(offset, &places);
+            *note = convert_note(offset, &without_last(&places));
             OK
         }
         Err(e) => refuse_note(e, offset, why),

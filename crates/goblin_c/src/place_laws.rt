@@ -1,10 +1,10 @@
 //! Laws of the calls for bytes and numbers, for offsets of addresses, for ranges that are cut to the file, and for the
 //! dynamic section, and of where whole notes are refused.
-ghost use Rattle.goblin_c.specs.DynamicLaws.{DynamicLiesInFile, EntriesAreListed};
+ghost use Rattle.goblin_c.specs.DynamicLaws.{DynamicLiesInFile, EntriesAreCounted, EntriesAreListed, ValueIsTheFirst};
 ghost use Rattle.goblin_c.specs.PlaceLaws.{AddressesAreLoaded, BytesAreFound, NotesRefuseThere, NumbersAreFound, NumbersLieInRange, PartsLieInFile};
 
-/// Law: `goblin_section_bytes` stores the range of a section that has another type than 0 and 8 and a size, and
-/// `goblin_segment_bytes` that of a segment that has another type than 0 and a size, if the range lies in the file.
+/// Law: `goblin_section_range` stores the range of a section that has another type than 0 and 8 and a size, and
+/// `goblin_segment_range` that of a segment that has another type than 0 and a size, if the range lies in the file.
 /// Else they refuse it at its offset.
 #[tactic(auto, using(crate::proofs::FoundLemmas::bytes_are_found))]
 pub fn bytes()
@@ -20,7 +20,7 @@ pub fn numbers()
     ensures found { NumbersAreFound }
 {}
 
-/// Law: a refusal of `goblin_note_bytes` has the note's offset.
+/// Law: a refusal of `goblin_note_whole` has the note's offset.
 #[tactic(auto, using(crate::proofs::FoundLemmas::notes_refuse_there))]
 pub fn notes()
     ensures { NotesRefuseThere }
@@ -42,10 +42,13 @@ pub fn parts()
 {}
 
 /// Laws: the entries that `goblin_dynamic_entries` stores from an index on are those that are left there of the
-/// library's list, in which `goblin_dynamic_value` searches, if the list does not end before the index. The ranges that
-/// `goblin_dynamic` and `goblin_dynamic_strings` store lie in the file.
+/// library's list, if the list does not end before the index. `goblin_dynamic_count` stores their number. The value
+/// that `goblin_dynamic_value` stores from index 0 on is the library's. The ranges that `goblin_dynamic` and
+/// `goblin_dynamic_strings` store lie in the file.
 #[tactic(auto, using(crate::proofs::DynamicLemmas::dynamic_laws))]
 pub fn dynamic()
     ensures entries { EntriesAreListed }
+    ensures count { EntriesAreCounted }
+    ensures value { ValueIsTheFirst }
     ensures within { DynamicLiesInFile }
 {}

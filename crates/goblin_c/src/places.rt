@@ -11,7 +11,7 @@ use crate::bytes::{fits, is_width, number};
 use crate::headers::segments_of;
 use crate::refused::{Refused, Result};
 use crate::status::store;
-use crate::types::{GoblinHeader, GoblinRange, GoblinRefusal};
+use crate::types::{GoblinFile, GoblinHeader, GoblinRange, GoblinRefusal};
 use goblin::elf::program_header::ProgramHeader;
 use goblin_base::room::room;
 
@@ -53,18 +53,21 @@ pub fn number_in(
 /// Stores the number of 1, 2, 4 or 8 bytes at an offset in a range, in the file's byte order.
 #[unsafe(no_mangle)]
 pub extern "C" fn goblin_number_in(
-    bytes: &[u8],
-    header: &GoblinHeader,
+    file: &GoblinFile<'_>,
     range: &GoblinRange,
     offset: u64,
     width: u64,
     value: &mut u64,
     why: &mut GoblinRefusal,
 ) -> u32
-    ensures { Stores (number_in_expected bytes.now header.now range.now offset width)
+    ensures { Stores (number_in_expected file.now.bytes.now file.now.header range.now offset width)
         value.old why.old result value.new why.new }
 {
-    store(number_in(bytes, header, range, offset, width), value, why)
+    store(
+        number_in(file.bytes, &file.header, range, offset, width),
+        value,
+        why,
+    )
 }
 
 /// Returns the offset in the file of the byte that is loaded at an address.
@@ -84,24 +87,31 @@ pub fn address_to_offset(bytes: &[u8], header: &GoblinHeader, address: u64) -> R
 /// Stores the offset in the file of the byte that is loaded at an address.
 #[unsafe(no_mangle)]
 pub extern "C" fn goblin_address_to_offset(
-    bytes: &[u8],
-    header: &GoblinHeader,
+    file: &GoblinFile<'_>,
     address: u64,
     offset: &mut u64,
     why: &mut GoblinRefusal,
 ) -> u32
-    ensures { Stores (address_to_offset_expected bytes.now header.now address)
+    ensures { Stores (address_to_offset_expected file.now.bytes.now file.now.header address)
         offset.old why.old result offset.new why.new }
 {
-    store(address_to_offset(bytes, header, address), offset, why)
+    store(
+        address_to_offset(file.bytes, &file.header, address),
+        offset,
+        why,
+    )
 }
 
 /// Stores the part of a range that lies in the file.
 #[unsafe(no_mangle)]
-pub extern "C" fn goblin_range_in_file(bytes: &[u8], range: &GoblinRange, part: &mut GoblinRange)
-    ensures { part.new ≡ cut_range (length bytes.now) range.now }
+pub extern "C" fn goblin_range_in_file(
+    file: &GoblinFile<'_>,
+    range: &GoblinRange,
+    part: &mut GoblinRange,
+)
+    ensures { part.new ≡ cut_range (length file.now.bytes.now) range.now }
 {
-    let len = bytes.len() as u64;
+    let len = file.bytes.len() as u64;
     let offset = range.offset.min(len);
     let size = range.size.min(len - offset);
     *part = GoblinRange { offset, size };

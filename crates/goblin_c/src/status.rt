@@ -1,5 +1,5 @@
 //! The status that a call returns, and what it stores.
-ghost use Rattle.std.specs.Prelude.{◌≡◌, if◌then◌else◌};
+ghost use Rattle.std.specs.Prelude.{◌≡◌};
 ghost use Rattle.goblin.specs.Steps.{refuse_as};
 ghost use Rattle.goblin_c.specs.Refused.{refusal_at};
 ghost use Rattle.goblin_c.specs.Status.{Stores, StoresBoth};
@@ -8,13 +8,6 @@ ghost use Rattle.goblin_c.specs.Types.{refusal_converted};
 use crate::kinds::{END, OK};
 use crate::refused::{Refused, Result};
 use crate::types::{GoblinRefusal, convert_refusal};
-
-/// Returns 0 for what is so, and 1 for what is not.
-pub fn status_of(is_so: bool) -> u32
-    ensures { result ≡ (if is_so then OK else END) }
-{
-    if is_so { OK } else { END }
-}
 
 /// Stores an error as a refusal. Returns the number of its kind.
 pub fn refuse(e: &Refused, why: &mut GoblinRefusal) -> u32

@@ -1,16 +1,15 @@
 //! Strings: where they lie in the file, and what they are.
 ghost use Rattle.std.specs.Prelude.{◌≡◌, ◌+◌, ◌≤◌, if◌then◌else◌, Ok, IfOk, IfSome, IsErr, IsErrAnd, MatchOption, drop, length, map, take};
 ghost use Rattle.goblin_c.specs.Common.{is_piece, starts_piece};
-ghost use Rattle.goblin_c.specs.Bytes.{IsCString, string_bytes_expected, string_closed_expected};
+ghost use Rattle.goblin_c.specs.Bytes.{IsCString, closed_len, closed_strings_expected, string_expected, string_closed_expected};
 ghost use Rattle.goblin_c.specs.Refused.{Returns};
-ghost use Rattle.goblin_c.specs.Expected.{string_expected, string_is_expected, string_starts_expected, strings_expected};
-ghost use Rattle.goblin_c.specs.Status.{FillsEach, Reports, Stores};
-ghost use Rattle.goblin_c.specs.Types.{refusal_converted};
+ghost use Rattle.goblin_c.specs.Expected.{string_utf8_expected, string_is_expected, string_starts_expected, strings_expected};
+ghost use Rattle.goblin_c.specs.Status.{FillsEach, Stores};
 
 use crate::kinds::{END, OK};
 use crate::refused::{Result, refused_at};
-use crate::status::{refuse, status_of, store};
-use crate::types::{GoblinRange, GoblinRefusal};
+use crate::status::{refuse, store};
+use crate::types::{GoblinFile, GoblinRange, GoblinRefusal};
 use goblin::options::ParseMode;
 use goblin::strtab;
 use goblin::strtab::{bytes_in_range, is_piece, piece_len, short_piece_len, starts_piece};
@@ -32,7 +31,7 @@ pub fn string_table_bytes<'a>(bytes: &'a [u8], range: &GoblinRange) -> Result<&'
 
 /// Returns the range in the file of the string at an offset of a string table.
 pub fn string_at(bytes: &[u8], range: &GoblinRange, offset: u64) -> Result<Option<GoblinRange>>
-    ensures { Returns (λ found. found) result (string_expected bytes.now range.now offset) }
+    ensures { Returns (λ found. found) result (string_utf8_expected bytes.now range.now offset) }
 {
     let strings = string_table_bytes(bytes, range)?;
     match strtab::string_at(strings, 0, offset as usize) {
@@ -49,16 +48,17 @@ pub fn string_at(bytes: &[u8], range: &GoblinRange, offset: u64) -> Result<Optio
 
 /// Stores the range in the file of the string at an offset of a string table.
 #[unsafe(no_mangle)]
-pub extern "C" fn goblin_string(
-    bytes: &[u8],
+pub extern "C" fn goblin_string_utf8(
+    file: &GoblinFile<'_>,
     strings: &GoblinRange,
     offset: u64,
     string: &mut GoblinRange,
     why: &mut GoblinRefusal,
 ) -> u32
-    ensures { Stores (string_expected bytes.now strings.now offset) string.old why.old result string.new why.new }
+    ensures { Stores (string_utf8_expected file.now.bytes.now strings.now offset)
+        string.old why.old result string.new why.new }
 {
-    store(string_at(bytes, strings, offset), string, why)
+    store(string_at(file.bytes, strings, offset), string, why)
 }
 
 // Returns the bytes of the file up to the end of a string table that lies in it, without the steps that prepare a
@@ -77,70 +77,54 @@ fn up_to_table_end<'a>(bytes: &'a [u8], range: &GoblinRange) -> Option<&'a [u8]>
     Some(&bytes[..end as usize])
 }
 
-// Stores the refusal of a string table that doesn't lie in the file. Returns the number of its kind.
-#[cold]
-#[inline(never)]
-fn refuse_table(bytes: &[u8], range: &GoblinRange, why: &mut GoblinRefusal) -> u32
-    requires { IsErr (strings_expected bytes.now range.now) }
-    ensures { IsErrAnd (strings_expected bytes.now range.now) (λ refusal.
-        (result ≡ (refusal_converted refusal).kind) × (why.new ≡ refusal_converted refusal)) }
-{
-    match string_table_bytes(bytes, range) {
-        Ok(_) => unreachable!(),
-        Err(e) => refuse(&e, why),
-    }
-}
-
 // Reports whether the string at an offset of the table from a start of these bytes on is a name. It stands apart, and
 // takes its arguments in the order of the call. So the call saves no register, and moves few.
 #[inline(never)]
-fn piece_status(file: &[u8], start: usize, offset: usize, name: &[u8]) -> u32
-    requires { start ≤ length file.now }
-    ensures { result ≡ (if is_piece (drop start file.now) 0 offset name.now then OK else END) }
+fn is_name_after(bytes: &[u8], start: usize, offset: usize, name: &[u8]) -> bool
+    requires { start ≤ length bytes.now }
+    ensures { result ≡ is_piece (drop start bytes.now) 0 offset name.now }
 {
-    status_of(is_piece(&file[start..], 0, offset, name))
+    is_piece(&bytes[start..], 0, offset, name)
 }
 
 // Reports whether it starts with some bytes.
 #[inline(never)]
-fn start_status(file: &[u8], start: usize, offset: usize, bytes: &[u8]) -> u32
-    requires { start ≤ length file.now }
-    ensures { result ≡ (if starts_piece (drop start file.now) 0 offset bytes.now then OK else END) }
+fn starts_after(bytes: &[u8], start: usize, offset: usize, text: &[u8]) -> bool
+    requires { start ≤ length bytes.now }
+    ensures { result ≡ starts_piece (drop start bytes.now) 0 offset text.now }
 {
-    status_of(starts_piece(&file[start..], 0, offset, bytes))
+    starts_piece(&bytes[start..], 0, offset, text)
 }
 
 /// Reports whether the string at an offset of a string table is a name.
 #[unsafe(no_mangle)]
 pub extern "C" fn goblin_string_is(
-    bytes: &[u8],
+    file: &GoblinFile<'_>,
     strings: &GoblinRange,
     offset: u64,
     name: &[u8],
-    why: &mut GoblinRefusal,
-) -> u32
-    ensures { Reports (string_is_expected bytes.now strings.now offset name.now) why.old result why.new }
+) -> bool
+    ensures { result ≡ string_is_expected file.now.bytes.now strings.now offset name.now }
 {
-    match up_to_table_end(bytes, strings) {
-        Some(file) => piece_status(file, strings.offset as usize, offset as usize, name),
-        None => refuse_table(bytes, strings, why),
+    match up_to_table_end(file.bytes, strings) {
+        Some(bytes) => is_name_after(bytes, strings.offset as usize, offset as usize, name),
+        None => false,
     }
 }
 
 /// Reports whether the string at an offset of a string table starts with some bytes.
 #[unsafe(no_mangle)]
 pub extern "C" fn goblin_string_starts(
-    bytes: &[u8],
+    file: &GoblinFile<'_>,
     strings: &GoblinRange,
     offset: u64,
     start: &[u8],
-    why: &mut GoblinRefusal,
-) -> u32
-    ensures { Reports (string_starts_expected bytes.now strings.now offset start.now) why.old result why.new }
+) -> bool
+    ensures { result ≡ string_starts_expected file.now.bytes.now strings.now offset start.now }
 {
-    match up_to_table_end(bytes, strings) {
-        Some(file) => start_status(file, strings.offset as usize, offset as usize, start),
-        None => refuse_table(bytes, strings, why),
+    match up_to_table_end(file.bytes, strings) {
+        Some(bytes) => starts_after(bytes, strings.offset as usize, offset as usize, start),
+        None => false,
     }
 }
 
@@ -168,23 +152,70 @@ fn closed_string_at(bytes: &[u8], range: &GoblinRange, offset: u64) -> Result<Op
 /// of the table closes it.
 #[unsafe(no_mangle)]
 pub extern "C" fn goblin_string_closed(
-    bytes: &[u8],
+    file: &GoblinFile<'_>,
     strings: &GoblinRange,
     offset: u64,
     string: &mut GoblinRange,
     why: &mut GoblinRefusal,
 ) -> u32
-    ensures stored { Stores (string_closed_expected bytes.now strings.now offset)
+    ensures stored { Stores (string_closed_expected file.now.bytes.now strings.now offset)
         string.old why.old result string.new why.new }
-    ensures closed { (result ≡ OK) → IsCString bytes.now string.new }
+    ensures closed { (result ≡ OK) → IsCString file.now.bytes.now string.new }
 {
-    store(closed_string_at(bytes, strings, offset), string, why)
+    store(closed_string_at(file.bytes, strings, offset), string, why)
 }
 
-/// Stores the ranges that `goblin_string_bytes` stores at some offsets, in their order, up to the first offset at which
+// Returns how many bytes there are up to the last zero byte, with that byte.
+fn closed_len(strings: &[u8]) -> usize
+    ensures value { result ≡ closed_len strings.now }
+    ensures fits { result ≤ length strings.now }
+{
+    let mut len = strings.len();
+    while len > 0 && strings[len - 1] != 0 {
+        len -= 1;
+    }
+    len
+}
+
+/// Stores the part of a string table up to its last zero byte, with that byte.
+#[unsafe(no_mangle)]
+pub extern "C" fn goblin_closed_strings(
+    file: &GoblinFile<'_>,
+    strings: &GoblinRange,
+    closed: &mut GoblinRange,
+    why: &mut GoblinRefusal,
+) -> u32
+    ensures { Stores (closed_strings_expected file.now.bytes.now strings.now)
+        closed.old why.old result closed.new why.new }
+{
+    let found = string_table_bytes(file.bytes, strings).map(|table| {
+        Some(GoblinRange {
+            offset: strings.offset,
+            size: closed_len(table) as u64,
+        })
+    });
+    store(found, closed, why)
+}
+
+/// Stores the ranges that `goblin_string` stores at some offsets, in their order, up to the first offset at which
 /// it stores none. The string table is tested once.
 #[unsafe(no_mangle)]
 pub extern "C" fn goblin_strings(
+    file: &GoblinFile<'_>,
+    strings: &GoblinRange,
+    offsets: &[u64],
+    ranges: &mut [GoblinRange],
+    filled: &mut u64,
+    why: &mut GoblinRefusal,
+) -> u32
+    ensures { FillsEach (map (string_expected file.now.bytes.now strings.now) (take (length ranges.old) offsets.now))
+        ranges.old why.old result ranges.new filled.new why.new }
+{
+    store_strings(file.bytes, strings, offsets, ranges, filled, why)
+}
+
+// Does the same for the file's bytes.
+fn store_strings(
     bytes: &[u8],
     strings: &GoblinRange,
     offsets: &[u64],
@@ -192,7 +223,7 @@ pub extern "C" fn goblin_strings(
     filled: &mut u64,
     why: &mut GoblinRefusal,
 ) -> u32
-    ensures { FillsEach (map (string_bytes_expected bytes.now strings.now) (take (length ranges.old) offsets.now))
+    ensures { FillsEach (map (string_expected bytes.now strings.now) (take (length ranges.old) offsets.now))
         ranges.old why.old result ranges.new filled.new why.new }
 {
     *filled = 0;

@@ -1,7 +1,7 @@
 //! Each export on a small little endian file of the 32-bit class. It consists of its header, the strings
 //! "" and "f", two symbols, and three section headers: the null one, the strings' and the symbols'.
 use crate::layout::marked_layout;
-use crate::types::{GoblinHeader, GoblinNote, GoblinRange, GoblinRefusal, GoblinReloc};
+use crate::types::{GoblinFile, GoblinHeader, GoblinNote, GoblinRange, GoblinRefusal, GoblinReloc};
 use crate::*;
 
 mod bytes;
@@ -87,9 +87,19 @@ fn number_shown((status, found, why): (u32, u64, GoblinRefusal)) -> (u32, u64, u
     (status, found, 0)
 }
 
+// Some bytes with a header.
+fn over<'a>(bytes: &'a [u8], header: GoblinHeader) -> GoblinFile<'a> {
+    GoblinFile { bytes, header }
+}
+
+// The answer for the file that some bytes are: marks where it is refused.
+fn file_of<'a>(bytes: &'a [u8]) -> (u32, GoblinFile<'a>, GoblinRefusal) {
+    called!(goblin_file(bytes) => over(b"", marked_layout().header))
+}
+
 // The file's header, or one of marks where it is refused.
 fn header() -> GoblinHeader {
-    called!(goblin_header(FILE) => header).1
+    file_of(FILE).1.header
 }
 
 // The same, with so many program headers from an offset on.
@@ -110,8 +120,9 @@ fn reads_the_header(rt: HostRuntime) {
 
 // Whether a header is refused, by this kind with these numbers.
 fn refuses(bytes: &[u8], kind: u32, first: u64, second: u64) -> bool {
-    let (status, _, why) = called!(goblin_header(bytes) => header);
-    status == kind && why.kind == kind && why.first == first && why.second == second
+    let (status, file, why) = file_of(bytes);
+    let unchanged = file.bytes.is_empty() && file.header.e_type == 0x0606;
+    unchanged && status == kind && why.kind == kind && why.first == first && why.second == second
 }
 
 #[test]
@@ -123,7 +134,7 @@ fn refuses_headers(rt: HostRuntime) {
 
 // What the section header at an index is: its answer, type, place and link.
 fn section(index: u64) -> (u32, u32, u64, u32) {
-    stored!(goblin_section(FILE, &header(), index) => section { sh_type, file.offset, sh_link })
+    stored!(goblin_section(&over(FILE, header()), index) => section { sh_type, file.offset, sh_link })
 }
 
 #[test]
@@ -134,12 +145,12 @@ fn reads_sections(rt: HostRuntime) {
 }
 
 fn count() -> (u32, u64) {
-    stored!(goblin_section_count(FILE, &header()) => 9)
+    stored!(goblin_section_count(&over(FILE, header())) => 9)
 }
 
 fn fills_sections() -> bool {
     let mut found = [marked_layout().section; 4];
-    let answer = stored!(goblin_sections(FILE, &header(), 1, &mut found) => 9);
+    let answer = stored!(goblin_sections(&over(FILE, header()), 1, &mut found) => 9);
     answer == (0, 2) && found[0].sh_type == 3 && found[1].sh_type == 2
 }
 
@@ -151,13 +162,13 @@ fn counts_and_fills_sections(rt: HostRuntime) {
 
 // A program header read from the strings on.
 fn segment_type(index: u64) -> (u32, u32) {
-    stored!(goblin_segment(FILE, &with_segments(52, 1), index) => segment { p_type })
+    stored!(goblin_segment(&over(FILE, with_segments(52, 1)), index) => segment { p_type })
 }
 
 // The types of those from an index on, of two that are read there: the answer, how many are stored, and the types.
 fn segment_types(first: u64) -> (u32, u64, [u32; 3]) {
     let (header, mut found) = (with_segments(52, 2), [marked_layout().segment; 3]);
-    let (status, filled) = stored!(goblin_segments(FILE, &header, first, &mut found) => 9);
+    let (status, filled) = stored!(goblin_segments(&over(FILE, header), first, &mut found) => 9);
     (status, filled, found.map(|segment| segment.p_type))
 }
 
@@ -165,7 +176,7 @@ fn segment_types(first: u64) -> (u32, u64, [u32; 3]) {
 fn reads_segments(rt: HostRuntime) {
     assert!(rt; segment_type(0) == (0, 0x6600));
     assert!(rt; segment_type(1).0 == 1);
-    let mark = 0x0707_0707;
+    let mark = 0x0101_0101;
     assert!(rt; segment_types(0) == (0, 2, [0x6600, 0x0001_0012, mark]));
     assert!(rt; segment_types(1) == (0, 1, [0x0001_0012, mark, mark]));
     assert!(rt; segment_types(2) == (1, 9, [mark; 3]));
@@ -173,12 +184,12 @@ fn reads_segments(rt: HostRuntime) {
 
 // What the symbol at an index is: the answer, its value and its binding and type.
 fn symbol(index: u64) -> (u32, u64, u8) {
-    stored!(goblin_symbol(FILE, &header(), &SYMBOLS, index) => symbol { st_value, st_info })
+    stored!(goblin_symbol(&over(FILE, header()), &SYMBOLS, index) => symbol { st_value, st_info })
 }
 
 fn fills_symbols() -> bool {
     let mut found = [marked_layout().symbol; 3];
-    let answer = stored!(goblin_symbols(FILE, &header(), &SYMBOLS, 1, &mut found) => 9);
+    let answer = stored!(goblin_symbols(&over(FILE, header()), &SYMBOLS, 1, &mut found) => 9);
     answer == (0, 1) && found[0].st_value == 0x1000
 }
 
@@ -192,15 +203,15 @@ fn reads_symbols(rt: HostRuntime) {
 // Where a name is found from an index on: the answer, the index and the symbol's value.
 fn finds_symbol(name: &[u8], first: u64) -> (u32, u64, u64) {
     let h = header();
-    found!(goblin_symbol_by_name(FILE, &h, &SYMBOLS, &STRINGS, name, first) => symbol { st_value })
+    found!(goblin_symbol_by_name(&over(FILE, h), &SYMBOLS, &STRINGS, name, first) => symbol { st_value })
 }
 
 // The same for a section, with its type.
 fn finds_section(name: &[u8], first: u64) -> (u32, u64, u32) {
-    found!(goblin_section_by_name(FILE, &header(), &STRINGS, name, first) => section { sh_type })
+    found!(goblin_section_by_name(&over(FILE, header()), &STRINGS, name, first) => section { sh_type })
 }
 
-const UNREAD: u64 = 0x0202_0202_0202_0202;
+const UNREAD: u64 = 0x0505_0505_0505_0505;
 
 #[test]
 fn finds_names(rt: HostRuntime) {
@@ -211,13 +222,13 @@ fn finds_names(rt: HostRuntime) {
     assert!(rt; finds_symbol(b"f\0", 0) == (1, 9, UNREAD));
     assert!(rt; finds_symbol(b"", 0) == (0, 0, 0) && finds_symbol(b"", 1) == (1, 9, UNREAD));
     assert!(rt; finds_section(b"", 0) == (0, 0, 0) && finds_section(b"", 1) == (0, 1, 3));
-    assert!(rt; finds_section(b"", 2) == (0, 2, 2) && finds_section(b"", 3) == (1, 9, 0x0808_0808));
-    assert!(rt; finds_section(b"f", 0) == (1, 9, 0x0808_0808));
+    assert!(rt; finds_section(b"", 2) == (0, 2, 2) && finds_section(b"", 3) == (1, 9, 0x0202_0202));
+    assert!(rt; finds_section(b"f", 0) == (1, 9, 0x0202_0202));
 }
 
 // The status of the call for an address, and the index.
 fn symbol_at(bytes: &[u8], header: &GoblinHeader, table: &GoblinRange, address: u64) -> (u32, u64) {
-    stored!(goblin_symbol_by_address(bytes, header, table, address) => 9)
+    stored!(goblin_symbol_by_address(&over(bytes, *header), table, address) => 9)
 }
 
 // The same where the symbol has a size of 0, and its section has these flags and lies from 0x1000 to 0x1003.
@@ -241,7 +252,8 @@ fn label_at_offset(address: u64) -> (u32, u64) {
 fn symbol_refused(table: &GoblinRange) -> (u32, u64) {
     let mut header = header();
     header.e_shoff = 300;
-    let (status, _, why) = called!(goblin_symbol_by_address(FILE, &header, table, 0x1000) => 9);
+    let (status, _, why) =
+        called!(goblin_symbol_by_address(&over(FILE, header), table, 0x1000) => 9);
     (status, why.offset)
 }
 
@@ -273,21 +285,21 @@ fn changed(place: usize, byte: u8) -> [u8; 208] {
 
 // Returns the status of the call for the table at an index, and the table's type, or a mark if there is none.
 fn table(bytes: &[u8], index: u64) -> (u32, u32) {
-    stored!(goblin_linked_section(bytes, &header(), index) => section { sh_type })
+    stored!(goblin_linked_section(&over(bytes, header()), index) => section { sh_type })
 }
 
 // The same of the section that holds names, by the number of sections and the index in the header.
 fn names_of(bytes: &[u8], count: u16, index: u16) -> (u32, u32) {
     let mut header = header();
     (header.e_shnum, header.e_shstrndx) = (count, index);
-    stored!(goblin_section_names(bytes, &header) => section { sh_type })
+    stored!(goblin_names_section(&over(bytes, header)) => section { sh_type })
 }
 
 fn names(bytes: &[u8], index: u16) -> (u32, u32) {
     names_of(bytes, 3, index)
 }
 
-const NONE: (u32, u32) = (1, 0x0808_0808);
+const NONE: (u32, u32) = (1, 0x0202_0202);
 
 const WITHOUT_BYTES: usize = 88 + 40 + 4;
 
@@ -324,7 +336,8 @@ fn takes_the_size_of_the_first_for_no_names(rt: HostRuntime) {
 
 // Where a string lies: the answer, its offset and its size.
 fn string(offset: u64) -> (u32, u64, u64) {
-    let (status, found) = stored!(goblin_string(FILE, &STRINGS, offset) => range(9, 9));
+    let (status, found) =
+        stored!(goblin_string_utf8(&over(FILE, header()), &STRINGS, offset) => range(9, 9));
     (status, found.offset, found.size)
 }
 
@@ -343,7 +356,8 @@ static LONG: &[u8; 71] = b"abcdefghijklmnopq\0\
 
 // The answer for a string of these, with its size or the refusal's first number.
 fn long_string(offset: u64) -> (u32, u64) {
-    let (status, found, why) = called!(goblin_string(LONG, &range(0, 71), offset) => range);
+    let (status, found, why) =
+        called!(goblin_string_utf8(&over(LONG, header()), &range(0, 71), offset) => range);
     (status, if status > 1 { why.first } else { found.size })
 }
 
@@ -361,7 +375,8 @@ fn places_long_strings(rt: HostRuntime) {
 fn long_strings(offsets: &[u64], places: usize) -> (u32, u64, [u64; 3]) {
     let (strings, mut found) = (range(0, 71), [range(9, 9); 3]);
     let buffer = &mut found[..places.min(3)];
-    let (status, filled) = stored!(goblin_strings(LONG, &strings, offsets, buffer) => 9);
+    let (status, filled) =
+        stored!(goblin_strings(&over(LONG, header()), &strings, offsets, buffer) => 9);
     (status, filled, found.map(|part| part.size))
 }
 
@@ -382,13 +397,14 @@ fn is_reloc(found: &GoblinReloc) -> bool {
 }
 
 fn reads_reloc() -> bool {
-    let (status, r, _) = called!(goblin_reloc(RELOC, &header(), &range(0, 12), true, 0) => reloc);
-    status == 0 && is_reloc(&r) && r.has_addend == 1
+    let (status, r, _) =
+        called!(goblin_reloc(&over(RELOC, header()), &range(0, 12), true, 0) => reloc);
+    status == 0 && is_reloc(&r)
 }
 
 fn fills_reloc() -> bool {
     let (relocs, mut found) = (range(0, 12), [marked_layout().reloc; 2]);
-    let answer = stored!(goblin_relocs(RELOC, &header(), &relocs, true, 0, &mut found) => 9);
+    let answer = stored!(goblin_relocs(&over(RELOC, header()), &relocs, true, 0, &mut found) => 9);
     answer == (0, 1) && is_reloc(&found[0])
 }
 
@@ -401,10 +417,10 @@ fn reads_relocations(rt: HostRuntime) {
 static PAIR: &[u8; 16] = b"\x10\0\0\0\0\0\0\0\x02\0\0\0\0\0\0\x01";
 
 // Symbol and type of the relocation at an index of these bytes, by a header that a caller filled.
-fn reads_pair(machine: u16, class: u8, order: u8, index: u64) -> (u32, u64, u32) {
+fn reads_pair(machine: u16, class: u8, order: u8, index: u64) -> (u32, u32, u32) {
     let mut header = marked_layout().header;
     (header.e_machine, header.ei_class, header.ei_data) = (machine, class, order);
-    stored!(goblin_reloc(PAIR, &header, &range(0, 16), false, index) => reloc { r_sym, r_type })
+    stored!(goblin_reloc(&over(PAIR, header), &range(0, 16), false, index) => reloc { r_sym, r_type })
 }
 
 #[test]
@@ -425,7 +441,7 @@ static EACH: &[u8; 56] = b"\x7fELF\x01\x02\x03\x04\x05\0\0\0\0\0\0\0\
 
 // That header, by which a section and a segment lie after the first 16 bytes.
 fn each_header() -> GoblinHeader {
-    called!(goblin_header(EACH) => header).1
+    file_of(EACH).1.header
 }
 
 fn each_in_place() -> GoblinHeader {
@@ -446,7 +462,7 @@ fn has_each_of_header() -> bool {
 }
 
 fn has_each_of_section() -> bool {
-    let (status, s, _) = called!(goblin_section(EACH, &each_in_place(), 0) => section);
+    let (status, s, _) = called!(goblin_section(&over(EACH, each_in_place()), 0) => section);
     let kind = s.sh_name == 0x0102_0304 && s.sh_type == 0x0506_0708 && s.sh_flags == 0x090a_0b0c;
     let place = s.sh_addr == 0x0d0e_0f10 && s.file.offset == 0x1112_1314;
     let links = s.file.size == 0x1516_1718 && s.sh_link == 0x191a_1b1c;
@@ -455,7 +471,7 @@ fn has_each_of_section() -> bool {
 }
 
 fn has_each_of_segment() -> bool {
-    let (status, s, _) = called!(goblin_segment(EACH, &each_in_place(), 0) => segment);
+    let (status, s, _) = called!(goblin_segment(&over(EACH, each_in_place()), 0) => segment);
     let place = s.p_type == 0x0102_0304 && s.file.offset == 0x0506_0708 && s.p_vaddr == 0x090a_0b0c;
     let size = s.p_paddr == 0x0d0e_0f10 && s.file.size == 0x1112_1314 && s.p_memsz == 0x1516_1718;
     status == 0 && place && size && s.p_flags == 0x191a_1b1c && s.p_align == 0x1d1e_1f20
@@ -463,16 +479,16 @@ fn has_each_of_segment() -> bool {
 
 fn has_each_of_symbol() -> bool {
     let (status, s, _) =
-        called!(goblin_symbol(EACH, &each_in_place(), &range(16, 16), 0) => symbol);
+        called!(goblin_symbol(&over(EACH, each_in_place()), &range(16, 16), 0) => symbol);
     let place = s.st_name == 0x0102_0304 && s.st_value == 0x0506_0708 && s.st_size == 0x090a_0b0c;
     status == 0 && place && s.st_info == 0x0d && s.st_other == 0x0e && s.st_shndx == 0x0f10
 }
 
 fn has_each_of_reloc() -> bool {
     let (status, r, _) =
-        called!(goblin_reloc(EACH, &each_in_place(), &range(16, 12), true, 0) => reloc);
+        called!(goblin_reloc(&over(EACH, each_in_place()), &range(16, 12), true, 0) => reloc);
     let place = r.r_offset == 0x0102_0304 && r.r_sym == 0x0005_0607 && r.r_type == 8;
-    status == 0 && place && r.r_addend == 0x090a_0b0c && r.has_addend == 1
+    status == 0 && place && r.r_addend == 0x090a_0b0c
 }
 
 #[test]
@@ -488,7 +504,7 @@ static NOTE: &[u8; 20] = b"\x04\0\0\0\x04\0\0\0\x03\0\0\0GNU\0\xaa\xbb\xcc\xdd";
 
 // The status for the note, the note, and the refusal.
 fn note_with(alignment: u64) -> (u32, GoblinNote, GoblinRefusal) {
-    called!(goblin_note(NOTE, &header(), &range(0, 20), alignment, 0) => note)
+    called!(goblin_note_utf8(&over(NOTE, header()), &range(0, 20), alignment, 0) => note)
 }
 
 fn reads_note() -> bool {
@@ -501,7 +517,7 @@ fn reads_note() -> bool {
 // and the first number of its refusal.
 fn whole_note(size: u64) -> (u32, u64, u64) {
     let (status, found, why) =
-        called!(goblin_note_bytes(NOTE, &header(), &range(0, size), 4, 0) => note);
+        called!(goblin_note_whole(&over(NOTE, header()), &range(0, size), 4, 0) => note);
     if status > 1 {
         return (status, why.item as u64, why.first);
     }
@@ -511,8 +527,26 @@ fn whole_note(size: u64) -> (u32, u64, u64) {
 #[test]
 fn reads_notes(rt: HostRuntime) {
     assert!(rt; reads_note());
-    assert!(rt; whole_note(20) == (0, 4, 20) && whole_note(19) == (3, 6, 4));
+    assert!(rt; whole_note(20) == (0, 3, 20) && whole_note(19) == (3, 6, 4));
     assert!(rt; note_with(16).0 == 16);
+}
+
+// A note whose name is not UTF-8, and the size of its name by each call, or its status if it is refused.
+static BYTES: &[u8; 16] = b"\x04\0\0\0\0\0\0\0\x01\0\0\0\xff\xfeN\0";
+
+fn note_of_bytes() -> (u32, u32, u32) {
+    let file = over(BYTES, header());
+    let all = range(0, 16);
+    let (plain, note, _) = called!(goblin_note(&file, &all, 4, 0) => note);
+    let (text, _, why) = called!(goblin_note_utf8(&file, &all, 4, 0) => note);
+    let (whole, same, _) = called!(goblin_note_whole(&file, &all, 4, 0) => note);
+    let is_same = note.name.size == 3 && same.name.size == 3 && note.next == 16 && why.item == 1;
+    (plain, text, if is_same { whole } else { 99 })
+}
+
+#[test]
+fn reads_notes_of_bytes(rt: HostRuntime) {
+    assert!(rt; note_of_bytes() == (0, 5, 0));
 }
 
 // What is written of a name into six bytes, and how long the name is.
@@ -520,6 +554,11 @@ fn machine(number: u16) -> ([u8; 6], u64) {
     let mut text = *b"......";
     let len = goblin_machine_to_str(number, &mut text);
     (text, len)
+}
+
+// How long the name of a flag is: "SHF_WRITE" or "SHF_UNKNOWN".
+fn flag(number: u64) -> u64 {
+    goblin_shf_to_str(number, &mut [0; 12])
 }
 
 fn note_type_name(name: &[u8], n_type: u32) -> u64 {
@@ -531,8 +570,9 @@ fn note_type_name(name: &[u8], n_type: u32) -> u64 {
 fn writes_names(rt: HostRuntime) {
     assert!(rt; machine(62) == (*b"X86_64", 6));
     assert!(rt; machine(258) == (*b"LOONGA", 9));
+    assert!(rt; flag(1) == 9 && flag((1 << 32) + 1) == 11 && flag(1 << 32) == 11);
     assert!(rt; note_type_name(b"CORE", 3) == 11 && note_type_name(b"GNU", 3) == 15);
-    assert!(rt; goblin_version() == 7);
+    assert!(rt; goblin_version() == 8);
 }
 
 // Whether this is the text of a refusal of a kind with these numbers.
@@ -617,7 +657,7 @@ fn closes_texts(rt: HostRuntime) {
 // The text written into a buffer of four bytes, and the length that is returned.
 fn cut_text() -> ([u8; 4], u64) {
     let mut room = [9; 4];
-    let (_, _, why) = called!(goblin_header(&FILE[..51]) => header);
+    let (_, _, why) = file_of(&FILE[..51]);
     let len = goblin_refusal_to_str(&why, &mut room);
     (room, len)
 }
@@ -632,8 +672,8 @@ fn cuts_refusals(rt: HostRuntime) {
 // goblin.h declares them, with their marks: numbers of one, two, four or eight bytes, of which each is the field's
 // place in the struct, from 1 on.
 static LAYOUT: &str = "GoblinLayout { size_of_refusal: 48, size_of_range: 16, size_of_header: 56, \
-        size_of_section: 72, size_of_segment: 56, size_of_symbol: 40, size_of_reloc: 32, \
-        size_of_note: 48, size_of_dyn: 16, \
+        size_of_section: 64, size_of_segment: 56, size_of_symbol: 24, size_of_reloc: 24, \
+        size_of_note: 48, size_of_dyn: 16, size_of_file: 72, \
     refusal: GoblinRefusal { kind: 16843009, item: 33686018, first: 217020518514230019, \
         second: 289360691352306692, third: 361700864190383365, fourth: 434041037028460038, \
         offset: 506381209866536711 }, \
@@ -643,19 +683,18 @@ static LAYOUT: &str = "GoblinLayout { size_of_refusal: 48, size_of_range: 16, si
         e_machine: 1799, e_ehsize: 2056, e_phentsize: 2313, e_phnum: 2570, e_shentsize: 2827, \
         e_shnum: 3084, e_shstrndx: 3341, ei_class: 14, ei_data: 15, ei_version: 16, ei_osabi: 17, \
         ei_abiversion: 18 }, \
-    section: GoblinSection { file: GoblinRange { offset: 72340172838076673, \
-        size: 144680345676153346 }, sh_name: 217020518514230019, sh_flags: 289360691352306692, \
-        sh_addr: 361700864190383365, sh_addralign: 434041037028460038, \
-        sh_entsize: 506381209866536711, sh_type: 134744072, sh_link: 151587081, \
-        sh_info: 168430090 }, \
-    segment: GoblinSegment { file: GoblinRange { offset: 72340172838076673, \
-        size: 144680345676153346 }, p_vaddr: 217020518514230019, p_paddr: 289360691352306692, \
-        p_memsz: 361700864190383365, p_align: 434041037028460038, p_type: 117901063, \
-        p_flags: 134744072 }, \
-    symbol: GoblinSymbol { st_name: 72340172838076673, st_value: 144680345676153346, \
-        st_size: 217020518514230019, st_shndx: 289360691352306692, st_info: 5, st_other: 6 }, \
-    reloc: GoblinReloc { r_offset: 72340172838076673, r_sym: 144680345676153346, \
-        r_addend: 217020518514230019, r_type: 67372036, has_addend: 84215045 }, \
+    section: GoblinSection { sh_name: 16843009, sh_type: 33686018, sh_flags: 217020518514230019, \
+        sh_addr: 289360691352306692, file: GoblinRange { offset: 361700864190383365, \
+        size: 434041037028460038 }, sh_link: 117901063, sh_info: 134744072, \
+        sh_addralign: 651061555542690057, sh_entsize: 723401728380766730 }, \
+    segment: GoblinSegment { p_type: 16843009, p_flags: 33686018, \
+        file: GoblinRange { offset: 217020518514230019, size: 289360691352306692 }, \
+        p_vaddr: 361700864190383365, p_paddr: 434041037028460038, p_memsz: 506381209866536711, \
+        p_align: 578721382704613384 }, \
+    symbol: GoblinSymbol { st_name: 16843009, st_info: 2, st_other: 3, st_shndx: 1028, \
+        st_value: 361700864190383365, st_size: 434041037028460038 }, \
+    reloc: GoblinReloc { r_offset: 72340172838076673, r_type: 33686018, r_sym: 50529027, \
+        r_addend: 289360691352306692 }, \
     note: GoblinNote { name: GoblinRange { offset: 72340172838076673, size: 144680345676153346 }, \
         desc: GoblinRange { offset: 217020518514230019, size: 289360691352306692 }, \
         next: 361700864190383365, n_type: 101058054 }, \
@@ -666,4 +705,17 @@ fn has_fields_in_order(rt: HostRuntime) -> std::io::Result<()> {
     let shown = format!(in rt.alloc(); "{:?}", marked_layout())?;
     assert!(rt; shown.as_str() == LAYOUT);
     Ok(())
+}
+
+// How many bytes are stored of the layout in a struct of a size, and the first mark then, of one that was 0.
+fn stores_layout(size: usize) -> (usize, u32) {
+    let mut layout = marked_layout();
+    layout.refusal.kind = 0;
+    (goblin_layout(&mut layout, size), layout.refusal.kind)
+}
+
+#[test]
+fn stores_a_layout_in_what_holds_it(rt: HostRuntime) {
+    assert!(rt; stores_layout(432) == (432, 0x0101_0101) && stores_layout(433).0 == 432);
+    assert!(rt; stores_layout(431) == (0, 0) && stores_layout(0) == (0, 0));
 }

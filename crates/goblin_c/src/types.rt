@@ -2,7 +2,7 @@
 //! its conversion from what the library reads, and the one from C.
 ghost use Rattle.std.specs.Prelude.{◌≡◌, ◌+◌, ◌<◌, ◌≤◌, ◌^◌, length};
 ghost use Rattle.goblin_c.specs.Common.{option_map};
-ghost use Rattle.goblin_c.specs.Write.{header_of, reloc_of, section_of, segment_of, symbol_of};
+ghost use Rattle.goblin_c.specs.Write.{dyn_of, header_of, reloc_of, section_of, segment_of, symbol_of};
 ghost use Rattle.goblin_c.specs.Refused.{refusal_at};
 ghost use Rattle.goblin_c.specs.Types.{header_converted, item_number, names_index_of, dyn_converted, note_converted, refusal_converted, reloc_converted, section_converted, segment_converted, symbol_converted};
 
@@ -69,6 +69,14 @@ pub struct GoblinRange {
     pub offset: u64,
     /// The number of bytes.
     pub size: u64,
+}
+
+/// A file: its bytes, or a part of them, and its header.
+#[repr(C)]
+#[derive(Clone, Copy, Debug)]
+pub struct GoblinFile<'a> {
+    pub bytes: &'a [u8],
+    pub header: GoblinHeader,
 }
 
 /// A file's header.
@@ -165,35 +173,35 @@ impl GoblinHeader {
 #[repr(C)]
 #[derive(Clone, Copy, Debug)]
 pub struct GoblinSection {
-    /// `sh_offset` and `sh_size`.
-    pub file: GoblinRange,
-    pub sh_name: u64,
+    pub sh_name: u32,
+    pub sh_type: u32,
     pub sh_flags: u64,
     pub sh_addr: u64,
-    pub sh_addralign: u64,
-    pub sh_entsize: u64,
-    pub sh_type: u32,
+    /// `sh_offset` and `sh_size`.
+    pub file: GoblinRange,
     pub sh_link: u32,
     pub sh_info: u32,
+    pub sh_addralign: u64,
+    pub sh_entsize: u64,
 }
 
-// Converts a section header for C.
+// Converts a section header for C. The name of one that was read fits its field.
 pub(crate) fn convert_section(s: &SectionHeader) -> GoblinSection
     ensures { result ≡ section_converted s.now }
 {
     GoblinSection {
+        sh_name: (s.sh_name % 0x1_0000_0000) as u32,
+        sh_type: s.sh_type,
+        sh_flags: s.sh_flags,
+        sh_addr: s.sh_addr,
         file: GoblinRange {
             offset: s.sh_offset,
             size: s.sh_size,
         },
-        sh_name: s.sh_name as u64,
-        sh_flags: s.sh_flags,
-        sh_addr: s.sh_addr,
-        sh_addralign: s.sh_addralign,
-        sh_entsize: s.sh_entsize,
-        sh_type: s.sh_type,
         sh_link: s.sh_link,
         sh_info: s.sh_info,
+        sh_addralign: s.sh_addralign,
+        sh_entsize: s.sh_entsize,
     }
 }
 
@@ -219,14 +227,14 @@ pub(crate) fn section_of(own: &GoblinSection) -> SectionHeader
 #[repr(C)]
 #[derive(Clone, Copy, Debug)]
 pub struct GoblinSegment {
+    pub p_type: u32,
+    pub p_flags: u32,
     /// `p_offset` and `p_filesz`.
     pub file: GoblinRange,
     pub p_vaddr: u64,
     pub p_paddr: u64,
     pub p_memsz: u64,
     pub p_align: u64,
-    pub p_type: u32,
-    pub p_flags: u32,
 }
 
 // Converts a program header for C.
@@ -234,6 +242,8 @@ pub(crate) fn convert_segment(s: &ProgramHeader) -> GoblinSegment
     ensures { result ≡ segment_converted s.now }
 {
     GoblinSegment {
+        p_type: s.p_type,
+        p_flags: s.p_flags,
         file: GoblinRange {
             offset: s.p_offset,
             size: s.p_filesz,
@@ -242,8 +252,6 @@ pub(crate) fn convert_segment(s: &ProgramHeader) -> GoblinSegment
         p_paddr: s.p_paddr,
         p_memsz: s.p_memsz,
         p_align: s.p_align,
-        p_type: s.p_type,
-        p_flags: s.p_flags,
     }
 }
 
@@ -267,25 +275,25 @@ pub(crate) fn segment_of(own: &GoblinSegment) -> ProgramHeader
 #[repr(C)]
 #[derive(Clone, Copy, Debug)]
 pub struct GoblinSymbol {
-    pub st_name: u64,
-    pub st_value: u64,
-    pub st_size: u64,
-    pub st_shndx: u64,
+    pub st_name: u32,
     pub st_info: u8,
     pub st_other: u8,
+    pub st_shndx: u16,
+    pub st_value: u64,
+    pub st_size: u64,
 }
 
-// Converts a symbol for C.
+// Converts a symbol for C. The name and the section of one that was read fit their fields.
 pub(crate) fn convert_symbol(s: &Sym) -> GoblinSymbol
     ensures { result ≡ symbol_converted s.now }
 {
     GoblinSymbol {
-        st_name: s.st_name as u64,
-        st_value: s.st_value,
-        st_size: s.st_size,
-        st_shndx: s.st_shndx as u64,
+        st_name: (s.st_name % 0x1_0000_0000) as u32,
         st_info: s.st_info,
         st_other: s.st_other,
+        st_shndx: (s.st_shndx % 0x1_0000) as u16,
+        st_value: s.st_value,
+        st_size: s.st_size,
     }
 }
 
@@ -308,38 +316,31 @@ pub(crate) fn symbol_of(own: &GoblinSymbol) -> Sym
 #[derive(Clone, Copy, Debug)]
 pub struct GoblinReloc {
     pub r_offset: u64,
-    pub r_sym: u64,
+    pub r_type: u32,
+    pub r_sym: u32,
     /// The addend, or 0 if the relocated bytes hold it.
     pub r_addend: i64,
-    pub r_type: u32,
-    /// 1 if the entry has an addend, or 0.
-    pub has_addend: u32,
 }
 
-// Converts a relocation for C.
+// Converts a relocation for C. The symbol of one that was read fits its field.
 pub(crate) fn convert_reloc(r: &Reloc) -> GoblinReloc
     ensures { result ≡ reloc_converted r.now }
 {
     GoblinReloc {
         r_offset: r.r_offset,
-        r_sym: r.r_sym as u64,
-        r_addend: r.r_addend.unwrap_or(0),
         r_type: r.r_type,
-        has_addend: if r.r_addend.is_some() { 1 } else { 0 },
+        r_sym: (r.r_sym % 0x1_0000_0000) as u32,
+        r_addend: r.r_addend.unwrap_or(0),
     }
 }
 
-// Returns the relocation from C.
-pub(crate) fn reloc_of(own: &GoblinReloc) -> Reloc
-    ensures { result ≡ reloc_of own.now }
+// Returns the relocation from C, with an addend or without.
+pub(crate) fn reloc_of(own: &GoblinReloc, is_rela: bool) -> Reloc
+    ensures { result ≡ reloc_of is_rela own.now }
 {
     Reloc {
         r_offset: own.r_offset,
-        r_addend: if own.has_addend == 0 {
-            None
-        } else {
-            Some(own.r_addend)
-        },
+        r_addend: if is_rela { Some(own.r_addend) } else { None },
         r_sym: own.r_sym as usize,
         r_type: own.r_type,
     }
@@ -385,6 +386,16 @@ pub(crate) fn convert_note(offset: u64, places: &NotePlaces) -> GoblinNote
 pub struct GoblinDyn {
     pub d_tag: u64,
     pub d_val: u64,
+}
+
+// Returns the entry from C.
+pub(crate) fn dyn_of(own: &GoblinDyn) -> Dyn
+    ensures { result ≡ dyn_of own.now }
+{
+    Dyn {
+        d_tag: own.d_tag,
+        d_val: own.d_val,
+    }
 }
 
 // Converts an entry for C.

@@ -1,10 +1,8 @@
-//! Notes of little-endian files whose names are short and ASCII, as most are. They are read at once, without the steps
-//! that prepare a refusal.
-ghost use Rattle.std.specs.Prelude.{◌⊎◌, ◌≡◌, ◌≤◌, ◌<◌, Ok, Some, IfSome, IsTrue, drop, false, length};
-ghost use Rattle.goblin_c.specs.Common.{read_places};
+//! Notes of little-endian files, as most are. They are read at once, without the steps that prepare a refusal.
+ghost use Rattle.std.specs.Prelude.{◌⊎◌, ◌≡◌, ◌+◌, ◌≤◌, ◌<◌, Ok, Some, IfSome, IsTrue, drop, false, length};
 ghost use Rattle.std.specs.Str.{IsAscii};
 ghost use Rattle.goblin.specs.Notes.{LieWithin};
-ghost use Rattle.goblin_c.specs.Notes.{note_expected};
+ghost use Rattle.goblin_c.specs.Notes.{note_expected, note_utf8_expected, read_parts};
 ghost use Rattle.goblin_base.specs.declared.container.Endian.TheVariants as endian;
 
 use crate::types::{GoblinHeader, GoblinNote, GoblinRange, convert_note};
@@ -29,24 +27,19 @@ fn is_short_ascii(name: &[u8]) -> bool
     }
 }
 
-// Returns the places of the parts of the note at the start of some bytes, if they hold it and its name is short and
-// ASCII.
+// Returns the places of the parts of the note at the start of some bytes, if they hold it.
 #[inline(always)]
-#[tactic(auto, using(goblin_base::proofs::TextTests::ascii_tests), unfolding(goblin::specs::Note::read_places))]
+#[tactic(auto, unfolding(crate::specs::Notes::read_parts))]
 fn usual_places(bytes: &[u8], alignment: usize) -> Option<NotePlaces>
     requires known { (alignment ≡ 4) ⊎ (alignment ≡ 8) }
-    ensures value { IfSome result (λ places. read_places alignment endian.Little bytes.now ≡ Ok places) }
+    ensures value { IfSome result (λ places. read_parts alignment endian.Little bytes.now ≡ Ok places) }
     ensures within { IfSome result (LieWithin (length bytes.now) 0) }
 {
     let Ok((header, _)) = Nhdr32::try_from_ctx(bytes, Endian::Little) else {
         return None;
     };
     let places = NotePlaces::of(&header, alignment);
-    let (name, name_size) = (places.name, places.name_size);
-    if room(bytes.len(), name, name_size).is_err() {
-        return None;
-    }
-    if !is_short_ascii(&bytes[name..name + name_size]) {
+    if room(bytes.len(), places.name, places.name_size).is_err() {
         return None;
     }
     if room(bytes.len(), places.desc, places.desc_size).is_err() {
@@ -64,7 +57,9 @@ pub fn usual_note(
     alignment: u64,
     offset: u64,
 ) -> Option<GoblinNote>
-    ensures { IfSome result (λ note. note_expected bytes.now header.now range.now alignment offset ≡ Ok (Some note)) }
+    ensures value { IfSome result
+        (λ note. note_expected bytes.now header.now range.now alignment offset ≡ Ok (Some note)) }
+    ensures name { IfSome result (λ note. note.name.offset + note.name.size ≤ length bytes.now) }
 {
     if header.ei_data == ELFDATA2MSB || offset >= bytes.len() as u64 {
         return None;
@@ -79,4 +74,24 @@ pub fn usual_note(
         _ => return None,
     };
     Some(convert_note(offset, &places))
+}
+
+/// Returns the same note if its name is short and ASCII, as most are.
+#[inline(always)]
+pub fn usual_text_note(
+    bytes: &[u8],
+    header: &GoblinHeader,
+    range: &GoblinRange,
+    alignment: u64,
+    offset: u64,
+) -> Option<GoblinNote>
+    ensures { IfSome result
+        (λ note. note_utf8_expected bytes.now header.now range.now alignment offset ≡ Ok (Some note)) }
+{
+    let note = usual_note(bytes, header, range, alignment, offset)?;
+    let start = note.name.offset as usize;
+    if !is_short_ascii(&bytes[start..start + note.name.size as usize]) {
+        return None;
+    }
+    Some(note)
 }

@@ -1,29 +1,30 @@
 //! Records and numbers that are put into the bytes of a file. A record is put where the call that reads it finds one,
 //! if it fits. Then its bytes change, and no other.
-ghost use Rattle.std.specs.Prelude.{◌≡◌, ◌↔◌, ◌≤◌, ◌<◌, ◌+◌, ◌*◌, ◌^◌, IsTrue, IfOk, Ok, Some, length};
+ghost use Rattle.std.specs.Prelude.{false, pos, ◌≡◌, ◌↔◌, ◌≤◌, ◌<◌, ◌+◌, ◌*◌, ◌^◌, IsTrue, IfOk, Ok, Some, length};
 ghost use Rattle.goblin_c.specs.Common.{header_size, order_named};
 ghost use Rattle.goblin.specs.Steps.{refuse_as};
 ghost use Rattle.goblin_base.specs.Place.{with_number};
 ghost use Rattle.goblin_c.specs.Bytes.{is_width};
 ghost use Rattle.goblin_c.specs.Expected.{ctx_of};
 ghost use Rattle.goblin_c.specs.Refused.{refusal_at};
-ghost use Rattle.goblin_c.specs.Types.{reloc_converted};
-ghost use Rattle.goblin_c.specs.Write.{Changes, FitsClass, NumberFits, Puts, RelocFits, SectionFits, SegmentFits, SymbolFits, header_misfit, header_of, header_put_expected, named_ctx, number_in_put_expected, number_misfit, number_put_expected, put_at, put_if_there, reloc_ctx, reloc_misfit, reloc_of, reloc_put_expected, section_misfit, section_of, section_put_expected, segment_misfit, segment_of, segment_put_expected, symbol_misfit, symbol_of, symbol_put_expected, with_bytes};
+ghost use Rattle.goblin_dynamic.specs.Dyn.{entry_layout};
+ghost use Rattle.goblin_c.specs.Write.{Changes, DynFits, FitsClass, dyn_misfit, dyn_of, dyn_put_expected, NumberFits, Puts, RelocFits, SectionFits, SegmentFits, SymbolFits, header_misfit, header_of, header_put_expected, named_ctx, number_in_put_expected, number_misfit, number_put_expected, put_at, put_if_there, reloc_ctx, reloc_misfit, reloc_of, reloc_put_expected, section_misfit, section_of, section_put_expected, segment_misfit, segment_of, segment_put_expected, symbol_misfit, symbol_of, symbol_put_expected, with_bytes};
 
 use crate::bytes::number;
+use crate::dynamic::entry_of;
 use crate::headers::{ctx_of, sections_of, segments_of};
 use crate::kinds::{END, OK};
 use crate::lists::item_at;
 use crate::misfit::{
-    Misfit, header_misfit, reloc_misfit, section_misfit, segment_misfit, symbol_misfit,
+    Misfit, dyn_misfit, header_misfit, reloc_misfit, section_misfit, segment_misfit, symbol_misfit,
 };
 use crate::places::number_in;
 use crate::refused::{Refused, Result};
 use crate::status::refuse;
 use crate::tables::{relocs_of, symbols_of};
 use crate::types::{
-    GoblinHeader, GoblinRange, GoblinRefusal, GoblinReloc, GoblinSection, GoblinSegment,
-    GoblinSymbol, header_of, reloc_of, section_of, segment_of, symbol_of,
+    GoblinDyn, GoblinHeader, GoblinRange, GoblinRefusal, GoblinReloc, GoblinSection, GoblinSegment,
+    GoblinSymbol, dyn_of, header_of, reloc_of, section_of, segment_of, symbol_of,
 };
 use goblin::container::{Container, Ctx, Endian};
 use goblin::elf::header::{ELFCLASS32, ELFCLASS64, ELFDATA2LSB, ELFDATA2MSB, Header};
@@ -33,6 +34,7 @@ use goblin::scroll::IntoCtx;
 use goblin_base::laid_out::LaidOut;
 use goblin_base::number::{put_u8, put_u16, put_u32, put_u64};
 use goblin_base::room::room;
+use goblin_dynamic::entry::Dyn;
 
 // Writes a record at an offset.
 fn put_record<R: LaidOut<C>, C: Copy>(bytes: &mut [u8], place: usize, own: R, ctx: C)
@@ -83,12 +85,12 @@ pub extern "C" fn goblin_put_section(
     why: &mut GoblinRefusal,
 ) -> u32
     ensures { Puts (SectionFits header.now section.now)
-        (section_misfit (ctx_of header.now).container (section_of section.now))
+        (section_misfit (section_of section.now))
         (section_put_expected bytes.old header.now index section.now) bytes.old why.old result bytes.new why.new }
 {
     let found = item_at(sections_of(bytes, header), index);
     let (ctx, record) = (ctx_of(header), section_of(section));
-    let unfit = (!record.fits(ctx)).then(|| section_misfit(&record, ctx.container));
+    let unfit = (!record.fits(ctx)).then(|| section_misfit(&record));
     put_found(bytes, found, header.e_shoff, index, record, ctx, unfit, why)
 }
 
@@ -102,12 +104,12 @@ pub extern "C" fn goblin_put_segment(
     why: &mut GoblinRefusal,
 ) -> u32
     ensures { Puts (SegmentFits header.now segment.now)
-        (segment_misfit (ctx_of header.now).container (segment_of segment.now))
+        (segment_misfit (segment_of segment.now))
         (segment_put_expected bytes.old header.now index segment.now) bytes.old why.old result bytes.new why.new }
 {
     let found = item_at(segments_of(bytes, header), index);
     let (ctx, record) = (ctx_of(header), segment_of(segment));
-    let unfit = (!record.fits(ctx)).then(|| segment_misfit(&record, ctx.container));
+    let unfit = (!record.fits(ctx)).then(|| segment_misfit(&record));
     put_found(bytes, found, header.e_phoff, index, record, ctx, unfit, why)
 }
 
@@ -122,13 +124,13 @@ pub extern "C" fn goblin_put_symbol(
     why: &mut GoblinRefusal,
 ) -> u32
     ensures { Puts (SymbolFits header.now symbol.now)
-        (symbol_misfit (ctx_of header.now).container (symbol_of symbol.now))
+        (symbol_misfit (symbol_of symbol.now))
         (symbol_put_expected bytes.old header.now table.now index symbol.now)
         bytes.old why.old result bytes.new why.new }
 {
     let found = item_at(symbols_of(bytes, header, table), index);
     let (ctx, record) = (ctx_of(header), symbol_of(symbol));
-    let unfit = (!record.fits(ctx)).then(|| symbol_misfit(&record, ctx.container));
+    let unfit = (!record.fits(ctx)).then(|| symbol_misfit(&record));
     put_found(bytes, found, table.offset, index, record, ctx, unfit, why)
 }
 
@@ -145,11 +147,11 @@ fn reloc_ctx(header: &GoblinHeader, is_rela: bool) -> RelocCtx
     }
 }
 
-// Reports whether a relocation from C is the one that is converted for C: it has an addend or none, and then 0.
-fn is_exact(reloc: &GoblinReloc) -> bool
-    ensures { IsTrue result ↔ (reloc_converted (reloc_of reloc.now) ≡ reloc.now) }
+// Reports whether a relocation has an addend only if its table does.
+fn has_field(reloc: &GoblinReloc, is_rela: bool) -> bool
+    ensures { IsTrue result ↔ (is_rela ≡ false → reloc.now.r_addend ≡ pos 0) }
 {
-    reloc.has_addend == 1 || reloc.has_addend == 0 && reloc.r_addend == 0
+    is_rela || reloc.r_addend == 0
 }
 
 /// Puts the relocation at an index of those that lie in a range, with addends or without.
@@ -163,15 +165,47 @@ pub extern "C" fn goblin_put_reloc(
     reloc: &GoblinReloc,
     why: &mut GoblinRefusal,
 ) -> u32
-    ensures { Puts (RelocFits header.now is_rela reloc.now) (reloc_misfit (ctx_of header.now).container reloc.now)
+    ensures { Puts (RelocFits header.now is_rela reloc.now)
+        (reloc_misfit (ctx_of header.now).container is_rela reloc.now)
         (reloc_put_expected bytes.old header.now table.now is_rela index reloc.now)
         bytes.old why.old result bytes.new why.new }
 {
     let found = item_at(relocs_of(bytes, header, table, is_rela), index);
-    let (ctx, record) = (reloc_ctx(header, is_rela), reloc_of(reloc));
-    let fits = record.fits(ctx) && is_exact(reloc);
-    let unfit = (!fits).then(|| reloc_misfit(reloc, ctx.ctx.container));
+    let (ctx, record) = (reloc_ctx(header, is_rela), reloc_of(reloc, is_rela));
+    let fits = record.fits(ctx) && has_field(reloc, is_rela);
+    let unfit = (!fits).then(|| reloc_misfit(reloc, is_rela, ctx.ctx.container));
     put_found(bytes, found, table.offset, index, record, ctx, unfit, why)
+}
+
+// Reports whether an entry fits the fields of a class.
+fn entry_fits(d: &Dyn, ctx: Ctx) -> bool
+    ensures { IsTrue result ↔ (entry_layout ctx.container ctx.le).Fits d.now }
+{
+    let (tag, val) = (d.d_tag, d.d_val);
+    match ctx.container {
+        Container::Little => tag < 1 << 32 && val < 1 << 32,
+        Container::Big => true,
+    }
+}
+
+/// Puts the entry at an index of those that lie in a range of the dynamic section whole.
+#[unsafe(no_mangle)]
+pub extern "C" fn goblin_put_dynamic_entry(
+    bytes: &mut [u8],
+    header: &GoblinHeader,
+    dynamic: &GoblinRange,
+    index: u64,
+    entry: &GoblinDyn,
+    why: &mut GoblinRefusal,
+) -> u32
+    ensures { Puts (DynFits header.now entry.now) (dyn_misfit (dyn_of entry.now))
+        (dyn_put_expected bytes.old header.now dynamic.now index entry.now)
+        bytes.old why.old result bytes.new why.new }
+{
+    let found = entry_of(bytes, header, dynamic, index);
+    let (ctx, record) = (ctx_of(header), dyn_of(entry));
+    let unfit = (!entry_fits(&record, ctx)).then(|| dyn_misfit(&record));
+    put_found(bytes, found, dynamic.offset, index, record, ctx, unfit, why)
 }
 
 /// Reports whether a number fits into so many bytes.
@@ -184,6 +218,17 @@ pub fn number_fits(width: u64, value: u64) -> bool
         2 => value < 1 << 16,
         4 => value < 1 << 32,
         _ => true,
+    }
+}
+
+// Returns a number as a value that doesn't fit where it begins.
+fn unfit_number(value: u64) -> Misfit
+    ensures { result ≡ number_misfit value }
+{
+    Misfit {
+        value,
+        offset: 0,
+        item: 0,
     }
 }
 
@@ -218,7 +263,7 @@ pub extern "C" fn goblin_put_number(
     match number(bytes, header, offset, width) {
         Ok(Some(_)) => {
             if !number_fits(width, value) {
-                return Misfit { value, offset: 0 }.refuse_at(offset, why);
+                return unfit_number(value).refuse_at(offset, why);
             }
             put_width(bytes, offset as usize, width, value, ctx_of(header).le);
             OK
@@ -284,7 +329,7 @@ pub extern "C" fn goblin_put_header(
     why: &mut GoblinRefusal,
 ) -> u32
     ensures { Puts (FitsClass bytes.old header.now)
-        (header_misfit (ctx_of header.now).container (header_of bytes.old header.now))
+        (header_misfit (header_of bytes.old header.now))
         (header_put_expected bytes.old header.now) bytes.old why.old result bytes.new why.new }
 {
     let ctx = match named_ctx(bytes, header) {
@@ -293,7 +338,7 @@ pub extern "C" fn goblin_put_header(
     };
     let record = header_of(bytes, header);
     if !record.fits(ctx.container) {
-        return header_misfit(&record, ctx.container).refuse_at(0, why);
+        return header_misfit(&record).refuse_at(0, why);
     }
     record.into_ctx(bytes, ctx);
     OK

@@ -1,16 +1,18 @@
 //! Laws of the calls that put records, numbers and the header.
-ghost use Rattle.goblin_c.specs.WriteLaws.{CountsStay, HeadersAreRead, NumbersArePut, NumbersInRangesArePut, PutsAreRead, PutsChangeOne, ReadsArePut, UnfitAreRefused};
+ghost use Rattle.goblin_c.specs.WriteLaws.{CountsStay, HeadersAreRead, ItemsAreWhole, NumbersArePut, NumbersInRangesArePut, PutsAreRead, PutsChangeOne, ReadsArePut, UnfitAreRefused};
 
 /// Laws: what `goblin_put_section`, `goblin_put_segment`, `goblin_put_symbol` or `goblin_put_reloc` puts at an index is
 /// what the call that reads stores at this index then, if the list has as many items as before: in a file of the same
 /// length a range has as many symbols and relocations. Only the bytes of the record change. An item that a call stores
-/// changes no byte if it is put at its index, and a section header, a program header and a symbol fit then.
-#[tactic(auto, using(crate::proofs::PutLemmas::put_laws))]
+/// changes no byte if it is put at its index, and a section header, a program header and a symbol fit then. The structs
+/// for C have all of each item that is read.
+#[tactic(auto, using(crate::proofs::PutLemmas::put_laws, crate::proofs::FitLemmas::items_are_whole))]
 pub fn puts()
     ensures there { PutsAreRead }
     ensures one { PutsChangeOne }
     ensures back { ReadsArePut }
     ensures counts { CountsStay }
+    ensures whole { ItemsAreWhole }
 {}
 
 /// Laws: a number that `goblin_put_number` puts is what `goblin_number` stores then, and no other byte changes. A

@@ -3,7 +3,7 @@
 //! without addends, the bytes 1 to 8, and four section headers. The first program header and the first section
 //! header have type 0, so their sizes don't count. The third section has no bytes. The fourth ends past the file.
 use crate::layout::marked_layout;
-use crate::tests::{called, found, number_shown, range, searched, stored};
+use crate::tests::{called, file_of, found, number_shown, over, range, searched, stored};
 use crate::types::{GoblinHeader, GoblinRange, GoblinRefusal};
 use crate::*;
 
@@ -26,21 +26,21 @@ const STRINGS: GoblinRange = GoblinRange {
 
 // The file's header.
 fn header() -> GoblinHeader {
-    called!(goblin_header(FILE) => header).1
+    file_of(FILE).1.header
 }
 
 fn segment_count() -> (u32, u64) {
-    stored!(goblin_segment_count(FILE, &header()) => 9)
+    stored!(goblin_segment_count(&over(FILE, header())) => 9)
 }
 
 // The answer for the symbols of a range, with how many they are and the refusal's first number.
 fn symbol_count(symbols: &GoblinRange) -> (u32, u64, u64) {
-    let (status, count, why) = called!(goblin_symbol_count(FILE, &header(), symbols) => 9);
+    let (status, count, why) = called!(goblin_symbol_count(&over(FILE, header()), symbols) => 9);
     (status, count, why.first)
 }
 
 fn reloc_count(is_rela: bool) -> (u32, u64) {
-    stored!(goblin_reloc_count(FILE, &header(), &range(124, 23), is_rela) => 9)
+    stored!(goblin_reloc_count(&over(FILE, header()), &range(124, 23), is_rela) => 9)
 }
 
 #[test]
@@ -57,11 +57,11 @@ fn refuses_symbols_at_the_end(rt: HostRuntime) {
 }
 
 // The offset of a section that is not stored.
-const MARK: u64 = 0x0101_0101_0101_0101;
+const MARK: u64 = 0x0505_0505_0505_0505;
 
 // The answer and the index of the first section of a type, from an index on, and where its bytes begin.
 fn of_type(sh_type: u32, first: u64) -> (u32, u64, u64) {
-    found!(goblin_section_by_type(FILE, &header(), sh_type, first) => section { file.offset })
+    found!(goblin_section_by_type(&over(FILE, header()), sh_type, first) => section { file.offset })
 }
 
 #[test]
@@ -83,8 +83,8 @@ fn shown((status, found, why): (u32, GoblinRange, GoblinRefusal)) -> (u32, u64, 
 
 // That for the bytes of a section.
 fn bytes_of_section(index: u64) -> (u32, u64, u64) {
-    let (_, section, _) = called!(goblin_section(FILE, &header(), index) => section);
-    shown(called!(goblin_section_bytes(FILE, &section) => range(0, 0)))
+    let (_, section, _) = called!(goblin_section(&over(FILE, header()), index) => section);
+    shown(called!(goblin_section_range(&over(FILE, header()), &section) => range(0, 0)))
 }
 
 #[test]
@@ -95,9 +95,9 @@ fn finds_the_bytes_of_sections(rt: HostRuntime) {
 
 // The same for those of a segment.
 fn bytes_of_segment(index: u64, size: u64) -> (u32, u64, u64) {
-    let (_, mut segment, _) = called!(goblin_segment(FILE, &header(), index) => segment);
+    let (_, mut segment, _) = called!(goblin_segment(&over(FILE, header()), index) => segment);
     segment.file.size = size;
-    shown(called!(goblin_segment_bytes(FILE, &segment) => range(0, 0)))
+    shown(called!(goblin_segment_range(&over(FILE, header()), &segment) => range(0, 0)))
 }
 
 #[test]
@@ -109,7 +109,7 @@ fn finds_the_bytes_of_segments(rt: HostRuntime) {
 
 // The answer for the bytes of a string.
 fn string_in(strings: &GoblinRange, offset: u64) -> (u32, u64, u64) {
-    shown(called!(goblin_string_bytes(FILE, strings, offset) => range(0, 0)))
+    shown(called!(goblin_string(&over(FILE, header()), strings, offset) => range(0, 0)))
 }
 
 #[test]
@@ -121,68 +121,57 @@ fn finds_strings_that_are_not_utf8(rt: HostRuntime) {
     );
 }
 
-// The first number and the offset of a refusal that is unchanged.
-const FIRST_MARK: u64 = 0x0303_0303_0303_0303;
-
+// The offset of a refusal that is unchanged.
 const OFFSET_MARK: u64 = 0x0707_0707_0707_0707;
 
-// The status of a call that compares a string with a name, with the refusal's first number.
-macro_rules! compared {
-    ($call:ident, $strings:expr, $offset:expr, $name:expr) => {{
-        let mut why = marked_layout().refusal;
-        let status = $call(FILE, $strings, $offset, $name, &mut why);
-        (status, why.first)
-    }};
-}
-
-// Whether the calls report that the string at an offset is a name or starts with it, or that it is or does not.
+// Whether the string at an offset is a name, and starts with it.
 fn is_named(offset: u64, name: &[u8]) -> bool {
-    compared!(goblin_string_is, &STRINGS, offset, name) == (0, FIRST_MARK)
-}
-
-fn is_not_named(offset: u64, name: &[u8]) -> bool {
-    compared!(goblin_string_is, &STRINGS, offset, name) == (1, FIRST_MARK)
+    goblin_string_is(&over(FILE, header()), &STRINGS, offset, name)
 }
 
 fn starts(offset: u64, start: &[u8]) -> bool {
-    compared!(goblin_string_starts, &STRINGS, offset, start) == (0, FIRST_MARK)
-}
-
-fn does_not_start(offset: u64, start: &[u8]) -> bool {
-    compared!(goblin_string_starts, &STRINGS, offset, start) == (1, FIRST_MARK)
+    goblin_string_starts(&over(FILE, header()), &STRINGS, offset, start)
 }
 
 #[test]
 fn compares_strings_in_place(rt: HostRuntime) {
     assert!(rt; is_named(1, b"ab") && is_named(2, b"b") && is_named(0, b"") && is_named(3, b""));
     assert!(rt; is_named(4, b"\xff\xfe") && is_named(7, b"c"));
-    assert!(rt; is_not_named(1, b"a") && is_not_named(1, b"ac") && is_not_named(1, b"abc"));
-    assert!(rt; is_not_named(1, b"") && is_not_named(1, b"ab\0") && is_not_named(7, b"c\0"));
-    assert!(rt; is_not_named(8, b"") && is_not_named(u64::MAX, b"") && is_not_named(117, b"ab"));
+    assert!(rt; !is_named(1, b"a") && !is_named(1, b"ac") && !is_named(1, b"abc"));
+    assert!(rt; !is_named(1, b"") && !is_named(1, b"ab\0") && !is_named(7, b"c\0"));
+    assert!(rt; !is_named(8, b"") && !is_named(u64::MAX, b"") && !is_named(117, b"ab"));
 }
 
 #[test]
 fn compares_starts_of_strings_in_place(rt: HostRuntime) {
     assert!(rt; starts(1, b"") && starts(1, b"a") && starts(1, b"ab") && starts(3, b""));
     assert!(rt; starts(4, b"\xff") && starts(7, b"c"));
-    assert!(rt; does_not_start(1, b"b") && does_not_start(1, b"abc"));
-    assert!(rt; does_not_start(3, b"\0") && does_not_start(1, b"ab\0"));
-    assert!(rt; does_not_start(8, b"") && does_not_start(7, b"c\0"));
-    assert!(rt; does_not_start(u64::MAX, b"a"));
+    assert!(rt; !starts(1, b"b") && !starts(1, b"abc"));
+    assert!(rt; !starts(3, b"\0") && !starts(1, b"ab\0"));
+    assert!(rt; !starts(8, b"") && !starts(7, b"c\0"));
+    assert!(rt; !starts(u64::MAX, b"a"));
 }
 
+// Whether a string of a table is empty, and starts with nothing.
+fn is_empty(strings: &GoblinRange, offset: u64) -> bool {
+    goblin_string_is(&over(FILE, header()), strings, offset, b"")
+}
+
+fn is_there(strings: &GoblinRange, offset: u64) -> bool {
+    goblin_string_starts(&over(FILE, header()), strings, offset, b"")
+}
+
+// (the zero byte at 304 is in the file, and the table is not)
 #[test]
 fn compares_no_strings_past_the_file(rt: HostRuntime) {
-    let (past, wrapped) = (&range(300, 9), &range(u64::MAX, 9));
-    assert!(rt; compared!(goblin_string_is, past, 0, b"") == (21, 9));
-    assert!(rt; compared!(goblin_string_is, &range(309, 0), 0, b"") == (20, 309));
-    assert!(rt; compared!(goblin_string_starts, past, 9, b"") == (21, 9));
-    assert!(rt; compared!(goblin_string_starts, wrapped, 0, b"") == (20, u64::MAX));
+    assert!(rt; is_empty(&range(300, 8), 4) && is_there(&range(300, 8), 4));
+    assert!(rt; !is_empty(&range(300, 9), 4) && !is_there(&range(300, 9), 4));
+    assert!(rt; !is_empty(&range(309, 0), 0) && !is_there(&range(u64::MAX, 9), 0));
 }
 
 // The answer for a string that a zero byte closes.
 fn closed_in(strings: &GoblinRange, offset: u64) -> (u32, u64, u64) {
-    shown(called!(goblin_string_closed(FILE, strings, offset) => range(9, 9)))
+    shown(called!(goblin_string_closed(&over(FILE, header()), strings, offset) => range(9, 9)))
 }
 
 // (after the string "c", which ends with its range, the file has a zero byte)
@@ -195,10 +184,44 @@ fn finds_strings_that_are_closed(rt: HostRuntime) {
     assert!(rt; closed_in(&range(300, 9), 0) == (21, 9, 300));
 }
 
+// The part of a table up to its last zero byte.
+fn closed_part(strings: &GoblinRange) -> (u32, u64, u64) {
+    shown(called!(goblin_closed_strings(&over(FILE, header()), strings) => range(9, 9)))
+}
+
+#[test]
+fn finds_the_closed_part_of_strings(rt: HostRuntime) {
+    assert!(rt; closed_part(&STRINGS) == (0, 116, 7) && closed_part(&range(116, 4)) == (0, 116, 4));
+    assert!(rt;
+        closed_part(&range(116, 3)) == (0, 116, 1) && closed_part(&range(117, 2)) == (0, 117, 0)
+    );
+    assert!(rt;
+        closed_part(&range(308, 0)) == (0, 308, 0) && closed_part(&range(300, 9)) == (21, 9, 300)
+    );
+}
+
+// Where a name that is not UTF-8 is found among sections whose names begin at byte 4 of the strings.
+fn finds_bytes(name: &[u8]) -> (u32, u64) {
+    let mut file = *FILE;
+    file[151 + 40] = 4;
+    let mut index = 9;
+    let file = over(&file, header());
+    let (status, _, _) =
+        called!(goblin_section_by_name(&file, &STRINGS, name, 0, &mut index) => section);
+    (status, index)
+}
+
+#[test]
+fn finds_names_that_are_not_utf8(rt: HostRuntime) {
+    assert!(rt; finds_bytes(b"\xff\xfe") == (0, 1) && finds_bytes(b"\xff") == (1, 9));
+    assert!(rt; finds_bytes(b"") == (0, 0));
+}
+
 // What is stored for the strings at offsets: the answer, their number, the ranges, and where what is refused begins.
 fn strings_in(strings: &GoblinRange, offsets: &[u64]) -> (u32, u64, [u64; 4], u64) {
     let mut found = [range(9, 9); 2];
-    let (status, filled, why) = called!(goblin_strings(FILE, strings, offsets, &mut found) => 9);
+    let (status, filled, why) =
+        called!(goblin_strings(&over(FILE, header()), strings, offsets, &mut found) => 9);
     let [one, two] = found;
     (
         status,
@@ -225,14 +248,14 @@ fn begins<T: Drop>((status, _, why): (u32, T, GoblinRefusal)) -> u64 {
 // end, or among symbols past the end.
 fn strings_begin() -> bool {
     let past = &range(300, 9);
-    let in_past = begins(called!(goblin_string(FILE, past, 0) => range));
-    let no_text = begins(called!(goblin_string(FILE, &STRINGS, 4) => range));
+    let in_past = begins(called!(goblin_string_utf8(&over(FILE, header()), past, 0) => range));
+    let no_text = begins(called!(goblin_string_utf8(&over(FILE, header()), &STRINGS, 4) => range));
     in_past == 300 && no_text == 120
 }
 
 fn searches_begin(symbols: &GoblinRange, names: &GoblinRange) -> u64 {
     let (status, index, _, why) =
-        searched!(goblin_symbol_by_name(FILE, &header(), symbols, names, b"ab", 0) => symbol);
+        searched!(goblin_symbol_by_name(&over(FILE, header()), symbols, names, b"ab", 0) => symbol);
     begins((status, index, why))
 }
 
@@ -241,7 +264,7 @@ fn section_searches_begin(e_shoff: u64, names: &GoblinRange) -> u64 {
     let mut header = header();
     header.e_shoff = e_shoff;
     let (status, index, _, why) =
-        searched!(goblin_section_by_name(FILE, &header, names, b"ab", 0) => section);
+        searched!(goblin_section_by_name(&over(FILE, header), names, b"ab", 0) => section);
     begins((status, index, why))
 }
 
@@ -249,17 +272,17 @@ fn headers_begin() -> bool {
     let mut header = header();
     header.e_shoff = 300;
     header.e_phoff = 301;
-    let sections = begins(called!(goblin_section_count(FILE, &header) => 9));
-    let segments = begins(called!(goblin_segment_count(FILE, &header) => 9));
-    let own = begins(called!(goblin_header(&FILE[..51]) => header));
+    let sections = begins(called!(goblin_section_count(&over(FILE, header)) => 9));
+    let segments = begins(called!(goblin_segment_count(&over(FILE, header)) => 9));
+    let own = begins(file_of(&FILE[..51]));
     own == 0 && sections == 300 && segments == 301
 }
 
 fn parts_begin() -> bool {
     let (notes, relocs) = (&range(300, 8), &range(299, 16));
-    let note = begins(called!(goblin_note(FILE, &header(), notes, 4, 304) => note));
-    let number = begins(called!(goblin_number(FILE, &header(), 305, 4) => 9));
-    let relocs = begins(called!(goblin_reloc_count(FILE, &header(), relocs, false) => 9));
+    let note = begins(called!(goblin_note_utf8(&over(FILE, header()), notes, 4, 304) => note));
+    let number = begins(called!(goblin_number(&over(FILE, header()), 305, 4) => 9));
+    let relocs = begins(called!(goblin_reloc_count(&over(FILE, header()), relocs, false) => 9));
     note == 304 && number == 305 && relocs == 299
 }
 
@@ -278,7 +301,7 @@ fn says_where_what_is_refused_begins(rt: HostRuntime) {
 fn number_at(offset: u64, width: u64, order: u8) -> (u32, u64, u64) {
     let mut header = header();
     header.ei_data = order;
-    number_shown(called!(goblin_number(FILE, &header, offset, width) => 9))
+    number_shown(called!(goblin_number(&over(FILE, header), offset, width) => 9))
 }
 
 #[test]

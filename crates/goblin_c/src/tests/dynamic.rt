@@ -1,7 +1,7 @@
 //! The calls for the dynamic section, on bytes with two program headers, strings, and the section: a library, the
 //! address and the size of the strings, the end, and the library's own name after it.
 use crate::layout::marked_layout;
-use crate::tests::{called, header, range, stored, with_segments};
+use crate::tests::{called, header, over, range, stored, with_segments};
 use crate::types::{GoblinRange, GoblinRefusal};
 use crate::*;
 
@@ -25,7 +25,7 @@ fn range_shown((status, found, why): (u32, GoblinRange, GoblinRefusal)) -> (u32,
 }
 
 fn dynamic(bytes: &[u8], segments: u16) -> (u32, u64, u64) {
-    range_shown(called!(goblin_dynamic(bytes, &with_segments(0, segments)) => range(9, 9)))
+    range_shown(called!(goblin_dynamic(&over(bytes, with_segments(0, segments))) => range(9, 9)))
 }
 
 #[test]
@@ -42,18 +42,72 @@ fn finds_the_dynamic_section(rt: HostRuntime) {
 
 fn strings(dynamic: GoblinRange, segments: u16) -> (u32, u64, u64) {
     let header = with_segments(0, segments);
-    range_shown(called!(goblin_dynamic_strings(BYTES, &header, &dynamic) => range(9, 9)))
+    range_shown(called!(goblin_dynamic_strings(&over(BYTES, header), &dynamic) => range(9, 9)))
 }
 
 #[test]
 fn finds_its_strings(rt: HostRuntime) {
-    assert!(rt; strings(DYNAMIC, 2) == (0, 64, 8) && strings(DYNAMIC, 0) == (1, 9, 9));
+    assert!(rt; strings(DYNAMIC, 2) == (0, 64, 8) && strings(DYNAMIC, 1) == (0, 64, 8));
     assert!(rt; strings(range(72, 23), 2) == (1, 9, 9) && strings(range(72, 41), 2) == (3, 41, 72));
     assert!(rt; strings(DYNAMIC, 4) == (6, 4, 0) && strings(range(72, 41), 4) == (3, 41, 72));
 }
 
+// The same bytes with three section headers after them: none, the dynamic section, and its strings, which it links to.
+fn with_sections() -> [u8; 232] {
+    let mut file = [0; 232];
+    for (place, byte) in file.iter_mut().zip(BYTES.iter()) {
+        *place = *byte;
+    }
+    (file[156], file[168], file[172], file[176]) = (6, 72, 40, 2);
+    (file[196], file[208], file[212]) = (3, 64, 8);
+    file
+}
+
+// By these sections, and by so many segments, the range of the dynamic section, and that of its strings.
+fn by_sections(count: u16) -> [(u32, u64, u64); 2] {
+    let (file, mut header) = (with_sections(), with_segments(0, count));
+    (header.e_shoff, header.e_shnum) = (112, 3);
+    let file = over(&file, header);
+    let place = range_shown(called!(goblin_dynamic(&file) => range(9, 9)));
+    let strings = range_shown(called!(goblin_dynamic_strings(&file, &DYNAMIC) => range(9, 9)));
+    [place, strings]
+}
+
+#[test]
+fn goes_by_sections_without_segments(rt: HostRuntime) {
+    assert!(rt; by_sections(0) == [(0, 72, 40), (0, 64, 8)]);
+    assert!(rt; by_sections(1) == [(1, 9, 9), (0, 64, 8)]);
+    assert!(rt; dynamic(BYTES, 0) == (3, 40, 88) && strings(DYNAMIC, 0) == (3, 40, 88));
+}
+
+fn count(dynamic: GoblinRange) -> (u32, u64) {
+    stored!(goblin_dynamic_count(&over(BYTES, header()), &dynamic) => 9)
+}
+
+#[test]
+fn counts_entries_up_to_the_end(rt: HostRuntime) {
+    assert!(rt; count(DYNAMIC) == (0, 3) && count(range(72, 23)) == (0, 2));
+    assert!(rt; count(range(96, 16)) == (0, 0) && count(range(72, 41)) == (3, 9));
+}
+
+// The index and the value of the first entry with a tag, from an index on.
+fn value_from(tag: u64, first: u64) -> (u32, u64, u64) {
+    let mut index = 9;
+    let file = over(BYTES, header());
+    let (status, value) =
+        stored!(goblin_dynamic_value(&file, &DYNAMIC, tag, first, &mut index) => 9);
+    (status, index, value)
+}
+
 fn value(tag: u64) -> (u32, u64) {
-    stored!(goblin_dynamic_value(BYTES, &header(), &DYNAMIC, tag) => 9)
+    let (status, _, value) = value_from(tag, 0);
+    (status, value)
+}
+
+#[test]
+fn finds_values_from_an_index_on(rt: HostRuntime) {
+    assert!(rt; value_from(5, 0) == (0, 1, 0x1000) && value_from(5, 1) == (0, 1, 0x1000));
+    assert!(rt; value_from(5, 2) == (1, 9, 9) && value_from(10, u64::MAX) == (1, 9, 9));
 }
 
 #[test]
@@ -67,7 +121,7 @@ fn entries(first: u64, capacity: usize) -> (u32, u64, [u64; 3]) {
     let mut all = [marked_layout().entry; 3];
     let buffer = &mut all[..capacity.min(3)];
     let (status, filled) =
-        stored!(goblin_dynamic_entries(BYTES, &header(), &DYNAMIC, first, buffer) => 9);
+        stored!(goblin_dynamic_entries(&over(BYTES, header()), &DYNAMIC, first, buffer) => 9);
     (status, filled, all.map(|entry| entry.d_tag))
 }
 

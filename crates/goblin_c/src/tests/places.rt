@@ -1,11 +1,11 @@
 //! Numbers in a range, offsets of addresses, and ranges that are cut to the file, on the file of `tests`.
 use crate::layout::marked_layout;
-use crate::tests::{FILE, STRINGS, called, header, number_shown, range, with_segments};
+use crate::tests::{FILE, STRINGS, called, header, number_shown, over, range, with_segments};
 use crate::types::GoblinRange;
 use crate::*;
 
 fn number_in(part: GoblinRange, offset: u64, width: u64) -> (u32, u64, u64) {
-    number_shown(called!(goblin_number_in(FILE, &header(), &part, offset, width) => 9))
+    number_shown(called!(goblin_number_in(&over(FILE, header()), &part, offset, width) => 9))
 }
 
 #[test]
@@ -19,7 +19,7 @@ fn reads_numbers_in_ranges(rt: HostRuntime) {
 
 fn in_file(offset: u64, size: u64) -> (u64, u64) {
     let mut part = range(9, 9);
-    goblin_range_in_file(FILE, &range(offset, size), &mut part);
+    goblin_range_in_file(&over(FILE, header()), &range(offset, size), &mut part);
     (part.offset, part.size)
 }
 
@@ -35,7 +35,9 @@ static LOADED: &[u8; 40] = b"\x01\0\0\0\x20\0\0\0\0\x10\0\0\0\0\0\0\
     \x10\0\0\0\x20\0\0\0\0\0\0\0\0\0\0\0........";
 
 fn offset_of(address: u64) -> (u32, u64, u64) {
-    number_shown(called!(goblin_address_to_offset(LOADED, &with_segments(0, 1), address) => 9))
+    number_shown(
+        called!(goblin_address_to_offset(&over(LOADED, with_segments(0, 1)), address) => 9),
+    )
 }
 
 #[test]

@@ -1,8 +1,8 @@
 //! Records and numbers that are put into files of both classes and byte orders: the bytes after, and the refusals.
 use crate::layout::marked_layout;
-use crate::tests::{FILE, SYMBOLS, called, changed, header, range, with_segments};
+use crate::tests::{FILE, SYMBOLS, called, changed, header, over, range, with_segments};
 use crate::types::{
-    GoblinHeader, GoblinRange, GoblinRefusal, GoblinReloc, GoblinSection, GoblinSegment,
+    GoblinDyn, GoblinHeader, GoblinRange, GoblinRefusal, GoblinReloc, GoblinSection, GoblinSegment,
     GoblinSymbol,
 };
 use crate::*;
@@ -41,15 +41,15 @@ fn names(class: u8, order: u8) -> GoblinHeader {
 
 fn section() -> GoblinSection {
     GoblinSection {
-        file: range(0x0102, 0x0304),
         sh_name: 0x0506,
+        sh_type: 0x0f10,
         sh_flags: 0x0708,
         sh_addr: 0x090a,
-        sh_addralign: 0x0b0c,
-        sh_entsize: 0x0d0e,
-        sh_type: 0x0f10,
+        file: range(0x0102, 0x0304),
         sh_link: 0x1112,
         sh_info: 0x1314,
+        sh_addralign: 0x0b0c,
+        sh_entsize: 0x0d0e,
     }
 }
 
@@ -90,8 +90,10 @@ fn puts_sections(rt: HostRuntime) {
     let mut wide = section();
     wide.sh_flags = 1 << 32;
     assert!(rt; puts_section(&wide, 1, 0, b"") == ((24, 1 << 32, 128 + 8), true));
-    wide.sh_name = (1 << 32) + 5;
-    assert!(rt; puts_section(&wide, 2, 0, b"") == ((24, (1 << 32) + 5, 168), true));
+    wide.file.size = (1 << 32) + 5;
+    assert!(rt; puts_section(&wide, 2, 0, b"") == ((24, 1 << 32, 168 + 8), true));
+    wide.sh_flags = 0;
+    assert!(rt; puts_section(&wide, 2, 0, b"") == ((24, (1 << 32) + 5, 168 + 20), true));
     wide = section();
     wide.sh_entsize = u64::MAX;
     assert!(rt; puts_section(&wide, 0, 0, b"") == ((24, u64::MAX, 88 + 36), true));
@@ -101,13 +103,13 @@ fn puts_sections(rt: HostRuntime) {
 
 fn segment() -> GoblinSegment {
     GoblinSegment {
+        p_type: 0x0d0e,
+        p_flags: 0x0f10,
         file: range(0x0102, 0x0304),
         p_vaddr: 0x0506,
         p_paddr: 0x0708,
         p_memsz: 0x090a,
         p_align: 0x0b0c,
-        p_type: 0x0d0e,
-        p_flags: 0x0f10,
     }
 }
 
@@ -137,11 +139,11 @@ fn puts_segments(rt: HostRuntime) {
 fn symbol() -> GoblinSymbol {
     GoblinSymbol {
         st_name: 2,
-        st_value: 0x2030_4050,
-        st_size: 7,
-        st_shndx: 0xfff1,
         st_info: 0x21,
         st_other: 3,
+        st_shndx: 0xfff1,
+        st_value: 0x2030_4050,
+        st_size: 7,
     }
 }
 
@@ -155,20 +157,18 @@ fn puts_symbols(rt: HostRuntime) {
     assert!(rt; puts_symbol(&symbol(), 1, 72, own) == (DONE, true));
     assert!(rt; puts_symbol(&symbol(), 2, 0, b"") == (NONE, true));
     let mut wide = symbol();
-    wide.st_shndx = 0x1_0000;
-    assert!(rt; puts_symbol(&wide, 1, 0, b"") == ((24, 0x1_0000, 72 + 14), true));
-    wide = symbol();
+    wide.st_size = u64::MAX;
+    assert!(rt; puts_symbol(&wide, 1, 0, b"") == ((24, u64::MAX, 72 + 8), true));
     wide.st_value = 1 << 32;
     assert!(rt; puts_symbol(&wide, 0, 0, b"") == ((24, 1 << 32, 56 + 4), true));
 }
 
-fn reloc(r_sym: u64, r_type: u32, r_addend: i64, has_addend: u32) -> GoblinReloc {
+fn reloc(r_sym: u32, r_type: u32, r_addend: i64) -> GoblinReloc {
     GoblinReloc {
         r_offset: 16,
+        r_type,
         r_sym,
         r_addend,
-        r_type,
-        has_addend,
     }
 }
 
@@ -182,26 +182,37 @@ fn puts_reloc(h: &GoblinHeader, is_rela: bool, r: &GoblinReloc, offset: usize, o
 #[test]
 fn puts_relocations(rt: HostRuntime) {
     let own = b"\x10\0\0\0\x01\x02\0\0\xfc\xff\xff\xff";
-    assert!(rt; puts_reloc(&names(1, 1), true, &reloc(2, 1, -4, 1), 12, own) == (DONE, true));
-    assert!(rt; puts_reloc(&names(1, 1), false, &reloc(2, 1, 0, 0), 8, &own[..8]) == (DONE, true));
+    assert!(rt; puts_reloc(&names(1, 1), true, &reloc(2, 1, -4), 12, own) == (DONE, true));
+    assert!(rt; puts_reloc(&names(1, 1), false, &reloc(2, 1, 0), 8, &own[..8]) == (DONE, true));
     let wide = b"\0\0\0\0\0\0\0\x10\0\0\0\x02\0\0\x01\x01\xff\xff\xff\xff\xff\xff\xff\xfc";
-    assert!(rt; puts_reloc(&names(2, 2), true, &reloc(2, 0x101, -4, 1), 24, wide) == (DONE, true));
-    let refused = puts_reloc(&names(1, 1), true, &reloc(2, 0x101, -4, 1), 0, b"");
+    assert!(rt; puts_reloc(&names(2, 2), true, &reloc(2, 0x101, -4), 24, wide) == (DONE, true));
+    let refused = puts_reloc(&names(1, 1), true, &reloc(2, 0x101, -4), 0, b"");
     assert!(rt; refused == ((24, 0x101, 12 + 4), true));
-    let refused = puts_reloc(&names(1, 1), true, &reloc(2, 1, 1 << 31, 1), 0, b"");
+    let refused = puts_reloc(&names(1, 1), true, &reloc(2, 1, 1 << 31), 0, b"");
     assert!(rt; refused == ((24, 1 << 31, 12 + 8), true));
+    let refused = puts_reloc(&names(1, 1), true, &reloc(1 << 24, 0x101, -4), 0, b"");
+    assert!(rt; refused == ((24, 1 << 24, 12 + 4), true));
+}
+
+// What is said of an addend that is put at index 0, of a relocation that fits but for it: the item of the refusal, its
+// number and its offset.
+fn refuses_addend(h: &GoblinHeader, is_rela: bool, r_addend: i64) -> (u32, u64, u64) {
+    let (mut file, mut why) = (*NOTHING, unread());
+    let own = reloc(2, 1, r_addend);
+    let status = goblin_put_reloc(&mut file, h, &range(0, 48), is_rela, 0, &own, &mut why);
+    if status == 24 && file == *NOTHING {
+        return (why.item, why.first, why.offset);
+    }
+    (status, 0, 0)
 }
 
 #[test]
-fn refuses_addends_that_do_not_agree(rt: HostRuntime) {
+fn marks_addends_of_tables_without(rt: HostRuntime) {
     let (little, big) = (names(1, 1), names(2, 1));
-    assert!(rt; puts_reloc(&little, true, &reloc(2, 1, 0, 0), 0, b"") == ((24, 0, 12 + 8), true));
-    assert!(rt; puts_reloc(&little, false, &reloc(2, 1, 0, 1), 0, b"") == ((24, 0, 8 + 8), true));
-    assert!(rt; puts_reloc(&little, false, &reloc(2, 1, 5, 0), 0, b"") == ((24, 5, 8 + 8), true));
-    assert!(rt; puts_reloc(&little, true, &reloc(2, 1, 0, 2), 0, b"") == ((24, 0, 12 + 8), true));
-    assert!(rt;
-        puts_reloc(&big, true, &reloc(2, 1, -1, 2), 0, b"") == ((24, u64::MAX, 24 + 16), true)
-    );
+    assert!(rt; refuses_addend(&little, false, 5) == (7, 5, 8));
+    assert!(rt; refuses_addend(&big, false, -1) == (7, u64::MAX, 16));
+    assert!(rt; refuses_addend(&little, true, 1 << 31) == (0, 1 << 31, 8));
+    assert!(rt; refuses_addend(&little, true, -1 << 31) == (0, 0, 0));
 }
 
 // Of little-endian MIPS64: the symbol, then the type with its bytes in the other order.
@@ -210,10 +221,30 @@ fn puts_pairs_of_mips64(rt: HostRuntime) {
     let mut mips = names(2, 1);
     mips.e_machine = 8;
     let own = b"\x10\0\0\0\0\0\0\0\x02\0\0\0\x04\x03\x02\x01";
-    assert!(rt; puts_reloc(&mips, false, &reloc(2, 0x0403_0201, 0, 0), 16, own) == (DONE, true));
-    assert!(rt;
-        puts_reloc(&mips, false, &reloc(1 << 32, 1, 0, 0), 0, b"") == ((24, 1 << 32, 16 + 8), true)
-    );
+    assert!(rt; puts_reloc(&mips, false, &reloc(2, 0x0403_0201, 0), 16, own) == (DONE, true));
+}
+
+fn entry(d_tag: u64, d_val: u64) -> GoblinDyn {
+    GoblinDyn { d_tag, d_val }
+}
+
+// Puts an entry into 48 bytes that are read as a dynamic section: those of tag 0 are written, too.
+fn puts_entry(h: &GoblinHeader, index: u64, d: &GoblinDyn, offset: usize, own: &[u8]) -> Put {
+    put!(goblin_put_dynamic_entry(NOTHING, h, &range(0, 47), index, d) => offset, own)
+}
+
+#[test]
+fn puts_entries(rt: HostRuntime) {
+    let (little, big) = (names(1, 1), names(2, 2));
+    let own = b"\x1d\0\0\0\x04\x03\x02\x01";
+    assert!(rt; puts_entry(&little, 4, &entry(29, 0x0102_0304), 32, own) == (DONE, true));
+    assert!(rt; puts_entry(&little, 5, &entry(29, 1), 0, b"") == (NONE, true));
+    let wide = b"\0\0\0\x01\0\0\0\x02\0\0\0\0\0\0\0\x03";
+    assert!(rt; puts_entry(&big, 1, &entry(0x1_0000_0002, 3), 16, wide) == (DONE, true));
+    assert!(rt; puts_entry(&big, 2, &entry(1, 1), 0, b"") == (NONE, true));
+    let refused = puts_entry(&little, 1, &entry(1 << 32, 1 << 33), 0, b"");
+    assert!(rt; refused == ((24, 1 << 32, 8), true));
+    assert!(rt; puts_entry(&little, 0, &entry(1, 1 << 33), 0, b"") == ((24, 1 << 33, 4), true));
 }
 
 fn puts_number(order: u8, offset: u64, width: u64, value: u64) -> (Answer, [u8; 4]) {
@@ -303,8 +334,9 @@ fn refuses_headers_that_are_put(rt: HostRuntime) {
 
 // The whole part of a header by a file's first bytes: `e_shoff`, `e_shnum` and `e_phnum`.
 fn whole(len: usize, h: &GoblinHeader) -> (u64, u16, u16) {
-    let mut part = marked_layout().header;
-    goblin_whole_header(&FILE[..len.min(208)], h, &mut part);
+    let mut whole = over(b"", marked_layout().header);
+    goblin_whole_header(&over(&FILE[..len.min(208)], *h), &mut whole);
+    let part = whole.header;
     (part.e_shoff, part.e_shnum, part.e_phnum)
 }
 
@@ -327,7 +359,7 @@ fn counts_whole_headers(rt: HostRuntime) {
 fn segments(count: u16, sections: u64) -> (u32, u64, u64) {
     let (file, mut own) = (changed(88 + 28, 2), with_segments(52, count));
     own.e_shoff = sections;
-    let (status, found, why) = called!(goblin_segment_count(&file, &own) => 9);
+    let (status, found, why) = called!(goblin_segment_count(&over(&file, own)) => 9);
     (status, found, why.offset)
 }
 

@@ -6,8 +6,8 @@ use Rattle.goblin_c.proofs.usual_note.usual_note.Goals.{else-offset-range-via-th
 use Rattle.goblin_c.proofs.usual_note.usual_note.Goals.{else-offset-range-via-else-offset-range}
 use Rattle.goblin_c.proofs.usual_note.usual_note.Goals.{in-4+in_ok-places-in-4, in-8+in_ok-places-in-8}
 
-pub returns : goal.returns
-returns c =
+pub returns-clause-value : goal.returns-clause-value
+returns-clause-value c =
     let before : c.args.offset < c.args.range.now.offset + c.args.range.now.size =
     elim c.else-offset-range.branch [
       | else-offset-range-via-then-offset-range+else-offset-range-2 w ↦ omega arith
