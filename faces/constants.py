@@ -17,8 +17,7 @@ for Rust, so that cargo can take the crate from a repository. It ignores the fil
 by hand they must be made before node or Python reads them.
 
 Flags of sections and indices of sections get the type of the field that holds them: `sh_flags` and `st_shndx`. What the dynamic section holds
-has 64 bits. JavaScript and Python also
-get the number of the interface, from goblin.h, and Python all that it declares.
+has 64 bits. JavaScript and Python also get the number of the interface, from goblin.h, and Python all that it declares.
 """
 import os
 import re
@@ -298,19 +297,26 @@ __version__ = '{version()}'
 # What goblin.h declares, for the module interface.py: the structs that are items, with the class of their tables, and the types of C as
 # codes of Python's module struct. `z` is a size_t, `b` a bool, and `p` any pointer.
 ITEMS = {'header': '', 'section': 'Sections', 'segment': 'Segments', 'symbol': 'Symbols', 'reloc': 'Relocations', 'dyn': 'Dynamic'}
+# The fields of items in their order, where it is not that of the struct.
+ORDER = {name: fields.split() for name, fields in {
+    'section': 'sh_offset sh_size sh_name sh_flags sh_addr sh_addralign sh_entsize sh_type sh_link sh_info',
+    'segment': 'p_offset p_filesz p_vaddr p_paddr p_memsz p_align p_type p_flags',
+    'symbol': 'st_name st_value st_size st_shndx st_info st_other', 'reloc': 'r_offset r_sym r_addend r_type'}.items()}
 CODES = {'uint64_t': 'Q', 'int64_t': 'q', 'uint32_t': 'I', 'uint16_t': 'H', 'uint8_t': 'B', 'size_t': 'z', 'bool': 'b', 'void': '-'}
 
 
 def words_of(comment):
     """A comment of C as one line, with the names of Python."""
-    return re.sub(r'\ba (?=[ES]\w*_ )', 'an ', re.sub(r'\bGOBLIN_', '', ' '.join(comment.split())))
+    return re.sub(r'\ba (?=[ES]\w*_ )', 'an ', re.sub(r'\bGOBLIN_(?:REFUSED_|ITEM_)?', '', ' '.join(comment.split())))
 
 
 def structs(in_c=False):
-    """Yields each struct of goblin.h: its name, its comment, and its fields, each with its code and comment. A range is two fields, whose names
-    are those of Python or of C."""
+    """Yields each struct that goblin_layout marks: its name, its comment, and its fields, each with its code and comment. A range is two fields,
+    whose names are those of Python or of C."""
     pattern = r'(?:/\* ([^/]*?) \*/\n)?typedef struct \{\n(.*?)^\} goblin_(\w+)_t;'
     for comment, body, name in re.findall(pattern, read(HEADER), re.M | re.S):
+        if name in ('file', 'layout'):
+            continue
         fields, declared = [], re.findall(r'^ +(\w+) (\w+);(?: +/\*(.*?)\*/)?', body, re.M | re.S)
         if len(declared) != re.sub(r'/\*.*?\*/', '', body, flags=re.S).count(';'):
             sys.exit(f'constants.py: each field of goblin_{name}_t must have a line of its own')
@@ -322,8 +328,13 @@ def structs(in_c=False):
             names = {'section': ('sh_offset', 'sh_size'), 'segment': ('p_offset', 'p_filesz')}.get(name, (f'{field}_offset', f'{field}_size'))
             names = (f'{field}.offset', f'{field}.size') if in_c else names
             fields += [(names[0], 'Q', words_of(text)), (names[1], 'Q', '')]
-        if name != 'layout':
-            yield name, words_of(comment), fields
+        yield name, words_of(comment), fields
+
+
+def ordered(name, fields):
+    """Returns the indexes of a struct's fields in the order of its item."""
+    names = [field for field, _, _ in fields]
+    return tuple(map(names.index, ORDER.get(name, names)))
 
 
 def numbers_in(comment):
@@ -339,10 +350,10 @@ def py_members(name, comment, members):
 
 def py_item(name, comment, fields):
     text = f'\n\nclass {name.capitalize()}Fields(NamedTuple):\n    """{comment}"""\n\n'
-    for field, _, words in fields:
+    for field, _, words in (fields[index] for index in ordered(name, fields)):
         if field == 'r_addend':
             text += '    # the addend, or `None` if the relocation has none of its own\n    r_addend: Optional[int]\n'
-        elif field != 'has_addend':
+        else:
             if words:
                 text += textwrap.indent(textwrap.fill(words, WIDTH, initial_indent='# ', subsequent_indent='# '), '    ') + '\n'
             text += f'    {field}: int\n'
@@ -354,10 +365,10 @@ def py_item(name, comment, fields):
 def py_interface():
     header = read(HEADER)
     refusals, items = re.findall(r'^enum \w+ \{\n(.*?)^\};', header, re.M | re.S)[:2]
-    pattern = r'/\* ((?:(?!\*/).)*) \*/\n +GOBLIN_(\w+) = (\d+)'
+    pattern = r'/\* ((?:(?!\*/).)*) \*/\n +GOBLIN_REFUSED_(\w+) = (\d+)'
     kinds = [(words_of(comment.split('*/')[-1]), name, value) for comment, name, value in re.findall(pattern, refusals, re.S)]
     # (not each item has a comment)
-    parts = re.findall(r'GOBLIN_(\w+) = (\d+)', items)
+    parts = re.findall(r'GOBLIN_ITEM_(\w+) = (\d+)', items)
     calls = [(name, CODES[result] + ''.join('p' if '*' in argument else CODES[argument.split()[0]] for argument in arguments.split(',')))
              for result, name, arguments in re.findall(r'^(\w+) goblin_(\w+)\(([^)]*)\)[^;)]*(?:\(\(.*\)\))?;', header, re.M)]
     all_structs = list(structs())
@@ -380,6 +391,15 @@ class Named(enum.IntEnum):
 
     def __format__(self, form: str) -> str:
         return format(int(self), form) if form else self.name
+
+    @classmethod
+    def _missing_(cls, value: object) -> Optional['Named']:
+        # (a later library may have more)
+        if not isinstance(value, int):
+            return None
+        member = int.__new__(cls, value)
+        member._name_, member._value_ = f'OTHER_{{value}}', value
+        return member
 """
     kinds += [('Strings of a table that are read at once overlap: how many have more bytes than are read; the table\'s size. This kind is the '
                'package\'s own.', 'OVERLAP', '0xfffffffc'),
@@ -396,9 +416,9 @@ class Named(enum.IntEnum):
         text += py_item(name, comment, fields) if name in ITEMS else ''
     text += '\n\n# How many numbers belong to each kind.\nNUMBERS = {\n'
     text += ''.join(f'    Kind.{name}: {numbers_in(words)},\n' for words, name, _ in kinds)
-    text += '}\n\n# The fields of each struct, and their codes in the module struct.\nSTRUCTS = {\n'
-    text += ''.join(f"    '{name}': ({tuple(field for field, _, _ in fields)!r}, '{''.join(code for _, code, _ in fields)}'),\n"
-                    for name, _, fields in all_structs)
+    text += '}\n\n# The fields of each struct, their codes in the module struct, and their indexes in the order of its item.\nSTRUCTS = {\n'
+    text += ''.join(f"    '{name}': ({tuple(field for field, _, _ in fields)!r}, '{''.join(code for _, code, _ in fields)}', "
+                    f'{ordered(name, fields)}),\n' for name, _, fields in all_structs)
     text += '}\n\n# The result of each call, and then its arguments: p a pointer, z a size_t, b a bool, - nothing, else as in the module struct.\n'
     return text + 'CALLS = {\n' + ''.join(f"    '{name}': '{codes}',\n" for name, codes in calls) + '}\n'
 
@@ -414,8 +434,7 @@ from ._library import text, unsigned
     for comment, name, arguments in re.findall(pattern, read(HEADER), re.S):
         kind, number = arguments.split(', ')[-3].split()
         lines = textwrap.fill(f'"""Returns the name of {words_of(comment)}"""', WIDTH - 4)
-        # (flags have 64 bits in a file: one past those that have names is as all of these at once, which have none)
-        value = 'min(unsigned(flag), 0xffffffff)' if number == 'flag' else f'unsigned({number}, {kind[4:-2]})'
+        value = f'unsigned({number}, {kind[4:-2]})'
         if 'name_len' not in arguments:
             text += f'\n\ndef {name}({number}: int) -> str:\n{textwrap.indent(lines, "    ")}\n    return text({name!r}, {value})\n'
             continue
@@ -454,7 +473,8 @@ def c_value(constant):
         return '{ \\\n' + ''.join(f'    {line} \\\n' for line in names) + '}'
     value = re.sub(r'(?<=[\da-f])_(?=[\da-f])', '', constant.value)
     value = re.sub(r'\b([A-Z]\w*)', r'GOBLIN_\1', value)
-    if constant.has_wide_field():
+    # (a symbol's index of a section has 16 bits in C)
+    if constant.has_wide_field() and constant.prefix() != 'SHN':
         value = re.sub(r'^(\d\w*)', r'UINT64_C(\1)', value)
     elif not constant.is_text():
         # (a shift has the type of its first operand)
@@ -480,8 +500,8 @@ def c_part():
     known = {constant.name for _, constants, _ in records for constant in constants}
     text = START + f"""
    The library's constants. Each has the standard's name after GOBLIN_, so this file and <elf.h> can be included
-   together. Flags of sections (sh_flags) and indices of sections (st_shndx) have 64 bits, as their fields have, so
-   `section.sh_flags & ~GOBLIN_SHF_WRITE` clears one bit alone.
+   together. Flags of sections (sh_flags) have 64 bits, as their field has, so `section.sh_flags & ~GOBLIN_SHF_WRITE`
+   clears one bit alone.
 
    {MADE} */
 """

@@ -9,7 +9,7 @@ import { join, resolve } from 'node:path';
 import { pathToFileURL } from 'node:url';
 import { inspect } from 'node:util';
 import { runInNewContext } from 'node:vm';
-import { dynamic_file, elf_file, longs, note, noted_file, patched, symbol } from './elves.mjs';
+import { dynamic_file, elf_file, longs, note, noted_file, packed, patched, symbol } from './elves.mjs';
 import { import_goblin } from './tested.mjs';
 
 const [, , web, ...paths] = process.argv;
@@ -346,8 +346,9 @@ check('A writer says whether there is such an item, and what is refused changes 
         const section_of = (type) => elf.section_by_type(type).section, text = elf.section('.text');
         const table = section_of(goblin.SHT_SYMTAB), rela = section_of(goblin.SHT_RELA);
         const symbol = elf.symtab(table).get(0), section = elf.section_header(1), reloc = elf.relocs(rela).get(1),
-            wide = { ...reloc, r_sym: 1n << 40n };
-        const [of_section, of_rela, of_info] = elf.is_64() ? [64n, 24n, 8n] : [40n, 12n, 4n];
+            wide = { ...reloc, r_sym: 1n << 40n }, rel = { ...rela, sh_type: goblin.SHT_REL }, [low] = elf.relocs(rel);
+        const [of_section, of_rela, of_info, of_symbol, of_index] =
+            elf.is_64() ? [64n, 24n, 8n, 24n, 6n] : [40n, 12n, 4n, 16n, 14n];
         for (const [list_of, put, change] of [
             [(read) => read.section_headers(), (index, item) => writer.put_section_header(index, item),
                 ({ sh_info, sh_addr }) => ({ sh_info: sh_info ^ 5, sh_addr: sh_addr ^ 9n })],
@@ -372,7 +373,14 @@ check('A writer says whether there is such an item, and what is refused changes 
             writer.put_number_in(text, 2, 2, elf.number_in(text, 2, 2))], [undefined, undefined, undefined]);
         for (const [put, kind, offset] of [[() => writer.put_symbol({ ...table, sh_type: 1 }, 0, symbol), SECTION_TYPE],
             [() => writer.put_reloc({ ...rela, sh_type: 1 }, 1, reloc), SECTION_TYPE],
-            [() => writer.put_reloc(rela, 1, { ...reloc, r_addend: undefined }), INTEGER_FIT],
+            [() => writer.put_reloc(rela, 1, { ...reloc, r_addend: undefined }), INTEGER_FIT,
+                rela.sh_offset + of_rela + 2n * of_info],
+            [() => writer.put_reloc(rel, 0, { ...low, r_addend: 0n }), INTEGER_FIT, rel.sh_offset + 2n * of_info],
+            [() => writer.put_reloc(rel, 0, { ...low, r_addend: -3n }), INTEGER_FIT, rel.sh_offset + 2n * of_info],
+            [() => writer.put_symbol(table, 1, { ...symbol, st_name: 0x100000003n }), INTEGER_FIT,
+                table.sh_offset + of_symbol],
+            [() => writer.put_symbol(table, 1, { ...symbol, st_shndx: 0x10003n }), INTEGER_FIT,
+                table.sh_offset + of_symbol + of_index],
             [() => writer.put_reloc(rela, 1, wide), INTEGER_FIT, rela.sh_offset + of_rela + of_info],
             [() => writer.put_section_header(1, { ...section, sh_name: 1n << 32n }), INTEGER_FIT,
                 header.e_shoff + of_section],
@@ -383,12 +391,21 @@ check('A writer says whether there is such an item, and what is refused changes 
             [() => writer.put_number_in(text, text.sh_size, 1, 0), BAD_OFFSET, text.sh_offset + text.sh_size],
             [() => writer.put_number(content.length, 1, 0), BAD_OFFSET]]) assert.throws(put, is_refusal(kind, offset));
         assert.equal(error_of(() => writer.put_reloc(rela, 1, wide)).numbers[0], 1n << 40n);
+        for (const r_addend of [0n, -3n]) {
+            const { item, numbers } = error_of(() => writer.put_reloc(rel, 0, { ...low, r_addend }));
+            assert.deepEqual([item, numbers[0]], [goblin.Item.ADDEND, BigInt.asUintN(64, r_addend)]);
+        }
+        const past = [[writer.put_section_header, elf.section_headers().length, { ...section, sh_name: 1n << 32n }],
+            [writer.put_symbol, table, elf.symtab(table).length, { ...symbol, st_shndx: 0x10003n }],
+            [writer.put_reloc, rela, elf.relocs(rela).length, { ...reloc, r_addend: undefined }]];
+        for (const [put, ...args] of past) assert.equal(put.apply(writer, args), false);
         // (nor is a number cut that fits no field)
         for (const [put, item, name, ...wrong] of [
             [(changed) => writer.put_header(changed), header, 'e_phnum', 70000, -1, 1.5, NaN],
             [(changed) => writer.put_section_header(1, changed), section, 'sh_type', 2 ** 32 + 1, -1],
             [(changed) => writer.put_section_header(1, changed), section, 'sh_size', -1n, 1n << 64n],
             [(changed) => writer.put_symbol(table, 0, changed), symbol, 'st_info', 256],
+            [(changed) => writer.put_symbol(table, 0, changed), symbol, 'st_shndx', -1n, 1n << 64n],
             [(changed) => writer.put_reloc(rela, 1, changed), reloc, 'r_addend', 1n << 63n],
         ]) for (const number of wrong) assert.throws(() => put({ ...item, [name]: number }), RangeError);
         assert.throws(() => elf.strtab({ ...text, sh_type: 3, sh_offset: 1n << 64n }).get(0), RangeError);
@@ -508,6 +525,14 @@ check('Notes as bytes have whole names, need not be UTF-8, and must be inside th
         }
     }
     assert.equal(elf.readable_notes_bytes(section, 1).notes.length, 1);
+    // (names whose last byte is not zero, and one without bytes)
+    for (const name of ['AB', 'x', '', '\0']) {
+        const bytes = Buffer.concat([packed([name.length, 4], [0, 4], [1, 4]), Buffer.from(name.padEnd(4, 'p'))])
+            .subarray(0, name ? 16 : 12);
+        const [found] = Elf.parse(elf_file({ sections: [{ name: '.note', type: 7, bytes }] })).iter_note_sections();
+        assert.deepEqual([String.fromCharCode(...found.name_bytes), found.name_range.size],
+            [name, BigInt(name.length)]);
+    }
     assert.throws(() => elf.notes_bytes({ ...section, sh_addralign: 16n }),
         ({ kind, item }) => kind === Kind.NOTE_ALIGN && item === 0);
 });
@@ -655,10 +680,13 @@ check('Arguments of other types and ranges are refused', () => {
         [() => elf.range({ ...text, sh_addr: undefined }), 'a bigint as sh_addr'],
         [() => elf.number_in({ ...text, sh_size: '5' }, 0, 1), 'a bigint as size']])
         assert.throws(put, { name: 'TypeError', message: new RegExp(`^${what} is expected, not `) });
-    for (const name of [undefined, null, 5, Buffer.from('.text'), ['.text']]) {
-        for (const call of [() => elf.section(name), () => elf.section_by_name(name), () => elf.syms().by_name(name),
-            () => elf.syms().symbol_by_name(name), () => goblin.note_type_to_str({ name, n_type: 3 })])
-            assert.throws(call, { name: 'TypeError', message: /^a text is expected, not / });
+    const searches = [(name) => elf.section(name), (name) => elf.section_by_name(name),
+        (name) => elf.syms().by_name(name), (name) => elf.syms().symbol_by_name(name)];
+    const type_of = (name) => goblin.note_type_to_str({ name, n_type: 3 });
+    for (const [call, ...wrong] of [...[...searches, type_of].map((call) => [call, undefined, null, 5, ['.text']]),
+        [type_of, Buffer.from('GNU')]]) {
+        for (const name of wrong)
+            assert.throws(() => call(name), { name: 'TypeError', message: /^a text is expected, not / });
     }
     assert.throws(() => elf.section_by_type(1n << 32n), RangeError);
     assert.throws(() => goblin.machine_to_str(0x10000), RangeError);
@@ -759,6 +787,13 @@ check('Sections and symbols are found by names, from an index on', () => {
         assert.equal(symbols.by_name(name), named[0][0]);
     }
     assert.equal(symbols.by_name('no such name'), undefined);
+    // (a name need not be UTF-8)
+    const name = Buffer.from('caf\xe9', 'latin1'), index = symbols.by_name('main'), changed = Buffer.from(own);
+    name.copy(changed, Number(symbols.strtab.range.offset + symbols.get(index).st_name));
+    assert.deepEqual([name, 'main'].map((wanted) => Elf.parse(changed).syms().by_name(wanted)), [index, undefined]);
+    const named = Buffer.from(content);
+    name.subarray(3).copy(named, Number(elf.shdr_strtab().range.offset + elf.section('b').sh_name));
+    assert.equal(Elf.parse(named).section_by_name(name.subarray(3)).index, 2);
     assert.throws(() => symbols.symbol_by_name('main', -1), RangeError);
     const cut = Elf.parse(content.subarray(0, content.length - 1));
     assert.throws(() => cut.section_by_name('a'), is_refusal(Kind.TOO_BIG));
@@ -785,6 +820,9 @@ check('Strings are compared, closed by a zero byte, and found many at once', () 
     assert.ok(near.shdr_strtab().is(sh_name, near.bytes.subarray(Number(at + sh_name)).subarray(0, 5)));
     const closed = [0, 1, 9, 12].map((offset) => names.get_closed_bytes(offset)?.length);
     assert.deepEqual(closed, [0, 4, undefined, undefined]);
+    const { offset: start, size } = names.range;
+    assert.deepEqual({ ...names.closed().range }, { offset: start, size: size - 3n });
+    assert.deepEqual(names.closed().closed().range, names.closed().range);
     const offsets = Array.from({ length: 200 }, (_, i) => (i % 10 < 9 ? i % 10 : 12));
     assert.deepEqual(names.get_all_bytes(offsets), offsets.map((offset) => names.get_bytes(offset)));
     const refused = error_of(() => names.get_all_bytes([0, 12, 10]));
@@ -795,6 +833,7 @@ check('Strings are compared, closed by a zero byte, and found many at once', () 
     for (const read of ['is', 'starts_with', 'get_closed_bytes'])
         assert.throws(() => past[read](0, 'a'), is_refusal(Kind.STRTAB_RANGE));
     assert.throws(() => past.get_all_bytes([0]), is_refusal(Kind.STRTAB_RANGE));
+    assert.throws(() => past.closed(), is_refusal(Kind.STRTAB_RANGE));
     assert.deepEqual(past.get_all_bytes([]), []);
     for (const wrong of [-1, 2n ** 64n]) assert.throws(() => names.get_all_bytes([wrong]), RangeError);
     for (const wrong of [undefined, 5, ['m']])

@@ -15,10 +15,11 @@
  *   `Note::type_to_str`, and `GoblinError` is `Error`.
  *
  * Numbers, items and errors:
- * - A number that has 64 bits in `goblin.h` is always a BigInt, whatever its value. Every other number is a Number.
- *   Bytes are copies of the file's. The flags SHF_ and the indices SHN_ are BigInts, as `sh_flags` and `st_shndx` are,
- *   and so are the tags DT_ and the flags DF_. Other numbers among the constants are Numbers, so
- *   `e_shstrndx === SHN_XINDEX` is always false: write `e_shstrndx === Number(SHN_XINDEX)`.
+ * - A number that has 64 bits in `goblin.h` is always a BigInt, whatever its value, and so are `sh_name`, `st_name`,
+ *   `st_shndx` and `r_sym`. Every other number is a Number. Bytes are copies of the file's. The flags SHF_ and the
+ *   indices SHN_ are BigInts, as `sh_flags` and `st_shndx` are, and so are the tags DT_ and the flags DF_. Other
+ *   numbers among the constants are Numbers, so `e_shstrndx === SHN_XINDEX` is always false: write
+ *   `e_shstrndx === Number(SHN_XINDEX)`.
  * - An index, an offset or an address that a call takes is a Number or a BigInt. It must be a whole number from 0 to
  *   2^64 - 1, or the call throws a `RangeError`. Only `at` of a list takes other Numbers, as that of an array does. The
  *   sum of two numbers of a file may be too large: `BigInt.asUintN(64, sum)` wraps it around, as a sum of two
@@ -38,8 +39,8 @@
  */
 import {
     ET_DYN, ET_REL, NT_GNU_BUILD_ID, PT_DYNAMIC, PT_GNU_EH_FRAME, PT_GNU_RELRO, PT_GNU_STACK, PT_LOAD, PT_NOTE, PT_PHDR,
-    PT_TLS, SHF_ALLOC, SHF_TLS, SHN_LORESERVE, SHN_UNDEF, SHN_XINDEX, SHT_DYNAMIC, SHT_DYNSYM, SHT_NOBITS, SHT_NOTE,
-    SHT_REL, SHT_RELA, SHT_SYMTAB, STT_FUNC, STT_GNU_IFUNC, STT_NOTYPE, STT_OBJECT,
+    PT_TLS, SHF_ALLOC, SHF_TLS, SHN_LORESERVE, SHN_UNDEF, SHN_XINDEX, SHT_DYNSYM, SHT_NOBITS, SHT_NOTE, SHT_REL,
+    SHT_RELA, SHT_SYMTAB, STT_FUNC, STT_GNU_IFUNC, STT_NOTYPE, STT_OBJECT,
     VERSION,
 } from './constants.js';
 
@@ -76,14 +77,11 @@ export * from './constants.js';
  *   table]`. This kind is this file's own.
  * - `SECTION_TYPE`: a section was read as symbols or relocations, and has another type. `[its type]`. This kind is this
  *   file's own.
- *
- * No call throws one of the others so far.
  */
 export const Kind = Object.freeze({
-    BAD_MAGIC: 2, TOO_BIG: 3, BAD_OFFSET: 4, BAD_INPUT: 5, BUFFER_TOO_SHORT: 6, OUT_OF_MEMORY: 7, INVALID_CLASS: 10,
-    INVALID_ENDIANNESS: 11, TOO_SMALL: 12, ELF_CLASS: 13, DATA_TYPE: 14, DATA: 15, NOTE_ALIGN: 16, SYMTAB_OFFSET: 17,
-    TOO_MANY_SYMBOLS: 18, SYMTAB_PAST: 19, STRTAB_OFFSET: 20, STRTAB_RANGE: 21, SECTION_OFFSET: 22, SECTION_ADDR: 23,
-    INTEGER_FIT: 24, OPEN_STRING: 0xfffffffd, SECTION_TYPE: 0xffffffff,
+    BAD_MAGIC: 2, TOO_BIG: 3, BAD_OFFSET: 4, BAD_INPUT: 5, BUFFER_TOO_SHORT: 6, INVALID_CLASS: 10, TOO_SMALL: 12,
+    ELF_CLASS: 13, DATA_TYPE: 14, DATA: 15, NOTE_ALIGN: 16, SYMTAB_OFFSET: 17, SYMTAB_PAST: 19, STRTAB_OFFSET: 20,
+    STRTAB_RANGE: 21, INTEGER_FIT: 24, OPEN_STRING: 0xfffffffd, SECTION_TYPE: 0xffffffff,
 });
 
 /**
@@ -91,9 +89,10 @@ export const Kind = Object.freeze({
  * - `INVALID_UTF8`: a name that is not UTF-8, of `BAD_INPUT`
  * - `SECTION_HEADERS`, `PROGRAM_HEADERS`: the headers, of `BUFFER_TOO_SHORT`
  * - `NOTE_HEADER`, `NOTE_NAME`, `NOTE_DESC`: the part of a note that is read as bytes, of `TOO_BIG` and `BAD_OFFSET`
+ * - `ADDEND`: the addend that a relocation has and its section does not, or the reverse, of `INTEGER_FIT`
  */
 export const Item = Object.freeze({
-    INVALID_UTF8: 1, SECTION_HEADERS: 2, PROGRAM_HEADERS: 3, NOTE_HEADER: 4, NOTE_NAME: 5, NOTE_DESC: 6,
+    INVALID_UTF8: 1, SECTION_HEADERS: 2, PROGRAM_HEADERS: 3, NOTE_HEADER: 4, NOTE_NAME: 5, NOTE_DESC: 6, ADDEND: 7,
 });
 
 /**
@@ -229,6 +228,10 @@ const WIDTHS = {
     s: { get: (view, offset) => view.getBigInt64(offset, true), set: 'setBigInt64' },
 };
 
+// Fields that are BigInts here and have fewer than 8 bytes in goblin.h: how many, and where they are in a record of a
+// 32-bit and of a 64-bit file.
+const NARROW = { sh_name: [4, 0n, 0n], st_name: [4, 0n, 0n], st_shndx: [2, 14n, 6n], r_sym: [4, 4n, 8n] };
+
 // The structs of goblin.h: their fields in order, each with its number of bytes, or `s` for a signed number of 8 bytes.
 const records = {
     refusal: record('kind 4 item 4 first 8 second 8 third 8 fourth 8 offset 8'),
@@ -236,11 +239,11 @@ const records = {
     header: record('e_entry 8 e_phoff 8 e_shoff 8 e_version 4 e_flags 4 e_type 2 e_machine 2 e_ehsize 2 e_phentsize 2'
         + ' e_phnum 2 e_shentsize 2 e_shnum 2 e_shstrndx 2 ei_class 1 ei_data 1 ei_version 1 ei_osabi 1'
         + ' ei_abiversion 1'),
-    section: record('sh_offset 8 sh_size 8 sh_name 8 sh_flags 8 sh_addr 8 sh_addralign 8 sh_entsize 8 sh_type 4'
-        + ' sh_link 4 sh_info 4'),
-    segment: record('p_offset 8 p_filesz 8 p_vaddr 8 p_paddr 8 p_memsz 8 p_align 8 p_type 4 p_flags 4'),
-    symbol: record('st_name 8 st_value 8 st_size 8 st_shndx 8 st_info 1 st_other 1'),
-    reloc: record('r_offset 8 r_sym 8 r_addend s r_type 4 has_addend 4'),
+    section: record('sh_name 4 sh_type 4 sh_flags 8 sh_addr 8 sh_offset 8 sh_size 8 sh_link 4 sh_info 4 sh_addralign 8'
+        + ' sh_entsize 8'),
+    segment: record('p_type 4 p_flags 4 p_offset 8 p_filesz 8 p_vaddr 8 p_paddr 8 p_memsz 8 p_align 8'),
+    symbol: record('st_name 4 st_info 1 st_other 1 st_shndx 2 st_value 8 st_size 8'),
+    reloc: record('r_offset 8 r_type 4 r_sym 4 r_addend s'),
     note: record('name_offset 8 name_size 8 desc_offset 8 desc_size 8 next 8 n_type 4'),
     dyn: record('d_tag 8 d_val 8'),
     number: record('value 8'),
@@ -253,8 +256,10 @@ function record(text) {
     let end = 0, widest = 1;
     for (const [, name, width] of text.matchAll(/(\w+) (\w)/g)) {
         const bytes = width === 's' ? 8 : Number(width);
-        const offset = Math.ceil(end / bytes) * bytes;
-        fields.push({ name, offset, type: bytes === 8 ? 'bigint' : 'number', ...WIDTHS[width] });
+        const offset = Math.ceil(end / bytes) * bytes, { get, set } = WIDTHS[width];
+        const as = NARROW[name] && ((view, at) => BigInt(get(view, at)));
+        fields.push({ name, offset, type: bytes === 8 || as ? 'bigint' : 'number', get: as ?? get, set,
+            pack: as ? Number : (value) => value });
         end = offset + bytes;
         widest = Math.max(widest, bytes);
     }
@@ -270,10 +275,10 @@ function read(view, start, { fields }, item = plain({})) {
 
 // Writes an object into a struct. Each number must fit its field: else other bits would be written.
 function write(view, start, { fields }, item) {
-    for (const { name, offset, type, get, set } of fields) {
+    for (const { name, offset, type, get, set, pack } of fields) {
         const value = item[name];
         if (typeof value !== type) refuse(`a ${type} as ${name}`, value);
-        view[set](start + offset, value, true);
+        view[set](start + offset, pack(value), true);
         if (get(view, start + offset) !== value) throw new RangeError(`${value} is no number for the field ${name}`);
     }
 }
@@ -297,6 +302,10 @@ const field_of = (item, field, expected) => item?.[field] ?? refuse(expected, it
 
 // Returns a name as UTF-8. (The encoder takes anything for a text, and nothing for an empty one.)
 const utf8 = (name) => encoder.encode(typeof name === 'string' ? name : refuse('a text', name));
+
+// Returns the bytes of a name to look for, which need not be UTF-8. (Those of the file itself are copied, as passing
+// them may move the file.)
+const name_bytes = (name) => (TYPE.call(name) === 'Uint8Array' ? name.slice() : utf8(name));
 
 // ---- JSON ----
 
@@ -330,10 +339,12 @@ const PAGE = 0x10000;
 // How many items are read at once. And the most segments, and notes, in which a build ID is looked for.
 const BATCH = 64, MOST_SEGMENTS = 1 << 17, MOST_NOTES = 1 << 16;
 
-// The offsets of what this file puts after the library's own data: the header, one that counts what is whole, a
-// refusal, a result, an argument, a second argument, an index, a buffer for items or a text, and the file.
-const HEADER = 0, WHOLE = 0x40, WHY = 0x80, ITEM = 0x100, ARGUMENT = 0x180, NAMES = 0x1d0,
+// The offsets of what this file puts after the library's own data: the goblin_file_t, one whose header counts what is
+// whole, a refusal, a result, an argument, a second argument, an index, a buffer for items or a text, and the file.
+const STRUCT = 0, WHOLE = 0x50, WHY = 0xa0, ITEM = 0x100, ARGUMENT = 0x180, NAMES = 0x1d0,
     INDEX = 0x1e0, BUFFER = 0x200;
+// Where a goblin_file_t has its header, after the address and the length.
+const HEADER = 16;
 const BUFFER_SIZE = 0x1800;
 const FILE = BUFFER + BUFFER_SIZE;
 
@@ -354,15 +365,16 @@ function ready(made) {
     return made;
 }
 
-// What this file uses of the module: its memory, where its own data ends, and the calls of `goblin.h`, all of which
-// begin with `goblin_`.
+// What a module for this file has: its memory, where its own data ends, and the calls of `goblin.h`, all of which begin
+// with `goblin_`.
 const EXPORTS = ['memory', '__heap_base', ...`
-    version layout header whole_header section_count section sections linked_section section_names section_by_name
-    section_by_type section_bytes segment_count segment segments segment_bytes address_to_offset
+    version layout file whole_header section_count section sections linked_section names_section section_by_name
+    section_by_type section_range segment_count segment segments segment_range address_to_offset
     symbol_count symbol symbols symbol_by_name symbol_by_address
-    reloc_count reloc relocs note note_bytes string string_bytes string_closed strings string_is string_starts
-    number number_in range_in_file dynamic dynamic_entries dynamic_value dynamic_strings
-    put_header put_section put_segment put_symbol put_reloc put_number put_number_in
+    reloc_count reloc relocs note note_utf8 note_whole
+    string string_utf8 string_closed closed_strings strings string_is string_starts number number_in range_in_file
+    dynamic dynamic_count dynamic_entries dynamic_value dynamic_strings
+    put_header put_section put_segment put_symbol put_reloc put_dynamic_entry put_number put_number_in
     class_to_str et_to_str machine_to_str pt_to_str sht_to_str shf_to_str bind_to_str type_to_str visibility_to_str
     note_type_to_str refusal_to_str
 `.trim().split(/\s+/).map((name) => `goblin_${name}`)];
@@ -447,10 +459,11 @@ class Memory {
         this.calls = new WebAssembly.Instance(ready(compiled), {}).exports;
         this.base = Math.ceil(Number(this.calls.__heap_base.value) / 16) * 16;
         this.reserve(FILE + size);
-        // The first arguments of every call: the file's address and its length. And the address of the
-        // header, for most.
+        // The first arguments of each call that writes: the file's address and its length. And the goblin_file_t with
+        // these, which others take.
         this.file = [this.address(FILE), BigInt(size)];
-        this.header = this.address(HEADER);
+        this.file.forEach((number, i) => this.view.setBigUint64(this.base + STRUCT + i * 8, number, true));
+        this.struct = this.address(STRUCT);
         this.end = FILE + size;
     }
 
@@ -467,8 +480,13 @@ class Memory {
         return this.file_bytes;
     }
 
-    // Returns the same memory with another header.
-    with_header(offset) { return Object.create(this, { header: { value: this.address(offset) } }); }
+    // Returns the same memory with another goblin_file_t.
+    with_struct(offset) { return Object.create(this, { struct: { value: this.address(offset) } }); }
+
+    // The address of the header, and the header.
+    get header_address() { return this.struct + BigInt(HEADER); }
+
+    get header() { return read(this.view, Number(this.header_address), records.header); }
 
     // Grows the memory if this file's part of it has fewer bytes.
     reserve(size) {
@@ -501,11 +519,14 @@ class Memory {
     }
 
     // Calls the library, and reports whether it returned GOBLIN_OK and not GOBLIN_END.
-    test(name, ...args) {
-        const status = this.calls[name](...this.file, ...args, this.address(WHY)) >>> 0;
+    status(name, ...args) {
+        const status = this.calls[name](...args, this.address(WHY)) >>> 0;
         if (status > 1) throw GoblinError.of(this);
         return status === 0;
     }
+
+    // Calls the library with the file, as `status` does.
+    test(name, ...args) { return this.status(name, this.struct, ...args); }
 
     // Calls the library, and returns an item of a kind, or `undefined` for GOBLIN_END.
     call(name, kind, ...args) {
@@ -515,7 +536,7 @@ class Memory {
 
     // Calls the library to find an item of a kind, and returns its index and the item, or `undefined` for GOBLIN_END.
     find(name, kind, ...args) {
-        if (!this.test(name, this.header, ...args, this.address(INDEX), this.address(ITEM))) return undefined;
+        if (!this.test(name, ...args, this.address(INDEX), this.address(ITEM))) return undefined;
         const [{ value }, item] = [read(this.view, this.base + INDEX, records.number),
             read(this.view, this.base + ITEM, records[kind])];
         return { index: Number(value), [kind]: item };
@@ -550,7 +571,7 @@ class Memory {
 
     // Returns the part of a range that is inside the file.
     in_file(range) {
-        this.calls.goblin_range_in_file(...this.file, this.pass(ARGUMENT, 'range', range), this.address(ITEM));
+        this.calls.goblin_range_in_file(this.struct, this.pass(ARGUMENT, 'range', range), this.address(ITEM));
         return read(this.view, this.base + ITEM, records.range);
     }
 
@@ -594,6 +615,14 @@ export class GoblinError extends Error {
     static of(memory) {
         const why = read(memory.view, memory.base + WHY, records.refusal);
         return new GoblinError(memory.text('goblin_refusal_to_str', memory.address(WHY)), why);
+    }
+
+    // Returns the refusal of a relocation with the addend 0 where its section has none, or without one where it has
+    // some. It is a refusal of the library at the offset after the other fields.
+    static of_addend(memory, offset) {
+        const numbers = { first: 0n, second: 0n, third: 0n, fourth: 0n };
+        memory.pass(WHY, 'refusal', { kind: Kind.INTEGER_FIT, item: Item.ADDEND, ...numbers, offset });
+        return GoblinError.of(memory);
     }
 
     // Returns the refusal of a section with another type than expected. Its first number is the type.
@@ -652,9 +681,9 @@ export class Elf {
      * @returns {Elf}
      */
     static parse(bytes) {
-        const memory = made.get(bytes) ?? Memory.of(bytes_of(bytes)), header = memory.call('goblin_header', 'header');
-        memory.pass(HEADER, 'header', header);
-        return new Elf(memory, header);
+        const memory = made.get(bytes) ?? Memory.of(bytes_of(bytes));
+        memory.status('goblin_file', ...memory.file, memory.struct);
+        return new Elf(memory, memory.header);
     }
 
     /**
@@ -684,10 +713,10 @@ export class Elf {
      * @returns {Elf}
      */
     whole() {
-        const memory = this.#memory.with_header(WHOLE);
-        if (this.#memory.header !== memory.header)
-            memory.calls.goblin_whole_header(...memory.file, this.#memory.header, memory.header);
-        return new Elf(memory, read(memory.view, memory.base + WHOLE, records.header));
+        const memory = this.#memory.with_struct(WHOLE);
+        if (this.#memory.struct !== memory.struct)
+            memory.calls.goblin_whole_header(this.#memory.struct, memory.struct);
+        return new Elf(memory, memory.header);
     }
 
     /**
@@ -697,8 +726,7 @@ export class Elf {
      */
     writer(bytes) { return new Writer(this.header, bytes); }
 
-    // Calls the library with the header.
-    #call(name, kind, ...args) { return this.#memory.call(name, kind, this.#memory.header, ...args); }
+    #call(name, kind, ...args) { return this.#memory.call(name, kind, ...args); }
 
     /**
      * Reports whether the file is of the 64-bit class.
@@ -754,9 +782,9 @@ export class Elf {
     section_headers() { return new List(this.#memory, 'section', []); }
 
     /**
-     * Returns the first section with a name, if there is one. Throws if the section headers or their names are not
-     * inside the file.
-     * @param {string} name
+     * Returns the first section with a name, a text or bytes, if there is one. Throws if the section headers or their
+     * names are not inside the file.
+     * @param {string | Uint8Array} name
      * @returns {SectionHeader | undefined}
      */
     section(name) { return this.section_by_name(name)?.section; }
@@ -769,12 +797,12 @@ export class Elf {
      * for (let at = elf.section_by_name('.group'); at; at = elf.section_by_name('.group', at.index + 1))
      *     console.log(at.section.sh_size);
      * ```
-     * @param {string} name
+     * @param {string | Uint8Array} name
      * @param {number | bigint} [first]
      * @returns {{ index: number, section: SectionHeader } | undefined}
      */
     section_by_name(name, first = 0) {
-        const bytes = this.#memory.pass_bytes(utf8(name)),
+        const bytes = this.#memory.pass_bytes(name_bytes(name)),
             names = this.#memory.pass(NAMES, 'range', this.shdr_strtab().range);
         return this.#memory.find('goblin_section_by_name', 'section', names, ...bytes, unsigned(first, 64));
     }
@@ -807,7 +835,7 @@ export class Elf {
      */
     range(part) {
         const kind = is_segment(part) ? 'segment' : 'section';
-        return this.#memory.call(`goblin_${kind}_bytes`, 'range', this.#memory.pass(ARGUMENT, kind, part));
+        return this.#memory.call(`goblin_${kind}_range`, 'range', this.#memory.pass(ARGUMENT, kind, part));
     }
 
     /**
@@ -907,7 +935,7 @@ export class Elf {
      * past the end, or that section has no bytes in the file. Throws if the section headers are not inside the file.
      * @returns {Strtab}
      */
-    shdr_strtab() { return new Strtab(this.#memory, range_of(this.#call('goblin_section_names', 'section') ?? NONE)); }
+    shdr_strtab() { return new Strtab(this.#memory, range_of(this.#call('goblin_names_section', 'section') ?? NONE)); }
 
     /**
      * Returns a section, or a segment's bytes in the file, as a string table. It is empty if there is none, if the
@@ -968,8 +996,9 @@ export class Elf {
      */
     relocs(section) {
         if (!holds_relocs(section)) throw GoblinError.of_type(section, 'relocations');
-        return new List(this.#memory, 'reloc', [Number(section.sh_type === SHT_RELA)],
-            { range: range_of(section), convert: reloc });
+        const is_rela = section.sh_type === SHT_RELA;
+        return new List(this.#memory, 'reloc', [Number(is_rela)], { range: range_of(section),
+            convert: is_rela ? (item) => item : (item) => Object.assign(item, { r_addend: undefined }) });
     }
 
     /**
@@ -994,11 +1023,10 @@ export class Elf {
      * @returns {Dyn[]}
      */
     dynamic(most = Infinity) {
-        const { range } = this.#dynamic_section(), all = [];
+        const range = this.#dynamic_range(), all = [];
         while (range && all.length < most) {
             const argument = this.#memory.pass(ARGUMENT, 'range', range), left = most - all.length;
-            const entries = this.#memory.call_many('goblin_dynamic_entries', 'dyn', left, BigInt(all.length),
-                this.#memory.header, argument);
+            const entries = this.#memory.call_many('goblin_dynamic_entries', 'dyn', left, BigInt(all.length), argument);
             all.push(...entries);
             if (entries.length < BATCH) break;
         }
@@ -1012,33 +1040,26 @@ export class Elf {
      * @returns {bigint | undefined}
      */
     dynamic_value(tag) {
-        const wanted = unsigned(tag, 64), { range } = this.#dynamic_section();
+        const wanted = unsigned(tag, 64), range = this.#dynamic_range();
         const argument = range && this.#memory.pass(ARGUMENT, 'range', range);
-        return range && this.#call('goblin_dynamic_value', 'number', argument, wanted)?.value;
+        return range && this.#memory.find('goblin_dynamic_value', 'number', argument, wanted, 0n)?.number.value;
     }
 
     /**
      * Returns the strings of the dynamic section: DT_STRTAB is their address, and DT_STRSZ their size. In a file
      * without program headers they are the section that the dynamic section links to. The string table is empty if
      * there is no dynamic section, one of these entries or the linked section is missing, or no segment loads the
-     * address. Throws if `dynamic` does, or if strings of an address are not inside the file.
+     * address. Throws if `dynamic` does, or if the strings are not inside the file.
      * @returns {Strtab}
      */
     dynamic_strings() {
-        const { range, section } = this.#dynamic_section();
-        if (section) return this.strtab(this.linked_section(section));
+        const range = this.#dynamic_range();
         const strings = range
             && this.#call('goblin_dynamic_strings', 'range', this.#memory.pass(ARGUMENT, 'range', range));
         return new Strtab(this.#memory, strings ?? range_of(NONE));
     }
 
-    // Returns the range of the dynamic section, if it has bytes, and its section header if that is how it is found.
-    #dynamic_section() {
-        const range = this.#call('goblin_dynamic', 'range');
-        if (range || this.program_headers().length > 0) return { range };
-        const section = this.section_by_type(SHT_DYNAMIC)?.section;
-        return { range: section && this.range(section), section };
-    }
+    #dynamic_range() { return this.#call('goblin_dynamic', 'range'); }
 
     /**
      * Returns the notes of a section or a segment. Throws if the alignment is neither 4 nor 8, a note is not inside the
@@ -1056,7 +1077,7 @@ export class Elf {
      * @param {number} [most]
      * @returns {{ notes: Note[], refusal: GoblinError | undefined }}
      */
-    readable_notes(part, most = Infinity) { return this.#read_notes(part, most, 'goblin_note', note); }
+    readable_notes(part, most = Infinity) { return this.#read_notes(part, most, 'goblin_note_utf8', note); }
 
     /**
      * Returns the notes of a section or a segment as bytes, so that names need not be UTF-8. Throws if the alignment is
@@ -1081,7 +1102,7 @@ export class Elf {
      * @returns {{ notes: NoteBytes[], refusal: GoblinError | undefined }}
      */
     readable_notes_bytes(part, most = Infinity) {
-        return this.#read_notes(part, most, 'goblin_note_bytes', note_bytes);
+        return this.#read_notes(part, most, 'goblin_note_whole', note_bytes);
     }
 
     #read_notes(part, most, call, convert) {
@@ -1091,11 +1112,16 @@ export class Elf {
                 const argument = this.#memory.pass(ARGUMENT, 'range', range);
                 const fields = this.#call(call, 'note', argument, unsigned(alignment, 64), next);
                 if (!fields) break;
+                if (call === 'goblin_note_whole') fields.name_size = this.#whole_size(next, fields);
                 notes.push(convert(this.#memory, fields));
             }
         });
         return { notes, refusal };
     }
+
+    // Returns the size of the whole name of a note at an offset, which begins with this size. (The range that the
+    // library returns is without the last byte of the name, if it has one.)
+    #whole_size(offset, { name_size }) { return name_size > 0n ? name_size + 1n : this.number(offset, 4); }
 
     /**
      * Returns the notes of all segments of type PT_NOTE: those that are loaded, and all of a core file. Others are in
@@ -1113,7 +1139,7 @@ export class Elf {
      */
     iter_note_sections() { return this.#sections_of_notes().flatMap((section) => this.#any_notes(section)); }
 
-    #any_notes(part) { return all_notes(this.#read_notes(part, Infinity, 'goblin_note_bytes', any_note)); }
+    #any_notes(part) { return all_notes(this.#read_notes(part, Infinity, 'goblin_note_whole', any_note)); }
 
     #segments_of_notes() { return this.program_headers().filter(({ p_type }) => p_type === PT_NOTE); }
 
@@ -1190,10 +1216,6 @@ function range_of(part) {
         : { offset: part.sh_offset, size: part.sh_size });
 }
 
-function reloc({ r_offset, r_sym, r_addend, r_type, has_addend }) {
-    return plain({ r_offset, r_sym, r_addend: has_addend ? r_addend : undefined, r_type });
-}
-
 const ranges_of = ({ name_offset, name_size, desc_offset, desc_size }) =>
     [plain({ offset: name_offset, size: name_size }), plain({ offset: desc_offset, size: desc_size })];
 
@@ -1257,7 +1279,7 @@ export class Writer {
         if (TYPE.call(bytes) !== 'Uint8Array')
             throw new TypeError(`a writer needs a Uint8Array, not ${describe(bytes)}`);
         this.#memory = Memory.of(bytes);
-        this.#memory.pass(HEADER, 'header', header);
+        this.#memory.pass(STRUCT + HEADER, 'header', header);
         this.#header = header;
         this.#bytes = bytes;
     }
@@ -1266,8 +1288,20 @@ export class Writer {
 
     // Calls the library to write a number of bytes at an offset, and copies them. Returns whether it has written.
     #put(name, offset, size, ...args) {
-        if (!this.#memory.test(name, ...args)) return false;
+        if (!this.#memory.status(name, ...this.#memory.file, ...args)) return false;
         this.#bytes.set(this.#memory.part(FILE + Number(offset), size), Number(offset));
+        return true;
+    }
+
+    // Throws if a number of an item at an offset has more bits than its field: the library refuses it as a number of so
+    // many bytes. Returns false if there is no such item.
+    #fits(kind, item, at, ...args) {
+        for (const [name, [width, ...places]] of Object.entries(NARROW)) {
+            const value = typeof item?.[name] === 'bigint' ? item[name] : 0n;
+            if (value < 1n << BigInt(8 * width) || value > LAST) continue;
+            if (!this.#memory.test(`goblin_${kind}`, ...args, this.#memory.address(ITEM))) return false;
+            this.put_number(at + places[Number(this.#header.ei_class === 2)], width, value);
+        }
         return true;
     }
 
@@ -1289,10 +1323,10 @@ export class Writer {
      * @returns {boolean}
      */
     put_section_header(index, section) {
-        const at = unsigned(index, 64), size = this.#size('section'),
-            item = this.#memory.pass(ITEM, 'section', section);
-        return this.#put('goblin_put_section', this.#header.e_shoff + at * BigInt(size), size,
-            this.#memory.header, at, item);
+        const at = unsigned(index, 64), size = this.#size('section'), offset = this.#header.e_shoff + at * BigInt(size);
+        if (!this.#fits('section', section, offset, at)) return false;
+        const item = this.#memory.pass(ITEM, 'section', section);
+        return this.#put('goblin_put_section', offset, size, this.#memory.header_address, at, item);
     }
 
     /**
@@ -1305,7 +1339,7 @@ export class Writer {
         const at = unsigned(index, 64), size = this.#size('segment'),
             item = this.#memory.pass(ITEM, 'segment', segment);
         return this.#put('goblin_put_segment', this.#header.e_phoff + at * BigInt(size), size,
-            this.#memory.header, at, item);
+            this.#memory.header_address, at, item);
     }
 
     /**
@@ -1318,10 +1352,11 @@ export class Writer {
      */
     put_symbol(section, index, symbol) {
         if (!holds_symbols(section)) throw GoblinError.of_type(section, 'symbols');
-        const at = unsigned(index, 64), size = this.#size('symbol'), item = this.#memory.pass(ITEM, 'symbol', symbol);
-        const table = this.#memory.pass(ARGUMENT, 'range', range_of(section));
-        return this.#put('goblin_put_symbol', section.sh_offset + at * BigInt(size), size,
-            this.#memory.header, table, at, item);
+        const at = unsigned(index, 64), size = this.#size('symbol'), offset = section.sh_offset + at * BigInt(size),
+            table = this.#memory.pass(ARGUMENT, 'range', range_of(section));
+        if (!this.#fits('symbol', symbol, offset, table, at)) return false;
+        const item = this.#memory.pass(ITEM, 'symbol', symbol);
+        return this.#put('goblin_put_symbol', offset, size, this.#memory.header_address, table, at, item);
     }
 
     /**
@@ -1337,13 +1372,17 @@ export class Writer {
         if (!holds_relocs(section)) throw GoblinError.of_type(section, 'relocations');
         const is_rela = section.sh_type === SHT_RELA, at = unsigned(index, 64),
             size = this.#size(is_rela ? 'rela' : 'rel');
-        const with_addend = ({ r_addend }) =>
-            ({ ...reloc, r_addend: r_addend ?? 0n, has_addend: Number(r_addend !== undefined) });
-        const fields = Object(reloc) === reloc ? with_addend(reloc) : reloc;
-        const item = this.#memory.pass(ITEM, 'reloc', fields),
-            table = this.#memory.pass(ARGUMENT, 'range', range_of(section));
-        const offset = section.sh_offset + at * BigInt(size);
-        return this.#put('goblin_put_reloc', offset, size, this.#memory.header, table, Number(is_rela), at, item);
+        const table = this.#memory.pass(ARGUMENT, 'range', range_of(section)), args = [table, Number(is_rela), at];
+        const offset = section.sh_offset + at * BigInt(size), { r_addend } = Object(reloc);
+        if (!this.#fits('reloc', reloc, offset, ...args)) return false;
+        const fields = Object(reloc) === reloc ? { ...reloc, r_addend: r_addend ?? 0n } : reloc;
+        const item = this.#memory.pass(ITEM, 'reloc', fields);
+        // (the library refuses an addend of a section without addends, unless it is 0)
+        if ((r_addend === undefined) === is_rela && !r_addend) {
+            if (!this.#memory.test('goblin_reloc', ...args, this.#memory.address(BUFFER))) return false;
+            throw GoblinError.of_addend(this.#memory, offset + BigInt(this.#size('rel')));
+        }
+        return this.#put('goblin_put_reloc', offset, size, this.#memory.header_address, ...args, item);
     }
 
     /**
@@ -1355,7 +1394,8 @@ export class Writer {
      */
     put_number(offset, width, value) {
         const at = unsigned(offset, 64);
-        this.#put('goblin_put_number', at, width, this.#memory.header, at, as_width(width), unsigned(value, 64));
+        this.#put('goblin_put_number', at, width,
+            this.#memory.header_address, at, as_width(width), unsigned(value, 64));
     }
 
     /**
@@ -1372,7 +1412,7 @@ export class Writer {
         const at = unsigned(offset, 64), range = range_of(part),
             argument = this.#memory.pass(ARGUMENT, 'range', range);
         this.#put('goblin_put_number_in', range.offset + at, width,
-            this.#memory.header, argument, at, as_width(width), unsigned(value, 64));
+            this.#memory.header_address, argument, at, as_width(width), unsigned(value, 64));
     }
 }
 
@@ -1441,7 +1481,7 @@ export class List {
 
     #arguments() {
         const range = this.#range ? [this.#memory.pass(ARGUMENT, 'range', this.#range)] : [];
-        return [this.#memory.header, ...range, ...this.#args];
+        return [...range, ...this.#args];
     }
 
     /**
@@ -1647,8 +1687,7 @@ export class Symtab extends List {
     by_address(address) {
         const memory = this.#memory;
         const table = memory.pass(ARGUMENT, 'range', this.#range);
-        const found =
-            memory.call('goblin_symbol_by_address', 'number', memory.header, table, unsigned(address, 64));
+        const found = memory.call('goblin_symbol_by_address', 'number', table, unsigned(address, 64));
         return found && Number(found.value);
     }
 
@@ -1664,9 +1703,9 @@ export class Symtab extends List {
     address_map() { return new AddressMap(this, this.#held_by()); }
 
     /**
-     * Returns the index of the first symbol with a name, if there is one. Throws if the string table is not
-     * inside the file.
-     * @param {string} name
+     * Returns the index of the first symbol with a name, a text or bytes, if there is one. Throws if the string table
+     * is not inside the file.
+     * @param {string | Uint8Array} name
      * @returns {number | undefined}
      */
     by_name(name) { return this.symbol_by_name(name)?.index; }
@@ -1678,13 +1717,13 @@ export class Symtab extends List {
      * for (let at = symbols.symbol_by_name('main'); at; at = symbols.symbol_by_name('main', at.index + 1))
      *     console.log(at.symbol.st_value);
      * ```
-     * @param {string} name
+     * @param {string | Uint8Array} name
      * @param {number | bigint} [first]
      * @returns {{ index: number, symbol: Sym } | undefined}
      */
     symbol_by_name(name, first = 0) {
         const memory = this.#memory;
-        const bytes = memory.pass_bytes(utf8(name));
+        const bytes = memory.pass_bytes(name_bytes(name));
         const table = memory.pass(ARGUMENT, 'range', this.#range);
         const names = memory.pass(NAMES, 'range', this.strtab.range);
         return memory.find('goblin_symbol_by_name', 'symbol', table, names, ...bytes, unsigned(first, 64));
@@ -1692,10 +1731,10 @@ export class Symtab extends List {
 
     // Returns a function of an index: the first and the last address that the section there holds, if it holds any.
     #held_by() {
-        const memory = this.#memory, { e_type } = read(memory.view, Number(memory.header), records.header);
+        const memory = this.#memory, { e_type } = memory.header;
         return (index) => {
             const section = index < SHN_LORESERVE
-                ? memory.call('goblin_section', 'section', memory.header, unsigned(index, 64)) : undefined;
+                ? memory.call('goblin_section', 'section', unsigned(index, 64)) : undefined;
             if (!section?.sh_size || (e_type !== ET_REL && !is_alloc(section))) return undefined;
             const first = e_type === ET_REL ? 0n : section.sh_addr;
             return { first, last: last_of(first, section.sh_size) };
@@ -1832,7 +1871,7 @@ export class Strtab {
      * @returns {string | undefined}
      */
     get(offset) {
-        const range = this.#read('goblin_string', this.range, offset);
+        const range = this.#read('goblin_string_utf8', this.range, offset);
         return range && this.#memory.string(range);
     }
 
@@ -1843,7 +1882,7 @@ export class Strtab {
      * @returns {Uint8Array | undefined}
      */
     get_bytes(offset) {
-        const range = this.#read('goblin_string_bytes', this.range, offset);
+        const range = this.#read('goblin_string', this.range, offset);
         return range && this.#memory.bytes(range);
     }
 
@@ -1881,8 +1920,10 @@ export class Strtab {
     #compare(name, offset, text) {
         // (bytes of the file itself are copied, as passing them may move the file)
         const memory = this.#memory, bytes = typeof text === 'string' ? encoder.encode(text) : bytes_of(text).slice();
-        const passed = memory.pass_bytes(bytes);
-        return memory.test(name, memory.pass(NAMES, 'range', this.range), unsigned(offset, 64), ...passed);
+        const passed = memory.pass_bytes(bytes), table = memory.pass(NAMES, 'range', this.range);
+        // (it is false, too, if the table is refused)
+        return Boolean(memory.calls[name](memory.struct, table, unsigned(offset, 64), ...passed))
+            || this.#read('goblin_string', this.range, this.range.size) !== undefined;
     }
 
     /**
@@ -1903,6 +1944,16 @@ export class Strtab {
     starts_with(offset, start) { return this.#compare('goblin_string_starts', offset, start); }
 
     /**
+     * Returns the part of the table up to its last zero byte. At each offset in it begins a string that a zero byte
+     * closes. Throws if the table is not inside the file.
+     * @returns {Strtab}
+     */
+    closed() {
+        const table = this.#memory.pass(NAMES, 'range', this.range);
+        return new Strtab(this.#memory, this.#memory.call('goblin_closed_strings', 'range', table));
+    }
+
+    /**
      * Returns the first bytes of the string at an offset, at most `most`, and reads no more of them. Throws if
      * `get_bytes` does.
      * @param {number | bigint} offset
@@ -1911,12 +1962,12 @@ export class Strtab {
      */
     get_start(offset, most) {
         const { offset: start, size } = this.range;
-        if (!this.#is_accepted) this.#read('goblin_string_bytes', this.range, size);
+        if (!this.#is_accepted) this.#read('goblin_string', this.range, size);
         this.#is_accepted = true;
         const skipped = unsigned(offset, 64);
         if (skipped >= size) return undefined;
         const length = most < size - skipped ? BigInt(Math.trunc(most)) : size - skipped;
-        const range = this.#read('goblin_string_bytes', { offset: start + skipped, size: length }, 0);
+        const range = this.#read('goblin_string', { offset: start + skipped, size: length }, 0);
         return range ? this.#memory.bytes(range) : new Uint8Array();
     }
 }
@@ -1945,7 +1996,7 @@ export const sht_to_str = (sh_type) => name_of('goblin_sht_to_str', sh_type, 32)
  * @param {number | bigint} flag
  * @returns {string}
  */
-export const shf_to_str = (flag) => name_of('goblin_shf_to_str', unsigned(flag, 64) >> 32n ? 0 : flag, 32);
+export const shf_to_str = (flag) => name_of('goblin_shf_to_str', flag, 64);
 /** Returns the name of a symbol's binding, such as GLOBAL, or UNKNOWN_STB. @param {number} binding @returns {string} */
 export const bind_to_str = (binding) => name_of('goblin_bind_to_str', binding, 8);
 /** Returns the name of a symbol's type, such as FUNC, or UNKNOWN_STT. @param {number} type @returns {string} */
@@ -1980,11 +2031,12 @@ export const st_visibility = (other) => other & 0x7;
  * @returns {Record<string, { item: object, size: number, library_size: bigint }>}
  */
 export function layout() {
-    const { calls, base, view } = ready(shared);
-    calls.goblin_layout(shared.address(BUFFER));
+    const { calls, base, view } = ready(shared), start = base + BUFFER;
     const kinds = ['refusal', 'range', 'header', 'section', 'segment', 'symbol', 'reloc', 'note', 'dyn'];
-    const start = base + BUFFER;
-    let offset = start + 8 * kinds.length;
+    // (after the sizes is that of a goblin_file_t, which is no item)
+    let offset = start + 8 * kinds.length + 8;
+    calls.goblin_layout(shared.address(BUFFER),
+        BigInt(kinds.reduce((size, kind) => size + records[kind].size, offset - start)));
     return Object.fromEntries(kinds.map((kind, i) => {
         const { size } = records[kind];
         const item = read(view, offset, records[kind]);

@@ -22,7 +22,7 @@ const header = readFileSync(new URL('../c/goblin.h', import.meta.url), 'utf8');
 
 // Each byte of a struct's first field must be 1, of its second 2, and so on, as goblin_layout fills them.
 function check_layout() {
-    const fields = { refusal: 7, range: 2, header: 18, section: 10, segment: 8, symbol: 6, reloc: 5, note: 6, dyn: 2 };
+    const fields = { refusal: 7, range: 2, header: 18, section: 10, segment: 8, symbol: 6, reloc: 4, note: 6, dyn: 2 };
     const layout = goblin.layout();
     assert.deepEqual(Object.keys(layout), Object.keys(fields));
     for (const [kind, { item, size, library_size }] of Object.entries(layout)) {
@@ -39,17 +39,16 @@ function check_module() {
     assert.deepEqual(WebAssembly.Module.imports(module), []);
     const exported = WebAssembly.Module.exports(module).map(({ name }) => name)
         .filter((name) => name.startsWith('goblin_'));
-    const declared = [...header.matchAll(/^uint\d+_t (goblin_\w+)\(|^void (goblin_\w+)\(/gm)]
-        .map(([, call, other]) => call ?? other);
+    const declared = [...header.matchAll(/^(?:\w+_t|void|bool) (goblin_\w+)\(/gm)].map(([, call]) => call);
     assert.deepEqual(exported.sort(), declared.sort());
     console.log(`goblin_c.wasm has no imports, and exports the ${declared.length} calls of goblin.h`);
 }
 
 function check_kinds() {
     const numbers_after = (start) => Object.fromEntries(Array.from(header.split(start)[1].split('};')[0]
-        .matchAll(/GOBLIN_(\w+) = (\d+)/g), ([, name, number]) => [name, Number(number)]));
+        .matchAll(/GOBLIN_(?:REFUSED_|ITEM_)?(\w+) = (\d+)/g), ([, name, number]) => [name, Number(number)]));
     const kinds = numbers_after('GOBLIN_END = 1,\n');
-    assert.equal(Object.keys(kinds).length, 21);
+    assert.equal(Object.keys(kinds).length, 16);
     assert.deepEqual({ ...goblin.Item }, numbers_after('0 for refusals that have none. */\n'));
     assert.deepEqual({ ...goblin.Kind }, { ...kinds, OPEN_STRING: 2 ** 32 - 3, SECTION_TYPE: 2 ** 32 - 1 });
     assert.equal(goblin.VERSION, Number(/GOBLIN_VERSION (\d+)/.exec(header)[1]));
@@ -295,16 +294,16 @@ class Dump {
     // Adds the lines of the bytes of a section or a segment, and of some numbers in them.
     part(elf, kind, part, size) {
         const last = BigInt.asUintN(64, size - 1n);
-        this.ask(`goblin_${kind}_bytes`, () => elf.range(part));
+        this.ask(`goblin_${kind}_range`, () => elf.range(part));
         this.ask('goblin_range_in_file', () => elf.readable_data(part), size_and_first);
         this.ask_each('goblin_number_in', [[0, 8], [size / 2n, 2], [last, 1]],
             ([offset, width]) => elf.number_in(part, offset, width));
     }
 
     string(strtab, offset) {
-        const text = this.ask('goblin_string', () => strtab.get(offset), (string) => bytes(Buffer.from(string)));
+        const text = this.ask('goblin_string_utf8', () => strtab.get(offset), (string) => bytes(Buffer.from(string)));
         this.ask('goblin_string_closed', () => strtab.get_closed_bytes(offset), bytes);
-        const own = this.ask('goblin_string_bytes', () => strtab.get_bytes(offset), bytes) ?? new Uint8Array();
+        const own = this.ask('goblin_string', () => strtab.get_bytes(offset), bytes) ?? new Uint8Array();
         for (const name of [own, own.subarray(0, own.length / 2)]) {
             this.ask('goblin_string_is', () => strtab.is(offset, name) || undefined, () => '');
             this.ask('goblin_string_starts', () => strtab.starts_with(offset, name) || undefined, () => '');
@@ -332,7 +331,7 @@ class Dump {
         const ends = [symbol.st_value, BigInt.asUintN(64, symbol.st_value + symbol.st_size)];
         this.ask_each('goblin_symbol_by_address', ends, (address) => symtab.by_address(address));
         if (index >= FEW) return;
-        const changed = { ...symbol, st_value: symbol.st_value ^ 1n, st_name: symbol.st_name + any_high(index) };
+        const changed = { ...symbol, st_value: symbol.st_value ^ 1n, st_size: symbol.st_size ^ any_high(index) };
         this.write('goblin_put_symbol', (writer) => writer.put_symbol(section, index, changed));
     }
 
@@ -353,9 +352,7 @@ class Dump {
 
     relocs(elf, section) {
         const is_list = section.sh_type === goblin.SHT_RELA || section.sh_type === goblin.SHT_REL;
-        const put = ({ r_offset, r_sym, r_addend, r_type }) =>
-            fields({ r_offset, r_sym, r_addend: r_addend ?? 0, r_type, has_addend: Number(r_addend !== undefined) })
-            + ` ${r_addend ?? 0}`;
+        const put = (reloc) => fields({ ...reloc, r_addend: reloc.r_addend ?? 0 }) + ` ${reloc.r_addend ?? 0}`;
         const table = is_list ? section : as_type(section, goblin.SHT_REL);
         const relocs = this.ask('goblin_reloc_count', () => elf.relocs(table), length);
         if (!relocs) return;
@@ -363,21 +360,24 @@ class Dump {
         for (const reloc of relocs.from(0, is_list ? relocs.length : FEW)) {
             this.ask('goblin_reloc', () => reloc, put);
             const at = index++,
-                changed = { ...reloc, r_offset: reloc.r_offset ^ 1n, r_sym: reloc.r_sym + any_high(at) };
+                changed = { ...reloc, r_offset: reloc.r_offset ^ 1n, r_sym: reloc.r_sym ^ any_high(at) >> 8n };
             if (at < FEW) this.write('goblin_put_reloc', (writer) => writer.put_reloc(table, at, changed));
         }
         this.ask('goblin_reloc', () => relocs.get(relocs.length), put);
     }
 
-    // Adds the lines of the notes of a section or segment, first with names that must be UTF-8, and then as bytes.
+    // Adds the lines of the notes of a section or segment, first with names that must be UTF-8, and then as bytes. (In
+    // C a name has not its last byte.)
     notes(elf, holder) {
-        for (const [call, { notes, refusal }] of [['goblin_note', elf.readable_notes(holder)],
-            ['goblin_note_bytes', elf.readable_notes_bytes(holder)]]) {
+        for (const [call, { notes, refusal }] of [['goblin_note_utf8', elf.readable_notes(holder)],
+            ['goblin_note_whole', elf.readable_notes_bytes(holder)]]) {
+            const is_text = call === 'goblin_note_utf8';
             const put = ({ name_range, desc_range, next, n_type, name, desc }) => fields({
-                name_offset: name_range.offset, name_size: name_range.size, desc_offset: desc_range.offset,
-                desc_size: desc_range.size, next, n_type,
-            }) + (call === 'goblin_note' ? ` ${goblin.note_type_to_str({ name, n_type })}` : '')
-                + bytes(name) + bytes(desc);
+                name_offset: name_range.offset,
+                name_size: is_text || name_range.size === 0n ? name_range.size : name_range.size - 1n,
+                desc_offset: desc_range.offset, desc_size: desc_range.size, next, n_type,
+            }) + (is_text ? ` ${goblin.note_type_to_str({ name, n_type })}` : '')
+                + bytes(is_text ? name : name.slice(0, -1)) + bytes(desc);
             for (const note of notes) this.ask(call, () => note, put);
             this.ask(call, () => { if (refusal) throw refusal; });
         }
@@ -407,7 +407,7 @@ class Dump {
     sections(elf) {
         const list = this.ask('goblin_section_count', () => elf.section_headers(), length);
         if (!list) return;
-        const names = this.ask('goblin_section_names', () => elf.shdr_strtab(), ({ range }) => fields(range));
+        const names = this.ask('goblin_names_section', () => elf.shdr_strtab(), ({ range }) => fields(range));
         if (!names) return;
         for (const [index, section] of list.entries()) {
             const flags = Array.from({ length: 32 }, (_, bit) => 2 ** bit)
@@ -426,7 +426,7 @@ class Dump {
             this.relocs(elf, section);
             this.notes(elf, section);
             const changed = { ...section, sh_flags: section.sh_flags ^ goblin.SHF_WRITE,
-                sh_name: section.sh_name + any_high(index) };
+                sh_size: section.sh_size ^ any_high(index) };
             if (index < FEW) this.write('goblin_put_section', (writer) => writer.put_section_header(index, changed));
         }
         this.ask('goblin_section', () => list.get(list.length));
@@ -450,7 +450,7 @@ class Dump {
         if (!sections) return;
         for (const section of sections.from(0, WHOLE)) this.ask('goblin_section', () => section);
         this.ask_each('goblin_section', [sections.length, far], (index) => whole.section_header(index));
-        this.ask('goblin_section_names', () => whole.shdr_strtab(), ({ range }) => fields(range));
+        this.ask('goblin_names_section', () => whole.shdr_strtab(), ({ range }) => fields(range));
         const segments = this.ask('goblin_segment_count', () => whole.program_headers(), length);
         if (!segments) return;
         for (const segment of segments.from(0, WHOLE)) this.ask('goblin_segment', () => segment);
@@ -479,7 +479,7 @@ class Dump {
 
     file(content, number) {
         this.lines.push(`file ${number}`);
-        const elf = this.ask('goblin_header', () => goblin.Elf.parse(content), ({ header }) => fields(header)
+        const elf = this.ask('goblin_file', () => goblin.Elf.parse(content), ({ header }) => fields(header)
             + ` ${goblin.class_to_str(header.ei_class)} ${goblin.et_to_str(header.e_type)}`
             + ` ${goblin.machine_to_str(header.e_machine)}`);
         if (!elf) return;

@@ -17,17 +17,19 @@ TYPES = {'p': ctypes.c_void_p, 'z': ctypes.c_size_t, 'Q': ctypes.c_uint64, 'I': 
 
 
 class Record:
-    """A struct of goblin.h: its fields, each with its code in the module `struct`, in the machine's byte order."""
+    """A struct of goblin.h: its fields, each with its code in the module `struct`, in the machine's byte order. `order` has the indexes of the
+    fields in the order of its item, in which they are packed, unpacked and listed."""
 
-    def __init__(self, fields: Tuple[str, ...], codes: str) -> None:
+    def __init__(self, fields: Tuple[str, ...], codes: str, order: Tuple[int, ...]) -> None:
         self.fields, self.codes = fields, codes
+        self.ordered, self.declared = operator.itemgetter(*order), operator.itemgetter(*map(order.index, range(len(order))))
         self.struct = struct.Struct(f'@{codes}0Q')
         self.size = self.struct.size
         self.buffer = ctypes.c_char * self.size
 
         # Of each field its code, and its offset and the size of the struct in units of the field's size.
-        self.places = [(code, struct.calcsize(f'@{codes[:index]}0{code}') // struct.calcsize(code), self.size // struct.calcsize(code))
-                       for index, code in enumerate(codes)]
+        self.places = self.ordered([(code, struct.calcsize(f'@{codes[:index]}0{code}') // struct.calcsize(code),
+                                     self.size // struct.calcsize(code)) for index, code in enumerate(codes)])
 
     def columns(self, structs: memoryview) -> List[List[Any]]:
         """Returns each field of some structs as a list."""
@@ -36,22 +38,30 @@ class Record:
     def pack(self, values: Tuple[Any, ...]) -> bytes:
         """Returns the bytes of the struct. Raises a ValueError if a number does not fit its field, and a TypeError if a field is no integer."""
         try:
-            return self.struct.pack(*values)
+            return self.struct.pack(*self.declared(values))
         except struct.error as error:
-            for field, value in zip(self.fields, values):
+            for field, value in zip(self.ordered(self.fields), values):
                 if not hasattr(value, '__index__'):
                     raise TypeError(f'{field} is a {type(value).__name__}, and must be an integer') from None
             raise ValueError(f'a field does not fit its number of bits: {error}') from None
+
+    def unpack(self, content: Any) -> Tuple[int, ...]:
+        """Returns the fields of the bytes of the struct."""
+        fields: Tuple[int, ...] = self.ordered(self.struct.unpack(content))
+        return fields
 
     def dtype(self) -> Any:
         """Returns the struct as a dtype of numpy."""
         import numpy
         kinds = {'Q': 'u8', 'q': 'i8', 'I': 'u4', 'H': 'u2', 'B': 'u1'}
-        return numpy.dtype([(field, kinds[code]) for field, code in zip(self.fields, self.codes)], align=True)
+        return numpy.dtype({'names': self.ordered(self.fields), 'formats': [kinds[code] for code, _, _ in self.places],
+                            'offsets': [first * struct.calcsize(code) for code, first, _ in self.places], 'itemsize': self.size})
 
 
 RECORDS = {name: Record(*declared) for name, declared in STRUCTS.items()}
 REFUSAL, RANGE, HEADER = RECORDS['refusal'], RECORDS['range'], RECORDS['header']
+# A file: where its bytes are, how many there are, and its header.
+FILE = Record(('bytes', 'len', *HEADER.fields), f'QQ{HEADER.codes}', tuple(range(2 + len(HEADER.fields))))
 
 
 def where() -> str:
@@ -83,9 +93,10 @@ def load() -> ctypes.CDLL:
 def is_laid_out(library: ctypes.CDLL) -> bool:
     """Whether each struct of the library is laid out as it is here. In each the library fills the bytes of a field with its number."""
     filled = (ctypes.c_char * 4096)()  # (a wrong library may have larger structs)
-    library.goblin_layout(filled)
-    at = struct.calcsize(f'@{len(RECORDS)}Q')
-    if struct.unpack_from(f'@{len(RECORDS)}Q', filled) != tuple(record.size for record in RECORDS.values()):
+    sizes = [record.size for record in [*RECORDS.values(), FILE]]
+    at = 8 * len(sizes)
+    size = at + sum(sizes[:-1])
+    if library.goblin_layout(filled, ctypes.c_size_t(size)) != size or list(struct.unpack_from(f'@{len(sizes)}Q', filled)) != sizes:
         return False
     for record in RECORDS.values():
         marks = [int.from_bytes(bytes([number]) * struct.calcsize(code), 'little') for number, code in enumerate(record.codes, 1)]
@@ -137,20 +148,25 @@ class File:
         return self.view[offset:offset + size].toreadonly()
 
 
-def call(name: str, file: File, *arguments: Any) -> bool:
-    """Makes a call on a file, and returns whether its status is GOBLIN_OK: else it is GOBLIN_END. Raises Refused at a refusal."""
+def call(name: str, *arguments: Any) -> bool:
+    """Makes a call, and returns whether its status is GOBLIN_OK: else it is GOBLIN_END. Raises Refused at a refusal."""
     why = REFUSAL.buffer()
-    status = FUNCTIONS[name](file.address, file.length, *arguments, why)
+    status = FUNCTIONS[name](*arguments, why)
     if status > END:
-        kind, item, *numbers, offset = REFUSAL.struct.unpack(why)
-        raise Refused(text('refusal_to_str', why), kind, item, tuple(numbers), offset)
+        raise refused(why)
     return bool(status == OK)
 
 
-def found(name: str, record: Record, file: File, *arguments: Any) -> Optional[Tuple[int, ...]]:
+def refused(why: Any) -> Refused:
+    """Returns a refusal, with the library's text."""
+    kind, item, *numbers, offset = REFUSAL.unpack(why)
+    return Refused(text('refusal_to_str', why), kind, item, tuple(numbers), offset)
+
+
+def found(name: str, record: Record, *arguments: Any) -> Optional[Tuple[int, ...]]:
     """Makes a call whose result is one struct, and returns its fields, or `None` at GOBLIN_END."""
     result = record.buffer()
-    return record.struct.unpack(result) if call(name, file, *arguments, result) else None
+    return record.unpack(result) if call(name, *arguments, result) else None
 
 
 def text(name: str, *arguments: Any) -> str:

@@ -9,11 +9,11 @@ import sys
 from typing import IO, Any, Callable, Iterable, Iterator, List, Optional, Tuple, Union
 
 from . import interface, items
-from ._library import FUNCTIONS, HEADER, RANGE, File, call, found, unsigned
-from .constants import (DT_NEEDED, DT_RPATH, DT_RUNPATH, DT_SONAME, ELFCLASS64, ELFDATA2MSB, NT_GNU_BUILD_ID, PT_INTERP, PT_NOTE, SHT_DYNAMIC,
-                        SHT_DYNSYM, SHT_NOTE, SHT_SYMTAB)
+from ._library import FILE, FUNCTIONS, HEADER, RANGE, File, call, found, unsigned
+from .constants import (DT_NEEDED, DT_RPATH, DT_RUNPATH, DT_SONAME, ELFCLASS64, ELFDATA2MSB, NT_GNU_BUILD_ID, PT_INTERP, PT_NOTE, SHT_DYNSYM,
+                        SHT_NOTE, SHT_SYMTAB)
 from .items import (ESCAPED, Dynamic, Fields, Header, Name, Note, Relocations, Section, Sections, Segment, Segments, Symbol,
-                    Symbols, T, Table, named, note_of, read_notes)
+                    Symbols, T, Table, name_of_note, named, note_of, read_notes)
 from .names import class_to_str, et_to_str, machine_to_str
 from .refused import Unknown, within
 
@@ -42,11 +42,11 @@ def name_of(to_str: Callable[[int], str], number: int) -> str:
     return f'{name} ({number})' if 'UNKNOWN' in name else name
 
 
-def packed(header: Header) -> bytes:
-    """Returns the bytes of a header. Raises a TypeError if it is none."""
+def checked(header: Header) -> Header:
+    """Returns a header. Raises a TypeError if it is none."""
     if not isinstance(header, Header):
         raise TypeError(f'a header is a Header, such as elf.header._replace(e_entry=0), and no {type(header).__name__}')
-    return HEADER.pack(header)
+    return header
 
 
 class Elf:
@@ -65,8 +65,9 @@ class Elf:
         self._use(header)
 
     def _use(self, header: Optional[Header]) -> None:
-        self._header = Header(*found('header', HEADER, self._file) or ()) if header is None else header
-        self._image = packed(self._header)
+        place = self._file.address, self._file.length
+        self._header = Header(*(found('file', FILE, *place) or ())[2:]) if header is None else checked(header)
+        self._image = FILE.pack((*place, *self._header))
 
     @classmethod
     def open(cls, path: Path, *, copy: bool = False) -> 'Elf':
@@ -81,9 +82,9 @@ class Elf:
 
     def whole(self) -> 'Elf':
         """Returns the same file by a header that counts only what lies in it whole: the headers of a file that is cut. Never refused."""
-        header = HEADER.buffer()
-        FUNCTIONS['whole_header'](self._file.address, self._file.length, self._image, header)
-        return Elf(self._file.view, Header(*HEADER.struct.unpack(header)))
+        whole = FILE.buffer()
+        FUNCTIONS['whole_header'](self._image, whole)
+        return Elf(self._file.view, Header(*FILE.unpack(whole)[2:]))
 
     @property
     def header(self) -> Header:
@@ -145,7 +146,7 @@ class Elf:
     def _search(self, table: Table[T], name: str, *arguments: Any) -> Optional[T]:
         """Makes a call that finds an item of a table and its index, or `None` at GOBLIN_END."""
         index = ctypes.c_uint64()
-        fields = found(name, table.record, self._file, self._image, *arguments, ctypes.byref(index))
+        fields = found(name, table.record, self._image, *arguments, ctypes.byref(index))
         return table._made(fields, index.value) if fields else None
 
     @property
@@ -165,7 +166,7 @@ class Elf:
 
     def _notes(self, holders: Iterable[Union[Segment, Section]]) -> Iterator[Note]:
         for holder in holders:
-            fields_of_all = read_notes(self, 'note_bytes', RANGE.pack(holder[:2]), holder[5], holder[0])
+            fields_of_all = read_notes(self, 'note_whole', RANGE.pack(holder[:2]), holder[5], holder[0])
             yield from (note_of(self, fields, ESCAPED) for fields in fields_of_all)
 
     @property
@@ -184,9 +185,9 @@ class Elf:
         # (a segment or section counts as a note, which comes before its own)
         own: Fields = ()
         notes = itertools.chain.from_iterable(
-            itertools.chain([own], read_notes(self, 'note_bytes', RANGE.pack(holder[:2]), holder[5], holder[0])) for holder in holders)
+            itertools.chain([own], read_notes(self, 'note_whole', RANGE.pack(holder[:2]), holder[5], holder[0])) for holder in holders)
         for fields in itertools.islice(notes, NOTES):
-            if fields and fields[5] == n_type and fields[1] == 4 and self._file.part(*fields[:2]) == b'GNU\0':
+            if fields and fields[5] == n_type and fields[1] == 3 and name_of_note(self, fields) == b'GNU\0':
                 return self._file.part(*fields[2:4])
         if next(notes, None) is not None:
             raise Unknown
@@ -196,15 +197,12 @@ class Elf:
     def dynamic(self) -> Dynamic:
         """The dynamic section: that of the first segment of type PT_DYNAMIC, or in a file without program headers of the first section of type
         SHT_DYNAMIC. It has no entries if there is none. Refused if the headers or the section are not inside the file."""
-        place = self._dynamic_place()
-        section = None if place or self.segments else self.section_by_type(SHT_DYNAMIC)
-        strings = section.linked.strings if section and section.linked else None
-        offset, size = (place or section or (0, 0))[:2]
-        return Dynamic(self, offset, size, strings)
+        offset, size = self._dynamic_place() or (0, 0)
+        return Dynamic(self, offset, size)
 
     def _dynamic_place(self) -> Optional[Tuple[int, ...]]:
-        """Returns the range of the segment that holds the dynamic section, if there is one."""
-        return found('dynamic', RANGE, self._file, self._image)
+        """Returns the range of the dynamic section, if there is one."""
+        return found('dynamic', RANGE, self._image)
 
     def _names(self, tag: int) -> Iterator[str]:
         return (entry.string for entry in self.dynamic if entry.d_tag == tag)
@@ -255,7 +253,7 @@ class Elf:
     def put_header(self, header: Header) -> None:
         """Writes a header at the start of the file, in the class and byte order that it names, and reads by it from now on. Refused if its
         class or byte order is invalid, if the file is too short for it, or if a number does not fit its class."""
-        self._write('put_header', packed(header))
+        self._write('put_header', HEADER.pack(checked(header)))
         self._use(None)
 
     def put_number(self, offset: int, width: int, value: int) -> None:
@@ -264,7 +262,7 @@ class Elf:
 
     def _put_number(self, name: str, *arguments: Any) -> None:
         *places, offset, width, value = arguments
-        if not self._write(name, self._image, *places, unsigned(offset), unsigned(width), unsigned(value)):
+        if not self._write(name, HEADER.pack(self._header), *places, unsigned(offset), unsigned(width), unsigned(value)):
             raise ValueError('the width of a number is 1, 2, 4 or 8')
 
     def _number(self, name: str, *arguments: Any) -> int:
@@ -276,13 +274,13 @@ class Elf:
     def _find_number(self, name: str, *arguments: Any) -> Optional[int]:
         """Makes a call that returns a number, or `None` at GOBLIN_END."""
         value = ctypes.c_uint64()
-        return value.value if call(name, self._file, self._image, *arguments, ctypes.byref(value)) else None
+        return value.value if call(name, self._image, *arguments, ctypes.byref(value)) else None
 
     def _write(self, name: str, *arguments: Any) -> bool:
         """Makes a call that writes into the file, and returns whether there is such an item."""
         if self._file.view.readonly:
             raise TypeError('the bytes of this file are read-only: make it of a bytearray, or of a mapping that can be written')
-        return call(name, self._file, *arguments)
+        return call(name, self._file.address, self._file.length, *arguments)
 
     def __repr__(self) -> str:
         names = class_to_str(self.header.ei_class), self._type, self._machine

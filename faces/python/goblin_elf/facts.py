@@ -37,7 +37,8 @@ class Parts(Elf):
         return super()._search(within(SEARCHED, table), name, *arguments)
 
     def _dynamic_place(self) -> Optional[Tuple[int, ...]]:
-        within(SEARCHED, self.segments)
+        if not within(SEARCHED, self.segments):
+            within(SEARCHED, self.sections)
         return super()._dynamic_place()
 
     def has_segment(self, p_type: int, flags: int = 0) -> bool:
@@ -65,7 +66,7 @@ class Parts(Elf):
     @functools.cached_property
     def entries(self) -> Dynamic:
         """The dynamic section. It is unknown if its bytes are in another file, as those of a debug file."""
-        return within(ENTRIES, None if (place := self._dynamic_place()) and place[1] == 0 else self.dynamic)
+        return within(ENTRIES, None if (place := self._dynamic_place()) and place[1] == 0 and self.segments else self.dynamic)
 
     def says(self, marks: Dict[int, int]) -> bool:
         """Whether the first entry with one of some tags has its flag, if one is given."""

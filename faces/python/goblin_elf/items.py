@@ -8,9 +8,10 @@ from array import array
 from typing import (TYPE_CHECKING, Any, Dict, Iterable, Iterator, List, NamedTuple, NoReturn, Optional, Sequence, Tuple, Type, TypeVar, Union,
                     overload)
 
-from ._library import FUNCTIONS, RANGE, RECORDS, REFUSAL, Record, call, found, unsigned
-from .constants import SHT_DYNSYM, SHT_NOBITS, SHT_REL, SHT_RELA, SHT_SYMTAB
-from .interface import DynFields, HeaderFields, Kind, RelocFields, SectionFields, SegmentFields, SymbolFields
+from ._library import FUNCTIONS, HEADER, RANGE, RECORDS, REFUSAL, Record, call, found, refused, unsigned
+from .constants import (SHT_DYNSYM, SHT_NOBITS, SHT_REL, SHT_RELA, SHT_SYMTAB, SIZEOF_REL32, SIZEOF_REL64, SIZEOF_RELA32, SIZEOF_RELA64,
+                        SIZEOF_SHDR32, SIZEOF_SHDR64, SIZEOF_SYM32, SIZEOF_SYM64)
+from .interface import DynFields, HeaderFields, Item, Kind, RelocFields, SectionFields, SegmentFields, SymbolFields
 from .names import sht_to_str
 from .refused import Refused
 
@@ -24,6 +25,8 @@ Name = Union[str, bytes]
 # Of a table with a string of more bytes each is read alone, and those that overlap so that they have more than so many times its bytes, which
 # is more than a linker merges, are refused.
 CHUNK, AHEAD, NEAR, TEXTS, LONGEST, OVERLAPS = 2048, 64, 8, 1 << 24, 1 << 14, 4
+# Fields that have fewer bytes than a number here: how many, and where in a record of the 32-bit and of the 64-bit class.
+NARROW = {'sh_name': (4, 0, 0), 'st_name': (4, 0, 0), 'st_shndx': (2, 14, 6), 'r_sym': (4, 4, 8)}
 
 
 @functools.total_ordering
@@ -68,17 +71,17 @@ class Held(Entry):
     @property
     def bytes(self: Any) -> memoryview:
         """Its bytes in the file, without a copy: none for a type without bytes. Refused if they are not inside the file."""
-        file, table = self.table.elf._file, self.table
-        return memoryview(file.part(*found(f'{table.one}_bytes', RANGE, file, table.record.pack(self[:-2])) or (0, 0)))
+        elf, table = self.table.elf, self.table
+        return memoryview(elf._file.part(*found(f'{table.one}_range', RANGE, elf._image, table.record.pack(self[:-2])) or (0, 0)))
 
     @property
     def bytes_in_file(self: Any) -> memoryview:
         """Those of its bytes that are inside the file. Never refused."""
         with contextlib.suppress(Refused):
             return memoryview(self.bytes)
-        file, place = self.table.elf._file, RANGE.buffer()
-        FUNCTIONS['range_in_file'](file.address, file.length, RANGE.pack(self._place), place)
-        return memoryview(file.part(*RANGE.struct.unpack(place)))
+        elf, place = self.table.elf, RANGE.buffer()
+        FUNCTIONS['range_in_file'](elf._image, RANGE.pack(self._place), place)
+        return memoryview(elf._file.part(*RANGE.unpack(place)))
 
     @property
     def notes(self: Any) -> 'Notes':
@@ -124,7 +127,7 @@ class Section(Held, SectionFields):
     @property
     def linked(self) -> Optional['Section']:
         """The section that `sh_link` names, or `None` if there is none that has bytes. Refused if the section headers are."""
-        fields = found('linked_section', RECORDS['section'], self.table.elf._file, self.table.elf._image, unsigned(self.sh_link))
+        fields = found('linked_section', RECORDS['section'], self.table.elf._image, unsigned(self.sh_link))
         return self.table._made(fields, self.sh_link) if fields else None
 
     @property
@@ -246,8 +249,9 @@ class Table(Sequence[T]):
     """
     record: Record
     item: Type[T]
-    # The call for one item, and that for many if there is one.
+    # The call for one item, and that for many if there is one. And the sizes of a record in both classes.
     one, many = '', ''
+    sizes = 0, 0
 
     def __init__(self, elf: 'Elf', *arguments: Any) -> None:
         self.elf, self._arguments = elf, arguments
@@ -273,9 +277,23 @@ class Table(Sequence[T]):
     def __setitem__(self, index: int, item: T) -> None:
         if not isinstance(item, self.item) or isinstance(item, (Note, Dyn)):
             raise TypeError(f'an item of a {type(self).__name__} can not be a {type(item).__name__}, or can not be written')
-        place, struct = range(len(self))[operator.index(index)], self.record.pack(self._raw(item))
-        if not self.elf._write(f'put_{self.one}', self.elf._image, *self._arguments, place, struct):
+        place = range(len(self))[operator.index(index)]
+        self._check(item, place)
+        struct = self.record.pack(self._raw(item))
+        if not self.elf._write(f'put_{self.one}', HEADER.pack(self.elf.header), *self._arguments, place, struct):
             raise IndexError(f'there is no item {place} any more')
+
+    def _start(self) -> int:
+        """Returns the offset of the table."""
+        return RANGE.unpack(self._arguments[0])[0]
+
+    def _check(self, item: T, place: int) -> None:
+        """Refuses an item with a number that would be cut to the bits of its field. (One of more than 64 bits is none.)"""
+        for field, (width, *places) in NARROW.items():
+            value = getattr(item, field, 0)
+            if isinstance(value, int) and 1 << 8 * width <= value < 1 << 64:
+                # (the library refuses it as such a number)
+                self.elf.put_number(self._start() + place * self.sizes[self.elf.is_64] + places[self.elf.is_64], width, value)
 
     def __iter__(self) -> Iterator[T]:
         return self._items(0, len(self))
@@ -285,7 +303,7 @@ class Table(Sequence[T]):
 
     def array(self) -> Any:
         """Returns all items as a structured array of numpy, which owns its memory. Its fields have the names of the items', with two exceptions.
-        Of relocations it has `has_addend`, too, and 0 in place of an `r_addend` of `None`. Of notes it has `n_type`, the ranges `name_offset`,
+        Of relocations it has 0 in place of an `r_addend` of `None`. Of notes it has `n_type`, the ranges `name_offset`,
         `name_size`, `desc_offset` and `desc_size`, and `next`, the offset of the next one."""
         import numpy
         items = numpy.empty(len(self), self.record.dtype())
@@ -304,7 +322,7 @@ class Table(Sequence[T]):
 
     def _read(self, place: int) -> Optional[Fields]:
         """Reads the fields of a struct, or `None` if it is gone."""
-        return found(self.one, self.record, self.elf._file, self.elf._image, *self._arguments, place)
+        return found(self.one, self.record, self.elf._image, *self._arguments, place)
 
     def _made(self, fields: Fields, index: int) -> T:
         """Returns the item of the fields of a struct."""
@@ -325,18 +343,17 @@ class Table(Sequence[T]):
 
     def _fill(self, first: int, address: int, capacity: int) -> int:
         """Reads structs from an index on into memory, and returns their number."""
-        file, start = self.elf._file, (self.elf._image, *self._arguments)
+        start = self.elf._image, *self._arguments
         if not self.many:
             structs = range(address, address + capacity * self.record.size, self.record.size)
-            return next((i for i, at in enumerate(structs) if not call(self.one, file, *start, self._places[first + i], at)), capacity)
+            return next((i for i, at in enumerate(structs) if not call(self.one, *start, self._places[first + i], at)), capacity)
         filled = ctypes.c_uint64()
-        call(self.many, file, *start, first, address, capacity, ctypes.byref(filled))
+        call(self.many, *start, first, address, capacity, ctypes.byref(filled))
         return filled.value
 
 
 class NamedTable(Table[T]):
-    """A table of items with names. `_field` is the number of the field with the offset of a name, which has 64 bits."""
-    _field = 0
+    """A table of items with names. Their structs begin with the offset of a name, which has 32 bits."""
     _known: Dict[int, str] = {}  # some names, by their offsets
     _window = range(0)  # the indexes of the items whose names were looked for last
 
@@ -348,7 +365,7 @@ class NamedTable(Table[T]):
         return list(self.strings._get_all(offsets, errors))
 
     def _offsets(self, chunk: memoryview) -> 'array[int]':
-        return array('Q', chunk.cast('Q')[self._field::self.record.size // 8].tobytes())
+        return array('Q', chunk.cast('I')[::self.record.size // 4].tolist())
 
     def _learn(self: Any, index: int, offset: int) -> Optional[str]:
         """Returns a name that is not known. If names are asked for in order, of bytes that can't be written, it reads the next ones, too."""
@@ -366,12 +383,15 @@ class NamedTable(Table[T]):
 
 class Sections(NamedTable[Section]):
     """The section headers. Refused if they are not all inside the file: see `Elf.whole`."""
-    record, item, one, many, _field = RECORDS['section'], Section, 'section', 'sections', 2
+    record, item, one, many, sizes = RECORDS['section'], Section, 'section', 'sections', (SIZEOF_SHDR32, SIZEOF_SHDR64)
+
+    def _start(self) -> int:
+        return self.elf.header.e_shoff
 
     @functools.cached_property
     def strings(self) -> 'Strings':
         """The section names: an empty table if the file has none. Refused if the section headers are."""
-        return Strings(self.elf, *(found('section_names', self.record, self.elf._file, self.elf._image) or (0, 0))[:2])
+        return Strings(self.elf, *(found('names_section', self.record, self.elf._image) or (0, 0))[:2])
 
 
 class Segments(Table[Segment]):
@@ -381,7 +401,7 @@ class Segments(Table[Segment]):
 
 class Symbols(NamedTable[Symbol]):
     """The symbols in a range of the file, with the string table of their names: none by default."""
-    record, item, one, many = RECORDS['symbol'], Symbol, 'symbol', 'symbols'
+    record, item, one, many, sizes = RECORDS['symbol'], Symbol, 'symbol', 'symbols', (SIZEOF_SYM32, SIZEOF_SYM64)
 
     def __init__(self, elf: 'Elf', offset: int, size: int, strings: Optional['Strings'] = None) -> None:
         super().__init__(elf, RANGE.pack((offset, size)))
@@ -404,7 +424,8 @@ class Relocations(Table[Relocation]):
 
     def __init__(self, elf: 'Elf', offset: int, size: int, is_rela: bool, section: Optional[Section] = None) -> None:
         super().__init__(elf, RANGE.pack((offset, size)), is_rela)
-        self.section = section
+        self.section, self._is_rela = section, is_rela
+        self.sizes = (SIZEOF_RELA32, SIZEOF_RELA64) if is_rela else (SIZEOF_REL32, SIZEOF_REL64)
 
     @functools.cached_property
     def symbols(self) -> Symbols:
@@ -413,30 +434,38 @@ class Relocations(Table[Relocation]):
         return linked.symbols if linked else Symbols(self.elf, 0, 0)
 
     def _columns(self, chunk: memoryview) -> List[List[Any]]:
-        offset, symbol, addend, kind, has = super()._columns(chunk)
-        return [offset, symbol, addend if all(has) else [number if one else None for number, one in zip(addend, has)], kind]
+        offset, symbol, addend, kind = super()._columns(chunk)
+        return [offset, symbol, addend if self._is_rela else [None] * len(addend), kind]
 
     def _made(self, fields: Fields, index: int) -> Relocation:
-        return Relocation._make((*fields[:2], fields[2] if fields[4] else None, fields[3], index, self))
+        return Relocation._make((*fields[:2], fields[2] if self._is_rela else None, fields[3], index, self))
+
+    def _check(self, item: Relocation, place: int) -> None:
+        super()._check(item, place)
+        # (the library refuses an addend of a table without addends, unless it is 0)
+        if (item.r_addend is None) == self._is_rela and not item.r_addend:
+            is_64 = self.elf.is_64
+            where = self._start() + place * self.sizes[is_64] + (SIZEOF_REL64 if is_64 else SIZEOF_REL32)
+            raise refused(REFUSAL.pack((Kind.INTEGER_FIT, Item.ADDEND, 0, 0, 0, 0, where)))
 
     def _raw(self, item: Relocation) -> Fields:
-        return item.r_offset, item.r_sym, item.r_addend or 0, item.r_type, int(item.r_addend is not None)
+        return item.r_offset, item.r_sym, item.r_addend or 0, item.r_type
 
 
 class Dynamic(Table[Dyn]):
     """The entries of a dynamic section in a range of the file, up to the first DT_NULL. Refused if the range is not inside the file. `strings`
     are those that its names are in: by default those at the address that it says."""
-    record, item, many = RECORDS['dyn'], Dyn, 'dynamic_entries'
+    record, item, one, many = RECORDS['dyn'], Dyn, 'dynamic', 'dynamic_entries'
 
     def __init__(self, elf: 'Elf', offset: int, size: int, strings: Optional['Strings'] = None) -> None:
-        self.elf, self.offset, self._arguments, self._given = elf, offset, (RANGE.pack((offset, size)),), strings
-        self._places = range(sum(len(chunk) for _, chunk in self._chunks(0, size)) // self.record.size)
+        super().__init__(elf, RANGE.pack((offset, size)))
+        self.offset, self._given = offset, strings
 
     @functools.cached_property
     def strings(self) -> 'Strings':
         """Its strings: an empty table if it does not say where they are. Refused if they are not inside the file."""
         elf = self.elf
-        return self._given or Strings(elf, *(found('dynamic_strings', RANGE, elf._file, elf._image, *self._arguments) or (0, 0)))
+        return self._given or Strings(elf, *(found('dynamic_strings', RANGE, elf._image, *self._arguments) or (0, 0)))
 
     def _refuse(self, tag: int, value: int) -> NoReturn:
         said = f'An entry of the dynamic section with the tag {tag:#x} names no string: {value}'
@@ -444,10 +473,11 @@ class Dynamic(Table[Dyn]):
 
     def value(self, tag: int) -> Optional[int]:
         """Returns the value of the first entry with a tag, or `None`."""
-        return self.elf._find_number('dynamic_value', *self._arguments, unsigned(tag))
+        index = ctypes.c_uint64()
+        return self.elf._find_number('dynamic_value', *self._arguments, unsigned(tag), 0, ctypes.byref(index))
 
     def _read(self, place: int) -> Optional[Fields]:
-        return next((self.record.struct.unpack(chunk) for _, chunk in self._chunks(place, place + 1) if chunk), None)
+        return next((self.record.unpack(chunk) for _, chunk in self._chunks(place, place + 1) if chunk), None)
 
 
 # How names of notes are decoded. (In some files one holds numbers: .gnu.build.attributes.)
@@ -463,7 +493,7 @@ class Notes(Table[Note]):
 
     def __init__(self, elf: 'Elf', offset: int, size: int, alignment: int, errors: str = 'strict') -> None:
         self.elf, self._arguments, self._errors = elf, (RANGE.pack((offset, size)), unsigned(alignment)), errors
-        self.one = 'note' if errors == 'strict' else 'note_bytes'
+        self.one = 'note_utf8' if errors == 'strict' else 'note_whole'
         # (a note's header, which has 12 bytes, is before its name)
         self._places = array('Q', (fields[0] - 12 for fields in read_notes(elf, self.one, *self._arguments, offset)))
 
@@ -474,7 +504,7 @@ class Notes(Table[Note]):
         try:
             return note_of(self.elf, fields, self._errors)
         except UnicodeDecodeError:  # (as in `Strings.get`)
-            strict = found('note', self.record, self.elf._file, self.elf._image, *self._arguments, self._places[index])
+            strict = found('note_utf8', self.record, self.elf._image, *self._arguments, self._places[index])
             return note_of(self.elf, strict or fields)
 
 
@@ -485,28 +515,35 @@ def note_with(n_type: int, name: str, desc: bytes) -> Note:
 
 def read_notes(elf: 'Elf', name: str, place: bytes, alignment: int, offset: int) -> Iterator[Fields]:
     """Yields the fields of the structs of the notes in a range from an offset of the file on, as a call reads them."""
-    while fields := found(name, RECORDS['note'], elf._file, elf._image, place, alignment, offset):
+    while fields := found(name, RECORDS['note'], elf._image, place, alignment, offset):
         yield fields
         offset = fields[4]
 
 
 def note_of(elf: 'Elf', fields: Fields, errors: str = 'strict') -> Note:
     """Returns the note of the fields of a struct."""
-    name = bytes(elf._file.part(*fields[:2]))
-    return Note(fields[5], str(name if errors == 'strict' else name.rstrip(b'\0'), 'utf-8', errors), elf._file.part(*fields[2:4]))
+    name = bytes(elf._file.part(*fields[:2])) if errors == 'strict' else name_of_note(elf, fields).rstrip(b'\0')
+    return Note(fields[5], str(name, 'utf-8', errors), elf._file.part(*fields[2:4]))
+
+
+def name_of_note(elf: 'Elf', fields: Fields) -> bytes:
+    """Returns the whole name of a note."""
+    offset, size = fields[:2]
+    # (its last byte, if it has one, is not in the struct, and the header begins with its size)
+    return bytes(elf._file.part(offset, size + 1 if size else elf.number(offset - 12, 4)))
 
 
 class Strings:
     """A string table: a range of the file. The offsets of its strings count from its start, in bytes."""
 
     def __init__(self, elf: 'Elf', offset: int, size: int) -> None:
-        self._file, self.offset, self.size = elf._file, offset, size
+        self._file, self._image, self.offset, self.size = elf._file, elf._image, offset, size
         self._range: bytes = RANGE.pack((offset, size))
 
     def get(self, offset: int, errors: str = 'strict') -> Optional[str]:
         """Returns the string at an offset, or `None` past the end. Refused if the table is not inside the file, or if the string is not
         UTF-8. With other `errors` of `bytes.decode` than 'strict', such as 'replace' or 'surrogateescape', it is decoded as they mean instead."""
-        place = found('string' if errors == 'strict' else 'string_bytes', RANGE, self._file, self._range, unsigned(offset))
+        place = found('string_utf8' if errors == 'strict' else 'string', RANGE, self._image, self._range, unsigned(offset))
         try:
             return str(self._file.part(*place), 'utf-8', errors) if place else None
         except UnicodeDecodeError:  # ('surrogatepass' does not take each byte: the library says what is wrong)
@@ -514,14 +551,20 @@ class Strings:
 
     def get_bytes(self, offset: int) -> Optional[bytes]:
         """Returns the bytes of the string at an offset, which need not be UTF-8, as `get` does."""
-        place = found('string_bytes', RANGE, self._file, self._range, unsigned(offset))
+        place = found('string', RANGE, self._image, self._range, unsigned(offset))
         return bytes(self._file.part(*place)) if place else None
 
     def get_closed(self, offset: int) -> Optional[bytes]:
         """Returns the bytes of the string at an offset, as `get_bytes` does, if a zero byte of the table closes it: `None` if it ends with the
         table."""
-        place = found('string_closed', RANGE, self._file, self._range, unsigned(offset))
+        place = found('string_closed', RANGE, self._image, self._range, unsigned(offset))
         return bytes(self._file.part(*place)) if place else None
+
+    @property
+    def closed(self) -> 'Strings':
+        """The part of the table up to its last zero byte, which closes a string at each offset in it. Refused as `get_bytes` is."""
+        own: Any = self
+        return Strings(own, *(found('closed_strings', RANGE, self._image, self._range) or ()))
 
     def get_start(self, offset: int, most: int) -> Optional[bytes]:
         """Returns the first bytes of the string at an offset, at most `most`, and reads no more of them, as `get_bytes` does."""
@@ -529,16 +572,20 @@ class Strings:
             return self.get_bytes(offset)
         self.get_bytes(self.size)  # (refused if the table is)
         start = RANGE.pack((self.offset + offset, min(self.size - offset, most)))
-        return bytes(self._file.part(*found('string_bytes', RANGE, self._file, start, 0) or (0, 0)))
+        return bytes(self._file.part(*found('string', RANGE, self._image, start, 0) or (0, 0)))
 
     def is_at(self, offset: int, name: Name) -> bool:
         """Whether the string at an offset is a name, which is compared as bytes (a str as its UTF-8). Past the end there is none. Refused if
         the table is not inside the file."""
-        return call('string_is', self._file, self._range, unsigned(offset), *named(name))
+        return self._compare('string_is', offset, name)
 
     def starts_at(self, offset: int, start: Name) -> bool:
         """Whether the string at an offset starts with a text, as `is_at`."""
-        return call('string_starts', self._file, self._range, unsigned(offset), *named(start))
+        return self._compare('string_starts', offset, start)
+
+    def _compare(self, name: str, offset: int, text: Name) -> bool:
+        # (a call that finds no such string does not say why)
+        return bool(FUNCTIONS[name](self._image, self._range, unsigned(offset), *named(text))) or self.get_bytes(self.size) is not None
 
     def get_all(self, offsets: Iterable[int], errors: str = 'strict') -> List[Optional[str]]:
         """Returns the strings at many offsets in one pass, each as `get` does. Refused also if no zero byte of the table closes one, and if those
@@ -592,7 +639,7 @@ class Strings:
         texts: List[str] = []
         count, filled = min(len(offsets) - start, CHUNK), ctypes.c_uint64()
         ranges = array('Q', (0, 0)) * count
-        FUNCTIONS['strings'](self._file.address, self._file.length, self._range, offsets.buffer_info()[0] + 8 * start, count,
+        FUNCTIONS['strings'](self._image, self._range, offsets.buffer_info()[0] + 8 * start, count,
                              ranges.buffer_info()[0], count, ctypes.byref(filled), REFUSAL.buffer())
         count = filled.value
         while sum(ranges[1:2 * count:2]) > TEXTS:

@@ -18,7 +18,7 @@ class Refused(ValueError):
         super().__init__(text, kind, item, numbers, offset)
         self.kind = Kind(kind)
         self.item: Optional[Item] = Item(item) if item else None
-        self.numbers = numbers[:NUMBERS[self.kind]]
+        self.numbers = numbers[:NUMBERS.get(self.kind, len(numbers))]
         self.offset = offset
 
     def __str__(self) -> str:

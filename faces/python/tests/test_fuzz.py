@@ -64,7 +64,7 @@ class Reader:
         if hasattr(table, 'names'):
             # (an item has the name that is at its offset, though names are read many at once)
             names = [self.step(lambda: item.name) for item in table]
-            assert names == [self.step(lambda: table.strings.get(item[table._field])) for item in table]
+            assert names == [self.step(lambda: table.strings.get(item[2 if table.one == 'section' else 0])) for item in table]
         if len(table):
             assert table[-1] == list(table)[-1] and len(list(reversed(table))) == len(table)
 

@@ -263,6 +263,10 @@ class Refusals(unittest.TestCase):
             self.assertEqual((error.kind, error.numbers, error.offset, error.item), (kind, numbers, 0, None))
             self.assertIsInstance(error, ValueError)
         self.assertEqual(str(refusal(Elf, bytes(16))), 'Invalid magic number: 0x0')
+        # (a later library of this interface may have more kinds)
+        later = Refused('text', 99, 9, (1, 2, 3, 4), 5)
+        self.assertEqual((later.kind, later.kind.name, str(later.item), later.numbers), (99, 'OTHER_99', 'OTHER_9', (1, 2, 3, 4)))
+        self.assertRaises(ValueError, Kind, 'BAD_MAGIC')
 
     def test_of_lists(self):
         cut = Elf(MADE.bytes[:-1])
@@ -313,6 +317,8 @@ class Refusals(unittest.TestCase):
         self.assertTrue(names.is_at(0, bytearray(b'caf\xe9')) and names.starts_at(0, memoryview(b'caf')))
         self.assertRaises(TypeError, names.is_at, 0, 1)
         self.assertEqual([names.get_closed(offset) for offset in (0, 4, 5, 8)], [b'caf\xe9', b'', None, None])
+        self.assertEqual((names.closed.offset, names.closed.size, names.closed.closed.size), (len(MADE.bytes), 5, 5))
+        self.assertEqual(Strings(Elf(MADE.bytes + b'end'), len(MADE.bytes), 3).closed.size, 0)
         starts = [names.get_start(*given) for given in ((0, 2), (0, 4), (0, 9), (4, 1), (5, 9), (5, 0), (8, 1))]
         self.assertEqual(starts, [b'ca', b'caf\xe9', b'caf\xe9', b'', b'end', b'', None])
         past = Strings(Elf(MADE.bytes), 64, 1 << 40)
@@ -320,6 +326,18 @@ class Refusals(unittest.TestCase):
                      lambda table, offset: table.get_start(offset, 1)):
             self.assertEqual(refusal(read, past, 0).kind, Kind.STRTAB_RANGE)
             self.assertRaises(ValueError, read, names, -1)
+        self.assertEqual(refusal(lambda: past.closed).kind, Kind.STRTAB_RANGE)
+
+    def test_names_that_are_not_utf_8_are_found(self):
+        changed = bytearray(MADE.bytes)
+        for names, old, new in ((MADE.offsets['.strtab'], b'main', b'caf\xe9'), (MADE.offsets['.shstrtab'], b'.text', b'.te\xffx')):
+            at = MADE.bytes.index(old, names[0])
+            changed[at:at + len(old)] = new
+        elf = Elf(changed)
+        self.assertEqual((elf.symbols.find('main'), elf.section('.text')), (None, None))
+        for name in (b'caf\xe9', 'caf\udce9'):
+            self.assertEqual(elf.symbols.find(name).index, Elf(MADE.bytes).symbols.find('main').index)
+        self.assertEqual(elf.section(b'.te\xffx').index, Elf(MADE.bytes).section('.text').index)
 
     def test_of_notes(self):
         offset, size = MADE.offsets['.note.gnu.build-id']
@@ -342,6 +360,13 @@ class Refusals(unittest.TestCase):
         self.assertEqual((error.kind, error.item, error.offset), (Kind.TOO_BIG, Item.NOTE_DESC, offset))
         changed[offset + 12:offset + 15] = b'n\xc3\xa9'
         self.assertEqual([note.name for note in Notes(Elf(changed), offset, size, 4)], ['n\xe9'])
+        # (names whose last byte is not zero, and one without bytes)
+        changed[offset + 12:offset + 16] = b'ABCD'
+        for length, strict, whole in ((4, 'ABC', 'ABCD'), (1, '', 'A'), (0, '', '')):
+            Elf(changed).put_number(offset, 4, length)
+            end = size if length else size - 4
+            found = [Notes(Elf(changed), offset, end, 4, *errors)[0].name for errors in ((), ('surrogateescape',))]
+            self.assertEqual(found, [strict, whole])
 
     def test_it_can_be_pickled(self):
         error = refusal(Elf, bytes(16))
@@ -492,8 +517,9 @@ class Written(unittest.TestCase):
         error = refusal(symbols.__setitem__, 1, symbols[1]._replace(st_value=1 << 32))
         place = file.offsets['.symtab'][0] + file.size(made.SYM) + 4
         self.assertEqual((error.kind, error.numbers, error.offset), (Kind.INTEGER_FIT, (1 << 32,), place))
+        for one in made.ALL:
+            self.check_narrow(one)
         relocations = Elf(changed).section('.rel.text').relocations
-        self.assertEqual(refusal(relocations.__setitem__, 0, relocations[0]._replace(r_addend=1)).kind, Kind.INTEGER_FIT)
         for value in (1 << 64, -1):
             self.assertRaises(ValueError, symbols.__setitem__, 1, symbols[1]._replace(st_value=value))
         for value, name in ((5.0, 'float'), ('text', 'str'), (None, 'NoneType')):
@@ -502,6 +528,25 @@ class Written(unittest.TestCase):
         self.assertRaises(IndexError, symbols.__setitem__, 7, symbols[1])
         self.assertRaises(TypeError, symbols.__setitem__, 1, relocations[1])
         self.assertRaises(TypeError, symbols.__setitem__, slice(1, 2), symbols[1])
+        self.assertEqual(changed, file.bytes)
+
+    def check_narrow(self, file):
+        """Whether numbers are refused that a file of any class has no field for, and addends that do not match their table."""
+        changed = bytearray(file.bytes)
+        elf, word = Elf(changed), file.bits // 8
+        rela, rel = elf.section('.rela.text').relocations, elf.section('.rel.text').relocations
+        of_rela, of_rel, symbols = (file.offsets[name][0] for name in ('.rela.text', '.rel.text', '.symtab'))
+        for table, index, field, value, place in [
+                (elf.sections, 2, 'sh_name', 0x100000003, file.shoff + 2 * file.size(made.SHDR)),
+                (elf.symbols, 1, 'st_name', 0x100000003, symbols + file.size(made.SYM)),
+                (elf.symbols, 1, 'st_shndx', 0x10003, symbols + file.size(made.SYM) + (14 if word == 4 else 6)),
+                (rela, 1, 'r_sym', 0x100000003, of_rela + 4 * word), (rela, 0, 'r_addend', None, of_rela + 2 * word),
+                (rel, 0, 'r_addend', 0, of_rel + 2 * word), (rel, 0, 'r_addend', -3, of_rel + 2 * word)]:
+            error = refusal(table.__setitem__, index, table[index]._replace(**{field: value}))
+            number = (value or 0) % (1 << 64)
+            self.assertEqual((error.kind, error.numbers, error.offset), (Kind.INTEGER_FIT, (number,), place))
+            self.assertEqual(error.item, Item.ADDEND if field == 'r_addend' else None)
+            self.assertEqual(str(error), 'Malformed entity: Integer do not fit: out of range integral type conversion attempted')
         self.assertEqual(changed, file.bytes)
 
     def test_header_and_numbers(self):
@@ -658,7 +703,7 @@ class Arrays(unittest.TestCase):
                     self.assertEqual(array[field].tolist(), [getattr(item, field) for item in table])
             array = elf.section('.rela.text').relocations.array()
             self.assertEqual(array['r_addend'].tolist(), [relocation[3] for relocation in made.RELOCATIONS])
-            self.assertEqual(array['has_addend'].tolist(), [1, 1])
+            self.assertEqual(array.dtype.names, ('r_offset', 'r_sym', 'r_addend', 'r_type'))
             self.assertTrue(elf.symbols.array().flags.owndata)
             self.assertEqual(elf.dynamic_symbols.array().shape, (0,))
             self.assertEqual(elf.segments[1].notes.array()[['n_type', 'desc_size']].tolist(), [(3, 20)])
@@ -734,7 +779,8 @@ class Library(unittest.TestCase):
     def test_names_of_numbers(self):
         names = [goblin_elf.class_to_str(2), goblin_elf.et_to_str(3), goblin_elf.machine_to_str(62), goblin_elf.pt_to_str(1),
                  goblin_elf.sht_to_str(1), goblin_elf.shf_to_str(SHF_ALLOC), goblin_elf.bind_to_str(1), goblin_elf.type_to_str(2),
-                 goblin_elf.visibility_to_str(2), goblin_elf.note_type_to_str('GNU', 3), goblin_elf.sht_to_str(99), goblin_elf.shf_to_str(1 << 63)]
+                 goblin_elf.visibility_to_str(2), goblin_elf.note_type_to_str('GNU', 3), goblin_elf.sht_to_str(99), 
+                 goblin_elf.shf_to_str(1 << 32 | SHF_ALLOC)]
         self.assertEqual(names, ['ELF64', 'DYN', 'X86_64', 'PT_LOAD', 'SHT_PROGBITS', 'SHF_ALLOC', 'GLOBAL', 'FUNC', 'HIDDEN',
                                  'NT_GNU_BUILD_ID', 'UNKNOWN_SHT', 'SHF_UNKNOWN'])
         self.assertRaises(ValueError, goblin_elf.shf_to_str, 1 << 64)
@@ -747,7 +793,7 @@ class Library(unittest.TestCase):
             for number in (-1, 1 << 64):
                 self.assertRaises(ValueError, call, number)
             self.assertRaises(TypeError, call, 1.0)
-        self.assertEqual(_library.RECORDS['symbol'].size, 40)
+        self.assertEqual(_library.RECORDS['symbol'].size, 24)
 
     def test_what_others_say_of_the_calls_of_python(self):
         with unittest.mock.patch.object(ctypes.pythonapi.PyObject_GetBuffer, 'argtypes', [ctypes.py_object, ctypes.c_char_p, ctypes.c_int]):

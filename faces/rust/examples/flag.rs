@@ -14,7 +14,7 @@ fn change(elf: &Elf, bytes: &[u8]) -> common::Result {
     let name = env::args_os().nth(2).unwrap_or_default();
     let name = name.to_string_lossy();
     let missing = || format!("there is no section {name}");
-    let (index, mut section) = elf.section_by_name(&name, 0)?.ok_or_else(missing)?;
+    let (index, mut section) = elf.section_by_name(&*name, 0)?.ok_or_else(missing)?;
     let before = section.sh_flags;
     section.sh_flags ^= SHF_WRITE;
     let mut bytes = bytes.to_vec();

@@ -1,23 +1,10 @@
 //! Lists what an ELF file needs of the dynamic linker, its soname and its search paths: needed FILE
-use goblin_rs::dynamic::{DT_NEEDED, DT_RPATH, DT_RUNPATH, DT_SONAME, DT_STRSZ};
-use goblin_rs::{program_header::PT_INTERP, strtab::Strtab};
+use goblin_rs::dynamic::{DT_NEEDED, DT_RPATH, DT_RUNPATH, DT_SONAME};
+use goblin_rs::program_header::PT_INTERP;
 use std::ffi::CStr;
 use std::io::{self, Write};
 
 mod common;
-
-/// Finds the offset from which on no zero byte closes a string.
-fn end_of_closed(strings: &Strtab, size: u64) -> goblin_rs::Result<u64> {
-    let (mut start, mut end) = (0, size);
-    while start < end {
-        let middle = start + (end - start) / 2;
-        match strings.get_c_str(middle as usize)? {
-            Some(_) => start = middle + 1,
-            None => end = middle,
-        }
-    }
-    Ok(end)
-}
 
 /// Prints a string, which need not be UTF-8, after its name, or says that it has no end, which a loader needs.
 fn print(name: &str, string: Option<&CStr>, offset: u64) -> common::Result {
@@ -36,13 +23,11 @@ fn main() -> std::process::ExitCode {
         }
         if let Some(dynamic) = elf.dynamic()? {
             let names = [(DT_NEEDED, "needed"), (DT_SONAME, "soname"), (DT_RPATH, "rpath"), (DT_RUNPATH, "runpath")];
-            let strings = dynamic.strings()?.unwrap_or_default();
-            // (each of the others would be read up to the end of the table)
-            let end = end_of_closed(&strings, dynamic.value(DT_STRSZ).unwrap_or(0))?;
+            // (each string past the last zero byte would be read up to the end of the table)
+            let strings = dynamic.strings()?.unwrap_or_default().closed()?;
             for entry in dynamic.entries() {
                 if let Some((_, name)) = names.iter().find(|(tag, _)| *tag == entry.d_tag) {
-                    let string = if entry.d_val < end { strings.get_c_str(entry.d_val as usize)? } else { None };
-                    print(name, string, entry.d_val)?;
+                    print(name, strings.get_c_str(entry.d_val as usize)?, entry.d_val)?;
                 }
             }
         }

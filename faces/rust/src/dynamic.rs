@@ -62,7 +62,8 @@ impl<'a> Dynamic<'a> {
     /// Returns the value of the first entry with a tag, a `DT_` number, or `None` if there is none.
     #[must_use]
     pub fn value(&self, tag: u64) -> Option<u64> {
-        made(sys::goblin_dynamic_value(&self.elf.file, &self.elf.header, &self.range, tag))
+        let found = made(sys::goblin_dynamic_value(&self.elf.file, &self.elf.header, &self.range, tag, 0));
+        found.map(|(_, value)| value)
     }
 
     // Returns the string at an offset, which is the value of a tag.
@@ -88,7 +89,7 @@ impl<'a> Dynamic<'a> {
 
     /// Returns the string table of the section, which is inside the file. Its address and its size are the values of
     /// `DT_STRTAB` and `DT_STRSZ`. Returns `None` if one of these is missing, or if no segment loads the address from
-    /// the file.
+    /// the file. In a file without program headers it is the section that the dynamic section links to.
     ///
     /// # Errors
     /// If the string table is not inside the file.

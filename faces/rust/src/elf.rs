@@ -53,8 +53,7 @@ impl<'a> Elf<'a> {
     /// If the library that is linked has another interface than this crate.
     pub fn parse(bytes: &'a [u8]) -> Result<Self> {
         sys::check_interface();
-        let header = sys::goblin_header(bytes)?.expect("a file that is not refused has a header");
-        Ok(Elf { file: File(bytes), header })
+        Ok(Elf { file: File(bytes), header: sys::goblin_file(bytes)? })
     }
 
     /// Returns the same file with a header that counts only the headers that are whole inside it. With it no list of
@@ -159,11 +158,12 @@ impl<'a> Elf<'a> {
         SectionHeaders::of(*self)
     }
 
-    /// Returns the first section with a name. The section header at index 0, which means no section, is left out.
+    /// Returns the first section with a name: a text or bytes. The section header at index 0, which means no section,
+    /// is left out.
     ///
     /// # Errors
     /// If the section headers or their names are not inside the file.
-    pub fn section(&self, name: &str) -> Result<Option<SectionHeader>> {
+    pub fn section(&self, name: impl AsRef<[u8]>) -> Result<Option<SectionHeader>> {
         Ok(self.section_by_name(name, 1)?.map(|(_, section)| section))
     }
 
@@ -186,9 +186,13 @@ impl<'a> Elf<'a> {
     ///
     /// # Errors
     /// If the section headers or their names are not inside the file.
-    pub fn section_by_name(&self, name: &str, first: usize) -> Result<Option<(usize, SectionHeader)>> {
+    pub fn section_by_name(
+        &self,
+        name: impl AsRef<[u8]>,
+        first: usize,
+    ) -> Result<Option<(usize, SectionHeader)>> {
         let names = self.shdr_strtab()?.range;
-        let found = sys::goblin_section_by_name(&self.file, &self.header, &names, name.as_bytes(), first as u64)?;
+        let found = sys::goblin_section_by_name(&self.file, &self.header, &names, name.as_ref(), first as u64)?;
         Ok(found.map(|(index, section)| (index as usize, section)))
     }
 
@@ -215,7 +219,7 @@ impl<'a> Elf<'a> {
     /// # Errors
     /// If they are not inside the file.
     pub fn section_data(&self, section: &SectionHeader) -> Result<Option<&'a [u8]>> {
-        let range = sys::goblin_section_bytes(&self.file, section)?;
+        let range = sys::goblin_section_range(&self.file, &section.cut())?;
         Ok(range.map(|range| self.file.slice(range)))
     }
 
@@ -245,7 +249,7 @@ impl<'a> Elf<'a> {
     /// # Errors
     /// If they are not inside the file.
     pub fn segment_data(&self, segment: &ProgramHeader) -> Result<Option<&'a [u8]>> {
-        let range = sys::goblin_segment_bytes(&self.file, segment)?;
+        let range = sys::goblin_segment_range(&self.file, segment)?;
         Ok(range.map(|range| self.file.slice(range)))
     }
 
@@ -315,6 +319,18 @@ impl<'a> Elf<'a> {
     /// # Errors
     /// If the program headers or the dynamic section are not inside the file.
     pub fn dynamic(&self) -> Result<Option<Dynamic<'a>>> {
+        if self.program_headers()?.is_empty() {
+            return Ok(None);
+        }
+        self.dynamic_section()
+    }
+
+    /// Returns the dynamic section as [`Elf::dynamic`] does, but in a file without program headers it is the first
+    /// section of type `SHT_DYNAMIC`.
+    ///
+    /// # Errors
+    /// If the program headers, or without those the section headers, or the dynamic section are not inside the file.
+    pub fn dynamic_section(&self) -> Result<Option<Dynamic<'a>>> {
         Dynamic::of(*self)
     }
 
@@ -324,7 +340,7 @@ impl<'a> Elf<'a> {
     /// # Errors
     /// If the section headers are not inside the file.
     pub fn shdr_strtab(&self) -> Result<Strtab<'a>> {
-        let names = sys::goblin_section_names(&self.file, &self.header)?.unwrap_or_default();
+        let names = sys::goblin_names_section(&self.file, &self.header)?.unwrap_or_default();
         Ok(self.strtab(&names))
     }
 

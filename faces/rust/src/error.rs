@@ -20,6 +20,10 @@ use std::{error, io};
 #[derive(Clone, Copy, PartialEq, Eq, Hash)]
 pub struct Error(raw::Refusal);
 
+// The kind of a number that does not fit its field, and the item that it is about if it is an addend without one.
+const INTEGER_FIT: u32 = 24;
+const ADDEND: u32 = 7;
+
 // The kinds of errors that are this crate's own, with numbers that the library doesn't use. Of SECTION_TYPE `first` is
 // the type of a section, and `item` is what was expected of the section.
 const SECTION_TYPE: u32 = u32::MAX;
@@ -74,12 +78,8 @@ pub enum Kind {
     },
     /// There are more headers than the file could hold: their number. [`Error::item`] returns which headers.
     BufferTooShort(u64),
-    /// Out of memory. The library never returns this, since it does not allocate.
-    OutOfMemory,
     /// The class byte is neither 1 nor 2, of a header that is queried or written.
     InvalidClass(u8),
-    /// The byte of the byte order is neither 1 nor 2, of a header that is queried.
-    InvalidEndianness(u8),
     /// The file has fewer than 16 bytes.
     TooSmall,
     /// The class byte is neither 1 nor 2.
@@ -96,13 +96,6 @@ pub enum Kind {
         offset: u64,
         /// The file's length.
         len: u64,
-    },
-    /// The size of a symbol table does not fit in 64 bits.
-    TooManySymbols {
-        /// Its offset.
-        offset: u64,
-        /// The number of its symbols.
-        count: u64,
     },
     /// A symbol table ends past the end of the file.
     SymtabPast {
@@ -127,28 +120,6 @@ pub enum Kind {
         /// The file's length.
         len: u64,
         /// Whether its end does not fit in 64 bits.
-        overflow: bool,
-    },
-    /// A section ends past the end of the file.
-    SectionOffset {
-        /// The offset of its name in the section names.
-        name: u64,
-        /// Its size.
-        size: u64,
-        /// Its offset.
-        offset: u64,
-        /// Whether its end does not fit in 64 bits.
-        overflow: bool,
-    },
-    /// The addresses of a section do not fit in 64 bits.
-    SectionAddr {
-        /// The offset of its name in the section names.
-        name: u64,
-        /// Its size.
-        size: u64,
-        /// Its address.
-        addr: u64,
-        /// True.
         overflow: bool,
     },
     /// A number that is to be written does not fit its field, or a relocation has an addend where its section has none,
@@ -213,6 +184,8 @@ pub enum Item {
     NoteName,
     /// The descriptor of a note, for notes that are read as bytes.
     NoteDesc,
+    /// The addend of a relocation that is to be written, where its section has none, or that it lacks.
+    Addend,
     /// Symbols, which a section was read as.
     Symbols,
     /// Relocations, which a section was read as.
@@ -232,6 +205,7 @@ impl Error {
             raw::Refusal { item: 4, .. } => Some(Item::NoteHeader),
             raw::Refusal { item: 5, .. } => Some(Item::NoteName),
             raw::Refusal { item: 6, .. } => Some(Item::NoteDesc),
+            raw::Refusal { item: ADDEND, .. } => Some(Item::Addend),
             _ => None,
         }
     }
@@ -253,6 +227,12 @@ impl Error {
     pub(crate) fn section_type(section: &SectionHeader, expected: u32) -> Self {
         let (first, offset) = (section.sh_type.into(), section.sh_offset);
         Error(raw::Refusal { kind: SECTION_TYPE, item: expected, first, offset, ..raw::Refusal::default() })
+    }
+
+    /// Returns the error of a relocation that has the addend 0 and whose section has none, or the reverse. The offset
+    /// is that after its other fields.
+    pub(crate) fn addend(offset: u64) -> Self {
+        Error(raw::Refusal { kind: INTEGER_FIT, item: ADDEND, offset, ..raw::Refusal::default() })
     }
 
     /// Returns the error of a string that no zero byte of a table closes.
@@ -300,22 +280,17 @@ impl Error {
             4 => Kind::BadOffset(first),
             5 => Kind::BadInput { size: first },
             6 => Kind::BufferTooShort(first),
-            7 => Kind::OutOfMemory,
             10 => Kind::InvalidClass(byte),
-            11 => Kind::InvalidEndianness(byte),
             12 => Kind::TooSmall,
             13 => Kind::ElfClass(byte),
             14 => Kind::DataType(byte),
             15 => Kind::Data(byte),
             16 => Kind::NoteAlign(first),
             17 => Kind::SymtabOffset { offset: first, len: second },
-            18 => Kind::TooManySymbols { offset: first, count: second },
             19 => Kind::SymtabPast { requested: first, available: second },
             20 => Kind::StrtabOffset { offset: first, len: second },
             21 => Kind::StrtabRange { size: first, offset: second, len: third, overflow },
-            22 => Kind::SectionOffset { name: first, size: second, offset: third, overflow },
-            23 => Kind::SectionAddr { name: first, size: second, addr: third, overflow },
-            24 => Kind::IntegerFit(first),
+            INTEGER_FIT => Kind::IntegerFit(first),
             SECTION_TYPE => Kind::SectionType(first as u32),
             NO_ITEM => Kind::NoItem(first),
             NUMBER_WIDTH => Kind::NumberWidth(first),
@@ -398,7 +373,8 @@ pub(crate) mod tests {
         for line in body.lines().map(str::trim) {
             match line.trim_end_matches(',').split_once(" = ") {
                 Some((name, number)) if line.starts_with("GOBLIN_") => {
-                    all.push((comment.clone(), name.replace("GOBLIN_", ""), number.parse().unwrap()));
+                    let short = name.replace("GOBLIN_REFUSED_", "").replace("GOBLIN_ITEM_", "");
+                    all.push((comment.clone(), short, number.parse().unwrap()));
                 }
                 _ if line.starts_with("/*") => comment = line.to_string(),
                 _ => comment = comment + " " + line,
@@ -425,7 +401,7 @@ pub(crate) mod tests {
             None => return,
         };
         let refusals = constants_after(&header, "GOBLIN_END = 1,\n");
-        assert_eq!(refusals.len(), 21);
+        assert_eq!(refusals.len(), 16);
         for (comment, name, number) in refusals {
             let why = raw::Refusal {
                 kind: number,
@@ -442,13 +418,13 @@ pub(crate) mod tests {
             assert_eq!(found, [&"101", &"102", &"103", &"1"][..numbers(&comment)], "{comment}");
         }
         let items = constants_after(&header, "0 for refusals that have none. */\n");
-        assert_eq!(items.len(), 6);
+        assert_eq!(items.len(), 7);
         for (_, name, item) in items {
             let of_kind = |kind| Error::new(raw::Refusal { kind, item, ..raw::Refusal::default() });
             assert_eq!(of_kind(3).item().map(|item| format!("{item:?}")), Some(camel(&name)));
             assert_eq!(of_kind(100).item(), of_kind(3).item());
         }
-        for item in [0, 7] {
+        for item in [0, 8] {
             assert_eq!(Error::new(raw::Refusal { kind: 3, item, ..raw::Refusal::default() }).item(), None);
         }
         let later = raw::Refusal { kind: 25, ..raw::Refusal::default() };
@@ -456,28 +432,23 @@ pub(crate) mod tests {
     }
 
     // The library's text of each kind, if the first number is 31, the second 5, the third 6 and the fourth 1.
-    const TEXTS: [(u32, u32, &str); 22] = [
+    const TEXTS: [(u32, u32, &str); 17] = [
         (2, 0, "Invalid magic number: 0x1f"),
         (3, 0, "type is too big (31) for 5"),
         (4, 0, "bad offset 31"),
         (5, 1, "bad input invalid utf8 (31)"),
         (6, 2, "Buffer is too short for 31 section headers"),
         (6, 3, "Buffer is too short for 31 program headers"),
-        (7, 0, "Out of memory"),
         (10, 0, "Malformed entity: Invalid class in Header: 31"),
-        (11, 0, "Malformed entity: Invalid endianness in Header: 31"),
         (12, 0, "Malformed entity: Too small"),
         (13, 0, "Malformed entity: invalid ELF class 1f"),
         (14, 0, "Malformed entity: invalid ELF endianness DATA type 1f"),
         (15, 0, "Malformed entity: invalid ELF DATA type 1f"),
         (16, 0, "Malformed entity: Notes has unimplemented alignment requirement: 0x1f"),
         (17, 0, "Malformed entity: Symbol table offset (31) is beyond file boundary (5)"),
-        (18, 0, "Malformed entity: Too many ELF symbols (offset 0x1f, count 5)"),
         (19, 0, "Malformed entity: Symbol table extends beyond file boundary (requested: 31, available: 5)"),
         (20, 0, "Malformed entity: String table offset (31) is beyond file boundary (5)"),
         (21, 0, "Malformed entity: Strtable size (31) + offset (5) is out of bounds for 6 #bytes. Overflowed: true"),
-        (22, 0, "Malformed entity: Section 31 size (5) + offset (6) is out of bounds. Overflowed: true"),
-        (23, 0, "Malformed entity: Section 31 size (5) + addr (6) is out of bounds. Overflowed: true"),
         (24, 0, "Malformed entity: Integer do not fit: out of range integral type conversion attempted"),
     ];
 

@@ -7,8 +7,8 @@ use crate::part::Part;
 use crate::program_header::ProgramHeader;
 pub use crate::raw::Header;
 use crate::reloc::{holds_relocs, Reloc};
-use crate::section_header::{SectionHeader, SHT_DYNSYM, SHT_RELA, SHT_SYMTAB};
-use crate::sym::Sym;
+use crate::section_header::{section_header32, section_header64, SectionHeader, SHT_DYNSYM, SHT_RELA, SHT_SYMTAB};
+use crate::sym::{sym32, sym64, Sym};
 use crate::sys;
 
 impl Header {
@@ -61,8 +61,22 @@ impl Header {
     /// # Errors
     /// If there is none, if the section headers are not inside the bytes, or if a number does not fit the class.
     pub fn put_section_header(&self, bytes: &mut [u8], index: usize, section: &SectionHeader) -> Result<()> {
-        let written = sys::goblin_put_section(bytes, self, index as u64, section)?;
-        written.then_some(()).ok_or_else(|| Error::no_item(index, self.e_shoff))
+        is_there(index, self.e_shoff, || sys::goblin_section(bytes, self, index as u64))?;
+        let size = self.size_of(section_header32::SIZEOF_SHDR, section_header64::SIZEOF_SHDR);
+        self.refuse_cut(bytes, self.e_shoff + index as u64 * size, &[(0, 4, section.sh_name)])?;
+        sys::goblin_put_section(bytes, self, index as u64, &section.cut()).map(|_| ())
+    }
+
+    // Returns one of two sizes, or offsets, by the class.
+    fn size_of(&self, in_32: usize, in_64: usize) -> u64 {
+        (if self.is_64() { in_64 } else { in_32 }) as u64
+    }
+
+    // Refuses a number of a record that has more bits than its field: each has an offset in the record and a number of
+    // bytes. The library refuses it as a number of so many bytes. In C the field has no more bits.
+    fn refuse_cut(&self, bytes: &mut [u8], record: u64, fields: &[(u64, usize, usize)]) -> Result<()> {
+        let cut = fields.iter().find(|(_, width, value)| value >> (8 * width) != 0);
+        cut.map_or(Ok(()), |(at, width, value)| self.put_number(bytes, record + at, *width, *value as u64))
     }
 
     /// Writes the program header at an index.
@@ -83,8 +97,12 @@ impl Header {
         if ![SHT_SYMTAB, SHT_DYNSYM].contains(&section.sh_type) {
             return Err(Error::section_type(section, SYMBOLS));
         }
-        let written = sys::goblin_put_symbol(bytes, self, &section.range(), index as u64, symbol)?;
-        written.then_some(()).ok_or_else(|| Error::no_item(index, section.sh_offset))
+        let range = section.range();
+        is_there(index, section.sh_offset, || sys::goblin_symbol(bytes, self, &range, index as u64))?;
+        let record = section.sh_offset + index as u64 * self.size_of(sym32::SIZEOF_SYM, sym64::SIZEOF_SYM);
+        let of_index = self.size_of(14, 6);
+        self.refuse_cut(bytes, record, &[(0, 4, symbol.st_name), (of_index, 2, symbol.st_shndx)])?;
+        sys::goblin_put_symbol(bytes, self, &range, index as u64, &symbol.cut()).map(|_| ())
     }
 
     /// Writes the relocation at an index of a section of type `SHT_RELA` or `SHT_REL`.
@@ -97,9 +115,15 @@ impl Header {
         if !holds_relocs(section) {
             return Err(Error::section_type(section, RELOCATIONS));
         }
-        let is_rela = section.sh_type == SHT_RELA;
-        let written = sys::goblin_put_reloc(bytes, self, &section.range(), is_rela, index as u64, &(*reloc).into())?;
-        written.then_some(()).ok_or_else(|| Error::no_item(index, section.sh_offset))
+        let (range, is_rela, word) = (section.range(), section.sh_type == SHT_RELA, self.size_of(4, 8));
+        is_there(index, section.sh_offset, || sys::goblin_reloc(bytes, self, &range, is_rela, index as u64))?;
+        let record = section.sh_offset + index as u64 * if is_rela { 3 * word } else { 2 * word };
+        self.refuse_cut(bytes, record, &[(word, 4, reloc.r_sym)])?;
+        // (the library refuses an addend of a section without addends, unless it is 0)
+        if reloc.r_addend.is_some() != is_rela && reloc.r_addend.unwrap_or(0) == 0 {
+            return Err(Error::addend(record + 2 * word));
+        }
+        sys::goblin_put_reloc(bytes, self, &range, is_rela, index as u64, &reloc.cut()).map(|_| ())
     }
 
     /// Writes a number of `width` bytes at an offset, in the file's byte order.
@@ -130,6 +154,12 @@ impl Header {
         let written = sys::goblin_put_number_in(bytes, self, &range, offset, width as u64, value)?;
         written.then_some(()).ok_or_else(|| Error::number_width(width, range.offset.saturating_add(offset)))
     }
+}
+
+// Fails unless the list at an offset has an item, which is read.
+fn is_there<T>(index: usize, list: u64, read: impl FnOnce() -> Result<Option<T>>) -> Result<()> {
+    sys::check_interface();
+    read()?.map(|_| ()).ok_or_else(|| Error::no_item(index, list))
 }
 
 /// Returns the name of a class, [`Header::ei_class`]: `ELF32`, `ELF64`, `NONE` or `UNKNOWN_CLASS`.

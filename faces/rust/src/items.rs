@@ -55,16 +55,16 @@ const BACK: u64 = 16;
 /// #     fn fill(&self, _: u64, _: &mut [u8]) -> goblin_rs::Result<Option<u64>> { Ok(None) }
 /// }
 /// ```
-pub trait List: Copy + Batches {
+pub trait List: Copy + Batches<<Self as List>::Item> {
     /// An item.
-    type Item: From<Self::Raw>;
+    type Item;
 }
 
 // How a list is read. Since no other crate can name this trait, none has lists of its own, so it can get more methods.
 mod sealed {
     use crate::error::Result;
 
-    pub trait Batches {
+    pub trait Batches<Item> {
         /// An item as the library writes it.
         type Raw: Copy;
         /// An array of some items.
@@ -76,8 +76,11 @@ mod sealed {
         /// Returns the number of items, which was read when the list was made.
         fn count(&self) -> u64;
 
+        /// Returns the item that the library wrote.
+        fn item(&self, raw: Self::Raw) -> Item;
+
         /// Reads the item at an index.
-        fn read(&self, index: u64) -> Result<Option<Self::Raw>>;
+        fn read(&self, index: u64) -> Result<Option<Item>>;
 
         /// Reads the items from an index on until the list or the array ends, and returns how many were read.
         fn fill(&self, first: u64, items: &mut [Self::Raw]) -> Result<Option<u64>>;
@@ -160,7 +163,7 @@ macro_rules! table {
             #[inline]
             #[must_use]
             pub fn get(&self, index: usize) -> Option<$item> {
-                $crate::items::made($crate::items::Batches::read(self, index as u64)).map(<$item>::from)
+                $crate::items::made($crate::items::Batches::read(self, index as u64))
             }
         }
 
@@ -211,7 +214,7 @@ impl<L: List> Items<L> {
     #[inline]
     fn item(&self, index: u64) -> L::Item {
         let batch = self.batch.as_ref();
-        L::Item::from(batch[index as usize % batch.len()])
+        self.list.item(batch[index as usize % batch.len()])
     }
 
     // The number of items of a batch that are for the front.

@@ -32,7 +32,7 @@ mod tests {
             for number in near.map(|start| start + u32::from(number)) {
                 is_written(pt_to_str(number), |text| sys::goblin_pt_to_str(number, text));
                 is_written(sht_to_str(number), |text| sys::goblin_sht_to_str(number, text));
-                is_written(shf_to_str(number.into()), |text| sys::goblin_shf_to_str(number, text));
+                is_written(shf_to_str(number.into()), |text| sys::goblin_shf_to_str(number.into(), text));
             }
         }
         for number in 0..=u8::MAX {

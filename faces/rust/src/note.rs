@@ -125,7 +125,7 @@ impl<'a> AnyNote<'a> for NoteBytes<'a> {}
 
 impl<'a> sealed::AnyNote<'a> for Note<'a> {
     fn read(notes: &Notes<'a, Self>, offset: u64) -> Result<Option<raw::Note>> {
-        sys::goblin_note(&notes.file, &notes.header, &notes.range, notes.alignment, offset)
+        sys::goblin_note_utf8(&notes.file, &notes.header, &notes.range, notes.alignment, offset)
     }
 
     fn new(file: File<'a>, note: raw::Note) -> Self {
@@ -135,7 +135,17 @@ impl<'a> sealed::AnyNote<'a> for Note<'a> {
 
 impl<'a> sealed::AnyNote<'a> for NoteBytes<'a> {
     fn read(notes: &Notes<'a, Self>, offset: u64) -> Result<Option<raw::Note>> {
-        sys::goblin_note_bytes(&notes.file, &notes.header, &notes.range, notes.alignment, offset)
+        let found = sys::goblin_note_whole(&notes.file, &notes.header, &notes.range, notes.alignment, offset)?;
+        let mut note = match found {
+            Some(note) => note,
+            None => return Ok(None),
+        };
+        // (the last byte of the name, if it has one, is not in the range, and the note begins with the name's size)
+        note.name.size = match note.name.size {
+            0 => sys::goblin_number(&notes.file, &notes.header, offset, 4)?.unwrap_or(0),
+            size => size + 1,
+        };
+        Ok(Some(note))
     }
 
     fn new(file: File<'a>, note: raw::Note) -> Self {

@@ -58,7 +58,7 @@ impl sealed::Part for SectionHeader {
     }
 
     fn found(&self, file: File<'_>) -> Result<Option<Range>> {
-        sys::goblin_section_bytes(&file, self)
+        sys::goblin_section_range(&file, &self.cut())
     }
 }
 
@@ -72,6 +72,6 @@ impl sealed::Part for ProgramHeader {
     }
 
     fn found(&self, file: File<'_>) -> Result<Option<Range>> {
-        sys::goblin_segment_bytes(&file, self)
+        sys::goblin_segment_range(&file, self)
     }
 }

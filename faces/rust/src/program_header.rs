@@ -123,7 +123,7 @@ impl List for ProgramHeaders<'_> {
     type Item = ProgramHeader;
 }
 
-impl Batches for ProgramHeaders<'_> {
+impl Batches<ProgramHeader> for ProgramHeaders<'_> {
     type Raw = ProgramHeader;
     type Batch = [ProgramHeader; 32];
 
@@ -133,6 +133,11 @@ impl Batches for ProgramHeaders<'_> {
 
     fn count(&self) -> u64 {
         self.count
+    }
+
+    #[inline]
+    fn item(&self, segment: ProgramHeader) -> ProgramHeader {
+        segment
     }
 
     #[inline]

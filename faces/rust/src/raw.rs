@@ -1,5 +1,6 @@
-//! The structs of `goblin.h`, which the library reads and writes. Some are public types of this crate. The test
-//! compares the offset and the size of each field with the library's.
+//! The structs of `goblin.h`, which the library reads and writes. Some are public types of this crate, and some have a
+//! public type with goblin's fields, which may be wider. The test compares the offset and the size of each field with
+//! the library's.
 
 #[cfg(test)]
 use std::vec::Vec;
@@ -119,6 +120,10 @@ records! {
     /// assert!(segment.is_executable() && !segment.is_write());
     /// ```
     ProgramHeader {
+        /// What it is, a `PT_` number.
+        p_type: u32,
+        /// `PF_` flags: 1 execute, 2 write, 4 read.
+        p_flags: u32,
         /// The offset of its bytes in the file.
         p_offset: u64,
         /// Its size in the file.
@@ -131,10 +136,6 @@ records! {
         p_memsz: u64,
         /// Its alignment.
         p_align: u64,
-        /// What it is, a `PT_` number.
-        p_type: u32,
-        /// `PF_` flags: 1 execute, 2 write, 4 read.
-        p_flags: u32,
     }
     /// A symbol.
     ///
@@ -159,8 +160,15 @@ records! {
         /// The visibility in the low three bits.
         st_other: u8,
     }
+    /// A section header in C.
+    Section {
+        sh_name: u32, sh_type: u32, sh_flags: u64, sh_addr: u64, file: Range, sh_link: u32, sh_info: u32,
+        sh_addralign: u64, sh_entsize: u64,
+    }
+    /// A symbol in C.
+    Symbol { st_name: u32, st_info: u8, st_other: u8, st_shndx: u16, st_value: u64, st_size: u64 }
     /// A relocation.
-    Reloc { r_offset: u64, r_sym: u64, r_addend: i64, r_type: u32, has_addend: u32 }
+    Reloc { r_offset: u64, r_type: u32, r_sym: u32, r_addend: i64 }
     /// A note.
     Note { name: Range, desc: Range, next: u64, n_type: u32 }
     /// An entry of the dynamic section.
@@ -176,6 +184,68 @@ records! {
         d_tag: u64,
         /// A number, an address, or an offset in the strings, which depends on the tag.
         d_val: u64,
+    }
+}
+
+/// A file: its bytes and its header.
+#[repr(C)]
+pub struct File {
+    bytes: *const u8,
+    len: usize,
+    pub header: Header,
+}
+
+impl File {
+    /// Returns the file of some bytes, which must outlive it, by a header for the calls that need one.
+    #[inline]
+    pub fn of(bytes: &[u8], header: Option<&Header>) -> Self {
+        File { bytes: bytes.as_ptr(), len: bytes.len(), header: header.copied().unwrap_or_default() }
+    }
+}
+
+impl From<Section> for SectionHeader {
+    #[inline]
+    fn from(s: Section) -> Self {
+        let Section { sh_name, sh_type, sh_flags, sh_addr, file, sh_link, sh_info, sh_addralign, sh_entsize } = s;
+        let Range { offset: sh_offset, size: sh_size } = file;
+        SectionHeader {
+            sh_offset,
+            sh_size,
+            sh_name: sh_name as usize,
+            sh_flags,
+            sh_addr,
+            sh_addralign,
+            sh_entsize,
+            sh_type,
+            sh_link,
+            sh_info,
+        }
+    }
+}
+
+impl SectionHeader {
+    /// Returns the header in C, whose offset of a name is cut to 32 bits.
+    pub(crate) fn cut(&self) -> Section {
+        let SectionHeader { sh_type, sh_flags, sh_addr, sh_link, sh_info, sh_addralign, sh_entsize, .. } = *self;
+        let file = Range { offset: self.sh_offset, size: self.sh_size };
+        let sh_name = self.sh_name as u32;
+        Section { sh_name, sh_type, sh_flags, sh_addr, file, sh_link, sh_info, sh_addralign, sh_entsize }
+    }
+}
+
+impl From<Symbol> for Sym {
+    #[inline]
+    fn from(s: Symbol) -> Self {
+        let Symbol { st_name, st_info, st_other, st_shndx, st_value, st_size } = s;
+        Sym { st_name: st_name as usize, st_value, st_size, st_shndx: st_shndx.into(), st_info, st_other }
+    }
+}
+
+impl Sym {
+    /// Returns the symbol in C, whose offset of a name is cut to 32 bits and whose index of a section to 16.
+    pub(crate) fn cut(&self) -> Symbol {
+        let Sym { st_name, st_value, st_size, st_shndx, st_info, st_other } = *self;
+        Symbol { st_name: st_name as u32, st_info, st_other, st_shndx: st_shndx as u16, st_value, st_size }
     }
 }
 
@@ -206,9 +276,9 @@ pub mod tests {
         /// One of each struct, which the library fills.
         Layout {
             size_of_refusal: u64, size_of_range: u64, size_of_header: u64, size_of_section: u64, size_of_segment: u64,
-            size_of_symbol: u64, size_of_reloc: u64, size_of_note: u64, size_of_dyn: u64, refusal: Refusal,
-            range: Range, header: Header, section: SectionHeader, segment: ProgramHeader, symbol: Sym, reloc: Reloc,
-            note: Note, entry: Dyn,
+            size_of_symbol: u64, size_of_reloc: u64, size_of_note: u64, size_of_dyn: u64, size_of_file: u64,
+            refusal: Refusal, range: Range, header: Header, section: Section, segment: ProgramHeader, symbol: Symbol,
+            reloc: Reloc, note: Note, entry: Dyn,
         }
     }
 
@@ -235,8 +305,9 @@ pub mod tests {
         assert_filled(&layout.section, layout.size_of_section, 10);
         assert_filled(&layout.segment, layout.size_of_segment, 8);
         assert_filled(&layout.symbol, layout.size_of_symbol, 6);
-        assert_filled(&layout.reloc, layout.size_of_reloc, 5);
+        assert_filled(&layout.reloc, layout.size_of_reloc, 4);
         assert_filled(&layout.note, layout.size_of_note, 6);
         assert_filled(&layout.entry, layout.size_of_dyn, 2);
+        assert_eq!(std::mem::size_of::<File>() as u64, layout.size_of_file);
     }
 }

@@ -28,26 +28,11 @@ pub struct Reloc {
     pub r_type: u32,
 }
 
-impl From<raw::Reloc> for Reloc {
-    fn from(r: raw::Reloc) -> Self {
-        Reloc {
-            r_offset: r.r_offset,
-            r_addend: if r.has_addend == 0 { None } else { Some(r.r_addend) },
-            r_sym: r.r_sym as usize,
-            r_type: r.r_type,
-        }
-    }
-}
-
-impl From<Reloc> for raw::Reloc {
-    fn from(r: Reloc) -> Self {
-        raw::Reloc {
-            r_offset: r.r_offset,
-            r_sym: r.r_sym as u64,
-            r_addend: r.r_addend.unwrap_or(0),
-            r_type: r.r_type,
-            has_addend: r.r_addend.is_some().into(),
-        }
+impl Reloc {
+    /// Returns the relocation in C, whose index of a symbol is cut to 32 bits.
+    pub(crate) fn cut(&self) -> raw::Reloc {
+        let Reloc { r_offset, r_addend, r_sym, r_type } = *self;
+        raw::Reloc { r_offset, r_type, r_sym: r_sym as u32, r_addend: r_addend.unwrap_or(0) }
     }
 }
 
@@ -98,7 +83,7 @@ impl List for RelocSection<'_> {
     type Item = Reloc;
 }
 
-impl Batches for RelocSection<'_> {
+impl Batches<Reloc> for RelocSection<'_> {
     type Raw = raw::Reloc;
     type Batch = [raw::Reloc; 64];
 
@@ -111,8 +96,15 @@ impl Batches for RelocSection<'_> {
     }
 
     #[inline]
-    fn read(&self, index: u64) -> Result<Option<raw::Reloc>> {
-        sys::goblin_reloc(&self.file, &self.header, &self.range, self.is_rela, index)
+    fn item(&self, reloc: raw::Reloc) -> Reloc {
+        let raw::Reloc { r_offset, r_type, r_sym, r_addend } = reloc;
+        Reloc { r_offset, r_addend: self.is_rela.then_some(r_addend), r_sym: r_sym as usize, r_type }
+    }
+
+    #[inline]
+    fn read(&self, index: u64) -> Result<Option<Reloc>> {
+        let found = sys::goblin_reloc(&self.file, &self.header, &self.range, self.is_rela, index)?;
+        Ok(found.map(|reloc| self.item(reloc)))
     }
 
     fn fill(&self, first: u64, items: &mut [raw::Reloc]) -> Result<Option<u64>> {

@@ -96,9 +96,9 @@ impl List for SectionHeaders<'_> {
     type Item = SectionHeader;
 }
 
-impl Batches for SectionHeaders<'_> {
-    type Raw = SectionHeader;
-    type Batch = [SectionHeader; 32];
+impl Batches<SectionHeader> for SectionHeaders<'_> {
+    type Raw = raw::Section;
+    type Batch = [raw::Section; 32];
 
     fn batch() -> Self::Batch {
         [Default::default(); 32]
@@ -109,11 +109,16 @@ impl Batches for SectionHeaders<'_> {
     }
 
     #[inline]
+    fn item(&self, section: raw::Section) -> SectionHeader {
+        section.into()
+    }
+
+    #[inline]
     fn read(&self, index: u64) -> Result<Option<SectionHeader>> {
         sys::goblin_section(&self.elf.file, &self.elf.header, index)
     }
 
-    fn fill(&self, first: u64, items: &mut [SectionHeader]) -> Result<Option<u64>> {
+    fn fill(&self, first: u64, items: &mut [raw::Section]) -> Result<Option<u64>> {
         sys::goblin_sections(&self.elf.file, &self.elf.header, first, items)
     }
 }

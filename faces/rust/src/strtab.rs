@@ -50,7 +50,7 @@ impl<'a> Strtab<'a> {
     /// If the table is not inside the file.
     #[inline]
     pub fn get_bytes(&self, offset: usize) -> Result<Option<&'a [u8]>> {
-        let range = sys::goblin_string_bytes(&self.file, &self.range, offset as u64)?;
+        let range = sys::goblin_string(&self.file, &self.range, offset as u64)?;
         Ok(range.map(|range| self.file.slice(range)))
     }
 
@@ -74,6 +74,26 @@ impl<'a> Strtab<'a> {
     #[inline]
     pub fn get_c_str(&self, offset: usize) -> Result<Option<&'a CStr>> {
         sys::c_string(self.file.0, &self.range, offset as u64)
+    }
+
+    /// Returns the part of the table up to its last zero byte. At each offset in it begins a string that a zero byte
+    /// closes.
+    ///
+    /// ```
+    /// # fn main() -> Result<(), Box<dyn std::error::Error>> {
+    /// # let bytes = std::fs::read(std::env::current_exe()?)?;
+    /// let elf = goblin_rs::Elf::parse(&bytes)?;
+    /// let text = elf.section(".text")?.ok_or("no .text")?;
+    /// assert_eq!(elf.shdr_strtab()?.closed()?.get(text.sh_name)?, Some(".text"));
+    /// # Ok(())
+    /// # }
+    /// ```
+    ///
+    /// # Errors
+    /// If the table is not inside the file.
+    pub fn closed(&self) -> Result<Self> {
+        let range = sys::goblin_closed_strings(&self.file, &self.range)?;
+        Ok(Strtab { file: self.file, range: range.unwrap_or_default() })
     }
 
     /// Returns the bytes of the strings at many offsets, each as [`Strtab::get_bytes`] does. The table is checked once

@@ -175,11 +175,11 @@ impl<'a> Symtab<'a> {
         AddressMap::of(*self)
     }
 
-    /// Returns the index of the first symbol with a name.
+    /// Returns the index of the first symbol with a name: a text or bytes.
     ///
     /// # Errors
     /// If the string table is not inside the file.
-    pub fn find(&self, name: &str) -> Result<Option<usize>> {
+    pub fn find(&self, name: impl AsRef<[u8]>) -> Result<Option<usize>> {
         Ok(self.symbol_by_name(name, 0)?.map(|(index, _)| index))
     }
 
@@ -202,9 +202,9 @@ impl<'a> Symtab<'a> {
     ///
     /// # Errors
     /// If the string table is not inside the file.
-    pub fn symbol_by_name(&self, name: &str, first: usize) -> Result<Option<(usize, Sym)>> {
-        let (table, names) = (&self.range, &self.strtab.range);
-        let found = sys::goblin_symbol_by_name(&self.file, &self.header, table, names, name.as_bytes(), first as u64)?;
+    pub fn symbol_by_name(&self, name: impl AsRef<[u8]>, first: usize) -> Result<Option<(usize, Sym)>> {
+        let (table, names, name) = (&self.range, &self.strtab.range, name.as_ref());
+        let found = sys::goblin_symbol_by_name(&self.file, &self.header, table, names, name, first as u64)?;
         Ok(found.map(|(index, symbol)| (index as usize, symbol)))
     }
 }
@@ -215,9 +215,9 @@ impl List for Symtab<'_> {
     type Item = Sym;
 }
 
-impl Batches for Symtab<'_> {
-    type Raw = Sym;
-    type Batch = [Sym; 64];
+impl Batches<Sym> for Symtab<'_> {
+    type Raw = raw::Symbol;
+    type Batch = [raw::Symbol; 64];
 
     fn batch() -> Self::Batch {
         [Default::default(); 64]
@@ -228,11 +228,16 @@ impl Batches for Symtab<'_> {
     }
 
     #[inline]
+    fn item(&self, symbol: raw::Symbol) -> Sym {
+        symbol.into()
+    }
+
+    #[inline]
     fn read(&self, index: u64) -> Result<Option<Sym>> {
         sys::goblin_symbol(&self.file, &self.header, &self.range, index)
     }
 
-    fn fill(&self, first: u64, items: &mut [Sym]) -> Result<Option<u64>> {
+    fn fill(&self, first: u64, items: &mut [raw::Symbol]) -> Result<Option<u64>> {
         sys::goblin_symbols(&self.file, &self.header, &self.range, first, items)
     }
 }

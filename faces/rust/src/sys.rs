@@ -4,31 +4,40 @@
 //! writes only its mutable ones, within their lengths. Only the tests compare these declarations with the library's.
 use crate::error::{Error, Result};
 use crate::file::File;
-use crate::raw::{Dyn, Header, Note, ProgramHeader, Range, Refusal, Reloc, SectionHeader, Sym};
+use crate::raw::{self, Dyn, Header, Note, ProgramHeader, Range, Refusal, Reloc, Section, Symbol};
+use crate::section_header::SectionHeader;
+use crate::sym::Sym;
 use core::str;
 #[cfg(feature = "std")]
 use std::ffi::CStr;
 
-// A call takes the file's bytes and further arguments: after `by` a slice to read, after `into` an array to fill.
-// It returns an item (the number of items that were filled, for an array), `None` for GOBLIN_END, or the error for
-// a refusal.
+// The type of an item that a call writes, or of what is made of it.
+macro_rules! made {
+    ($item:ty) => { $item };
+    ($item:ty, $made:ty) => { $made };
+}
+
+// A call takes a file, by its bytes and most by its header, and further arguments: after `into` an array to fill.
+// It returns an item (the number of items that were filled, for an array) or what is made of it, `None` for GOBLIN_END,
+// or the error for a refusal.
 macro_rules! calls {
-    ($(fn $name:ident($($given:ident: $type:ty),*) $(by $by:ident)? $(into [$each:ty])? -> $item:ty;)*) => {$(
+    ($(fn $name:ident($([$header:ident])? $($given:ident: $type:ty),*) $(into [$each:ty])?
+        -> $item:ty $(as $made:ty)?;)*) => {$(
         #[inline]
-        pub fn $name(bytes: &[u8] $(, $given: $type)* $(, $by: &[u8])? $(, items: &mut [$each])?)
-            -> Result<Option<$item>> {
+        pub fn $name(bytes: &[u8] $(, $header: &Header)? $(, $given: $type)* $(, items: &mut [$each])?)
+            -> Result<Option<made!($item $(, $made)?)>> {
             extern "C" {
-                fn $name(bytes: *const u8, len: usize $(, $given: $type)* $(, $by: *const u8, _: usize)?
-                    $(, items: *mut $each, _: usize)?, item: *mut $item, why: *mut Refusal) -> u32;
+                fn $name(file: &raw::File $(, $given: $type)* $(, items: *mut $each, _: usize)?, item: *mut $item,
+                    why: *mut Refusal) -> u32;
             }
+            let file = raw::File::of(bytes, None$(.or(Some($header)))?);
             let (mut item, mut why) = <($item, Refusal)>::default();
             // SAFETY: each pointer of a slice is passed with the slice's length. `item` and `why` are this function's
             // own, and all references and slices outlive the call. It writes only numbers.
             let status = unsafe {
-                $name(bytes.as_ptr(), bytes.len() $(, $given)* $(, $by.as_ptr(), $by.len())?
-                    $(, items.as_mut_ptr() as *mut $each, items.len())?, &mut item, &mut why)
+                $name(&file $(, $given)* $(, items.as_mut_ptr() as *mut $each, items.len())?, &mut item, &mut why)
             };
-            result(status, item, why)
+            result(status, item, why).map(|found| found.map(<made!($item $(, $made)?)>::from))
         }
     )*};
 }
@@ -44,36 +53,46 @@ fn result<T>(status: u32, item: T, why: Refusal) -> Result<Option<T>> {
 }
 
 calls! {
-    fn goblin_header() -> Header;
-    fn goblin_section_count(header: &Header) -> u64;
-    fn goblin_section(header: &Header, index: u64) -> SectionHeader;
-    fn goblin_sections(header: &Header, first: u64) into [SectionHeader] -> u64;
-    fn goblin_linked_section(header: &Header, index: u64) -> SectionHeader;
-    fn goblin_section_names(header: &Header) -> SectionHeader;
-    fn goblin_segment(header: &Header, index: u64) -> ProgramHeader;
-    fn goblin_segments(header: &Header, first: u64) into [ProgramHeader] -> u64;
-    fn goblin_section_bytes(section: &SectionHeader) -> Range;
-    fn goblin_segment_count(header: &Header) -> u64;
-    fn goblin_segment_bytes(segment: &ProgramHeader) -> Range;
-    fn goblin_address_to_offset(header: &Header, address: u64) -> u64;
-    fn goblin_dynamic(header: &Header) -> Range;
-    fn goblin_dynamic_entries(header: &Header, dynamic: &Range, first: u64) into [Dyn] -> u64;
-    fn goblin_dynamic_value(header: &Header, dynamic: &Range, tag: u64) -> u64;
-    fn goblin_dynamic_strings(header: &Header, dynamic: &Range) -> Range;
-    fn goblin_symbol_count(header: &Header, table: &Range) -> u64;
-    fn goblin_reloc_count(header: &Header, relocs: &Range, is_rela: bool) -> u64;
-    fn goblin_string_bytes(strings: &Range, offset: u64) -> Range;
-    fn goblin_string_closed(strings: &Range, offset: u64) -> Range;
-    fn goblin_number(header: &Header, offset: u64, width: u64) -> u64;
-    fn goblin_number_in(header: &Header, range: &Range, offset: u64, width: u64) -> u64;
-    fn goblin_symbol(header: &Header, table: &Range, index: u64) -> Sym;
-    fn goblin_symbols(header: &Header, table: &Range, first: u64) into [Sym] -> u64;
-    fn goblin_symbol_by_address(header: &Header, table: &Range, address: u64) -> u64;
-    fn goblin_reloc(header: &Header, relocs: &Range, is_rela: bool, index: u64) -> Reloc;
-    fn goblin_relocs(header: &Header, relocs: &Range, is_rela: bool, first: u64) into [Reloc] -> u64;
-    fn goblin_note(header: &Header, notes: &Range, alignment: u64, offset: u64) -> Note;
-    fn goblin_note_bytes(header: &Header, notes: &Range, alignment: u64, offset: u64) -> Note;
+    fn goblin_section_count([header]) -> u64;
+    fn goblin_section([header] index: u64) -> Section as SectionHeader;
+    fn goblin_sections([header] first: u64) into [Section] -> u64;
+    fn goblin_linked_section([header] index: u64) -> Section as SectionHeader;
+    fn goblin_names_section([header]) -> Section as SectionHeader;
+    fn goblin_segment([header] index: u64) -> ProgramHeader;
+    fn goblin_segments([header] first: u64) into [ProgramHeader] -> u64;
+    fn goblin_section_range(section: &Section) -> Range;
+    fn goblin_segment_count([header]) -> u64;
+    fn goblin_segment_range(segment: &ProgramHeader) -> Range;
+    fn goblin_address_to_offset([header] address: u64) -> u64;
+    fn goblin_dynamic([header]) -> Range;
+    fn goblin_dynamic_entries([header] dynamic: &Range, first: u64) into [Dyn] -> u64;
+    fn goblin_dynamic_strings([header] dynamic: &Range) -> Range;
+    fn goblin_symbol_count([header] table: &Range) -> u64;
+    fn goblin_reloc_count([header] relocs: &Range, is_rela: bool) -> u64;
     fn goblin_string(strings: &Range, offset: u64) -> Range;
+    fn goblin_string_closed(strings: &Range, offset: u64) -> Range;
+    fn goblin_closed_strings(strings: &Range) -> Range;
+    fn goblin_number([header] offset: u64, width: u64) -> u64;
+    fn goblin_number_in([header] range: &Range, offset: u64, width: u64) -> u64;
+    fn goblin_symbol([header] table: &Range, index: u64) -> Symbol as Sym;
+    fn goblin_symbols([header] table: &Range, first: u64) into [Symbol] -> u64;
+    fn goblin_symbol_by_address([header] table: &Range, address: u64) -> u64;
+    fn goblin_reloc([header] relocs: &Range, is_rela: bool, index: u64) -> Reloc;
+    fn goblin_relocs([header] relocs: &Range, is_rela: bool, first: u64) into [Reloc] -> u64;
+    fn goblin_note_utf8([header] notes: &Range, alignment: u64, offset: u64) -> Note;
+    fn goblin_note_whole([header] notes: &Range, alignment: u64, offset: u64) -> Note;
+    fn goblin_string_utf8(strings: &Range, offset: u64) -> Range;
+}
+
+/// Returns the header at the start of a file.
+pub fn goblin_file(bytes: &[u8]) -> Result<Header> {
+    extern "C" {
+        fn goblin_file(bytes: *const u8, len: usize, file: *mut raw::File, why: *mut Refusal) -> u32;
+    }
+    let (mut file, mut why) = (raw::File::of(bytes, None), Refusal::default());
+    // SAFETY: the pointer of the slice is passed with the slice's length. `file` and `why` are this function's own.
+    let status = unsafe { goblin_file(bytes.as_ptr(), bytes.len(), &mut file, &mut why) };
+    result(status, file.header, why).map(|header| header.expect("a file that is not refused has a header"))
 }
 
 // A call compares a string with some bytes. It returns whether they match.
@@ -82,16 +101,14 @@ macro_rules! comparisons {
         #[inline]
         pub fn $name(bytes: &[u8], strings: &Range, offset: u64, $by: &[u8]) -> Result<bool> {
             extern "C" {
-                fn $name(bytes: *const u8, len: usize, strings: &Range, offset: u64, $by: *const u8, _: usize,
-                    why: *mut Refusal) -> u32;
+                fn $name(file: &raw::File, strings: &Range, offset: u64, $by: *const u8, _: usize) -> bool;
             }
-            let mut why = Refusal::default();
-            // SAFETY: each pointer of a slice is passed with the slice's length. `why` is this function's own, and all
-            // references and slices outlive the call. It writes only numbers.
-            let status = unsafe {
-                $name(bytes.as_ptr(), bytes.len(), strings, offset, $by.as_ptr(), $by.len(), &mut why)
-            };
-            result(status, (), why).map(|same| same.is_some())
+            let file = raw::File::of(bytes, None);
+            // SAFETY: each pointer of a slice is passed with the slice's length, and all references and slices outlive
+            // the call. It writes nothing.
+            let matches = unsafe { $name(&file, strings, offset, $by.as_ptr(), $by.len()) };
+            // (it is false, too, if the table is refused)
+            Ok(matches || goblin_string(bytes, strings, strings.size)?.is_some())
         }
     )*};
 }
@@ -105,15 +122,16 @@ comparisons! {
 /// Returns their number.
 pub fn goblin_strings(bytes: &[u8], strings: &Range, offsets: &[u64], ranges: &mut [Range]) -> Result<usize> {
     extern "C" {
-        fn goblin_strings(bytes: *const u8, len: usize, strings: &Range, offsets: *const u64, _: usize,
-            ranges: *mut Range, _: usize, filled: *mut u64, why: *mut Refusal) -> u32;
+        fn goblin_strings(file: &raw::File, strings: &Range, offsets: *const u64, _: usize, ranges: *mut Range,
+            _: usize, filled: *mut u64, why: *mut Refusal) -> u32;
     }
+    let file = raw::File::of(bytes, None);
     let (mut filled, mut why) = <(u64, Refusal)>::default();
     // SAFETY: each pointer of a slice is passed with the slice's length. `filled` and `why` are this function's own,
     // and all references and slices outlive the call. It writes only numbers.
     let status = unsafe {
-        goblin_strings(bytes.as_ptr(), bytes.len(), strings, offsets.as_ptr(), offsets.len(), ranges.as_mut_ptr(),
-            ranges.len(), &mut filled, &mut why)
+        goblin_strings(&file, strings, offsets.as_ptr(), offsets.len(), ranges.as_mut_ptr(), ranges.len(), &mut filled,
+            &mut why)
     };
     result(status, (), why).map(|_| filled as usize)
 }
@@ -121,31 +139,31 @@ pub fn goblin_strings(bytes: &[u8], strings: &Range, offsets: &[u64], ranges: &m
 // A call finds the first item of some kind from an index on: after `by` a slice to read. It returns the index and
 // the item.
 macro_rules! searches {
-    ($(fn $name:ident($($given:ident: $type:ty),*) $(by $by:ident)? -> $item:ty;)*) => {$(
+    ($(fn $name:ident($($given:ident: $type:ty),*) $(by $by:ident)? -> $item:ty $(as $made:ty)?;)*) => {$(
         #[inline]
         pub fn $name(bytes: &[u8], header: &Header $(, $given: $type)* $(, $by: &[u8])?, first: u64)
-            -> Result<Option<(u64, $item)>> {
+            -> Result<Option<(u64, made!($item $(, $made)?))>> {
             extern "C" {
-                fn $name(bytes: *const u8, len: usize, header: &Header $(, $given: $type)*
-                    $(, $by: *const u8, _: usize)?, first: u64, index: *mut u64, item: *mut $item,
-                    why: *mut Refusal) -> u32;
+                fn $name(file: &raw::File $(, $given: $type)* $(, $by: *const u8, _: usize)?, first: u64,
+                    index: *mut u64, item: *mut $item, why: *mut Refusal) -> u32;
             }
+            let file = raw::File::of(bytes, Some(header));
             let (mut index, mut item, mut why) = <(u64, $item, Refusal)>::default();
             // SAFETY: each pointer of a slice is passed with the slice's length. The results are this function's own,
             // and all references and slices outlive the call. It writes only numbers.
             let status = unsafe {
-                $name(bytes.as_ptr(), bytes.len(), header $(, $given)* $(, $by.as_ptr(), $by.len())?, first,
-                    &mut index, &mut item, &mut why)
+                $name(&file $(, $given)* $(, $by.as_ptr(), $by.len())?, first, &mut index, &mut item, &mut why)
             };
-            result(status, (index, item), why)
+            result(status, (index, item.into()), why)
         }
     )*};
 }
 
 searches! {
-    fn goblin_section_by_name(names: &Range) by name -> SectionHeader;
-    fn goblin_section_by_type(sh_type: u32) -> SectionHeader;
-    fn goblin_symbol_by_name(table: &Range, names: &Range) by name -> Sym;
+    fn goblin_section_by_name(names: &Range) by name -> Section as SectionHeader;
+    fn goblin_section_by_type(sh_type: u32) -> Section as SectionHeader;
+    fn goblin_symbol_by_name(table: &Range, names: &Range) by name -> Symbol as Sym;
+    fn goblin_dynamic_value(dynamic: &Range, tag: u64) -> u64;
 }
 
 // A call writes a record into a file's bytes. It returns whether there is one. A program need not have called
@@ -168,9 +186,9 @@ macro_rules! writes {
 
 writes! {
     fn goblin_put_header();
-    fn goblin_put_section(index: u64, section: &SectionHeader);
+    fn goblin_put_section(index: u64, section: &Section);
     fn goblin_put_segment(index: u64, segment: &ProgramHeader);
-    fn goblin_put_symbol(table: &Range, index: u64, symbol: &Sym);
+    fn goblin_put_symbol(table: &Range, index: u64, symbol: &Symbol);
     fn goblin_put_reloc(table: &Range, is_rela: bool, index: u64, reloc: &Reloc);
     fn goblin_put_number(offset: u64, width: u64, value: u64);
     fn goblin_put_number_in(range: &Range, offset: u64, width: u64, value: u64);
@@ -178,28 +196,28 @@ writes! {
 
 /// Returns a header that counts only the headers that are whole inside the file.
 pub fn goblin_whole_header(bytes: &[u8], header: &Header) -> Header {
-    extern "C" { fn goblin_whole_header(bytes: *const u8, len: usize, header: &Header, whole: *mut Header); }
-    let mut whole = Header::default();
+    extern "C" { fn goblin_whole_header(file: &raw::File, whole: *mut raw::File); }
+    let (file, mut whole) = (raw::File::of(bytes, Some(header)), raw::File::of(bytes, None));
     // SAFETY: the pointer of the slice is passed with the slice's length, and `whole` is this function's own.
-    unsafe { goblin_whole_header(bytes.as_ptr(), bytes.len(), header, &mut whole) };
-    whole
+    unsafe { goblin_whole_header(&file, &mut whole) };
+    whole.header
 }
 
 /// Returns the part of a range that is inside the file.
 pub fn goblin_range_in_file(bytes: &[u8], range: &Range) -> Range {
-    extern "C" { fn goblin_range_in_file(bytes: *const u8, len: usize, range: &Range, part: *mut Range); }
-    let mut part = Range::default();
+    extern "C" { fn goblin_range_in_file(file: &raw::File, range: &Range, part: *mut Range); }
+    let (file, mut part) = (raw::File::of(bytes, None), Range::default());
     // SAFETY: the pointer of the slice is passed with the slice's length, and `part` is this function's own.
-    unsafe { goblin_range_in_file(bytes.as_ptr(), bytes.len(), range, &mut part) };
+    unsafe { goblin_range_in_file(&file, range, &mut part) };
     part
 }
 
-/// Returns the string whose range `goblin_string` returns. It is not checked once more for being UTF-8.
+/// Returns the string whose range `goblin_string_utf8` returns. It is not checked once more for being UTF-8.
 #[inline]
 pub fn string<'a>(bytes: &'a [u8], strings: &Range, offset: u64) -> Result<Option<&'a str>> {
-    let string = goblin_string(bytes, strings, offset)?.map(|range| File(bytes).slice(range));
+    let string = goblin_string_utf8(bytes, strings, offset)?.map(|range| File(bytes).slice(range));
     debug_assert!(string.map_or(true, |string| str::from_utf8(string).is_ok()));
-    // SAFETY: a string that the library returns is UTF-8, which is proved.
+    // SAFETY: a string that the library returns here is UTF-8, which is proved.
     Ok(string.map(|string| unsafe { str::from_utf8_unchecked(string) }))
 }
 
@@ -236,7 +254,7 @@ texts! {
     fn goblin_machine_to_str(e_machine: u16);
     fn goblin_pt_to_str(p_type: u32);
     fn goblin_sht_to_str(sh_type: u32);
-    fn goblin_shf_to_str(flag: u32);
+    fn goblin_shf_to_str(flag: u64);
     fn goblin_bind_to_str(binding: u8);
     fn goblin_type_to_str(type_: u8);
     fn goblin_visibility_to_str(visibility: u8);
@@ -248,7 +266,7 @@ texts! {
 }
 
 /// The interface that these calls are of: `GOBLIN_VERSION` of `goblin.h`.
-pub const VERSION: u32 = 7;
+pub const VERSION: u32 = 8;
 
 /// Panics if the library that is linked has another interface. Its calls may take other arguments.
 #[inline]
@@ -261,9 +279,10 @@ pub fn check_interface() {
 
 #[cfg(test)]
 pub fn layout() -> crate::raw::tests::Layout {
-    extern "C" { fn goblin_layout(layout: *mut crate::raw::tests::Layout); }
+    extern "C" { fn goblin_layout(layout: *mut crate::raw::tests::Layout, size: usize) -> usize; }
     let mut layout = Default::default();
-    // SAFETY: it writes only numbers to `layout`.
-    unsafe { goblin_layout(&mut layout) }
+    let size = std::mem::size_of_val(&layout);
+    // SAFETY: it writes only numbers to `layout`, within its size.
+    assert_eq!(unsafe { goblin_layout(&mut layout, size) }, size);
     layout
 }

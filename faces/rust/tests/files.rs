@@ -3,7 +3,7 @@ use goblin_rs::dynamic::{
     DF_1_PIE, DT_FLAGS_1, DT_JMPREL, DT_NEEDED, DT_NULL, DT_PLTREL, DT_PLTRELSZ, DT_REL, DT_RELA, DT_RELASZ, DT_RELSZ,
     DT_RPATH, DT_RUNPATH, DT_SONAME, DT_STRSZ, DT_STRTAB, DT_SYMTAB,
 };
-use goblin_rs::error::Kind;
+use goblin_rs::error::{Item, Kind};
 use goblin_rs::note::NoteIterator;
 use goblin_rs::program_header::{
     ProgramHeader, PT_DYNAMIC, PT_GNU_EH_FRAME, PT_GNU_RELRO, PT_GNU_STACK, PT_INTERP, PT_LOAD, PT_NOTE, PT_PHDR,
@@ -11,7 +11,8 @@ use goblin_rs::program_header::{
 };
 use goblin_rs::reloc::Reloc;
 use goblin_rs::section_header::{
-    SectionHeader, SHF_ALLOC, SHF_TLS, SHT_NOBITS, SHT_NOTE, SHT_PROGBITS, SHT_REL, SHT_RELA, SHT_STRTAB, SHT_SYMTAB,
+    SectionHeader, SHF_ALLOC, SHF_TLS, SHT_DYNAMIC, SHT_NOBITS, SHT_NOTE, SHT_PROGBITS, SHT_REL, SHT_RELA, SHT_STRTAB,
+    SHT_SYMTAB,
 };
 use goblin_rs::strtab::Strtab;
 use goblin_rs::sym::Sym;
@@ -322,6 +323,16 @@ fn counts_and_bytes() {
         assert_eq!(elf.segment_data(&load), Ok(Some(&file[..elf.header.e_shoff as usize])));
         assert_eq!(symbols.strtab().get_bytes(20), Ok(Some(&b"\xff"[..])));
         assert_eq!(symbols.strtab().get_bytes(STRINGS.len()), Ok(None));
+        let bytes = symbols.symbol_by_name(b"\xff", 0).unwrap().map(|(index, symbol)| (index, symbol.st_name));
+        assert_eq!((bytes, symbols.find(b"\xc3")), (Some((4, 20)), Ok(None)));
+        let cut = SectionHeader { sh_size: strings.sh_size - 1, ..strings };
+        let closed = elf.strtab(&cut).closed().unwrap();
+        assert_eq!([7, 20].map(|at| closed.get_bytes(at)), [Ok(Some(&b"second"[..])), Ok(None)]);
+        let (mut named, first) = (file.clone(), elf.section_header(1).unwrap().unwrap());
+        elf.header.put_section_header(&mut named, 1, &SectionHeader { sh_name: 41, ..first }).unwrap();
+        let found = Elf::parse(&named).unwrap().section_by_name(b"\xff", 0).unwrap();
+        assert_eq!((found.map(|(index, _)| index), elf.section(b"\xff")), (Some(1), Ok(None)));
+        assert_eq!(elf.strtab(&past).closed().map_err(|e| e.offset()).err(), Some(past.sh_offset));
         compares_strings(&symbols.strtab());
         assert_eq!(elf.number(18, 2), Ok(Some(0x3e)));
         assert_eq!(elf.number(18, 3), Ok(None));
@@ -339,6 +350,7 @@ fn compares_strings(names: &Strtab) {
     let closed = |offset| names.get_c_str(offset).map(|name| name.map(|name| name.to_bytes()));
     assert_eq!((closed(7), closed(20)), (Ok(Some(&b"second"[..])), Ok(Some(&b"\xff"[..]))));
     assert_eq!(closed(STRINGS.len()), Ok(None));
+    assert_eq!(names.closed().and_then(|all| all.get_bytes(20)), Ok(Some(&b"\xff"[..])));
     // (with offsets past the end, and without, so that all are read of each 64)
     for offsets in [STRINGS.len() + 1, STRINGS.len()].map(|count| (0..200).map(move |index| index % count)) {
         let wanted: Vec<_> = offsets.clone().map(|offset| names.get_bytes(offset).unwrap()).collect();
@@ -480,9 +492,18 @@ fn symbols_relocations_and_numbers_are_written() {
         assert_eq!(moves, (Kind::IntegerFit(-9_i64 as u64), rel.sh_offset + addend));
         let leaves = why(header.put_reloc(&mut file, &rela, 0, &without));
         assert_eq!(leaves, (Kind::IntegerFit(0), rela.sh_offset + addend));
-        let high = Sym { st_shndx: 0x10000, ..symbol };
+        let none = header.put_reloc(&mut file, &rel, 0, &Reloc { r_addend: Some(0), ..moved });
+        assert_eq!(none.map_err(|e| (e.item(), e.kind(), e.offset())), Err((Some(Item::Addend), leaves.0, moves.1)));
+        let high = Sym { st_shndx: 0x10003, ..symbol };
         let index = table.sh_offset + if form.is_64 { 6 } else { 14 };
-        assert_eq!(why(header.put_symbol(&mut file, &table, 0, &high)), (Kind::IntegerFit(0x10000), index));
+        assert_eq!(why(header.put_symbol(&mut file, &table, 0, &high)), (Kind::IntegerFit(0x10003), index));
+        assert_eq!(why(header.put_symbol(&mut file, &table, 5, &high)).0, Kind::NoItem(5));
+        let long = Sym { st_name: 0x1_0000_0003, ..symbol };
+        let second = table.sh_offset + of_symbol as u64;
+        assert_eq!(why(header.put_symbol(&mut file, &table, 1, &long)), (Kind::IntegerFit(0x1_0000_0003), second));
+        let far = Reloc { r_sym: 0x1_0000_0003, ..reloc };
+        let info = rela.sh_offset + of_rela as u64 + form.wide() as u64;
+        assert_eq!(why(header.put_reloc(&mut file, &rela, 1, &far)), (Kind::IntegerFit(0x1_0000_0003), info));
         assert_eq!(why(header.put_number(&mut file, 18, 2, 0x10000)), (Kind::IntegerFit(0x10000), 18));
         let byte = why(header.put_number_in(&mut file, &rel, 2, 1, 0x100));
         assert_eq!(byte, (Kind::IntegerFit(0x100), rel.sh_offset + 2));
@@ -936,6 +957,12 @@ fn all_notes_have_any_names_and_a_build_id_may_be_in_a_section_alone() {
         assert_eq!(elf.iter_note_sections().unwrap().nth(1).unwrap().type_to_str(), "NT_GNU_BUILD_ID");
         assert_eq!(elf.build_id(), Ok(Some(&b"of ld"[..])));
         assert_eq!(Elf::parse(&made(form, 0)).unwrap().build_id(), Ok(Some(&b"abcd"[..])));
+        // (names whose last byte is not zero, and one without bytes)
+        let odd = [(&b"AB"[..], &b"a"[..]), (b"x", b"b"), (b"", b"c"), (b"\0", b"d")];
+        let named = noted(form, [odd.map(|(name, desc)| note(form, name, 1, desc)).concat(), vec![], vec![]]);
+        let found = Elf::parse(&named).unwrap();
+        let found: Vec<_> = found.iter_note_sections().unwrap().map(|note| (note.name, note.desc)).collect();
+        assert_eq!(found, odd);
         let without = noted(form, [attributes, go.clone(), go]);
         assert_eq!(Elf::parse(&without).unwrap().build_id(), Ok(None));
         // (a name or a descriptor past the end of its section is damage, whatever the name)
@@ -1101,6 +1128,39 @@ fn dynamic_sections() {
             let strings = dynamic.strings().unwrap().unwrap();
             assert_eq!([1, 6, 11].map(|at| strings.get(at)), [Ok(Some("liba")), Ok(Some("libb")), Ok(None)]);
         }
+    }
+}
+
+#[test]
+fn a_dynamic_section_without_segments() {
+    for form in FORMS {
+        let (mut file, header) = with_dynamic(form, &[(DT_NEEDED, 1), (DT_NEEDED, 7)]);
+        fn read(file: &[u8], header: header::Header) -> Elf<'_> {
+            let mut elf = Elf::parse(file).unwrap();
+            elf.header = header;
+            elf
+        }
+        let (dynamic, without) = (read(&file, header).program_header(1), header::Header { e_phnum: 0, ..header });
+        let dynamic = dynamic.unwrap().unwrap();
+        let section = SectionHeader {
+            sh_type: SHT_DYNAMIC,
+            sh_offset: dynamic.p_offset,
+            sh_size: dynamic.p_filesz,
+            sh_link: 3,
+            ..SectionHeader::default()
+        };
+        header.put_section_header(&mut file, 1, &section).unwrap();
+        assert!(read(&file, without).dynamic().unwrap().is_none());
+        let found = read(&file, without).dynamic_section().unwrap().unwrap();
+        let strings = found.strings().unwrap().unwrap();
+        let names: Vec<_> = found.values(DT_NEEDED).map(|at| strings.get(at as usize)).collect();
+        assert_eq!(names, [Ok(Some("first")), Ok(Some("second"))]);
+        assert!(read(&file, header).dynamic_section().unwrap().unwrap().strings().unwrap().is_none());
+        let past = SectionHeader { sh_size: file.len() as u64, ..section };
+        let mut longer = file.clone();
+        header.put_section_header(&mut longer, 1, &past).unwrap();
+        let refused = read(&longer, without).dynamic_section().map(|_| ());
+        assert_eq!(refused.map_err(|e| e.offset()), Err(dynamic.p_offset));
     }
 }
 

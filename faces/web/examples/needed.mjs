@@ -1,5 +1,5 @@
 // Lists what ELF files need of the dynamic linker, their sonames and search paths: node needed.mjs FILE..
-import { DT_NEEDED, DT_RPATH, DT_RUNPATH, DT_SONAME, PT_DYNAMIC, PT_INTERP, SHT_STRTAB } from '../goblin.js';
+import { DT_NEEDED, DT_RPATH, DT_RUNPATH, DT_SONAME, PT_DYNAMIC, PT_INTERP } from '../goblin.js';
 import { run } from './common.mjs';
 
 const NAMES = new Map([[DT_NEEDED, 'needed'], [DT_SONAME, 'soname'], [DT_RPATH, 'rpath'], [DT_RUNPATH, 'runpath']]);
@@ -11,19 +11,12 @@ function print(name, strings, offset) {
         : `${name}: no zero byte closes a string at offset ${offset}\n`);
 }
 
-// Returns the part of strings up to the last zero byte. (Of the rest each string would be read up to the end.)
-function closed(elf, strings) {
-    const { offset, size } = strings.range;
-    strings.get_start(0, 0); // (throws if the strings are not inside the file)
-    const end = elf.bytes.subarray(Number(offset), Number(offset + size)).lastIndexOf(0) + 1;
-    return elf.strtab({ sh_type: SHT_STRTAB, sh_offset: offset, sh_size: BigInt(end) });
-}
-
 await run('needed.mjs FILE..', (elf) => {
     const segment_of = (type) => elf.program_headers().find(({ p_type }) => p_type === type),
         interpreter = segment_of(PT_INTERP);
     if (interpreter?.p_filesz) print('interpreter', elf.strtab(interpreter), 0);
     if (!segment_of(PT_DYNAMIC)) return; // (a loader doesn't read section headers, by which `dynamic` could find some)
-    const strings = closed(elf, elf.dynamic_strings());
+    // (of the rest each string would be read up to the end)
+    const strings = elf.dynamic_strings().closed();
     for (const { d_tag, d_val } of elf.dynamic()) if (NAMES.has(d_tag)) print(NAMES.get(d_tag), strings, d_val);
 });

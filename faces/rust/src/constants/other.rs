@@ -18,3 +18,10 @@ pub const GNU_PROPERTY_X86_FEATURE_1_AND: u32 = 0xc000_0002;
 pub const GNU_PROPERTY_X86_FEATURE_1_IBT: u32 = 1;
 /// Its bit for shadow stacks.
 pub const GNU_PROPERTY_X86_FEATURE_1_SHSTK: u32 = 2;
+
+/// The table of the version of each symbol: System V gABI, "Symbol Versioning", and GNU's.
+pub const DT_VERSYM: u64 = 0x6fff_fff0;
+/// The offset of the runtime linker's map from this entry, as position-independent programs have it (MIPS).
+pub const DT_MIPS_RLD_MAP_REL: u64 = 0x7000_0035;
+/// The segment of ABI flags (MIPS).
+pub const PT_MIPS_ABIFLAGS: u32 = 0x7000_0003;
