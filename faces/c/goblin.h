@@ -68,8 +68,9 @@
      change or fill a header itself, in which any number may stand.
 
    One item or many
-     To read a whole table, use the plural calls, such as goblin_symbols, which take about half the time of a call for
-     each item. With a capacity of 0 they fill nothing, and return what they return for one (goblin_strings GOBLIN_OK).
+     To read a whole table, use the plural calls, such as goblin_symbols: with 64 items at once an item takes 0.4 to 0.7
+     of the time of a call for one. With a capacity of 0 they fill nothing, and return what they return for one
+     (goblin_strings GOBLIN_OK).
      A call takes a time in proportion to what it writes, if it does not say otherwise.
 
    Names
