@@ -80,7 +80,7 @@ class Unpacked:
         said = self.run('readelf -dW "$SHARED"', wanted=rf'\(SONAME\).*\[libgoblin_c\.so\.{self.interface}\]')
         need('TEXTREL' not in said, 'the code of the shared library is relocated')
         need(re.findall(r' UND (\S+)', self.run('readelf --dyn-syms -W "$SHARED"')) == ['memcpy'], 'the shared library needs more than memcpy')
-        calls = re.findall(r'^(?:uint\d+_t|void) (goblin_\w+)\(', self.header, re.MULTILINE)
+        calls = re.findall(r'^(?:bool|size_t|uint\d+_t|void) (goblin_\w+)\(', self.header, re.MULTILINE)
         need(sorted(exported(self.shared)) == sorted(f'{call}@@GOBLIN_{self.interface}' for call in calls), 'the shared library exports other names')
 
     def versions(self):
