@@ -208,7 +208,7 @@ check('A file is refused in the words of C, and the page says what was read or w
         ...Object.entries(others).map(([begin, what]) => [false, Buffer.from(begin.padEnd(80, ' '), 'latin1'), what]),
     ]) {
         const { stdout } = spawnSync(dump, [await pick_written('refused', bytes)]), said = await text_of('#refused');
-        const [, words_of_c] = /^goblin_header kind=.* offset=\w+ (.+)$/m.exec(stdout);
+        const [, words_of_c] = /^goblin_file kind=.* offset=\w+ (.+)$/m.exec(stdout);
         assert.equal(await text_of('#refused:not([hidden]) h3'), `Refused: ${words_of_c}`);
         for (const word of words) assert.ok(said.includes(word), said);
         assert.deepEqual([said.includes('This is not an ELF file'), await is_hidden('shown')], [!is_elf, true]);
