@@ -23,7 +23,7 @@ shows() {
 }
 
 refuses 'margin: crates.txt has no crate nope' python3 bench/margin.py goblin nope
-refuses 'gate: no edit was found' python3 checks/gate.py edits --edit nope
+refuses 'gate: no edit was found' python3 checks/gate.py edits --anew goblin_base --edit nope
 refuses "fatal: *
 gate: git doesn't list the files of this folder, for the reason above" \
     env GIT_TEST_ASSUME_DIFFERENT_OWNER=1 GIT_CONFIG_GLOBAL=/dev/null GIT_CONFIG_SYSTEM=/dev/null python3 checks/gate.py edits --edit nope

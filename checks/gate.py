@@ -248,7 +248,7 @@ def main():
     parser.add_argument('--from', dest='folder', default='')
     parser.add_argument('--over')
     parser.add_argument('--anew', action='store_const', const=['--anew'], default=[])
-    options = parser.parse_args()
+    options = parser.parse_intermixed_args()
     if options.goal == 'prove':
         return prove(*options.crates, options.anew)
     if not os.access('.', os.W_OK):
