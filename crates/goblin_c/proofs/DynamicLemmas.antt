@@ -18,7 +18,7 @@ use Rattle.goblin_dynamic.specs.declared.dynamic.FileRange.{FileRange}
 use Rattle.goblin_dynamic.specs.declared.entry.Dyn.{Dyn}
 use Rattle.goblin_c.specs.Dynamic.{file_range_of, range_in_file, unless_empty}
 use Rattle.goblin_c.specs.DynamicLaws.{DynamicLiesInFile, EntriesAreCounted, EntriesAreListed, ValueIsTheFirst}
-use Rattle.goblin_c.specs.declared.types.GoblinDyn.{GoblinDyn}
+use Rattle.goblin_c.specs.declared.dynamic.GoblinDyn.{GoblinDyn}
 use Rattle.goblin_c.proofs.IndexLemmas.{get_drop}
 use Rattle.goblin_c.proofs.StringLemmas.{range_lies}
 

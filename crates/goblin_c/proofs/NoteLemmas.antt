@@ -20,7 +20,7 @@ use Rattle.goblin_c.proofs.Common.{true, Err, fits-room_of, refuse_as, refusal_o
 use Rattle.goblin_c.specs.Notes.{note_expected, parts_at, read_parts, without_last}
 use Rattle.std.specs.Str.{is_utf8}
 use Rattle.goblin.specs.NoteLaws.{note_by_note, whole_is_note}
-use Rattle.goblin_c.specs.declared.types.GoblinNote.{GoblinNote}
+use Rattle.goblin_c.specs.declared.notes.GoblinNote.{GoblinNote}
 use Rattle.goblin_c.specs.Laws.{NotesAreItems, NotesInARow, NotesLieInFile, items_reported, note_in, WholeNotesAreNotes}
 use Rattle.goblin_c.specs.Laws.{NotesAreText, notes_reported}
 use Rattle.goblin_c.proofs.ListedLemmas.{one_converted}

@@ -13,7 +13,7 @@ use Rattle.goblin_c.proofs.Common.{room_of_fits, room_of, ◌>>=◌, refuse_as, 
 use Rattle.goblin_c.proofs.Common.{ProgramHeader, GoblinHeader, GoblinRange, segment_expected, segments_expected}
 use Rattle.goblin_c.proofs.Common.{segment_converted, bytes_in, cut_range, in_file, passes_at_first}
 use Rattle.goblin_base.specs.declared.scroll.Error.{Error as Misplaced}
-use Rattle.goblin_c.specs.declared.types.GoblinSegment.{GoblinSegment}
+use Rattle.goblin_c.specs.declared.segments.GoblinSegment.{GoblinSegment}
 use Rattle.goblin_c.specs.PlaceLaws.{AddressesAreLoaded, IsOffsetOf, IsSlice, LoadsByte, LoadsFirst, NumbersLieInRange}
 use Rattle.goblin_c.specs.PlaceLaws.{PartsLieInFile}
 use Rattle.goblin_c.proofs.FilledBufferLemmas.{ends-before}

@@ -16,9 +16,9 @@ use Rattle.goblin_c.specs.Write.{put_at, put_if_there, reloc_layout, reloc_of, s
 use Rattle.goblin_c.specs.Write.{segment_layout, segment_of, symbol_layout, symbol_of, unfit}
 use Rattle.goblin_c.specs.WriteLaws.{ChangesOnly, CountsStay, IsUnfit, PutsAreRead, PutsChangeOne, ReadsArePut}
 use Rattle.goblin_c.specs.WriteLaws.{UnfitAreRefused}
-use Rattle.goblin_c.specs.declared.types.GoblinReloc.{GoblinReloc}
-use Rattle.goblin_c.specs.declared.types.GoblinSection.{GoblinSection}
-use Rattle.goblin_c.specs.declared.types.GoblinSymbol.{GoblinSymbol}
+use Rattle.goblin_c.specs.declared.relocs.GoblinReloc.{GoblinReloc}
+use Rattle.goblin_c.specs.declared.sections.GoblinSection.{GoblinSection}
+use Rattle.goblin_c.specs.declared.symbols.GoblinSymbol.{GoblinSymbol}
 use Rattle.goblin_c.proofs.Common.{length-take}
 use Rattle.goblin_c.specs.Common.{Dyn, GoblinDyn}
 use Rattle.goblin_c.specs.Dynamic.{entry_expected, whole_entries_expected}

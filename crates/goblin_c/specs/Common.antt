@@ -29,18 +29,18 @@ pub use Rattle.goblin_base.specs.declared.container.Ctx.{Ctx}
 pub use Rattle.goblin_base.specs.declared.error.Error.{Error}
 pub use Rattle.goblin_base.specs.declared.error.Fault.TheVariants.{Data, DataType, IntegerFit, InvalidClass}
 pub use Rattle.goblin_base.specs.declared.error.Fault.TheVariants.{InvalidEndianness}
-pub use Rattle.goblin_c.specs.declared.kinds.TheConstants.{END, INVALID_UTF8, OK, PROGRAM_HEADERS, SECTION_HEADERS}
+pub use Rattle.goblin_c.specs.declared.results.TheConstants.{END, INVALID_UTF8, OK, PROGRAM_HEADERS, SECTION_HEADERS}
 pub use Rattle.goblin_c.specs.declared.misfit.Misfit.{Misfit}
-pub use Rattle.goblin_c.specs.declared.refused.Refused.{Refused}
-pub use Rattle.goblin_c.specs.declared.types.GoblinDyn.{GoblinDyn}
-pub use Rattle.goblin_c.specs.declared.types.GoblinHeader.{GoblinHeader}
-pub use Rattle.goblin_c.specs.declared.types.GoblinNote.{GoblinNote}
-pub use Rattle.goblin_c.specs.declared.types.GoblinRange.{GoblinRange}
-pub use Rattle.goblin_c.specs.declared.types.GoblinRefusal.{GoblinRefusal}
-pub use Rattle.goblin_c.specs.declared.types.GoblinReloc.{GoblinReloc}
-pub use Rattle.goblin_c.specs.declared.types.GoblinSection.{GoblinSection}
-pub use Rattle.goblin_c.specs.declared.types.GoblinSegment.{GoblinSegment}
-pub use Rattle.goblin_c.specs.declared.types.GoblinSymbol.{GoblinSymbol}
+pub use Rattle.goblin_c.specs.declared.results.Refused.{Refused}
+pub use Rattle.goblin_c.specs.declared.dynamic.GoblinDyn.{GoblinDyn}
+pub use Rattle.goblin_c.specs.declared.header.GoblinHeader.{GoblinHeader}
+pub use Rattle.goblin_c.specs.declared.notes.GoblinNote.{GoblinNote}
+pub use Rattle.goblin_c.specs.declared.numbers.GoblinRange.{GoblinRange}
+pub use Rattle.goblin_c.specs.declared.results.GoblinRefusal.{GoblinRefusal}
+pub use Rattle.goblin_c.specs.declared.relocs.GoblinReloc.{GoblinReloc}
+pub use Rattle.goblin_c.specs.declared.sections.GoblinSection.{GoblinSection}
+pub use Rattle.goblin_c.specs.declared.segments.GoblinSegment.{GoblinSegment}
+pub use Rattle.goblin_c.specs.declared.symbols.GoblinSymbol.{GoblinSymbol}
 pub use Rattle.goblin_dynamic.specs.declared.entry.Dyn.{Dyn}
 pub use Rattle.std.specs.Option.{is_some, option_map}
 pub use Rattle.std.specs.Str.{bytes_eq, is_utf8}

@@ -14,7 +14,7 @@ use Rattle.goblin.specs.declared.elf.note.NotePart.{NotePart}
 use Rattle.goblin.specs.declared.elf.note.NotePart.TheVariants.{Header, Name, Desc}
 use Rattle.goblin_c.specs.Refused.{RefusalAt, refused_at}
 use Rattle.goblin_c.specs.Expected.{ctx_of}
-use Rattle.goblin_c.specs.declared.kinds.TheConstants.{NOTE_HEADER, NOTE_NAME, NOTE_DESC}
+use Rattle.goblin_c.specs.declared.results.TheConstants.{NOTE_HEADER, NOTE_NAME, NOTE_DESC}
 use Rattle.goblin_c.specs.Types.{note_converted, refusal_converted}
 
 -- the places of the parts of the note at the start of some bytes, which must hold its header, its name without the last

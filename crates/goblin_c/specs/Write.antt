@@ -7,7 +7,7 @@ use Rattle.goblin_c.specs.Common.{refuse_as, Header, ProgramHeader, Reloc, Secti
 use Rattle.goblin_c.specs.Common.{header_layout, header_size, magic, order_of, sym_layout, GoblinHeader, GoblinRange}
 use Rattle.goblin_c.specs.Common.{GoblinRefusal, GoblinReloc, GoblinSection, GoblinSegment, GoblinSymbol, word_size}
 use Rattle.goblin_c.specs.Common.{Misfit}
-use Rattle.goblin_c.specs.declared.kinds.TheConstants.{ADDEND}
+use Rattle.goblin_c.specs.declared.results.TheConstants.{ADDEND}
 use Rattle.goblin_base.specs.declared.error.Error.TheVariants.{Scroll}
 use Rattle.goblin_base.specs.Fields.{Field}
 use Rattle.goblin_base.specs.Place.{with_number}

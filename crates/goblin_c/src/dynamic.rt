@@ -1,22 +1,54 @@
-//! The dynamic section: its range, its entries, the value of a tag, and the range of its strings.
-ghost use Rattle.std.specs.Prelude.{◌≡◌, ◌≤◌, ◌+◌, ◌<◌, ◌==◌, ◌^◌, IfSome, drop, length, min, position, slice_get};
-ghost use Rattle.goblin_c.specs.Refused.{Returns};
-ghost use Rattle.goblin_c.specs.Dynamic.{dynamic_count_expected, dynamic_expected, dynamic_strings_expected, entry_expected, dynamic_value_expected, entries_expected, entries_from, entries_from_expected, file_range_of, range_in_file};
-ghost use Rattle.goblin_c.specs.FilledBuffer.{laid};
+//! The dynamic section: its range, its entries, the value of a tag, the range of its strings, and how an entry is put.
+ghost use Rattle.goblin_c.specs.Dynamic.{dynamic_count_expected, dynamic_expected, dynamic_strings_expected, dynamic_value_expected, entries_expected, entries_from, entries_from_expected, entry_expected, file_range_of, range_in_file};
 ghost use Rattle.goblin_c.specs.Expected.{first_item, found_item};
+ghost use Rattle.goblin_c.specs.FilledBuffer.{laid};
+ghost use Rattle.goblin_c.specs.Refused.{Returns};
 ghost use Rattle.goblin_c.specs.Status.{Fills, Stores, StoresBoth};
+ghost use Rattle.goblin_c.specs.Types.{dyn_converted};
+ghost use Rattle.goblin_c.specs.Write.{DynFits, Puts, dyn_misfit, dyn_of, dyn_put_expected};
+ghost use Rattle.goblin_dynamic.specs.Dyn.{entry_layout};
+ghost use Rattle.std.specs.Prelude.{IfSome, IsTrue, drop, length, min, position, slice_get, ◌+◌, ◌<◌, ◌==◌, ◌^◌, ◌↔◌, ◌≡◌, ◌≤◌};
 
-use crate::bytes::fits;
-use crate::headers::{ctx_of, sections_of, segments_of};
-use crate::kinds::{END, OK};
-use crate::refused::{Result, refused_at};
-use crate::status::{refuse, store, store_both};
-use crate::types::{GoblinDyn, GoblinFile, GoblinHeader, GoblinRange, GoblinRefusal, convert_dyn};
-use goblin::container::Ctx;
+use crate::header::{GoblinFile, GoblinHeader, ctx_of};
+use crate::misfit::{Misfit, first_misfit};
+use crate::numbers::{GoblinRange, fits};
+use crate::puts::put_found;
+use crate::results::{END, GoblinRefusal, OK, Result, refuse, refused_at, store, store_both};
+use crate::sections::sections_of;
+use crate::segments::segments_of;
+use goblin::container::{Container, Ctx};
 use goblin_base::table::Table;
 use goblin_dynamic::dynamic::{Dynamic, FileRange};
 use goblin_dynamic::entry::Dyn;
 use goblin_dynamic::tags::DT_NULL;
+
+/// An entry of the dynamic section.
+#[repr(C)]
+#[derive(Clone, Copy, Debug)]
+pub struct GoblinDyn {
+    pub d_tag: u64,
+    pub d_val: u64,
+}
+
+// Returns the entry from C.
+pub(crate) fn dyn_of(own: &GoblinDyn) -> Dyn
+    ensures { result ≡ dyn_of own.now }
+{
+    Dyn {
+        d_tag: own.d_tag,
+        d_val: own.d_val,
+    }
+}
+
+// Converts an entry for C.
+pub(crate) fn convert_dyn(d: &Dyn) -> GoblinDyn
+    ensures { result ≡ dyn_converted d.now }
+{
+    GoblinDyn {
+        d_tag: d.d_tag,
+        d_val: d.d_val,
+    }
+}
 
 // Returns a range from C.
 fn file_range_of(range: &GoblinRange) -> FileRange
@@ -258,4 +290,42 @@ pub fn entry_of(
 {
     let all = Dynamic::whole_in_range(bytes, file_range_of(range), ctx_of(header));
     Ok(refused_at(range.offset, all)?.get(index as usize))
+}
+
+/// Returns the first value of an entry of the dynamic section that doesn't fit its field in the 32-bit class.
+pub fn dyn_misfit(d: &Dyn) -> Misfit
+    ensures { result ≡ dyn_misfit d.now }
+{
+    first_misfit(0, &[(4, d.d_tag), (4, d.d_val)])
+}
+
+// Reports whether an entry fits the fields of a class.
+fn entry_fits(d: &Dyn, ctx: Ctx) -> bool
+    ensures { IsTrue result ↔ (entry_layout ctx.container ctx.le).Fits d.now }
+{
+    let (tag, val) = (d.d_tag, d.d_val);
+    match ctx.container {
+        Container::Little => tag < 1 << 32 && val < 1 << 32,
+        Container::Big => true,
+    }
+}
+
+/// Puts the entry at an index of those that lie in a range of the dynamic section whole.
+#[unsafe(no_mangle)]
+pub extern "C" fn goblin_put_dynamic_entry(
+    bytes: &mut [u8],
+    header: &GoblinHeader,
+    dynamic: &GoblinRange,
+    index: u64,
+    entry: &GoblinDyn,
+    why: &mut GoblinRefusal,
+) -> u32
+    ensures { Puts (DynFits header.now entry.now) (dyn_misfit (dyn_of entry.now))
+        (dyn_put_expected bytes.old header.now dynamic.now index entry.now)
+        bytes.old why.old result bytes.new why.new }
+{
+    let found = entry_of(bytes, header, dynamic, index);
+    let (ctx, record) = (ctx_of(header), dyn_of(entry));
+    let unfit = (!entry_fits(&record, ctx)).then(|| dyn_misfit(&record));
+    put_found(bytes, found, dynamic.offset, index, record, ctx, unfit, why)
 }

@@ -1,24 +1,63 @@
-//! Notes, as the library reads them, and the names of their types.
-ghost use Rattle.std.specs.Prelude.{◌≡◌, ◌+◌, ◌-◌, ◌≤◌, IfOk, length, take};
+//! Notes: by their offsets, with names that are bytes or UTF-8, or whole; and the names of their types.
+ghost use Rattle.goblin.specs.NoteType.{note_type_name};
 ghost use Rattle.goblin.specs.Notes.{LieWithin};
 ghost use Rattle.goblin.specs.Refusal.{refusal_of};
 ghost use Rattle.goblin_base.specs.Common.{Returns as Gives};
-ghost use Rattle.goblin.specs.NoteType.{note_type_name};
-ghost use Rattle.goblin_c.specs.Notes.{StoresNote, bytes_from, note_expected, note_whole_expected, note_utf8_expected, part_converted, part_number, parts_at, without_last};
+ghost use Rattle.goblin_base.specs.declared.container.Endian.TheVariants as endian;
+ghost use Rattle.goblin_c.specs.Notes.{StoresNote, bytes_from, note_expected, note_utf8_expected, note_whole_expected, part_converted, part_number, parts_at, read_parts, without_last};
 ghost use Rattle.goblin_c.specs.Status.{Stores};
+ghost use Rattle.goblin_c.specs.Types.{note_converted};
+ghost use Rattle.std.specs.Prelude.{IfOk, IfSome, IsAscii, IsTrue, Ok, Some, length, take, ◌+◌, ◌-◌, ◌<◌, ◌^◌, ◌≡◌, ◌≤◌, ◌⊎◌};
+ghost use Rattle.std.specs.Str.{IsAscii};
 
-use crate::headers::ctx_of;
-use crate::kinds::{END, NOTE_DESC, NOTE_HEADER, NOTE_NAME, OK};
-use crate::refused::{Refused, refused_at};
-use crate::status::{refuse, store};
-use crate::types::{GoblinFile, GoblinNote, GoblinRange, GoblinRefusal, convert_note};
-use crate::usual_note::{usual_note, usual_text_note};
-use goblin::container::Ctx;
+use crate::header::{GoblinFile, GoblinHeader, ctx_of};
+use crate::numbers::{GoblinRange, fits};
+use crate::results::{
+    END, GoblinRefusal, NOTE_DESC, NOTE_HEADER, NOTE_NAME, OK, Refused, Result, refuse, refused_at,
+    store,
+};
+use goblin::container::{Ctx, Endian};
+use goblin::elf::header::{ELFDATA2MSB, Header};
 use goblin::elf::note::{Nhdr32, Note, NotePart, NotePlaces, NoteRefusal};
+use goblin::elf::sym::type_to_str;
 use goblin::error::{Error, Fault};
 use goblin::scroll;
 use goblin::scroll::TryFromCtx;
 use goblin_base::room::room;
+
+/// A note.
+#[repr(C)]
+#[derive(Clone, Copy, Debug)]
+pub struct GoblinNote {
+    /// Its name, without its last byte, zero in most files.
+    pub name: GoblinRange,
+    /// Its descriptor.
+    pub desc: GoblinRange,
+    /// The offset of the next note.
+    pub next: u64,
+    pub n_type: u32,
+}
+
+// Converts the note at an offset, whose parts are at these places.
+pub(crate) fn convert_note(offset: u64, places: &NotePlaces) -> GoblinNote
+    requires name { offset + places.now.name < 2 ^ 64 }
+    requires desc { offset + places.now.desc < 2 ^ 64 }
+    requires next { offset + places.now.next < 2 ^ 64 }
+    ensures { result ≡ note_converted offset places.now }
+{
+    GoblinNote {
+        name: GoblinRange {
+            offset: offset + places.name as u64,
+            size: places.name_size as u64,
+        },
+        desc: GoblinRange {
+            offset: offset + places.desc as u64,
+            size: places.desc_size as u64,
+        },
+        next: offset + places.next as u64,
+        n_type: places.n_type,
+    }
+}
 
 // Finds the parts of the note at an offset of the file, whose name need not be UTF-8.
 #[tactic(auto, unfolding(crate::specs::Notes::parts_at, crate::specs::Notes::read_parts))]
@@ -237,4 +276,88 @@ pub fn note_type(name: &[u8], n_type: u32) -> &'static str
         return type_of("CORE", n_type);
     }
     type_of("", n_type)
+}
+
+// The most bytes of a name that is short.
+const SHORT: usize = 16;
+
+// Reports whether a name is short and ASCII.
+#[inline(always)]
+fn is_short_ascii(name: &[u8]) -> bool
+    ensures { IsTrue result → IsAscii name.now }
+{
+    // (most names are `GNU`)
+    match name {
+        [a, b, c] => *a < 0x80 && *b < 0x80 && *c < 0x80,
+        _ => name.len() <= SHORT && name.iter().all(|byte| *byte < 0x80),
+    }
+}
+
+// Returns the places of the parts of the note at the start of some bytes, if they hold it.
+#[inline(always)]
+#[tactic(auto, unfolding(crate::specs::Notes::read_parts))]
+fn usual_places(bytes: &[u8], alignment: usize) -> Option<NotePlaces>
+    requires known { (alignment ≡ 4) ⊎ (alignment ≡ 8) }
+    ensures value { IfSome result (λ places. read_parts alignment endian.Little bytes.now ≡ Ok places) }
+    ensures within { IfSome result (LieWithin (length bytes.now) 0) }
+{
+    let Ok((header, _)) = Nhdr32::try_from_ctx(bytes, Endian::Little) else {
+        return None;
+    };
+    let places = NotePlaces::of(&header, alignment);
+    if room(bytes.len(), places.name, places.name_size).is_err() {
+        return None;
+    }
+    if room(bytes.len(), places.desc, places.desc_size).is_err() {
+        return None;
+    }
+    Some(places)
+}
+
+/// Returns the note at an offset, among those of a range, if it is a usual one.
+#[inline(always)]
+pub fn usual_note(
+    bytes: &[u8],
+    header: &GoblinHeader,
+    range: &GoblinRange,
+    alignment: u64,
+    offset: u64,
+) -> Option<GoblinNote>
+    ensures value { IfSome result
+        (λ note. note_expected bytes.now header.now range.now alignment offset ≡ Ok (Some note)) }
+    ensures name { IfSome result (λ note. note.name.offset + note.name.size ≤ length bytes.now) }
+{
+    if header.ei_data == ELFDATA2MSB || offset >= bytes.len() as u64 {
+        return None;
+    }
+    if offset >= range.offset && offset - range.offset >= range.size {
+        return None;
+    }
+    let part = &bytes[offset as usize..];
+    let places = match alignment {
+        4 => usual_places(part, 4)?,
+        8 => usual_places(part, 8)?,
+        _ => return None,
+    };
+    Some(convert_note(offset, &places))
+}
+
+/// Returns the same note if its name is short and ASCII, as most are.
+#[inline(always)]
+pub fn usual_text_note(
+    bytes: &[u8],
+    header: &GoblinHeader,
+    range: &GoblinRange,
+    alignment: u64,
+    offset: u64,
+) -> Option<GoblinNote>
+    ensures { IfSome result
+        (λ note. note_utf8_expected bytes.now header.now range.now alignment offset ≡ Ok (Some note)) }
+{
+    let note = usual_note(bytes, header, range, alignment, offset)?;
+    let start = note.name.offset as usize;
+    if !is_short_ascii(&bytes[start..start + note.name.size as usize]) {
+        return None;
+    }
+    Some(note)
 }

@@ -1,15 +1,14 @@
 //! Strings: where they lie in the file, and what they are.
-ghost use Rattle.std.specs.Prelude.{◌≡◌, ◌+◌, ◌≤◌, if◌then◌else◌, Ok, IfOk, IfSome, IsErr, IsErrAnd, MatchOption, drop, length, map, take};
+ghost use Rattle.goblin_c.specs.Bytes.{IsCString, closed_len, closed_strings_expected, string_closed_expected, string_expected};
 ghost use Rattle.goblin_c.specs.Common.{is_piece, starts_piece};
-ghost use Rattle.goblin_c.specs.Bytes.{IsCString, closed_len, closed_strings_expected, string_expected, string_closed_expected};
+ghost use Rattle.goblin_c.specs.Expected.{string_is_expected, string_starts_expected, string_utf8_expected, strings_expected};
 ghost use Rattle.goblin_c.specs.Refused.{Returns};
-ghost use Rattle.goblin_c.specs.Expected.{string_utf8_expected, string_is_expected, string_starts_expected, strings_expected};
 ghost use Rattle.goblin_c.specs.Status.{FillsEach, Stores};
+ghost use Rattle.std.specs.Prelude.{IfOk, IfSome, IsErr, MatchOption, Ok, drop, length, map, take, ◌+◌, ◌≡◌, ◌≤◌};
 
-use crate::kinds::{END, OK};
-use crate::refused::{Result, refused_at};
-use crate::status::{refuse, store};
-use crate::types::{GoblinFile, GoblinRange, GoblinRefusal};
+use crate::header::GoblinFile;
+use crate::numbers::GoblinRange;
+use crate::results::{END, GoblinRefusal, OK, Result, refuse, refused_at, store};
 use goblin::options::ParseMode;
 use goblin::strtab;
 use goblin::strtab::{bytes_in_range, is_piece, piece_len, short_piece_len, starts_piece};
@@ -27,6 +26,31 @@ pub fn string_table_bytes<'a>(bytes: &'a [u8], range: &GoblinRange) -> Result<&'
         ParseMode::Strict,
     );
     refused_at(range.offset, strings)
+}
+
+/// Stores the range in the file of the string at an offset of a string table, which need not be UTF-8.
+#[unsafe(no_mangle)]
+pub extern "C" fn goblin_string(
+    file: &GoblinFile<'_>,
+    strings: &GoblinRange,
+    offset: u64,
+    string: &mut GoblinRange,
+    why: &mut GoblinRefusal,
+) -> u32
+    ensures { Stores (string_expected file.now.bytes.now strings.now offset)
+        string.old why.old result string.new why.new }
+{
+    let start = offset as usize;
+    let found = string_table_bytes(file.bytes, strings).map(|table| {
+        if start >= table.len() {
+            return None;
+        }
+        Some(GoblinRange {
+            offset: strings.offset + offset,
+            size: piece_len(table, start, 0) as u64,
+        })
+    });
+    store(found, string, why)
 }
 
 /// Returns the range in the file of the string at an offset of a string table.

@@ -1,7 +1,11 @@
 //! Each export on a small little endian file of the 32-bit class. It consists of its header, the strings
 //! "" and "f", two symbols, and three section headers: the null one, the strings' and the symbols'.
+use crate::header::{GoblinFile, GoblinHeader};
 use crate::layout::marked_layout;
-use crate::types::{GoblinFile, GoblinHeader, GoblinNote, GoblinRange, GoblinRefusal, GoblinReloc};
+use crate::notes::GoblinNote;
+use crate::numbers::GoblinRange;
+use crate::relocs::GoblinReloc;
+use crate::results::GoblinRefusal;
 use crate::*;
 
 mod bytes;

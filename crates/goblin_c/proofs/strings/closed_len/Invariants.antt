@@ -1,4 +1,4 @@
-use Rattle.goblin_c.proofs.Common.{◌≡◌, ◌≤◌, ℕ, length, take}
+use Rattle.goblin_c.proofs.Common.{◌≡◌, ◌≤◌, length, take}
 use Rattle.goblin_c.proofs.strings.closed_len.Given as goal
 use Rattle.goblin_c.specs.Bytes.{closed_len}
 

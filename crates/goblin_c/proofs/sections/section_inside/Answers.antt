@@ -1,0 +1,13 @@
+-- The record that was found is the expected section header (`section_is`).
+use Rattle.goblin_c.proofs.InsideLemmas.{section_is}
+use Rattle.goblin_c.proofs.sections.section_inside.Goals as goal
+use Rattle.goblin_c.proofs.Common.{Ok, Some, sym, ap, ◌∙◌}
+
+pub returns : goal.returns
+returns c =
+    let found = c.in_ok-found in
+    section_is c.args.bytes.now c.args.header.now c.args.index found.found c.if-header-eq0.false
+    (rw (c.from.ensures, c.size.ensures, c.ctx_of-ctx.ensures) at found.ensures.file)
+    (rw (c.from.ensures, c.size.ensures, c.ctx_of-ctx.ensures) at found.ensures.index)
+    (rw c.ctx_of-ctx.ensures at found.ensures.value)
+    ∙ ap (λ s. Ok (Some s)) (sym c.convert_section.ensures)

@@ -1,0 +1,343 @@
+//! Symbols: one, many, how many, by name or address, and how one is put.
+ghost use Rattle.goblin_c.specs.Expected.{ctx_of, found_item, is_named, symbol_by_address_expected, symbol_by_name_expected, symbol_count_expected, symbol_expected, symbols_expected, symbols_from_expected};
+ghost use Rattle.goblin_c.specs.Refused.{Returns};
+ghost use Rattle.goblin_c.specs.Status.{Fills, Stores, StoresBoth};
+ghost use Rattle.goblin_c.specs.Types.{symbol_converted};
+ghost use Rattle.goblin_c.specs.Write.{Puts, SymbolFits, symbol_misfit, symbol_of, symbol_put_expected};
+ghost use Rattle.std.specs.Prelude.{IfSome, Ok, Some, drop, map, position, ◌+◌, ◌-◌, ◌<◌, ◌^◌, ◌≡◌};
+
+use crate::header::{GoblinFile, GoblinHeader, ctx_of};
+use crate::items::{Listed, count_of, is_usual, item_at, record_in, store_from};
+use crate::misfit::{Misfit, first_misfit};
+use crate::numbers::{GoblinRange, fits};
+use crate::puts::put_found;
+use crate::results::{GoblinRefusal, OK, Result, refused_at, store, store_both};
+use crate::sections::sections_of;
+use crate::strings::string_table_bytes;
+use goblin::container::{Container, Ctx, Endian};
+use goblin::elf::sym::{Sym, Symtab};
+use goblin::options::ParseOptions;
+use goblin::strtab::is_piece;
+
+/// A symbol.
+#[repr(C)]
+#[derive(Clone, Copy, Debug)]
+pub struct GoblinSymbol {
+    pub st_name: u32,
+    pub st_info: u8,
+    pub st_other: u8,
+    pub st_shndx: u16,
+    pub st_value: u64,
+    pub st_size: u64,
+}
+
+// Converts a symbol for C. The name and the section of one that was read fit their fields.
+pub(crate) fn convert_symbol(s: &Sym) -> GoblinSymbol
+    ensures { result ≡ symbol_converted s.now }
+{
+    GoblinSymbol {
+        st_name: (s.st_name % 0x1_0000_0000) as u32,
+        st_info: s.st_info,
+        st_other: s.st_other,
+        st_shndx: (s.st_shndx % 0x1_0000) as u16,
+        st_value: s.st_value,
+        st_size: s.st_size,
+    }
+}
+
+// Returns the symbol from C.
+pub(crate) fn symbol_of(own: &GoblinSymbol) -> Sym
+    ensures { result ≡ symbol_of own.now }
+{
+    Sym {
+        st_name: own.st_name as usize,
+        st_info: own.st_info,
+        st_other: own.st_other,
+        st_shndx: own.st_shndx as usize,
+        st_value: own.st_value,
+        st_size: own.st_size,
+    }
+}
+
+/// Returns the symbols of a range, without a last one that is cut.
+pub fn symbols_of<'a>(
+    bytes: &'a [u8],
+    header: &GoblinHeader,
+    range: &GoblinRange,
+) -> Result<Symtab<'a>>
+    ensures { Returns (λ table. table.symbols) result (symbols_expected bytes.now header.now range.now) }
+{
+    let (offset, size) = (range.offset as usize, range.size as usize);
+    let table = Symtab::in_range(bytes, offset, size, ctx_of(header), &ParseOptions::strict());
+    refused_at(range.offset, table)
+}
+
+impl Listed for Symtab<'_> {
+    type Converted = GoblinSymbol;
+
+    ghost listed = { λ table. map symbol_converted table.symbols };
+
+    fn count(&self) -> usize {
+        self.len()
+    }
+
+    fn converted(&self, index: usize) -> Option<GoblinSymbol> {
+        Some(convert_symbol(&self.get(index)?))
+    }
+}
+
+// Returns the symbol at an index of a range that lies in the file, which has this class and byte order.
+#[inline(always)]
+fn symbol_inside(
+    bytes: &[u8],
+    header: &GoblinHeader,
+    range: &GoblinRange,
+    index: u64,
+    ctx: Ctx,
+) -> Option<Sym>
+    requires { ctx_of header.now ≡ ctx }
+    ensures { IfSome result (λ found. symbol_expected bytes.now header.now range.now index
+        ≡ Ok (Some (symbol_converted found))) }
+{
+    let found: Sym = record_in(bytes, range.offset, range.size, index, ctx)?;
+    Some(found)
+}
+
+// Stores a symbol for C field by field. A struct would be stored with the bytes that pad it.
+#[inline(always)]
+fn store_fields(s: &Sym, symbol: &mut GoblinSymbol)
+    ensures { symbol.new ≡ symbol_converted s.now }
+{
+    symbol.st_name = (s.st_name % 0x1_0000_0000) as u32;
+    symbol.st_info = s.st_info;
+    symbol.st_other = s.st_other;
+    symbol.st_shndx = (s.st_shndx % 0x1_0000) as u16;
+    symbol.st_value = s.st_value;
+    symbol.st_size = s.st_size;
+}
+
+/// Stores the symbol at an index of the table that lies in a range.
+#[unsafe(no_mangle)]
+pub extern "C" fn goblin_symbol(
+    file: &GoblinFile<'_>,
+    range: &GoblinRange,
+    index: u64,
+    symbol: &mut GoblinSymbol,
+    why: &mut GoblinRefusal,
+) -> u32
+    ensures { Stores (symbol_expected file.now.bytes.now file.now.header range.now index)
+        symbol.old why.old result symbol.new why.new }
+{
+    if is_usual(&file.header) {
+        let usual = Ctx::new(Container::Big, Endian::Little);
+        if let Some(found) = symbol_inside(file.bytes, &file.header, range, index, usual) {
+            store_fields(&found, symbol);
+            return OK;
+        }
+    }
+    store_other_symbol(file, range, index, symbol, why)
+}
+
+// Does the same for files of each class and byte order.
+#[inline(never)]
+fn store_other_symbol(
+    file: &GoblinFile<'_>,
+    range: &GoblinRange,
+    index: u64,
+    symbol: &mut GoblinSymbol,
+    why: &mut GoblinRefusal,
+) -> u32
+    ensures { Stores (symbol_expected file.now.bytes.now file.now.header range.now index)
+        symbol.old why.old result symbol.new why.new }
+{
+    let ctx = ctx_of(&file.header);
+    if let Some(found) = symbol_inside(file.bytes, &file.header, range, index, ctx) {
+        store_fields(&found, symbol);
+        return OK;
+    }
+    store_any_symbol(file, range, index, symbol, why)
+}
+
+// Does the same for any range.
+#[cold]
+#[inline(never)]
+fn store_any_symbol(
+    file: &GoblinFile<'_>,
+    range: &GoblinRange,
+    index: u64,
+    symbol: &mut GoblinSymbol,
+    why: &mut GoblinRefusal,
+) -> u32
+    ensures { Stores (symbol_expected file.now.bytes.now file.now.header range.now index)
+        symbol.old why.old result symbol.new why.new }
+{
+    let list = symbols_of(file.bytes, &file.header, range);
+    store(item_at(list, index), symbol, why)
+}
+
+/// Stores the symbols from an index on, as many as the buffer holds.
+#[unsafe(no_mangle)]
+pub extern "C" fn goblin_symbols(
+    file: &GoblinFile<'_>,
+    table: &GoblinRange,
+    first: u64,
+    symbols: &mut [GoblinSymbol],
+    filled: &mut u64,
+    why: &mut GoblinRefusal,
+) -> u32
+    ensures { Fills (symbols_from_expected file.now.bytes.now file.now.header table.now first)
+        symbols.old filled.old why.old result symbols.new filled.new why.new }
+{
+    let list = symbols_of(file.bytes, &file.header, table);
+    store_from(list, first, symbols, filled, why)
+}
+
+/// Stores the number of symbols in a range, without a last one that is cut.
+#[unsafe(no_mangle)]
+pub extern "C" fn goblin_symbol_count(
+    file: &GoblinFile<'_>,
+    table: &GoblinRange,
+    count: &mut u64,
+    why: &mut GoblinRefusal,
+) -> u32
+    ensures { Stores (symbol_count_expected file.now.bytes.now file.now.header table.now)
+        count.old why.old result count.new why.new }
+{
+    store(
+        count_of(symbols_of(file.bytes, &file.header, table)),
+        count,
+        why,
+    )
+}
+
+// Returns a symbol that was found, and its index.
+fn symbol_at(symbols: &Symtab<'_>, found: Option<usize>) -> Option<(u64, GoblinSymbol)>
+    ensures { result ≡ found_item symbol_converted symbols.now.symbols found }
+{
+    let index = found?;
+    let symbol = symbols.get(index)?;
+    Some((index as u64, convert_symbol(&symbol)))
+}
+
+// Returns the position of the first symbol with a name among those from an index on.
+fn find_symbol(symbols: &Symtab<'_>, strings: &[u8], name: &[u8], first: usize) -> Option<usize>
+    ensures value { let test = is_named strings.now name.now in
+        result ≡ position (λ symbol. test symbol.st_name) (drop first symbols.now.symbols) }
+    ensures bound { IfSome result (λ place. first + place < 2 ^ 64) }
+{
+    symbols
+        .iter()
+        .skip(first)
+        .position(|symbol| is_piece(strings, 0, symbol.st_name, name))
+}
+
+/// Returns the first symbol with a name, from an index on, and its index.
+pub fn symbol_by_name(
+    bytes: &[u8],
+    header: &GoblinHeader,
+    range: &GoblinRange,
+    names: &GoblinRange,
+    name: &[u8],
+    first: u64,
+) -> Result<Option<(u64, GoblinSymbol)>>
+    ensures { Returns (λ found. found) result
+        (symbol_by_name_expected bytes.now header.now range.now names.now name.now first) }
+{
+    let symbols = symbols_of(bytes, header, range)?;
+    let strings = string_table_bytes(bytes, names)?;
+    let first = first as usize;
+    let found = find_symbol(&symbols, strings, name, first).map(|place| first + place);
+    Ok(symbol_at(&symbols, found))
+}
+
+/// Stores the first symbol with a name, from an index on, and its index.
+#[unsafe(no_mangle)]
+pub extern "C" fn goblin_symbol_by_name(
+    file: &GoblinFile<'_>,
+    table: &GoblinRange,
+    names: &GoblinRange,
+    name: &[u8],
+    first: u64,
+    index: &mut u64,
+    symbol: &mut GoblinSymbol,
+    why: &mut GoblinRefusal,
+) -> u32
+    ensures { StoresBoth (symbol_by_name_expected file.now.bytes.now file.now.header table.now names.now name.now first)
+        index.old symbol.old why.old result index.new symbol.new why.new }
+{
+    let found = symbol_by_name(file.bytes, &file.header, table, names, name, first);
+    store_both(found, index, symbol, why)
+}
+
+/// Returns the index of the symbol of an address.
+pub fn symbol_by_address(
+    bytes: &[u8],
+    header: &GoblinHeader,
+    range: &GoblinRange,
+    address: u64,
+) -> Result<Option<u64>>
+    ensures { Returns (λ found. found) result (symbol_by_address_expected bytes.now header.now range.now address) }
+{
+    let symbols = symbols_of(bytes, header, range)?;
+    let sections = sections_of(bytes, header)?;
+    let found = symbols.at(address, &sections, header.e_type);
+    Ok(found.map(|index| index as u64))
+}
+
+/// Stores the index of the symbol of an address: one that contains it, or a label at or below it in a section that
+/// holds it.
+#[unsafe(no_mangle)]
+pub extern "C" fn goblin_symbol_by_address(
+    file: &GoblinFile<'_>,
+    table: &GoblinRange,
+    address: u64,
+    index: &mut u64,
+    why: &mut GoblinRefusal,
+) -> u32
+    ensures { Stores (symbol_by_address_expected file.now.bytes.now file.now.header table.now address)
+        index.old why.old result index.new why.new }
+{
+    store(
+        symbol_by_address(file.bytes, &file.header, table, address),
+        index,
+        why,
+    )
+}
+
+/// Returns the first value of a symbol that doesn't fit its field in the 32-bit class.
+pub fn symbol_misfit(s: &Sym) -> Misfit
+    ensures { result ≡ symbol_misfit s.now }
+{
+    first_misfit(
+        0,
+        &[
+            (4, s.st_name as u64),
+            (4, s.st_value),
+            (4, s.st_size),
+            (1, u64::from(s.st_info)),
+            (1, u64::from(s.st_other)),
+            (2, s.st_shndx as u64),
+        ],
+    )
+}
+
+/// Puts the symbol at an index of the table that lies in a range.
+#[unsafe(no_mangle)]
+pub extern "C" fn goblin_put_symbol(
+    bytes: &mut [u8],
+    header: &GoblinHeader,
+    table: &GoblinRange,
+    index: u64,
+    symbol: &GoblinSymbol,
+    why: &mut GoblinRefusal,
+) -> u32
+    ensures { Puts (SymbolFits header.now symbol.now)
+        (symbol_misfit (symbol_of symbol.now))
+        (symbol_put_expected bytes.old header.now table.now index symbol.now)
+        bytes.old why.old result bytes.new why.new }
+{
+    let found = item_at(symbols_of(bytes, header, table), index);
+    let (ctx, record) = (ctx_of(header), symbol_of(symbol));
+    let unfit = (!record.fits(ctx)).then(|| symbol_misfit(&record));
+    put_found(bytes, found, table.offset, index, record, ctx, unfit, why)
+}
