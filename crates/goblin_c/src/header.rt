@@ -28,6 +28,19 @@ pub struct GoblinFile<'a> {
     pub header: GoblinHeader,
 }
 
+impl<'a> GoblinFile<'a> {
+    /// Returns the file with these bytes and this header.
+    pub fn of(bytes: &'a [u8], header: &GoblinHeader) -> Self
+        ensures bytes { result.bytes.now ≡ bytes.now }
+        ensures header { result.header ≡ header.now }
+    {
+        Self {
+            bytes,
+            header: *header,
+        }
+    }
+}
+
 /// A file's header.
 #[repr(C)]
 #[derive(Clone, Copy, Debug)]
@@ -109,30 +122,33 @@ pub(crate) fn header_of(bytes: &[u8], own: &GoblinHeader) -> Header
 }
 
 impl GoblinHeader {
+    /// Returns the class and the byte order.
+    pub fn ctx(&self) -> Ctx
+        ensures { result ≡ ctx_of self.now }
+    {
+        let is_64 = self.ei_class == ELFCLASS64;
+        let is_big_endian = self.ei_data == ELFDATA2MSB;
+        Ctx::new(
+            if is_64 {
+                Container::Big
+            } else {
+                Container::Little
+            },
+            if is_big_endian {
+                Endian::Big
+            } else {
+                Endian::Little
+            },
+        )
+    }
+
     /// Returns the index of the section that holds the section names, if this is the first section.
-    pub(crate) fn names_index(&self, first: Option<&SectionHeader>) -> usize
+    pub fn names_index(&self, first: Option<&SectionHeader>) -> usize
         ensures value { let seen = option_map (λ section. section.now) first.entry in
             result ≡ names_index_of self.now seen }
     {
         SectionHeader::names_index(self.e_shstrndx, first)
     }
-}
-
-/// Returns the class and the byte order of a header.
-pub fn ctx_of(header: &GoblinHeader) -> Ctx
-    ensures { result ≡ ctx_of header.now }
-{
-    let container = if header.ei_class == ELFCLASS64 {
-        Container::Big
-    } else {
-        Container::Little
-    };
-    let order = if header.ei_data == ELFDATA2MSB {
-        Endian::Big
-    } else {
-        Endian::Little
-    };
-    Ctx::new(container, order)
 }
 
 /// Stores a file: its bytes, and the header at their start.
@@ -163,7 +179,7 @@ pub extern "C" fn goblin_whole_header<'a>(file: &GoblinFile<'a>, whole: &mut Gob
     ensures bytes { whole.new.bytes.now ≡ file.now.bytes.now }
 {
     let (bytes, header) = (file.bytes, &file.header);
-    let ctx = ctx_of(header);
+    let ctx = header.ctx();
     let (start, offset) = (header.e_shoff as usize, header.e_phoff as usize);
     let sections = SectionHeader::whole_part(bytes, start, header.e_shnum, ctx);
     whole.header = GoblinHeader {

@@ -8,7 +8,7 @@ ghost use Rattle.goblin_c.specs.Refused.{Returns};
 ghost use Rattle.goblin_c.specs.Status.{Fills, converted_list};
 ghost use Rattle.std.specs.Prelude.{IfSome, IsTrue, List, drop, length, min, slice_get, take, ◌*◌, ◌+◌, ◌-◌, ◌<◌, ◌^◌, ◌≡◌, ◌≤◌};
 
-use crate::header::{GoblinHeader, ctx_of};
+use crate::header::GoblinHeader;
 use crate::results::{END, GoblinRefusal, OK, Result, refuse};
 use goblin::elf::header::{ELFCLASS64, ELFDATA2MSB};
 use goblin_base::laid_out::LaidOut;

@@ -150,10 +150,7 @@ fn marked_range(mark: u8) -> GoblinRange
     requires { mark < 2 ^ 7 }
     ensures { result ≡ range_marked mark }
 {
-    GoblinRange {
-        offset: wide(mark),
-        size: wide(mark + 1),
-    }
+    GoblinRange::new(wide(mark), wide(mark + 1))
 }
 
 // Returns the number of eight bytes, each of which is a mark.

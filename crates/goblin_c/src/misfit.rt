@@ -4,7 +4,6 @@ ghost use Rattle.goblin_c.specs.Bytes.{is_width};
 ghost use Rattle.goblin_c.specs.Write.{NumberFits, misfit_from, unfit};
 ghost use Rattle.std.specs.Prelude.{All, IsTrue, length, map, ◌*◌, ◌+◌, ◌<◌, ◌^◌, ◌↔◌, ◌≡◌, ◌≤◌};
 
-use crate::numbers::number;
 use crate::results::GoblinRefusal;
 use goblin_base::texts::Kind;
 

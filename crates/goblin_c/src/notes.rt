@@ -10,7 +10,7 @@ ghost use Rattle.goblin_c.specs.Types.{note_converted};
 ghost use Rattle.std.specs.Prelude.{IfOk, IfSome, IsAscii, IsTrue, Ok, Some, length, take, ◌+◌, ◌-◌, ◌<◌, ◌^◌, ◌≡◌, ◌≤◌, ◌⊎◌};
 ghost use Rattle.std.specs.Str.{IsAscii};
 
-use crate::header::{GoblinFile, GoblinHeader, ctx_of};
+use crate::header::{GoblinFile, GoblinHeader};
 use crate::numbers::{GoblinRange, fits};
 use crate::results::{
     END, GoblinRefusal, NOTE_DESC, NOTE_HEADER, NOTE_NAME, OK, Refused, Result, refuse, refused_at,
@@ -46,14 +46,8 @@ pub(crate) fn convert_note(offset: u64, places: &NotePlaces) -> GoblinNote
     ensures { result ≡ note_converted offset places.now }
 {
     GoblinNote {
-        name: GoblinRange {
-            offset: offset + places.name as u64,
-            size: places.name_size as u64,
-        },
-        desc: GoblinRange {
-            offset: offset + places.desc as u64,
-            size: places.desc_size as u64,
-        },
+        name: GoblinRange::new(offset + places.name as u64, places.name_size as u64),
+        desc: GoblinRange::new(offset + places.desc as u64, places.desc_size as u64),
         next: offset + places.next as u64,
         n_type: places.n_type,
     }
@@ -122,7 +116,7 @@ fn store_any_note(
     if offset >= range.offset && offset - range.offset >= range.size {
         return END;
     }
-    let ctx = ctx_of(&file.header);
+    let ctx = file.header.ctx();
     let found = parts_at(file.bytes, offset as usize, alignment as usize, ctx);
     let found = refused_at(offset, found).map(|places| Some(convert_note(offset, &places)));
     store(found, note, why)
@@ -164,7 +158,7 @@ fn store_any_text_note(
     if offset >= range.offset && offset - range.offset >= range.size {
         return END;
     }
-    let ctx = (alignment as usize, ctx_of(&file.header));
+    let ctx = (alignment as usize, file.header.ctx());
     let found = refused_at(offset, Note::at(file.bytes, offset as usize, ctx));
     let found = found.map(|(_, places)| Some(convert_note(offset, &places)));
     store(found, note, why)
@@ -250,7 +244,7 @@ pub extern "C" fn goblin_note_whole(
         return END;
     }
     let part = bytes_from(file.bytes, range, offset);
-    match NotePlaces::whole(part, (alignment as usize, ctx_of(&file.header))) {
+    match NotePlaces::whole(part, (alignment as usize, file.header.ctx())) {
         Ok(places) => {
             *note = convert_note(offset, &without_last(&places));
             OK

@@ -10,10 +10,11 @@ ghost use Rattle.goblin_c.specs.Status.{Stores};
 ghost use Rattle.goblin_c.specs.Write.{NumberFits, Puts, number_in_put_expected, number_misfit, number_put_expected};
 ghost use Rattle.std.specs.Prelude.{IsOk, IsTrue, length, min, ◌+◌, ◌-◌, ◌^◌, ◌≡◌, ◌≤◌};
 
-use crate::header::{GoblinFile, GoblinHeader, ctx_of};
+use crate::header::{GoblinFile, GoblinHeader};
 use crate::misfit::{Misfit, is_width, number_fits};
 use crate::results::{END, GoblinRefusal, OK, Refused, Result, refuse, refused_at, store};
 use goblin::container::Endian;
+use goblin::error::Error;
 use goblin_base::number::{get_u8, get_u16, get_u32, get_u64, put_u8, put_u16, put_u32, put_u64};
 use goblin_base::room::room;
 
@@ -27,19 +28,25 @@ pub struct GoblinRange {
     pub size: u64,
 }
 
+impl GoblinRange {
+    /// Returns a range of so many bytes from an offset on.
+    pub fn new(offset: u64, size: u64) -> Self
+        ensures { result ≡ record { offset = offset; size = size } }
+    {
+        Self { offset, size }
+    }
+}
+
 /// Tests that some bytes lie in the file.
 pub fn fits(bytes: &[u8], offset: u64, size: u64) -> Result<()>
     ensures value { let expected = refuse_as misplaced (room_of (length bytes.now) offset size) in
         Returns (λ found. found) result (refused_at offset expected) }
     ensures fits { IsOk result → offset + size ≤ length bytes.now }
 {
-    match room(bytes.len(), offset as usize, size as usize) {
-        Ok(()) => Ok(()),
-        Err(e) => Err(Refused {
-            error: e.into(),
-            offset,
-        }),
-    }
+    refused_at(
+        offset,
+        room(bytes.len(), offset as usize, size as usize).map_err(Error::Scroll),
+    )
 }
 
 // Returns a range that lies in the file.
@@ -62,19 +69,19 @@ pub extern "C" fn goblin_range_in_file(
     let len = file.bytes.len() as u64;
     let offset = range.offset.min(len);
     let size = range.size.min(len - offset);
-    *part = GoblinRange { offset, size };
+    *part = GoblinRange::new(offset, size);
 }
 
-/// Returns the number of some width in bytes at an offset, in the file's byte order.
-pub fn number(bytes: &[u8], header: &GoblinHeader, offset: u64, width: u64) -> Result<Option<u64>>
-    ensures { Returns (λ found. found) result (number_expected bytes.now header.now offset width) }
+// Returns the number of some width in bytes at an offset, in the file's byte order.
+fn number(file: &GoblinFile<'_>, offset: u64, width: u64) -> Result<Option<u64>>
+    ensures { Returns (λ found. found) result (number_expected file.now.bytes.now file.now.header offset width) }
 {
     if !is_width(width) {
         return Ok(None);
     }
+    let (bytes, order) = (file.bytes, file.header.ctx().le);
     fits(bytes, offset, width)?;
     let place = offset as usize;
-    let order = ctx_of(header).le;
     Ok(Some(match width {
         1 => u64::from(get_u8(bytes, place)),
         2 => u64::from(get_u16(bytes, place, order)),
@@ -95,7 +102,7 @@ pub extern "C" fn goblin_number(
     ensures { Stores (number_expected file.now.bytes.now file.now.header offset width)
         value.old why.old result value.new why.new }
 {
-    store(number(file.bytes, &file.header, offset, width), value, why)
+    store(number(file, offset, width), value, why)
 }
 
 // Tests that some bytes at an offset in a range lie in it. A refusal begins at their offset in the file; one past
@@ -115,22 +122,22 @@ fn fits_in(range: &GoblinRange, offset: u64, width: u64) -> Result<()>
     }
 }
 
-/// Returns the number of some width in bytes at an offset in a range, in the file's byte order.
-pub fn number_in(
-    bytes: &[u8],
-    header: &GoblinHeader,
+// Returns the number of some width in bytes at an offset in a range, in the file's byte order.
+fn number_in(
+    file: &GoblinFile<'_>,
     range: &GoblinRange,
     offset: u64,
     width: u64,
 ) -> Result<Option<u64>>
-    ensures { Returns (λ found. found) result (number_in_expected bytes.now header.now range.now offset width) }
+    ensures { Returns (λ found. found) result
+        (number_in_expected file.now.bytes.now file.now.header range.now offset width) }
 {
     if !is_width(width) {
         return Ok(None);
     }
-    fits(bytes, range.offset, range.size)?;
+    fits(file.bytes, range.offset, range.size)?;
     fits_in(range, offset, width)?;
-    number(bytes, header, range.offset + offset, width)
+    number(file, range.offset + offset, width)
 }
 
 /// Stores the number of 1, 2, 4 or 8 bytes at an offset in a range, in the file's byte order.
@@ -146,11 +153,7 @@ pub extern "C" fn goblin_number_in(
     ensures { Stores (number_in_expected file.now.bytes.now file.now.header range.now offset width)
         value.old why.old result value.new why.new }
 {
-    store(
-        number_in(file.bytes, &file.header, range, offset, width),
-        value,
-        why,
-    )
+    store(number_in(file, range, offset, width), value, why)
 }
 
 // Returns a number as a value that doesn't fit where it begins.
@@ -192,12 +195,12 @@ pub extern "C" fn goblin_put_number(
     ensures { Puts (NumberFits width value) (number_misfit value)
         (number_put_expected bytes.old header.now offset width value) bytes.old why.old result bytes.new why.new }
 {
-    match number(bytes, header, offset, width) {
+    match number(&GoblinFile::of(bytes, header), offset, width) {
         Ok(Some(_)) => {
             if !number_fits(width, value) {
                 return unfit_number(value).refuse_at(offset, why);
             }
-            put_width(bytes, offset as usize, width, value, ctx_of(header).le);
+            put_width(bytes, offset as usize, width, value, header.ctx().le);
             OK
         }
         Ok(None) => END,
@@ -220,7 +223,7 @@ pub extern "C" fn goblin_put_number_in(
         (number_in_put_expected bytes.old header.now range.now offset width value)
         bytes.old why.old result bytes.new why.new }
 {
-    match number_in(bytes, header, range, offset, width) {
+    match number_in(&GoblinFile::of(bytes, header), range, offset, width) {
         Ok(Some(_)) => {
             let place = range.offset + offset;
             goblin_put_number(bytes, header, place, width, value, why)

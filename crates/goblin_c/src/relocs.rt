@@ -7,7 +7,7 @@ ghost use Rattle.goblin_c.specs.Types.{reloc_converted};
 ghost use Rattle.goblin_c.specs.Write.{Puts, RelocFits, reloc_ctx, reloc_misfit, reloc_of, reloc_put_expected};
 ghost use Rattle.std.specs.Prelude.{IfSome, IsTrue, Ok, Some, false, map, pos, ◌-◌, ◌↔◌, ◌≡◌};
 
-use crate::header::{GoblinFile, GoblinHeader, ctx_of};
+use crate::header::{GoblinFile, GoblinHeader};
 use crate::items::{Listed, count_of, is_usual, item_at, record_in, store_from};
 use crate::misfit::Misfit;
 use crate::numbers::{GoblinRange, fits};
@@ -56,7 +56,7 @@ pub(crate) fn reloc_of(own: &GoblinReloc, is_rela: bool) -> Reloc
 fn reloc_ctx(header: &GoblinHeader, is_rela: bool) -> RelocCtx
     ensures { result ≡ reloc_ctx header.now is_rela }
 {
-    let ctx = ctx_of(header);
+    let ctx = header.ctx();
     let is_mips64el = is_mips64el_in(header.e_machine, ctx);
     RelocCtx {
         is_rela,
@@ -65,25 +65,18 @@ fn reloc_ctx(header: &GoblinHeader, is_rela: bool) -> RelocCtx
     }
 }
 
-/// Returns the relocations of a range.
-pub fn relocs_of<'a>(
-    bytes: &'a [u8],
-    header: &GoblinHeader,
-    range: &GoblinRange,
-    is_rela: bool,
-) -> Result<RelocSection<'a>>
-    ensures { Returns (λ relocs. relocs) result (relocs_expected bytes.now header.now range.now is_rela) }
-{
-    let ctx = ctx_of(header);
-    let relocs = RelocSection::parse_inner(
-        bytes,
-        range.offset as usize,
-        range.size as usize,
-        is_rela,
-        ctx,
-        is_mips64el_in(header.e_machine, ctx),
-    );
-    refused_at(range.offset, relocs)
+impl<'a> GoblinFile<'a> {
+    /// Returns the relocations of a range.
+    pub fn relocs(&self, range: &GoblinRange, is_rela: bool) -> Result<RelocSection<'a>>
+        ensures { Returns (λ relocs. relocs) result
+            (relocs_expected self.now.bytes.now self.now.header range.now is_rela) }
+    {
+        let (offset, size) = (range.offset as usize, range.size as usize);
+        let ctx = self.header.ctx();
+        let is_mips64el = is_mips64el_in(self.header.e_machine, ctx);
+        let relocs = RelocSection::parse_inner(self.bytes, offset, size, is_rela, ctx, is_mips64el);
+        refused_at(range.offset, relocs)
+    }
 }
 
 impl Listed for RelocSection<'_> {
@@ -163,7 +156,7 @@ fn store_other_reloc(
     ensures { Stores (reloc_expected file.now.bytes.now file.now.header range.now is_rela index)
         reloc.old why.old result reloc.new why.new }
 {
-    let ctx = ctx_of(&file.header);
+    let ctx = file.header.ctx();
     if let Some(found) = reloc_inside(file.bytes, &file.header, range, is_rela, index, ctx) {
         *reloc = found;
         return OK;
@@ -185,7 +178,7 @@ fn store_any_reloc(
     ensures { Stores (reloc_expected file.now.bytes.now file.now.header range.now is_rela index)
         reloc.old why.old result reloc.new why.new }
 {
-    let list = relocs_of(file.bytes, &file.header, range, is_rela);
+    let list = file.relocs(range, is_rela);
     store(item_at(list, index), reloc, why)
 }
 
@@ -203,7 +196,7 @@ pub extern "C" fn goblin_relocs(
     ensures { Fills (relocs_from_expected file.now.bytes.now file.now.header relocs.now is_rela first)
         items.old filled.old why.old result items.new filled.new why.new }
 {
-    let list = relocs_of(file.bytes, &file.header, relocs, is_rela);
+    let list = file.relocs(relocs, is_rela);
     store_from(list, first, items, filled, why)
 }
 
@@ -219,7 +212,7 @@ pub extern "C" fn goblin_reloc_count(
     ensures { Stores (reloc_count_expected file.now.bytes.now file.now.header relocs.now is_rela)
         count.old why.old result count.new why.new }
 {
-    let found = count_of(relocs_of(file.bytes, &file.header, relocs, is_rela));
+    let found = count_of(file.relocs(relocs, is_rela));
     store(found, count, why)
 }
 
@@ -273,7 +266,7 @@ pub extern "C" fn goblin_put_reloc(
         (reloc_put_expected bytes.old header.now table.now is_rela index reloc.now)
         bytes.old why.old result bytes.new why.new }
 {
-    let found = item_at(relocs_of(bytes, header, table, is_rela), index);
+    let found = item_at(GoblinFile::of(bytes, header).relocs(table, is_rela), index);
     let (ctx, record) = (reloc_ctx(header, is_rela), reloc_of(reloc, is_rela));
     let fits = record.fits(ctx) && has_field(reloc, is_rela);
     let unfit = (!fits).then(|| reloc_misfit(reloc, is_rela, ctx.ctx.container));

@@ -5,7 +5,6 @@ ghost use Rattle.goblin_c.specs.Status.{Stores, StoresBoth};
 ghost use Rattle.goblin_c.specs.Types.{item_number, refusal_converted};
 ghost use Rattle.std.specs.Prelude.{[], ◌∷◌, ◌≡◌};
 
-use crate::numbers::number;
 use goblin::error::Error;
 use std::result;
 

@@ -7,13 +7,12 @@ ghost use Rattle.goblin_c.specs.Types.{section_converted};
 ghost use Rattle.goblin_c.specs.Write.{Puts, SectionFits, section_misfit, section_of, section_put_expected};
 ghost use Rattle.std.specs.Prelude.{IfSome, Ok, Some, drop, map, position, ◌+◌, ◌-◌, ◌<◌, ◌^◌, ◌≡◌};
 
-use crate::header::{GoblinFile, GoblinHeader, ctx_of};
+use crate::header::{GoblinFile, GoblinHeader};
 use crate::items::{Listed, count_of, item_at, record_in, store_from};
 use crate::misfit::{Misfit, first_misfit};
 use crate::numbers::{GoblinRange, fits, range_in};
 use crate::puts::put_found;
 use crate::results::{END, GoblinRefusal, OK, Result, refused_at, store, store_both};
-use crate::strings::string_table_bytes;
 use goblin::container::Ctx;
 use goblin::elf::section_header::{SHT_NOBITS, SHT_NULL, SectionHeader};
 use goblin::strtab::is_piece;
@@ -44,10 +43,7 @@ pub(crate) fn convert_section(s: &SectionHeader) -> GoblinSection
         sh_type: s.sh_type,
         sh_flags: s.sh_flags,
         sh_addr: s.sh_addr,
-        file: GoblinRange {
-            offset: s.sh_offset,
-            size: s.sh_size,
-        },
+        file: GoblinRange::new(s.sh_offset, s.sh_size),
         sh_link: s.sh_link,
         sh_info: s.sh_info,
         sh_addralign: s.sh_addralign,
@@ -73,17 +69,17 @@ pub(crate) fn section_of(own: &GoblinSection) -> SectionHeader
     }
 }
 
-/// Returns the section headers.
-#[inline(always)]
-pub fn sections_of<'a>(
-    bytes: &'a [u8],
-    header: &GoblinHeader,
-) -> Result<Table<'a, SectionHeader, Ctx>>
-    ensures { Returns (λ table. table) result (sections_expected bytes.now header.now) }
-{
-    let count = usize::from(header.e_shnum);
-    let table = SectionHeader::table(bytes, header.e_shoff as usize, count, ctx_of(header));
-    refused_at(header.e_shoff, table)
+impl<'a> GoblinFile<'a> {
+    /// Returns the section headers.
+    #[inline(always)]
+    pub fn sections(&self) -> Result<Table<'a, SectionHeader, Ctx>>
+        ensures { Returns (λ table. table) result (sections_expected self.now.bytes.now self.now.header) }
+    {
+        let header = &self.header;
+        let count = usize::from(header.e_shnum);
+        let table = SectionHeader::table(self.bytes, header.e_shoff as usize, count, header.ctx());
+        refused_at(header.e_shoff, table)
+    }
 }
 
 impl Listed for Table<'_, SectionHeader, Ctx> {
@@ -103,15 +99,17 @@ impl Listed for Table<'_, SectionHeader, Ctx> {
 
 // Returns the section header at an index of a list that lies in the file and whose number the header states.
 #[inline(always)]
-fn section_inside(bytes: &[u8], header: &GoblinHeader, index: u64) -> Option<GoblinSection>
-    ensures { IfSome result (λ found. section_expected bytes.now header.now index ≡ Ok (Some found)) }
+fn section_inside(file: &GoblinFile<'_>, index: u64) -> Option<GoblinSection>
+    ensures { IfSome result (λ found.
+        section_expected file.now.bytes.now file.now.header index ≡ Ok (Some found)) }
 {
+    let header = &file.header;
     if header.e_shoff == 0 {
         return None;
     }
-    let ctx = ctx_of(header);
+    let ctx = header.ctx();
     let size = u64::from(header.e_shnum) * SectionHeader::size(ctx) as u64;
-    let found: SectionHeader = record_in(bytes, header.e_shoff, size, index, ctx)?;
+    let found: SectionHeader = record_in(file.bytes, header.e_shoff, size, index, ctx)?;
     Some(convert_section(&found))
 }
 
@@ -126,7 +124,7 @@ pub extern "C" fn goblin_section(
     ensures { Stores (section_expected file.now.bytes.now file.now.header index)
         section.old why.old result section.new why.new }
 {
-    if let Some(found) = section_inside(file.bytes, &file.header, index) {
+    if let Some(found) = section_inside(file, index) {
         *section = found;
         return OK;
     }
@@ -145,11 +143,7 @@ fn store_any_section(
     ensures { Stores (section_expected file.now.bytes.now file.now.header index)
         section.old why.old result section.new why.new }
 {
-    store(
-        item_at(sections_of(file.bytes, &file.header), index),
-        section,
-        why,
-    )
+    store(item_at(file.sections(), index), section, why)
 }
 
 /// Stores the section headers from an index on, as many as the buffer holds.
@@ -164,7 +158,7 @@ pub extern "C" fn goblin_sections(
     ensures { Fills (sections_from_expected file.now.bytes.now file.now.header first)
         sections.old filled.old why.old result sections.new filled.new why.new }
 {
-    let list = sections_of(file.bytes, &file.header);
+    let list = file.sections();
     store_from(list, first, sections, filled, why)
 }
 
@@ -178,7 +172,7 @@ pub extern "C" fn goblin_section_count(
     ensures { Stores (section_count_expected file.now.bytes.now file.now.header)
         count.old why.old result count.new why.new }
 {
-    store(count_of(sections_of(file.bytes, &file.header)), count, why)
+    store(count_of(file.sections()), count, why)
 }
 
 /// Stores the range of a section's bytes in the file.
@@ -247,7 +241,7 @@ pub extern "C" fn goblin_section_by_type(
         index.old section.old why.old result index.new section.new why.new }
 {
     let first = first as usize;
-    let found = sections_of(file.bytes, &file.header).map(|sections| {
+    let found = file.sections().map(|sections| {
         let found = find_section(&sections, Some(sh_type), &[], &[], first);
         let found = found.map(|place| first + place);
         section_at(&sections, found)
@@ -255,22 +249,21 @@ pub extern "C" fn goblin_section_by_type(
     store_both(found, index, section, why)
 }
 
-/// Returns the first section with a name, from an index on, and its index.
-pub fn section_by_name(
-    bytes: &[u8],
-    header: &GoblinHeader,
+// Returns the first section with a name, from an index on, and its index.
+fn section_by_name(
+    file: &GoblinFile<'_>,
     names: &GoblinRange,
     name: &[u8],
     first: u64,
 ) -> Result<Option<(u64, GoblinSection)>>
-    ensures { Returns (λ found. found) result (section_by_name_expected bytes.now header.now names.now name.now first) }
+    ensures { Returns (λ found. found) result
+        (section_by_name_expected file.now.bytes.now file.now.header names.now name.now first) }
 {
-    let sections = sections_of(bytes, header)?;
-    let strings = string_table_bytes(bytes, names)?;
+    let sections = file.sections()?;
+    let strings = file.strings(names)?;
     let first = first as usize;
     let found = find_section(&sections, None, strings, name, first);
-    let found = found.map(|place| first + place);
-    Ok(section_at(&sections, found))
+    Ok(section_at(&sections, found.map(|place| first + place)))
 }
 
 /// Stores the first section with a name, from an index on, and its index.
@@ -287,7 +280,7 @@ pub extern "C" fn goblin_section_by_name(
     ensures { StoresBoth (section_by_name_expected file.now.bytes.now file.now.header names.now name.now first)
         index.old section.old why.old result index.new section.new why.new }
 {
-    let found = section_by_name(file.bytes, &file.header, names, name, first);
+    let found = section_by_name(file, names, name, first);
     store_both(found, index, section, why)
 }
 
@@ -310,7 +303,7 @@ pub extern "C" fn goblin_linked_section(
     ensures { Stores (table_expected file.now.bytes.now file.now.header index)
         section.old why.old result section.new why.new }
 {
-    let sections = sections_of(file.bytes, &file.header);
+    let sections = file.sections();
     let found = sections.map(|sections| converted_table(&sections, index as usize));
     store(found, section, why)
 }
@@ -326,7 +319,7 @@ pub extern "C" fn goblin_names_section(
         section.old why.old result section.new why.new }
 {
     let header = &file.header;
-    let found = sections_of(file.bytes, header).map(|sections| {
+    let found = file.sections().map(|sections| {
         let index = header.names_index(sections.get(0).as_ref());
         converted_table(&sections, index)
     });
@@ -367,8 +360,8 @@ pub extern "C" fn goblin_put_section(
         (section_misfit (section_of section.now))
         (section_put_expected bytes.old header.now index section.now) bytes.old why.old result bytes.new why.new }
 {
-    let found = item_at(sections_of(bytes, header), index);
-    let (ctx, record) = (ctx_of(header), section_of(section));
+    let found = item_at(GoblinFile::of(bytes, header).sections(), index);
+    let (ctx, record) = (header.ctx(), section_of(section));
     let unfit = (!record.fits(ctx)).then(|| section_misfit(&record));
     put_found(bytes, found, header.e_shoff, index, record, ctx, unfit, why)
 }

@@ -8,7 +8,7 @@ ghost use Rattle.goblin_c.specs.Types.{segment_converted};
 ghost use Rattle.goblin_c.specs.Write.{Puts, SegmentFits, segment_misfit, segment_of, segment_put_expected};
 ghost use Rattle.std.specs.Prelude.{IfSome, Ok, Some, map, ◌-◌, ◌≡◌};
 
-use crate::header::{GoblinFile, GoblinHeader, ctx_of};
+use crate::header::{GoblinFile, GoblinHeader};
 use crate::items::{Listed, count_of, item_at, record_in, store_from};
 use crate::misfit::{Misfit, first_misfit};
 use crate::numbers::{GoblinRange, fits, range_in};
@@ -40,10 +40,7 @@ pub(crate) fn convert_segment(s: &ProgramHeader) -> GoblinSegment
     GoblinSegment {
         p_type: s.p_type,
         p_flags: s.p_flags,
-        file: GoblinRange {
-            offset: s.p_offset,
-            size: s.p_filesz,
-        },
+        file: GoblinRange::new(s.p_offset, s.p_filesz),
         p_vaddr: s.p_vaddr,
         p_paddr: s.p_paddr,
         p_memsz: s.p_memsz,
@@ -67,20 +64,19 @@ pub(crate) fn segment_of(own: &GoblinSegment) -> ProgramHeader
     }
 }
 
-/// Returns the program headers.
-#[inline(always)]
-pub fn segments_of<'a>(
-    bytes: &'a [u8],
-    header: &GoblinHeader,
-) -> Result<Table<'a, ProgramHeader, Ctx>>
-    ensures { Returns (λ table. table) result (segments_expected bytes.now header.now) }
-{
-    let ctx = ctx_of(header);
-    let sections = header.e_shoff;
-    let count = ProgramHeader::count_in(bytes, header.e_phnum, sections as usize, ctx);
-    let count = refused_at(sections, count)?;
-    let table = ProgramHeader::table(bytes, header.e_phoff as usize, count, ctx);
-    refused_at(header.e_phoff, table)
+impl<'a> GoblinFile<'a> {
+    /// Returns the program headers.
+    #[inline(always)]
+    pub fn segments(&self) -> Result<Table<'a, ProgramHeader, Ctx>>
+        ensures { Returns (λ table. table) result (segments_expected self.now.bytes.now self.now.header) }
+    {
+        let (bytes, header) = (self.bytes, &self.header);
+        let (ctx, sections) = (header.ctx(), header.e_shoff);
+        let count = ProgramHeader::count_in(bytes, header.e_phnum, sections as usize, ctx);
+        let count = refused_at(sections, count)?;
+        let table = ProgramHeader::table(bytes, header.e_phoff as usize, count, ctx);
+        refused_at(header.e_phoff, table)
+    }
 }
 
 impl Listed for Table<'_, ProgramHeader, Ctx> {
@@ -100,15 +96,17 @@ impl Listed for Table<'_, ProgramHeader, Ctx> {
 
 // Returns the program header at an index of a list that lies in the file and whose number the header states.
 #[inline(always)]
-fn segment_inside(bytes: &[u8], header: &GoblinHeader, index: u64) -> Option<GoblinSegment>
-    ensures { IfSome result (λ found. segment_expected bytes.now header.now index ≡ Ok (Some found)) }
+fn segment_inside(file: &GoblinFile<'_>, index: u64) -> Option<GoblinSegment>
+    ensures { IfSome result (λ found.
+        segment_expected file.now.bytes.now file.now.header index ≡ Ok (Some found)) }
 {
+    let header = &file.header;
     if header.e_phnum == PN_XNUM {
         return None;
     }
-    let ctx = ctx_of(header);
+    let ctx = header.ctx();
     let size = u64::from(header.e_phnum) * ProgramHeader::size(ctx) as u64;
-    let found: ProgramHeader = record_in(bytes, header.e_phoff, size, index, ctx)?;
+    let found: ProgramHeader = record_in(file.bytes, header.e_phoff, size, index, ctx)?;
     Some(convert_segment(&found))
 }
 
@@ -123,7 +121,7 @@ pub extern "C" fn goblin_segment(
     ensures { Stores (segment_expected file.now.bytes.now file.now.header index)
         segment.old why.old result segment.new why.new }
 {
-    if let Some(found) = segment_inside(file.bytes, &file.header, index) {
+    if let Some(found) = segment_inside(file, index) {
         *segment = found;
         return OK;
     }
@@ -142,11 +140,7 @@ fn store_any_segment(
     ensures { Stores (segment_expected file.now.bytes.now file.now.header index)
         segment.old why.old result segment.new why.new }
 {
-    store(
-        item_at(segments_of(file.bytes, &file.header), index),
-        segment,
-        why,
-    )
+    store(item_at(file.segments(), index), segment, why)
 }
 
 /// Stores the program headers from an index on, as many as the buffer holds.
@@ -161,7 +155,7 @@ pub extern "C" fn goblin_segments(
     ensures { Fills (segments_from_expected file.now.bytes.now file.now.header first)
         segments.old filled.old why.old result segments.new filled.new why.new }
 {
-    let list = segments_of(file.bytes, &file.header);
+    let list = file.segments();
     store_from(list, first, segments, filled, why)
 }
 
@@ -175,7 +169,7 @@ pub extern "C" fn goblin_segment_count(
     ensures { Stores (segment_count_expected file.now.bytes.now file.now.header)
         count.old why.old result count.new why.new }
 {
-    store(count_of(segments_of(file.bytes, &file.header)), count, why)
+    store(count_of(file.segments()), count, why)
 }
 
 /// Stores the range of a segment's bytes in the file.
@@ -195,14 +189,14 @@ pub extern "C" fn goblin_segment_range(
     store(range_in(file.bytes, &segment.file), range, why)
 }
 
-/// Returns the offset in the file of the byte that is loaded at an address.
-pub fn address_to_offset(bytes: &[u8], header: &GoblinHeader, address: u64) -> Result<Option<u64>>
-    ensures { Returns (λ found. found) result (address_to_offset_expected bytes.now header.now address) }
+// Returns the offset in the file of the byte that is loaded at an address.
+fn address_to_offset(file: &GoblinFile<'_>, address: u64) -> Result<Option<u64>>
+    ensures { Returns (λ found. found) result
+        (address_to_offset_expected file.now.bytes.now file.now.header address) }
 {
-    let segments = segments_of(bytes, header)?;
-    match ProgramHeader::loaded_from(&segments, address) {
+    match ProgramHeader::loaded_from(&file.segments()?, address) {
         Some(offset) => {
-            fits(bytes, offset as u64, 1)?;
+            fits(file.bytes, offset as u64, 1)?;
             Ok(Some(offset as u64))
         }
         None => Ok(None),
@@ -220,11 +214,7 @@ pub extern "C" fn goblin_address_to_offset(
     ensures { Stores (address_to_offset_expected file.now.bytes.now file.now.header address)
         offset.old why.old result offset.new why.new }
 {
-    store(
-        address_to_offset(file.bytes, &file.header, address),
-        offset,
-        why,
-    )
+    store(address_to_offset(file, address), offset, why)
 }
 
 /// Returns the first value of a program header that doesn't fit its field in the 32-bit class.
@@ -259,8 +249,8 @@ pub extern "C" fn goblin_put_segment(
         (segment_misfit (segment_of segment.now))
         (segment_put_expected bytes.old header.now index segment.now) bytes.old why.old result bytes.new why.new }
 {
-    let found = item_at(segments_of(bytes, header), index);
-    let (ctx, record) = (ctx_of(header), segment_of(segment));
+    let found = item_at(GoblinFile::of(bytes, header).segments(), index);
+    let (ctx, record) = (header.ctx(), segment_of(segment));
     let unfit = (!record.fits(ctx)).then(|| segment_misfit(&record));
     put_found(bytes, found, header.e_phoff, index, record, ctx, unfit, why)
 }

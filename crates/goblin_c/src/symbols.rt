@@ -6,14 +6,12 @@ ghost use Rattle.goblin_c.specs.Types.{symbol_converted};
 ghost use Rattle.goblin_c.specs.Write.{Puts, SymbolFits, symbol_misfit, symbol_of, symbol_put_expected};
 ghost use Rattle.std.specs.Prelude.{IfSome, Ok, Some, drop, map, position, ◌+◌, ◌-◌, ◌<◌, ◌^◌, ◌≡◌};
 
-use crate::header::{GoblinFile, GoblinHeader, ctx_of};
+use crate::header::{GoblinFile, GoblinHeader};
 use crate::items::{Listed, count_of, is_usual, item_at, record_in, store_from};
 use crate::misfit::{Misfit, first_misfit};
 use crate::numbers::{GoblinRange, fits};
 use crate::puts::put_found;
 use crate::results::{GoblinRefusal, OK, Result, refused_at, store, store_both};
-use crate::sections::sections_of;
-use crate::strings::string_table_bytes;
 use goblin::container::{Container, Ctx, Endian};
 use goblin::elf::sym::{Sym, Symtab};
 use goblin::options::ParseOptions;
@@ -59,17 +57,19 @@ pub(crate) fn symbol_of(own: &GoblinSymbol) -> Sym
     }
 }
 
-/// Returns the symbols of a range, without a last one that is cut.
-pub fn symbols_of<'a>(
-    bytes: &'a [u8],
-    header: &GoblinHeader,
-    range: &GoblinRange,
-) -> Result<Symtab<'a>>
-    ensures { Returns (λ table. table.symbols) result (symbols_expected bytes.now header.now range.now) }
-{
-    let (offset, size) = (range.offset as usize, range.size as usize);
-    let table = Symtab::in_range(bytes, offset, size, ctx_of(header), &ParseOptions::strict());
-    refused_at(range.offset, table)
+impl<'a> GoblinFile<'a> {
+    /// Returns the symbols of a range, without a last one that is cut.
+    pub fn symbols(&self, range: &GoblinRange) -> Result<Symtab<'a>>
+        ensures { Returns (λ table. table.symbols) result
+            (symbols_expected self.now.bytes.now self.now.header range.now) }
+    {
+        let (offset, size) = (range.offset as usize, range.size as usize);
+        let (ctx, strict) = (self.header.ctx(), ParseOptions::strict());
+        refused_at(
+            range.offset,
+            Symtab::in_range(self.bytes, offset, size, ctx, &strict),
+        )
+    }
 }
 
 impl Listed for Symtab<'_> {
@@ -150,7 +150,7 @@ fn store_other_symbol(
     ensures { Stores (symbol_expected file.now.bytes.now file.now.header range.now index)
         symbol.old why.old result symbol.new why.new }
 {
-    let ctx = ctx_of(&file.header);
+    let ctx = file.header.ctx();
     if let Some(found) = symbol_inside(file.bytes, &file.header, range, index, ctx) {
         store_fields(&found, symbol);
         return OK;
@@ -171,7 +171,7 @@ fn store_any_symbol(
     ensures { Stores (symbol_expected file.now.bytes.now file.now.header range.now index)
         symbol.old why.old result symbol.new why.new }
 {
-    let list = symbols_of(file.bytes, &file.header, range);
+    let list = file.symbols(range);
     store(item_at(list, index), symbol, why)
 }
 
@@ -188,7 +188,7 @@ pub extern "C" fn goblin_symbols(
     ensures { Fills (symbols_from_expected file.now.bytes.now file.now.header table.now first)
         symbols.old filled.old why.old result symbols.new filled.new why.new }
 {
-    let list = symbols_of(file.bytes, &file.header, table);
+    let list = file.symbols(table);
     store_from(list, first, symbols, filled, why)
 }
 
@@ -203,11 +203,7 @@ pub extern "C" fn goblin_symbol_count(
     ensures { Stores (symbol_count_expected file.now.bytes.now file.now.header table.now)
         count.old why.old result count.new why.new }
 {
-    store(
-        count_of(symbols_of(file.bytes, &file.header, table)),
-        count,
-        why,
-    )
+    store(count_of(file.symbols(table)), count, why)
 }
 
 // Returns a symbol that was found, and its index.
@@ -231,23 +227,22 @@ fn find_symbol(symbols: &Symtab<'_>, strings: &[u8], name: &[u8], first: usize) 
         .position(|symbol| is_piece(strings, 0, symbol.st_name, name))
 }
 
-/// Returns the first symbol with a name, from an index on, and its index.
-pub fn symbol_by_name(
-    bytes: &[u8],
-    header: &GoblinHeader,
-    range: &GoblinRange,
+// Returns the first symbol with a name, from an index on, and its index.
+fn symbol_by_name(
+    file: &GoblinFile<'_>,
+    table: &GoblinRange,
     names: &GoblinRange,
     name: &[u8],
     first: u64,
 ) -> Result<Option<(u64, GoblinSymbol)>>
     ensures { Returns (λ found. found) result
-        (symbol_by_name_expected bytes.now header.now range.now names.now name.now first) }
+        (symbol_by_name_expected file.now.bytes.now file.now.header table.now names.now name.now first) }
 {
-    let symbols = symbols_of(bytes, header, range)?;
-    let strings = string_table_bytes(bytes, names)?;
+    let symbols = file.symbols(table)?;
+    let strings = file.strings(names)?;
     let first = first as usize;
-    let found = find_symbol(&symbols, strings, name, first).map(|place| first + place);
-    Ok(symbol_at(&symbols, found))
+    let found = find_symbol(&symbols, strings, name, first);
+    Ok(symbol_at(&symbols, found.map(|place| first + place)))
 }
 
 /// Stores the first symbol with a name, from an index on, and its index.
@@ -265,22 +260,21 @@ pub extern "C" fn goblin_symbol_by_name(
     ensures { StoresBoth (symbol_by_name_expected file.now.bytes.now file.now.header table.now names.now name.now first)
         index.old symbol.old why.old result index.new symbol.new why.new }
 {
-    let found = symbol_by_name(file.bytes, &file.header, table, names, name, first);
+    let found = symbol_by_name(file, table, names, name, first);
     store_both(found, index, symbol, why)
 }
 
-/// Returns the index of the symbol of an address.
-pub fn symbol_by_address(
-    bytes: &[u8],
-    header: &GoblinHeader,
-    range: &GoblinRange,
+// Returns the index of the symbol of an address.
+fn symbol_by_address(
+    file: &GoblinFile<'_>,
+    table: &GoblinRange,
     address: u64,
 ) -> Result<Option<u64>>
-    ensures { Returns (λ found. found) result (symbol_by_address_expected bytes.now header.now range.now address) }
+    ensures { Returns (λ found. found) result
+        (symbol_by_address_expected file.now.bytes.now file.now.header table.now address) }
 {
-    let symbols = symbols_of(bytes, header, range)?;
-    let sections = sections_of(bytes, header)?;
-    let found = symbols.at(address, &sections, header.e_type);
+    let symbols = file.symbols(table)?;
+    let found = symbols.at(address, &file.sections()?, file.header.e_type);
     Ok(found.map(|index| index as u64))
 }
 
@@ -297,11 +291,7 @@ pub extern "C" fn goblin_symbol_by_address(
     ensures { Stores (symbol_by_address_expected file.now.bytes.now file.now.header table.now address)
         index.old why.old result index.new why.new }
 {
-    store(
-        symbol_by_address(file.bytes, &file.header, table, address),
-        index,
-        why,
-    )
+    store(symbol_by_address(file, table, address), index, why)
 }
 
 /// Returns the first value of a symbol that doesn't fit its field in the 32-bit class.
@@ -336,8 +326,8 @@ pub extern "C" fn goblin_put_symbol(
         (symbol_put_expected bytes.old header.now table.now index symbol.now)
         bytes.old why.old result bytes.new why.new }
 {
-    let found = item_at(symbols_of(bytes, header, table), index);
-    let (ctx, record) = (ctx_of(header), symbol_of(symbol));
+    let found = item_at(GoblinFile::of(bytes, header).symbols(table), index);
+    let (ctx, record) = (header.ctx(), symbol_of(symbol));
     let unfit = (!record.fits(ctx)).then(|| symbol_misfit(&record));
     put_found(bytes, found, table.offset, index, record, ctx, unfit, why)
 }

@@ -33,7 +33,7 @@ const SYMBOLS: GoblinRange = GoblinRange {
 };
 
 fn range(offset: u64, size: u64) -> GoblinRange {
-    GoblinRange { offset, size }
+    GoblinRange::new(offset, size)
 }
 
 // The status of a call, what it stores in place of a mark, and the refusal that it stores. The mark is the one of the

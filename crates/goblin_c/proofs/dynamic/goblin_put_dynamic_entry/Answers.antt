@@ -3,6 +3,6 @@ use Rattle.goblin_c.proofs.dynamic.goblin_put_dynamic_entry.Goals as goal
 
 pub put_found-requires : goal.put_found-requires
 put_found-requires c =
-    rw c.ctx_of-ctx.ensures
+    rw c.ctx-ctx.ensures
     (λ x there. entry_within c.args.bytes.now c.args.header.now c.args.dynamic.now c.args.index
-    c.entry_of-found.result x c.entry_of-found.ensures there)
+    c.entry_of-found.result x (rw (c.of.ensures.bytes, c.of.ensures.header) at c.entry_of-found.ensures) there)

@@ -4,6 +4,6 @@ use Rattle.goblin_c.proofs.sections.goblin_put_section.Goals as goal
 
 pub put_found-requires : goal.put_found-requires
 put_found-requires c =
-    rw c.ctx_of-ctx.ensures
-    (λ x there. room_for section_converted (λ s. s) c.args.index c.sections_of.result c.item_at-found.result x
-    (lists_sections c.args.bytes.now c.args.header.now) c.sections_of.ensures c.item_at-found.ensures there)
+    rw c.ctx-ctx.ensures
+    (λ x there. room_for section_converted (λ s. s) c.args.index c.sections.result c.item_at-found.result x
+    (lists_sections c.args.bytes.now c.args.header.now) (rw (c.of.ensures.bytes, c.of.ensures.header) at c.sections.ensures) c.item_at-found.ensures there)
