@@ -1,7 +1,7 @@
 -- A header that is put is read again.
 use Rattle.goblin_c.proofs.Common.{◌≡◌, ◌≤◌, ℕ, List, ◌++◌, length, take, drop, Some, None, Result, Ok, refl, arith}
 use Rattle.goblin_c.proofs.Common.{nat_tests, length-drop, length-take-le, Ctx, Error, fits-room_of}
-use Rattle.goblin_c.proofs.Common.{refusal_of, ◌>>=◌, refuse_as, Header, reads_back, ctx_of, header_expected}
+use Rattle.goblin_c.proofs.Common.{refusal_of, ◌>>=◌, refuse_as, reads_back, ctx_of, header_expected}
 use Rattle.goblin_c.proofs.Common.{refused_at, GoblinHeader, put_unless, refusal_converted}
 use Rattle.goblin.specs.Header.{class_named, header_layout, header_size, order_named, Identifies}
 use Rattle.goblin_c.specs.Write.{FitsClass, header_of, ident_of, named_ctx}

@@ -6,14 +6,14 @@
 use Rattle.goblin_c.proofs.Common.{◌≡◌, ◌≤◌, ◌<◌, ◌+◌, ◌*◌, ℕ, List, ◌++◌, length, take, drop, get_or, Option, Some}
 use Rattle.goblin_c.proofs.Common.{None, Result, Ok, Err, refl, ap, ◌∙◌, arith, append_assoc, length-append}
 use Rattle.goblin_c.proofs.Common.{take-append_seam, drop-drop, drop_at, length-take-le, take-append-drop, take_all}
-use Rattle.goblin_c.proofs.Common.{slice_get-get_or, slice_get_within, IsRecord, Layout, IsBytes, count_of}
-use Rattle.goblin_c.proofs.Common.{each_converted, item_at, RefusalAt, Reloc, reloc_converted, ctx_of, IsBytes-part}
-use Rattle.goblin_c.proofs.Common.{length-part, length-drop, length-map, length_records, Bool, GoblinHeader}
-use Rattle.goblin_c.proofs.Common.{GoblinRange, section_converted, segment_converted, symbol_converted}
-use Rattle.goblin_c.proofs.Common.{sections_expected, segments_expected, symbols_expected, relocs_expected, put_unless}
-use Rattle.goblin_c.proofs.Common.{with_bytes, reloc_ctx, Misfit, program_header_laws, section_header_laws, sym_laws}
-use Rattle.goblin_c.specs.Write.{put_at, put_if_there, reloc_layout, reloc_of, section_layout, section_of}
-use Rattle.goblin_c.specs.Write.{segment_layout, segment_of, symbol_layout, symbol_of, unfit}
+use Rattle.goblin_c.proofs.Common.{slice_get-get_or, slice_get_within, Layout, IsBytes, count_of}
+use Rattle.goblin_c.proofs.Common.{each_converted, item_at, RefusalAt, IsBytes-part}
+use Rattle.goblin_c.proofs.Common.{length-part, length-drop, length-map, length_records, GoblinHeader}
+use Rattle.goblin_c.proofs.Common.{GoblinRange}
+use Rattle.goblin_c.proofs.Common.{put_unless}
+use Rattle.goblin_c.proofs.Common.{with_bytes, reloc_ctx, Misfit}
+use Rattle.goblin_c.specs.Write.{put_at, put_if_there, reloc_of, section_of}
+use Rattle.goblin_c.specs.Write.{segment_of, symbol_of, unfit}
 use Rattle.goblin_c.specs.WriteLaws.{ChangesOnly, CountsStay, IsUnfit, PutsAreRead, PutsChangeOne, ReadsArePut}
 use Rattle.goblin_c.specs.WriteLaws.{UnfitAreRefused}
 use Rattle.goblin_c.specs.declared.relocs.GoblinReloc.{GoblinReloc}

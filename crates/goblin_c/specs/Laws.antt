@@ -1,5 +1,5 @@
 -- Laws of the calls: the items that they store one by one are those that the library reads at once.
-use Rattle.std.specs.Prelude.{◌≡◌, ◌≢◌, ◌⊎◌, ◌+◌, ◌-◌, ◌/◌, ◌<◌, ◌≤◌, ℕ, zero, suc, min, Bool, true, false, List, []}
+use Rattle.std.specs.Prelude.{◌≡◌, ◌≢◌, ◌⊎◌, ◌+◌, ◌/◌, ◌<◌, ◌≤◌, ℕ, zero, suc, min, Bool, true, false, List, []}
 use Rattle.std.specs.Prelude.{◌∷◌, if◌then◌else◌, length, take, drop, slice_get, Option, Some, None, Result, Ok, Err}
 use Rattle.std.specs.Prelude.{IsOk}
 use Rattle.goblin_c.specs.Common.{option_map, Ctx, InvalidClass, InvalidEndianness, Refusal, refusal_of, ◌>>=◌}

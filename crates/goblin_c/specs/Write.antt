@@ -1,5 +1,5 @@
 -- Putting records and numbers into the bytes of a file: the bytes after, or the refusal.
-use Rattle.std.specs.Prelude.{◌≡◌, ◌⊎◌, ℕ, ◌+◌, ◌*◌, ◌==◌, ◌<◌, ◌^◌, nat_lt, not, Bool, if◌then◌else◌, List, [], ◌∷◌}
+use Rattle.std.specs.Prelude.{◌≡◌, ◌⊎◌, ℕ, ◌+◌, ◌*◌, ◌<◌, ◌^◌, nat_lt, not, Bool, if◌then◌else◌, List, [], ◌∷◌}
 use Rattle.std.specs.Prelude.{false, pos}
 use Rattle.std.specs.Prelude.{◌++◌, length, take, drop, Option, Some, None, Result, Ok, Err}
 use Rattle.goblin_c.specs.Common.{Ctx, Error, Data, InvalidClass, Layout, refusal_of, room_of, OK, END, ◌>>=◌}

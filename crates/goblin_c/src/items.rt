@@ -5,11 +5,11 @@ ghost use Rattle.goblin_base.specs.declared.container.Endian.TheVariants as endi
 ghost use Rattle.goblin_c.specs.Expected.{count_of, ctx_of, item_at, items_from};
 ghost use Rattle.goblin_c.specs.FilledBuffer.{laid};
 ghost use Rattle.goblin_c.specs.Refused.{Returns};
-ghost use Rattle.goblin_c.specs.Status.{Fills, converted_list};
+ghost use Rattle.goblin_c.specs.Status.{Fills, Stores, converted_list};
 ghost use Rattle.std.specs.Prelude.{IfSome, IsTrue, List, drop, length, min, slice_get, take, ◌*◌, ◌+◌, ◌-◌, ◌<◌, ◌^◌, ◌≡◌, ◌≤◌};
 
 use crate::header::GoblinHeader;
-use crate::results::{END, GoblinRefusal, OK, Result, refuse};
+use crate::results::{END, GoblinRefusal, OK, Result, refuse, store};
 use goblin::elf::header::{ELFCLASS64, ELFDATA2MSB};
 use goblin_base::laid_out::LaidOut;
 
@@ -43,6 +43,20 @@ pub fn item_at<L: Listed>(list: Result<L>, index: u64) -> Result<Option<L::Conve
     ensures { Returns (λ found. found) result (item_at (converted_list L.listed list) index) }
 {
     Ok(list?.converted(index as usize))
+}
+
+/// Stores the item of a list at an index. Returns 0 for an item, 1 for none, or the number of the kind of a refusal.
+#[cold]
+#[inline(never)]
+pub fn store_item<L: Listed>(
+    list: Result<L>,
+    index: u64,
+    place: &mut L::Converted,
+    why: &mut GoblinRefusal,
+) -> u32
+    ensures { Stores (item_at (converted_list L.listed list) index) place.old why.old result place.new why.new }
+{
+    store(item_at(list, index), place, why)
 }
 
 // Fills a buffer with the items from an index on. Returns how many it holds.

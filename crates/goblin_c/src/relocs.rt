@@ -8,7 +8,7 @@ ghost use Rattle.goblin_c.specs.Write.{Puts, RelocFits, reloc_ctx, reloc_misfit,
 ghost use Rattle.std.specs.Prelude.{IfSome, IsTrue, Ok, Some, false, map, pos, ◌-◌, ◌↔◌, ◌≡◌};
 
 use crate::header::{GoblinFile, GoblinHeader};
-use crate::items::{Listed, count_of, is_usual, item_at, record_in, store_from};
+use crate::items::{Listed, count_of, is_usual, item_at, record_in, store_from, store_item};
 use crate::misfit::Misfit;
 use crate::numbers::{GoblinRange, fits};
 use crate::puts::put_found;
@@ -161,25 +161,7 @@ fn store_other_reloc(
         *reloc = found;
         return OK;
     }
-    store_any_reloc(file, range, is_rela, index, reloc, why)
-}
-
-// Does the same for any range.
-#[cold]
-#[inline(never)]
-fn store_any_reloc(
-    file: &GoblinFile<'_>,
-    range: &GoblinRange,
-    is_rela: bool,
-    index: u64,
-    reloc: &mut GoblinReloc,
-    why: &mut GoblinRefusal,
-) -> u32
-    ensures { Stores (reloc_expected file.now.bytes.now file.now.header range.now is_rela index)
-        reloc.old why.old result reloc.new why.new }
-{
-    let list = file.relocs(range, is_rela);
-    store(item_at(list, index), reloc, why)
+    store_item(file.relocs(range, is_rela), index, reloc, why)
 }
 
 /// Stores the relocations from an index on, as many as the buffer holds.

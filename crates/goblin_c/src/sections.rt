@@ -8,7 +8,7 @@ ghost use Rattle.goblin_c.specs.Write.{Puts, SectionFits, section_misfit, sectio
 ghost use Rattle.std.specs.Prelude.{IfSome, Ok, Some, drop, map, position, ◌+◌, ◌-◌, ◌<◌, ◌^◌, ◌≡◌};
 
 use crate::header::{GoblinFile, GoblinHeader};
-use crate::items::{Listed, count_of, item_at, record_in, store_from};
+use crate::items::{Listed, count_of, item_at, record_in, store_from, store_item};
 use crate::misfit::{Misfit, first_misfit};
 use crate::numbers::{GoblinRange, fits, range_in};
 use crate::puts::put_found;
@@ -128,22 +128,7 @@ pub extern "C" fn goblin_section(
         *section = found;
         return OK;
     }
-    store_any_section(file, index, section, why)
-}
-
-// Does the same for any list.
-#[cold]
-#[inline(never)]
-fn store_any_section(
-    file: &GoblinFile<'_>,
-    index: u64,
-    section: &mut GoblinSection,
-    why: &mut GoblinRefusal,
-) -> u32
-    ensures { Stores (section_expected file.now.bytes.now file.now.header index)
-        section.old why.old result section.new why.new }
-{
-    store(item_at(file.sections(), index), section, why)
+    store_item(file.sections(), index, section, why)
 }
 
 /// Stores the section headers from an index on, as many as the buffer holds.

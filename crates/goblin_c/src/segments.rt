@@ -9,7 +9,7 @@ ghost use Rattle.goblin_c.specs.Write.{Puts, SegmentFits, segment_misfit, segmen
 ghost use Rattle.std.specs.Prelude.{IfSome, Ok, Some, map, ◌-◌, ◌≡◌};
 
 use crate::header::{GoblinFile, GoblinHeader};
-use crate::items::{Listed, count_of, item_at, record_in, store_from};
+use crate::items::{Listed, count_of, item_at, record_in, store_from, store_item};
 use crate::misfit::{Misfit, first_misfit};
 use crate::numbers::{GoblinRange, fits, range_in};
 use crate::puts::put_found;
@@ -125,22 +125,7 @@ pub extern "C" fn goblin_segment(
         *segment = found;
         return OK;
     }
-    store_any_segment(file, index, segment, why)
-}
-
-// Does the same for any list.
-#[cold]
-#[inline(never)]
-fn store_any_segment(
-    file: &GoblinFile<'_>,
-    index: u64,
-    segment: &mut GoblinSegment,
-    why: &mut GoblinRefusal,
-) -> u32
-    ensures { Stores (segment_expected file.now.bytes.now file.now.header index)
-        segment.old why.old result segment.new why.new }
-{
-    store(item_at(file.segments(), index), segment, why)
+    store_item(file.segments(), index, segment, why)
 }
 
 /// Stores the program headers from an index on, as many as the buffer holds.

@@ -7,7 +7,7 @@ ghost use Rattle.goblin_c.specs.Write.{Puts, SymbolFits, symbol_misfit, symbol_o
 ghost use Rattle.std.specs.Prelude.{IfSome, Ok, Some, drop, map, position, ◌+◌, ◌-◌, ◌<◌, ◌^◌, ◌≡◌};
 
 use crate::header::{GoblinFile, GoblinHeader};
-use crate::items::{Listed, count_of, is_usual, item_at, record_in, store_from};
+use crate::items::{Listed, count_of, is_usual, item_at, record_in, store_from, store_item};
 use crate::misfit::{Misfit, first_misfit};
 use crate::numbers::{GoblinRange, fits};
 use crate::puts::put_found;
@@ -155,24 +155,7 @@ fn store_other_symbol(
         store_fields(&found, symbol);
         return OK;
     }
-    store_any_symbol(file, range, index, symbol, why)
-}
-
-// Does the same for any range.
-#[cold]
-#[inline(never)]
-fn store_any_symbol(
-    file: &GoblinFile<'_>,
-    range: &GoblinRange,
-    index: u64,
-    symbol: &mut GoblinSymbol,
-    why: &mut GoblinRefusal,
-) -> u32
-    ensures { Stores (symbol_expected file.now.bytes.now file.now.header range.now index)
-        symbol.old why.old result symbol.new why.new }
-{
-    let list = file.symbols(range);
-    store(item_at(list, index), symbol, why)
+    store_item(file.symbols(range), index, symbol, why)
 }
 
 /// Stores the symbols from an index on, as many as the buffer holds.
