@@ -98,25 +98,26 @@ impl Listed for RelocSection<'_> {
 // returns `None`.
 #[inline(always)]
 fn reloc_inside(
-    bytes: &[u8],
-    header: &GoblinHeader,
+    file: &GoblinFile<'_>,
     range: &GoblinRange,
     is_rela: bool,
     index: u64,
     ctx: Ctx,
 ) -> Option<GoblinReloc>
-    requires { ctx_of header.now ≡ ctx }
-    ensures { IfSome result (λ found. reloc_expected bytes.now header.now range.now is_rela index ≡ Ok (Some found)) }
+    requires { ctx_of file.now.header ≡ ctx }
+    ensures { IfSome result (λ found.
+        reloc_expected file.now.bytes.now file.now.header range.now is_rela index ≡ Ok (Some found)) }
 {
-    if header.e_machine == EM_MIPS {
+    if file.header.e_machine == EM_MIPS {
         return None;
     }
+    let is_mips64el = false;
     let layout = RelocCtx {
         is_rela,
         ctx,
-        is_mips64el: false,
+        is_mips64el,
     };
-    let found: Reloc = record_in(bytes, range.offset, range.size, index, layout)?;
+    let found: Reloc = record_in(file.bytes, range.offset, range.size, index, layout)?;
     Some(convert_reloc(&found))
 }
 
@@ -135,7 +136,7 @@ pub extern "C" fn goblin_reloc(
 {
     if is_rela && is_usual(&file.header) {
         let usual = Ctx::new(Container::Big, Endian::Little);
-        if let Some(found) = reloc_inside(file.bytes, &file.header, range, true, index, usual) {
+        if let Some(found) = reloc_inside(file, range, true, index, usual) {
             *reloc = found;
             return OK;
         }
@@ -157,7 +158,7 @@ fn store_other_reloc(
         reloc.old why.old result reloc.new why.new }
 {
     let ctx = file.header.ctx();
-    if let Some(found) = reloc_inside(file.bytes, &file.header, range, is_rela, index, ctx) {
+    if let Some(found) = reloc_inside(file, range, is_rela, index, ctx) {
         *reloc = found;
         return OK;
     }

@@ -71,7 +71,6 @@ pub(crate) fn section_of(own: &GoblinSection) -> SectionHeader
 
 impl<'a> GoblinFile<'a> {
     /// Returns the section headers.
-    #[inline(always)]
     pub fn sections(&self) -> Result<Table<'a, SectionHeader, Ctx>>
         ensures { Returns (λ table. table) result (sections_expected self.now.bytes.now self.now.header) }
     {

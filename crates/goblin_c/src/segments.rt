@@ -66,7 +66,6 @@ pub(crate) fn segment_of(own: &GoblinSegment) -> ProgramHeader
 
 impl<'a> GoblinFile<'a> {
     /// Returns the program headers.
-    #[inline(always)]
     pub fn segments(&self) -> Result<Table<'a, ProgramHeader, Ctx>>
         ensures { Returns (λ table. table) result (segments_expected self.now.bytes.now self.now.header) }
     {

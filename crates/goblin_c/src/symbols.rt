@@ -89,31 +89,17 @@ impl Listed for Symtab<'_> {
 // Returns the symbol at an index of a range that lies in the file, which has this class and byte order.
 #[inline(always)]
 fn symbol_inside(
-    bytes: &[u8],
-    header: &GoblinHeader,
+    file: &GoblinFile<'_>,
     range: &GoblinRange,
     index: u64,
     ctx: Ctx,
-) -> Option<Sym>
-    requires { ctx_of header.now ≡ ctx }
-    ensures { IfSome result (λ found. symbol_expected bytes.now header.now range.now index
-        ≡ Ok (Some (symbol_converted found))) }
+) -> Option<GoblinSymbol>
+    requires { ctx_of file.now.header ≡ ctx }
+    ensures { IfSome result (λ found.
+        symbol_expected file.now.bytes.now file.now.header range.now index ≡ Ok (Some found)) }
 {
-    let found: Sym = record_in(bytes, range.offset, range.size, index, ctx)?;
-    Some(found)
-}
-
-// Stores a symbol for C field by field. A struct would be stored with the bytes that pad it.
-#[inline(always)]
-fn store_fields(s: &Sym, symbol: &mut GoblinSymbol)
-    ensures { symbol.new ≡ symbol_converted s.now }
-{
-    symbol.st_name = (s.st_name % 0x1_0000_0000) as u32;
-    symbol.st_info = s.st_info;
-    symbol.st_other = s.st_other;
-    symbol.st_shndx = (s.st_shndx % 0x1_0000) as u16;
-    symbol.st_value = s.st_value;
-    symbol.st_size = s.st_size;
+    let found: Sym = record_in(file.bytes, range.offset, range.size, index, ctx)?;
+    Some(convert_symbol(&found))
 }
 
 /// Stores the symbol at an index of the table that lies in a range.
@@ -130,8 +116,8 @@ pub extern "C" fn goblin_symbol(
 {
     if is_usual(&file.header) {
         let usual = Ctx::new(Container::Big, Endian::Little);
-        if let Some(found) = symbol_inside(file.bytes, &file.header, range, index, usual) {
-            store_fields(&found, symbol);
+        if let Some(found) = symbol_inside(file, range, index, usual) {
+            *symbol = found;
             return OK;
         }
     }
@@ -151,8 +137,8 @@ fn store_other_symbol(
         symbol.old why.old result symbol.new why.new }
 {
     let ctx = file.header.ctx();
-    if let Some(found) = symbol_inside(file.bytes, &file.header, range, index, ctx) {
-        store_fields(&found, symbol);
+    if let Some(found) = symbol_inside(file, range, index, ctx) {
+        *symbol = found;
         return OK;
     }
     store_item(file.symbols(range), index, symbol, why)

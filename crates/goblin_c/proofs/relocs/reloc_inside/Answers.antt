@@ -6,7 +6,7 @@ use Rattle.goblin_c.proofs.Common.{Ok, Some, sym, ap, ◌∙◌}
 pub returns : goal.returns
 returns c =
     let found = c.in_ok-found in
-    plain_reloc_is c.args.bytes.now c.args.header.now c.args.range.now c.args.is_rela c.args.index found.found
-    c.if-header-eq-EM_MIPS.false found.ensures.file (rw (← c.requires) at found.ensures.index)
+    plain_reloc_is c.args.file.now.bytes.now c.args.file.now.header c.args.range.now c.args.is_rela c.args.index found.found
+    c.if-file-eq-EM_MIPS.false found.ensures.file (rw (← c.requires) at found.ensures.index)
     (rw (← c.requires) at found.ensures.value)
     ∙ ap (λ r. Ok (Some r)) (sym c.convert_reloc.ensures)
