@@ -82,6 +82,18 @@ laid-past zero xs (o ∷ os) h = absurd (omega arith)
 laid-past (suc n) xs [] h = laid-nowhere xs
 laid-past (suc n) xs (o ∷ os) h = ap (λ rest. o ∷ rest) (laid-past n xs os (omega arith))
 
+-- what is written right after what was written from an index on
+pub laid-then : {X : Type 0} (n : ℕ) (xs ys old : List X) (k : ℕ)
+    → k ≡ n + length xs
+    → let now = take n old ++ laid xs (drop n old) in
+    take k now ++ laid ys (drop k now) ≡ take n old ++ laid (xs ++ ys) (drop n old)
+laid-then zero xs ys old k is =
+    let same : k ≡ length xs = omega arith in
+    rw same (laid-appended xs ys old)
+laid-then (suc n) xs ys [] k is = rw (laid-nowhere xs, laid-nowhere (xs ++ ys)) (laid-past k ys [] (omega arith))
+laid-then (suc n) xs ys (o ∷ old) zero is = absurd (omega arith)
+laid-then (suc n) xs ys (o ∷ old) (suc k) is = ap (λ rest. o ∷ rest) (laid-then n xs ys old k (omega arith))
+
 -- what is written into the buffer from an index on
 pub laid-into : (n : ℕ) (part old new all : List ℕ)
     → n < length old → length all ≡ length old → length new ≡ length old - n

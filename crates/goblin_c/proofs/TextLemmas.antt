@@ -9,7 +9,7 @@ use Rattle.goblin.specs.Note.{PartRefusal, whole_places}
 use Rattle.goblin_c.specs.Laws.{KindsAreAboveOne}
 use Rattle.goblin_c.specs.TextLaws.{PartHasSameText, PartsHaveSameText}
 use Rattle.std.specs.Bool.{⊤}
-use Rattle.goblin_c.proofs.FilledBufferLemmas.{laid-appended}
+use Rattle.goblin_c.proofs.FilledBufferLemmas.{laid-appended, laid-then}
 
 short_at : (parts : List Part) (i : ℕ) (d : Part)
     → IsTrue (each_short parts) → i < length parts → IsTrue (is_short (get_or parts i d))
@@ -35,6 +35,14 @@ laid-part text more part old now new len is was long step = rw (step, long, was,
 pub long-part : (text more part : List ℕ) (n len : ℕ)
     → more ≡ text ++ part → len ≡ length text → n ≡ len + length part → n ≡ length more
 long-part text more part n len is long sum = omega (arith, ap length is, length-append text part)
+
+-- a part that is written right after a text, which was written from an index on
+pub laid-on : (n : ℕ) (text part old now new : List ℕ) (k len : ℕ)
+    → (now ≡ take n old ++ laid text (drop n old)) × (k ≡ n + length text)
+    → (new ≡ take k now ++ laid part (drop k now)) × (len ≡ k + length part)
+    → (new ≡ take n old ++ laid (text ++ part) (drop n old)) × (len ≡ n + length (text ++ part))
+laid-on n text part old now new k len was step =
+    (rw (step.0, was.0) (laid-then n text part old k was.1), omega (arith, was.1, step.1, length-append text part))
 
 pub kinds_are_above_one : KindsAreAboveOne
 kinds_are_above_one refusal = grind arith

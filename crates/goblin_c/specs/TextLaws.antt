@@ -32,7 +32,7 @@ use Rattle.goblin_c.specs.Types.{refusal_converted}
 use Rattle.goblin_c.specs.Write.{Put, header_put_expected, named_ctx, number_in_put_expected, number_put_expected}
 use Rattle.goblin_c.specs.Write.{put_if_there, put_unless, reloc_put_expected, section_put_expected}
 use Rattle.goblin_c.specs.Write.{segment_put_expected, symbol_put_expected}
-use Rattle.goblin_c.specs.Texts.{NamesKnown, TextIsSame, converted_text}
+use Rattle.goblin_c.specs.Texts.{NamesKnown, TextIsSame, converted_text, with_misfit}
 
 pub text_same : TextIsSame
 text_same why known = grind arith
@@ -47,7 +47,8 @@ abbrev pub PutHasSameText : Put → Type 0
 PutHasSameText (Ok x) = ⊤
 PutHasSameText (Err why) =
     ((e : RefusalAt) × (why ≡ refusal_converted e) × (converted_text why ≡ refusal_text e.refusal))
-    ⊎ ((why.kind ≡ 24) × (converted_text why ≡ refusal_text (malformed (IntegerFit (record { 0 = tt })))))
+    ⊎ ((why.kind ≡ 24)
+    × (converted_text why ≡ with_misfit why (refusal_text (malformed (IntegerFit (record { 0 = tt }))))))
 
 -- so has the refusal of a whole note, whose item is the part
 abbrev pub PartHasSameText : {X : Type 0} → ℕ → Result X PartRefusal → Type 0

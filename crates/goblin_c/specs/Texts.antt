@@ -1,8 +1,9 @@
 -- The text of a refusal that C has.
 use Rattle.goblin_base.specs.declared.texts.Kind.{Kind}
 use Rattle.goblin.specs.SectionNames.{section_flag_name}
-use Rattle.std.specs.Prelude.{◌≡◌, ◌⊎◌, ⊤, ℕ, ◌==◌, ◌^◌, nat_lt, not, if◌then◌else◌, List, [], codes, Option, Some}
-use Rattle.std.specs.Prelude.{None}
+use Rattle.std.specs.Prelude.{◌≡◌, ◌⊎◌, ⊤, ℕ, ◌==◌, ◌^◌, ◌&&◌, ◌++◌, nat_lt, not, if◌then◌else◌, Bool, List, [], codes}
+use Rattle.std.specs.Prelude.{Option, Some, None}
+use Rattle.std.specs.Fmt.{decimal}
 use Rattle.goblin_c.specs.Common.{Refusal, buffer_too_short, Facts, facts_text, kind_with, refusal_text, INVALID_UTF8}
 use Rattle.goblin_c.specs.Common.{SECTION_HEADERS, PROGRAM_HEADERS, GoblinRefusal, bad_input}
 use Rattle.goblin_c.specs.Refused.{RefusalAt}
@@ -31,9 +32,21 @@ facts_from why kind = record {
   overflow = not (why.fourth == 0);
 }
 
+-- a refusal has a number that doesn't fit its field; the library's own refusal of this kind has none
+abbrev pub is_misfit : GoblinRefusal → Bool
+is_misfit why = why.kind == 24 && not (why.first == 0)
+
+-- this number, and the offset of the field
+abbrev pub misfit_text : GoblinRefusal → List ℕ
+misfit_text why = codes ": " ++ decimal why.first ++ codes " at offset " ++ decimal why.offset
+
+-- the library's text, followed by them
+abbrev pub with_misfit : GoblinRefusal → List ℕ → List ℕ
+with_misfit why text = if is_misfit why then text ++ misfit_text why else text
+
 -- the text of a refusal that C has: it is empty if the number is no kind's
 abbrev pub text_from : GoblinRefusal → Option Kind → List ℕ
-text_from why (Some kind) = facts_text (facts_from why kind)
+text_from why (Some kind) = with_misfit why (facts_text (facts_from why kind))
 text_from why None = []
 
 abbrev pub converted_text : GoblinRefusal → List ℕ

@@ -1,7 +1,7 @@
 //! Texts, written into a buffer of the caller's and cut at its end, and the text of a refusal.
 ghost use Rattle.goblin_base.specs.Texts.{digits_text, facts_of, facts_text, is_short, part_text, word_of};
 ghost use Rattle.goblin_c.specs.FilledBuffer.{WritesText, laid};
-ghost use Rattle.goblin_c.specs.Texts.{TextIsSame, converted_text, facts_from, item_text};
+ghost use Rattle.goblin_c.specs.Texts.{TextIsSame, converted_text, facts_from, is_misfit, item_text, misfit_text, with_misfit};
 ghost use Rattle.std.specs.Prelude.{IsAscii, IsTrue, drop, length, take, ◌++◌, ◌+◌, ◌<◌, ◌^◌, ◌≡◌, ◌≤◌};
 
 use crate::results::{GoblinRefusal, INVALID_UTF8, PROGRAM_HEADERS, SECTION_HEADERS};
@@ -77,13 +77,37 @@ fn write_parts(report: &Report, buffer: &mut [u8]) -> u64
     len
 }
 
-// Writes the text of an error with a zero byte after it, or as much of them as the buffer holds. Returns the length of
-// the text.
-fn write_report(report: &Report, buffer: &mut [u8]) -> u64
-    requires item { length report.now.item.now ≤ 15 }
-    ensures { WritesText (facts_text (facts_of report.now)) buffer.old result buffer.new }
+// Reports whether a refusal has a number that doesn't fit its field.
+fn is_misfit(why: &GoblinRefusal) -> bool
+    ensures { result ≡ is_misfit why.now }
 {
-    let len = write_parts(report, buffer);
+    why.kind == Kind::IntegerFit.number() && why.first != 0
+}
+
+// Writes this number and the offset of the field after the bytes so far. Returns how many bytes there are then, if
+// none is cut.
+fn write_misfit(why: &GoblinRefusal, len: u64, buffer: &mut [u8]) -> u64
+    requires len { len ≤ 1700 }
+    ensures written { buffer.new ≡ take len buffer.old ++ laid (misfit_text why.now) (drop len buffer.old) }
+    ensures value { result ≡ len + length (misfit_text why.now) }
+    ensures bound { result ≤ 1800 }
+{
+    let len = write_after(b": ", len, buffer);
+    let len = write_digits(&Digits::decimal(why.first), len, buffer);
+    let len = write_after(b" at offset ", len, buffer);
+    write_digits(&Digits::decimal(why.offset), len, buffer)
+}
+
+// Writes the text of a refusal, which is reported so, with a zero byte after it, or as much of them as the buffer
+// holds. Returns the length of the text.
+fn write_report(why: &GoblinRefusal, report: &Report, buffer: &mut [u8]) -> u64
+    requires item { length report.now.item.now ≤ 15 }
+    ensures { WritesText (with_misfit why.now (facts_text (facts_of report.now))) buffer.old result buffer.new }
+{
+    let mut len = write_parts(report, buffer);
+    if is_misfit(why) {
+        len = write_misfit(why, len, buffer);
+    }
     write_after(b"\0", len, buffer);
     len
 }
@@ -109,7 +133,7 @@ pub extern "C" fn goblin_refusal_to_str(why: &GoblinRefusal, text: &mut [u8]) ->
     ensures { WritesText (converted_text why.now) text.old result text.new }
 {
     match Kind::with_number(why.kind) {
-        Some(kind) => write_report(&report_from(why, kind), text),
+        Some(kind) => write_report(why, &report_from(why, kind), text),
         None => write_text("", text),
     }
 }
