@@ -1,7 +1,7 @@
 -- The note that a call stores.
-use Rattle.std.specs.Prelude.{◌≡◌, ℕ, ◌+◌, ◌-◌, nat_le, if◌then◌else◌, List, length, take, drop, Option, Some, None}
-use Rattle.std.specs.Prelude.{Result, Ok, Err}
-use Rattle.goblin_c.specs.Common.{◌>>=◌, GoblinHeader, GoblinNote, GoblinRange, GoblinRefusal, OK, END, PartRefusal}
+use Rattle.std.specs.Prelude.{ℕ, ◌+◌, ◌-◌, nat_le, if◌then◌else◌, List, length, take, drop, Option, Some, None}
+use Rattle.std.specs.Prelude.{Result, Ok}
+use Rattle.goblin_c.specs.Common.{◌>>=◌, GoblinHeader, GoblinNote, GoblinRange, GoblinRefusal, PartRefusal}
 use Rattle.goblin_c.specs.Common.{places_at, whole_places, Ctx, Refusal, refusal_of, refuse_as}
 use Rattle.goblin.specs.Nhdr.{nhdr32_of, nhdr32_size}
 use Rattle.goblin.specs.Note.{bytes_at, note_align, note_places}
@@ -78,10 +78,7 @@ abbrev pub part_converted : ℕ → PartRefusal → GoblinRefusal
 part_converted offset e =
     record (refusal_converted (record { refusal = e.refusal; offset = offset })) { item = part_number e.part }
 
--- what a call returns and stores whose expected result is this note at an offset, as `Stores` says it of other calls
-abbrev pub StoresNote : ℕ
-    → Result (Option GoblinNote) PartRefusal → GoblinNote → GoblinRefusal → ℕ → GoblinNote → GoblinRefusal → Type 0
-StoresNote offset (Ok (Some note)) old was status new why = (status ≡ OK) × (new ≡ note) × (why ≡ was)
-StoresNote offset (Ok None) old was status new why = (status ≡ END) × (new ≡ old) × (why ≡ was)
-StoresNote offset (Err e) old was status new why =
-    (status ≡ (part_converted offset e).kind) × (new ≡ old) × (why ≡ part_converted offset e)
+-- the same result with its refusal for C
+abbrev pub whole_note : List ℕ → GoblinHeader → GoblinRange → ℕ → ℕ → Result (Option GoblinNote) GoblinRefusal
+whole_note bytes h range alignment offset =
+    refuse_as (part_converted offset) (note_whole_expected bytes h range alignment offset)

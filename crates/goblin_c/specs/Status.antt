@@ -2,7 +2,7 @@
 use Rattle.goblin_c.specs.Refused.{RefusalAt, refusal_at}
 use Rattle.std.specs.Prelude.{◌≡◌, ◌≤◌, ℕ, List, length, take, drop, map, min, slice_get, Option, Some, None, Result}
 use Rattle.std.specs.Prelude.{Ok, Err}
-use Rattle.goblin_c.specs.Common.{Refused, OK, END, GoblinRefusal}
+use Rattle.goblin_c.specs.Common.{Refused, OK, END, GoblinRefusal, refuse_as}
 use Rattle.goblin_c.specs.FilledBuffer.{laid}
 use Rattle.goblin_c.specs.Types.{refusal_converted}
 
@@ -11,13 +11,16 @@ abbrev pub converted_list : {X Y : Type 0} → (X → List Y) → Result X Refus
 converted_list listed (Ok all) = Ok (listed all)
 converted_list listed (Err e) = Err (refusal_at e)
 
--- What a call returns and stores whose expected result is this: 0 and the item; 1 if there is none; or the number of
--- the kind, and the refusal. All else is unchanged.
+-- What a call returns and stores whose expected result is this, with a refusal for C: 0 and the item; 1 if there is
+-- none; or the number of the kind, and the refusal. All else is unchanged.
+abbrev pub Stored : {X : Type 0} → Result (Option X) GoblinRefusal → X → GoblinRefusal → ℕ → X → GoblinRefusal → Type 0
+Stored (Ok (Some x)) old was status new why = (status ≡ OK) × (new ≡ x) × (why ≡ was)
+Stored (Ok None) old was status new why = (status ≡ END) × (new ≡ old) × (why ≡ was)
+Stored (Err refusal) old was status new why = (status ≡ refusal.kind) × (new ≡ old) × (why ≡ refusal)
+
+-- So it is of a result whose refusal is converted.
 abbrev pub Stores : {X : Type 0} → Result (Option X) RefusalAt → X → GoblinRefusal → ℕ → X → GoblinRefusal → Type 0
-Stores (Ok (Some x)) old was status new why = (status ≡ OK) × (new ≡ x) × (why ≡ was)
-Stores (Ok None) old was status new why = (status ≡ END) × (new ≡ old) × (why ≡ was)
-Stores (Err refusal) old was status new why =
-    (status ≡ (refusal_converted refusal).kind) × (new ≡ old) × (why ≡ refusal_converted refusal)
+Stores expected old was status new why = Stored (refuse_as refusal_converted expected) old was status new why
 
 -- The same of an index and the item there: both are stored, or neither.
 abbrev pub StoresBoth : {X Y : Type 0}

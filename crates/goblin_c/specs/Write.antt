@@ -2,7 +2,7 @@
 use Rattle.std.specs.Prelude.{◌≡◌, ◌⊎◌, ℕ, ◌+◌, ◌*◌, ◌<◌, ◌^◌, nat_lt, not, Bool, if◌then◌else◌, List, [], ◌∷◌}
 use Rattle.std.specs.Prelude.{false, pos}
 use Rattle.std.specs.Prelude.{◌++◌, length, take, drop, Option, Some, None, Result, Ok, Err}
-use Rattle.goblin_c.specs.Common.{Ctx, Error, Data, InvalidClass, Layout, refusal_of, room_of, OK, END, ◌>>=◌}
+use Rattle.goblin_c.specs.Common.{Ctx, Error, Data, InvalidClass, Layout, refusal_of, room_of, ◌>>=◌}
 use Rattle.goblin_c.specs.Common.{refuse_as, Header, ProgramHeader, Reloc, SectionHeader, Sym, HeaderFits, class_of}
 use Rattle.goblin_c.specs.Common.{header_layout, header_size, magic, order_of, sym_layout, GoblinHeader, GoblinRange}
 use Rattle.goblin_c.specs.Common.{GoblinRefusal, GoblinReloc, GoblinSection, GoblinSegment, GoblinSymbol, word_size}
@@ -28,6 +28,7 @@ use Rattle.goblin_c.specs.Places.{number_in_expected}
 use Rattle.goblin_c.specs.Common.{Dyn, GoblinDyn}
 use Rattle.goblin_dynamic.specs.Dyn.{entry, entry_layout}
 use Rattle.goblin_c.specs.Refused.{RefusalAt, refused_at}
+use Rattle.goblin_c.specs.Status.{Stored}
 use Rattle.goblin_c.specs.Types.{refusal_converted}
 
 -- ---- one record
@@ -69,19 +70,12 @@ put_if_there (Ok (Some x)) put = put
 put_if_there (Ok None) put = Ok None
 put_if_there (Err refusal) put = Err (refusal_converted refusal)
 
--- What a call returns and changes whose expected result is this: 0 and the bytes; 1 if there is no place; or the number
--- of the kind, and the refusal. All else is unchanged.
-abbrev pub Changes : Put → List ℕ → GoblinRefusal → ℕ → List ℕ → GoblinRefusal → Type 0
-Changes (Ok (Some bytes)) old was status new why = (status ≡ OK) × (new ≡ bytes) × (why ≡ was)
-Changes (Ok None) old was status new why = (status ≡ END) × (new ≡ old) × (why ≡ was)
-Changes (Err refusal) old was status new why = (status ≡ refusal.kind) × (new ≡ old) × (why ≡ refusal)
-
 -- What a call that puts a record returns and changes: the result that is expected if the record fits, or the one for
 -- its first value that doesn't.
 abbrev pub Puts : Type 0 → Misfit → (Option Misfit → Put) → List ℕ → GoblinRefusal → ℕ → List ℕ → GoblinRefusal → Type 0
 Puts Fits misfit expected old was status new why =
-    (Fits × Changes (expected None) old was status new why)
-    ⊎ (¬ Fits × Changes (expected (Some misfit)) old was status new why)
+    (Fits × Stored (expected None) old was status new why)
+    ⊎ (¬ Fits × Stored (expected (Some misfit)) old was status new why)
 
 -- ---- records from C
 abbrev pub section_of : GoblinSection → SectionHeader

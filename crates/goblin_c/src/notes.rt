@@ -4,8 +4,8 @@ ghost use Rattle.goblin.specs.Notes.{LieWithin};
 ghost use Rattle.goblin.specs.Refusal.{refusal_of};
 ghost use Rattle.goblin_base.specs.Common.{Returns as Gives};
 ghost use Rattle.goblin_base.specs.declared.container.Endian.TheVariants as endian;
-ghost use Rattle.goblin_c.specs.Notes.{StoresNote, bytes_from, note_expected, note_utf8_expected, note_whole_expected, part_converted, part_number, parts_at, read_parts, without_last};
-ghost use Rattle.goblin_c.specs.Status.{Stores};
+ghost use Rattle.goblin_c.specs.Notes.{whole_note, bytes_from, note_expected, note_utf8_expected, note_whole_expected, part_converted, part_number, parts_at, read_parts, without_last};
+ghost use Rattle.goblin_c.specs.Status.{Stored, Stores};
 ghost use Rattle.goblin_c.specs.Types.{note_converted};
 ghost use Rattle.std.specs.Prelude.{IfOk, IfSome, IsAscii, IsTrue, Ok, Some, length, take, ◌+◌, ◌-◌, ◌<◌, ◌^◌, ◌≡◌, ◌≤◌, ◌⊎◌};
 ghost use Rattle.std.specs.Str.{IsAscii};
@@ -13,8 +13,8 @@ ghost use Rattle.std.specs.Str.{IsAscii};
 use crate::header::{GoblinFile, GoblinHeader};
 use crate::numbers::{GoblinRange, fits};
 use crate::results::{
-    END, GoblinRefusal, NOTE_DESC, NOTE_HEADER, NOTE_NAME, OK, Refused, Result, refuse, refused_at,
-    store,
+    END, GoblinRefusal, NOTE_DESC, NOTE_HEADER, NOTE_NAME, OK, Refused, Result, convert_refusal,
+    refuse, refused_at, store, store_converted,
 };
 use goblin::container::{Ctx, Endian};
 use goblin::elf::header::{ELFDATA2MSB, Header};
@@ -24,6 +24,7 @@ use goblin::error::{Error, Fault};
 use goblin::scroll;
 use goblin::scroll::TryFromCtx;
 use goblin_base::room::room;
+use std::result;
 
 /// A note.
 #[repr(C)]
@@ -200,21 +201,16 @@ fn part_number(part: &Option<NotePart>) -> u32
     }
 }
 
-// Stores the refusal of the note at an offset. Returns the number of its kind.
-fn refuse_note(e: NoteRefusal, offset: u64, why: &mut GoblinRefusal) -> u32
-    ensures written { why.new ≡ part_converted offset (record { part = e.part; refusal = refusal_of e.error }) }
-    ensures value { result ≡ (part_converted offset (record { part = e.part; refusal = refusal_of e.error })).kind }
+// Returns the refusal of the note at an offset, for C.
+fn refused_note(e: NoteRefusal, offset: u64) -> GoblinRefusal
+    ensures { result ≡ part_converted offset (record { part = e.part; refusal = refusal_of e.error }) }
 {
     let item = part_number(&e.part);
-    let kind = refuse(
-        &Refused {
-            error: e.error,
-            offset,
-        },
-        why,
-    );
-    why.item = item;
-    kind
+    let error = e.error;
+    GoblinRefusal {
+        item,
+        ..convert_refusal(&Refused { error, offset })
+    }
 }
 
 // Returns the places of a note, without the last byte of its name.
@@ -227,7 +223,26 @@ fn without_last(places: &NotePlaces) -> NotePlaces
     }
 }
 
-/// Stores the note at an offset of the file as `goblin_note` does, if the note lies in the range whole.
+/// Returns the note at an offset of the file as `goblin_note` stores it, if the note lies in the range whole.
+pub fn whole_note(
+    file: &GoblinFile<'_>,
+    range: &GoblinRange,
+    alignment: u64,
+    offset: u64,
+) -> result::Result<Option<GoblinNote>, GoblinRefusal>
+    ensures { result ≡ whole_note file.now.bytes.now file.now.header range.now alignment offset }
+{
+    if offset >= range.offset && offset - range.offset >= range.size {
+        return Ok(None);
+    }
+    let part = bytes_from(file.bytes, range, offset);
+    match NotePlaces::whole(part, (alignment as usize, file.header.ctx())) {
+        Ok(places) => Ok(Some(convert_note(offset, &without_last(&places)))),
+        Err(e) => Err(refused_note(e, offset)),
+    }
+}
+
+/// Stores this note.
 #[unsafe(no_mangle)]
 pub extern "C" fn goblin_note_whole(
     file: &GoblinFile<'_>,
@@ -237,20 +252,10 @@ pub extern "C" fn goblin_note_whole(
     note: &mut GoblinNote,
     why: &mut GoblinRefusal,
 ) -> u32
-    ensures { StoresNote offset (note_whole_expected file.now.bytes.now file.now.header range.now alignment offset)
+    ensures { Stored (whole_note file.now.bytes.now file.now.header range.now alignment offset)
         note.old why.old result note.new why.new }
 {
-    if offset >= range.offset && offset - range.offset >= range.size {
-        return END;
-    }
-    let part = bytes_from(file.bytes, range, offset);
-    match NotePlaces::whole(part, (alignment as usize, file.header.ctx())) {
-        Ok(places) => {
-            *note = convert_note(offset, &without_last(&places));
-            OK
-        }
-        Err(e) => refuse_note(e, offset, why),
-    }
+    store_converted(whole_note(file, range, alignment, offset), note, why)
 }
 
 // Returns the name of the type of a note, whose own name is UTF-8.

@@ -1,7 +1,8 @@
 //! Records that are put where the call that reads one finds it, if they fit. Then their bytes change, and no other.
 ghost use Rattle.goblin.specs.Steps.{refuse_as};
 ghost use Rattle.goblin_c.specs.Refused.{refusal_at};
-ghost use Rattle.goblin_c.specs.Write.{Changes, put_at, put_if_there, with_bytes};
+ghost use Rattle.goblin_c.specs.Status.{Stored};
+ghost use Rattle.goblin_c.specs.Write.{put_at, put_if_there, with_bytes};
 ghost use Rattle.std.specs.Prelude.{Ok, Some, length, ◌*◌, ◌+◌, ◌≡◌, ◌≤◌};
 
 use crate::misfit::Misfit;
@@ -31,7 +32,7 @@ pub fn put_found<T: Drop, R: LaidOut<C>, C: Copy>(
     requires { (x : T) → found ≡ Ok (Some x)
         → start + index * (R.layout ctx).size + (R.layout ctx).size ≤ length bytes.old }
     ensures { let put = put_at (R.layout ctx) bytes.old start index own misfit in
-        Changes (put_if_there (refuse_as refusal_at found) put) bytes.old why.old result bytes.new why.new }
+        Stored (put_if_there (refuse_as refusal_at found) put) bytes.old why.old result bytes.new why.new }
 {
     match found {
         Ok(Some(_)) => {

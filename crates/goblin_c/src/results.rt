@@ -1,7 +1,7 @@
 //! What a call returns and stores: a status, an item, or a refusal with the offset of what is refused.
 ghost use Rattle.goblin.specs.Steps.{refuse_as};
 ghost use Rattle.goblin_c.specs.Refused.{refusal_at, with_offset};
-ghost use Rattle.goblin_c.specs.Status.{Stores, StoresBoth};
+ghost use Rattle.goblin_c.specs.Status.{Stored, Stores, StoresBoth};
 ghost use Rattle.goblin_c.specs.Types.{item_number, refusal_converted};
 ghost use Rattle.std.specs.Prelude.{[], ◌∷◌, ◌≡◌};
 
@@ -123,13 +123,28 @@ pub fn refuse(e: &Refused, why: &mut GoblinRefusal) -> u32
 pub fn store<T: Copy>(answer: Result<Option<T>>, place: &mut T, why: &mut GoblinRefusal) -> u32
     ensures { Stores (refuse_as refusal_at answer) place.old why.old result place.new why.new }
 {
+    store_converted(answer.map_err(|e| convert_refusal(&e)), place, why)
+}
+
+/// Does the same with a refusal for C.
+#[inline(always)]
+pub fn store_converted<T: Copy>(
+    answer: result::Result<Option<T>, GoblinRefusal>,
+    place: &mut T,
+    why: &mut GoblinRefusal,
+) -> u32
+    ensures { Stored answer place.old why.old result place.new why.new }
+{
     match answer {
         Ok(Some(item)) => {
             *place = item;
             OK
         }
         Ok(None) => END,
-        Err(e) => refuse(&e, why),
+        Err(refusal) => {
+            *why = refusal;
+            why.kind
+        }
     }
 }
 
