@@ -4,6 +4,7 @@ pub mod FoundLemmas
 pub mod ListedLemmas
 pub mod NumberLemmas
 pub mod OffsetLemmas
+pub mod BuildIdLemmas
 pub mod ClosedLemmas
 pub mod DynamicLemmas
 pub mod EachLemmas

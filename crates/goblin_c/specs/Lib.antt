@@ -1,4 +1,5 @@
 pub mod Bytes
+pub mod BuildId
 pub mod Common
 pub mod Dynamic
 pub mod DynamicLaws

@@ -4,6 +4,7 @@
 
 ghost use Rattle.std.specs.Prelude.{◌≡◌};
 
+mod build_id;
 mod dynamic;
 mod header;
 mod items;
@@ -24,6 +25,7 @@ mod symbols;
 mod tests;
 mod texts;
 
+pub use build_id::goblin_build_id;
 pub use dynamic::{
     goblin_dynamic, goblin_dynamic_count, goblin_dynamic_entries, goblin_dynamic_strings,
     goblin_dynamic_value, goblin_put_dynamic_entry,

@@ -123,11 +123,17 @@ pub fn refuse(e: &Refused, why: &mut GoblinRefusal) -> u32
 pub fn store<T: Copy>(answer: Result<Option<T>>, place: &mut T, why: &mut GoblinRefusal) -> u32
     ensures { Stores (refuse_as refusal_at answer) place.old why.old result place.new why.new }
 {
-    store_converted(answer.map_err(|e| convert_refusal(&e)), place, why)
+    match answer {
+        Ok(Some(item)) => {
+            *place = item;
+            OK
+        }
+        Ok(None) => END,
+        Err(e) => refuse(&e, why),
+    }
 }
 
-/// Does the same with a refusal for C.
-#[inline(always)]
+/// Does the same with a refusal for C. (A refusal is converted where it is stored, so that an item is not moved twice.)
 pub fn store_converted<T: Copy>(
     answer: result::Result<Option<T>, GoblinRefusal>,
     place: &mut T,
