@@ -4,23 +4,18 @@
 -- before an index, those from there on are what is left of them (`left`). So an entry that is read at a later index is
 -- the one at its place among them (`entry_at`). A range that is found lies in the file, because it is found after the
 -- test of room for it (`lies`).
-use Rattle.goblin_c.proofs.Common.{◌≡◌, ◌≤◌, ◌+◌, ◌-◌, ◌==◌, ℕ, zero, suc, List, [], ◌∷◌, length, drop, slice_get, refl}
-use Rattle.goblin_c.proofs.Common.{arith, nat_tests, drop-drop, length-drop, length-map, if◌then◌else◌, map, Option}
-use Rattle.goblin_c.proofs.Common.{Some, None, Result, Ok, Error, refusal_of, refused_at, refuse_as, ◌>>=◌, GoblinRange}
-use Rattle.goblin_c.proofs.Common.{slice_get-map, prefix_len-le-length, entries_from, ctx_of, LiesIn, dyn_converted}
-use Rattle.std.proofs.Common.{not}
-use Rattle.std.proofs.lemmas.List.Folds.{length-prefix_len}
-use Rattle.std.proofs.lemmas.List.Sums.{take_while-cons}
-use Rattle.std.specs.Option.{option_and_then}
-use Rattle.goblin_dynamic.specs.Dynamic.{entries_up_to_null, first_value, whole_entries_in}
-use Rattle.goblin_c.proofs.Common.{ap, first_item, option_map, RefusalAt}
-use Rattle.goblin_dynamic.specs.declared.dynamic.FileRange.{FileRange}
-use Rattle.goblin_dynamic.specs.declared.entry.Dyn.{Dyn}
-use Rattle.goblin_c.specs.Dynamic.{file_range_of, range_in_file, unless_empty}
+use Rattle.goblin_c.proofs.{ListLemmas.get_drop, StringLemmas.range_lies}
+use Rattle.goblin_c.proofs.Common.{GoblinRange, List, None, Ok, Option, RefusalAt, Result, Some, [], ap, arith, ctx_of}
+use Rattle.goblin_c.proofs.Common.{drop, drop-drop, entries_from, first_item, if◌then◌else◌, length, length-drop, map}
+use Rattle.goblin_c.proofs.Common.{length-map, nat_tests, option_map, refl, refusal_of, refuse_as, refused_at, suc, ℕ}
+use Rattle.goblin_c.proofs.Common.{slice_get, slice_get-map, zero, ◌+◌, ◌-◌, ◌==◌, ◌>>=◌, ◌∷◌, ◌≡◌, ◌≤◌}
+use Rattle.goblin_c.specs.{Common.Error, Laws.LiesIn, declared.types.GoblinDyn.GoblinDyn}
+use Rattle.goblin_c.specs.{Dynamic.file_range_of, Dynamic.range_in_file, Dynamic.unless_empty, Types.dyn_converted}
 use Rattle.goblin_c.specs.DynamicLaws.{DynamicLiesInFile, EntriesAreCounted, EntriesAreListed, ValueIsTheFirst}
-use Rattle.goblin_c.specs.declared.types.GoblinDyn.{GoblinDyn}
-use Rattle.goblin_c.proofs.IndexLemmas.{get_drop}
-use Rattle.goblin_c.proofs.StringLemmas.{range_lies}
+use Rattle.goblin_dynamic.specs.Dynamic.{entries_up_to_null, first_value, whole_entries_in}
+use Rattle.goblin_dynamic.specs.declared.{dynamic.FileRange.FileRange, entry.Dyn.Dyn}
+use Rattle.std.{proofs.Common.not, specs.Option.option_and_then}
+use Rattle.std.proofs.lemmas.List.{Folds.length-prefix_len, Sums.prefix_len-le-length, Sums.take_while-cons}
 
 -- an entry for C, unless it ends the entries
 abbrev pub unless_end : Dyn → Option GoblinDyn

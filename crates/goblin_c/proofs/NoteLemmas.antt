@@ -3,27 +3,22 @@
 -- What a call stores is one step of the definition of a range's items: the note at the offset, and the items from the
 -- next offset on (`items_there`). So several calls, each at the offset that the last one stored, store as many items
 -- (`in_a_row`). The parts of a note lie in the file because its places do (`notes_lie_in_file`).
-use Rattle.goblin_c.proofs.Common.{◌≡◌, ◌+◌, ◌-◌, ◌<◌, ◌≤◌, ℕ, zero, suc, Bool, false, nat_le, if◌then◌else◌, List, []}
-use Rattle.goblin_c.proofs.Common.{length, take, drop, Option, Some, None, Result, Ok, refl, sym, ap, ◌∙◌, arith}
-use Rattle.goblin_c.proofs.Common.{leb-false, drop-take, take-nil, Ctx, Refusal, ◌>>=◌, RefusalAt, refused_at}
-use Rattle.goblin_c.proofs.Common.{GoblinHeader, GoblinRange, ctx_of, note_converted, nat_tests, ◌==◌, drop_all}
-use Rattle.goblin_c.proofs.Common.{length-drop, length-take, take_all, lt-leb, bytes_from, note_utf8_expected}
-use Rattle.std.proofs.Math.Seq.{drop-drop}
-use Rattle.goblin.specs.declared.elf.note.NotePlaces.{NotePlaces}
-use Rattle.goblin.specs.Nhdr.{nhdr32_of}
-use Rattle.goblin.specs.Note.{NoteParts, note_there, places_at, note_at, note_items, item_and_rest, read_places}
-use Rattle.goblin.specs.Note.{bytes_at, note_align, note_places}
-use Rattle.goblin.specs.Notes.{LieWithin}
-use Rattle.goblin.specs.Nhdr.{nhdr32_size}
-use Rattle.goblin.specs.declared.elf.note.Nhdr32.{Nhdr32}
-use Rattle.goblin_c.proofs.Common.{true, Err, fits-room_of, refuse_as, refusal_of, read_within, Endian, bytes_in}
-use Rattle.goblin_c.specs.Notes.{note_expected, parts_at, read_parts, without_last}
-use Rattle.std.specs.Str.{is_utf8}
+use Rattle.goblin.specs.{Nhdr.nhdr32_of, Nhdr.nhdr32_size, Note.note_there, Note.places_at, Note.read_places}
+use Rattle.goblin.specs.{Notes.LieWithin, declared.elf.note.Nhdr32.Nhdr32, declared.elf.note.NotePlaces.NotePlaces}
+use Rattle.goblin.specs.Note.{NoteParts, bytes_at, item_and_rest, note_align, note_at, note_items, note_places}
 use Rattle.goblin.specs.NoteLaws.{note_by_note, whole_is_note}
-use Rattle.goblin_c.specs.declared.types.GoblinNote.{GoblinNote}
-use Rattle.goblin_c.specs.Laws.{NotesAreItems, NotesInARow, NotesLieInFile, items_reported, note_in, WholeNotesAreNotes}
-use Rattle.goblin_c.specs.Laws.{NotesAreText, notes_reported}
-use Rattle.goblin_c.proofs.ListedLemmas.{one_converted}
+use Rattle.goblin_base.specs.Record.{read_within}
+use Rattle.goblin_c.{proofs.ListLemmas.one_converted, specs.Types.note_converted}
+use Rattle.goblin_c.proofs.Common.{Bool, Ctx, Endian, Err, GoblinHeader, GoblinRange, List, None, Ok, Option, Refusal}
+use Rattle.goblin_c.proofs.Common.{RefusalAt, Result, Some, [], ap, arith, ctx_of, drop, false, fits-room_of, is_utf8}
+use Rattle.goblin_c.proofs.Common.{if◌then◌else◌, leb-false, length, length-drop, length-take, nat_le, nat_tests, refl}
+use Rattle.goblin_c.proofs.Common.{refusal_of, refuse_as, refused_at, suc, sym, take, take_all, true, zero, ℕ, ◌+◌, ◌-◌}
+use Rattle.goblin_c.proofs.Common.{◌<◌, ◌==◌, ◌>>=◌, ◌∙◌, ◌≡◌, ◌≤◌}
+use Rattle.goblin_c.specs.{Laws.items_reported, Laws.notes_reported, declared.types.GoblinNote.GoblinNote}
+use Rattle.goblin_c.specs.Laws.{NotesAreItems, NotesAreText, NotesInARow, NotesLieInFile, WholeNotesAreNotes, note_in}
+use Rattle.goblin_c.specs.Notes.{bytes_from, note_expected, note_utf8_expected, parts_at, read_parts, without_last}
+use Rattle.std.proofs.Math.Seq.{drop-drop, take-nil}
+use Rattle.std.proofs.lemmas.{Bool.lt-leb, List.drop-take, List.drop_all}
 use Rattle.goblin_base.specs.declared.container.Endian.TheVariants as endian
 
 -- the note that a file has at the ranges of a stored one is the one that its bytes from the offset on have at theirs

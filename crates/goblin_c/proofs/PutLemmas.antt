@@ -3,30 +3,31 @@
 -- The item that a call stores is read from the bytes at its place (`found_at`). After a put these are the record's
 -- image (`own_bytes`), which is read as the record. The call finds one there if the list has as many items as before
 -- (`still_there`).
-use Rattle.goblin_c.proofs.Common.{◌≡◌, ◌≤◌, ◌<◌, ◌+◌, ◌*◌, ℕ, List, ◌++◌, length, take, drop, get_or, Option, Some}
-use Rattle.goblin_c.proofs.Common.{None, Result, Ok, Err, refl, ap, ◌∙◌, arith, append_assoc, length-append}
-use Rattle.goblin_c.proofs.Common.{take-append_seam, drop-drop, drop_at, length-take-le, take-append-drop, take_all}
-use Rattle.goblin_c.proofs.Common.{slice_get-get_or, slice_get_within, IsRecord, Layout, IsBytes, count_of}
-use Rattle.goblin_c.proofs.Common.{each_converted, item_at, RefusalAt, Reloc, reloc_converted, ctx_of, IsBytes-part}
-use Rattle.goblin_c.proofs.Common.{length-part, length-drop, length-map, length_records, Bool, GoblinHeader}
-use Rattle.goblin_c.proofs.Common.{GoblinRange, section_converted, segment_converted, symbol_converted}
-use Rattle.goblin_c.proofs.Common.{sections_expected, segments_expected, symbols_expected, relocs_expected, put_unless}
-use Rattle.goblin_c.proofs.Common.{with_bytes, reloc_ctx, Misfit, program_header_laws, section_header_laws, sym_laws}
-use Rattle.goblin_c.specs.Write.{put_at, put_if_there, reloc_layout, reloc_of, section_layout, section_of}
-use Rattle.goblin_c.specs.Write.{segment_layout, segment_of, symbol_layout, symbol_of, unfit}
-use Rattle.goblin_c.specs.WriteLaws.{ChangesOnly, CountsStay, IsUnfit, PutsAreRead, PutsChangeOne, ReadsArePut}
-use Rattle.goblin_c.specs.WriteLaws.{UnfitAreRefused}
-use Rattle.goblin_c.specs.declared.types.GoblinReloc.{GoblinReloc}
-use Rattle.goblin_c.specs.declared.types.GoblinSection.{GoblinSection}
-use Rattle.goblin_c.specs.declared.types.GoblinSymbol.{GoblinSymbol}
-use Rattle.goblin_c.proofs.Common.{length-take}
-use Rattle.goblin_c.specs.Common.{Dyn, GoblinDyn}
-use Rattle.goblin_c.specs.Dynamic.{entry_expected, whole_entries_expected}
-use Rattle.goblin_c.specs.Write.{DynFits, dyn_layout, dyn_of, dyn_put_expected}
-use Rattle.goblin_c.proofs.FitLemmas.{Read, entries, relocs, reloc_same, reloc_whole, sections, section_same}
-use Rattle.goblin_c.proofs.FitLemmas.{section_whole, segments}
-use Rattle.goblin_c.proofs.FitLemmas.{symbols, symbol_same, symbol_whole}
-use Rattle.goblin_c.proofs.ReadLemmas.{found_at, same_items}
+use Rattle.goblin.specs.Header.{Identifies, class_named, header_layout, header_size, order_named}
+use Rattle.goblin_base.proofs.{ByteorderLemmas.length-part, Eager.length_records}
+use Rattle.goblin_base.specs.{NumberLaws.length-spelled, NumberLaws.spelled-number, Place.with_number}
+use Rattle.goblin_base.specs.FieldLaws.{IsBytes-part, number_at-lt, number_at-with_number}
+use Rattle.goblin_base.specs.Number.{IsBytes, number_at, spelled}
+use Rattle.goblin_c.{proofs.Common.◌≤◌, proofs.PlaceLemmas.numbers_lie_in_range, specs.Bytes.number_expected}
+use Rattle.goblin_c.proofs.Common.{Ctx, Endian, Err, GoblinHeader, GoblinRange, List, None, Ok, Option, RefusalAt, Some}
+use Rattle.goblin_c.proofs.Common.{Result, ap, arith, ctx_of, drop, drop-drop, each_converted, fits-room_of, get_or, ℕ}
+use Rattle.goblin_c.proofs.Common.{item_at, length, length-drop, length-map, length-take, length-take-le, mod-eq_of_lt}
+use Rattle.goblin_c.proofs.Common.{nat_tests, refl, refusal_of, refuse_as, refused_at, room_of_fits, slice_get-get_or}
+use Rattle.goblin_c.proofs.Common.{slice_get_within, sym, take, take_all, true, ◌*◌, ◌++◌, ◌+◌, ◌<◌, ◌>>=◌, ◌∙◌, ◌≡◌}
+use Rattle.goblin_c.proofs.ListLemmas.{Read, entries, found_at, reloc_same, reloc_whole, relocs, same_items, sections}
+use Rattle.goblin_c.proofs.ListLemmas.{section_same, section_whole, segments, symbol_same, symbol_whole, symbols}
+use Rattle.goblin_c.specs.{Bytes.is_width, declared.misfit.Misfit.Misfit, declared.types.GoblinReloc.GoblinReloc}
+use Rattle.goblin_c.specs.{Common.Dyn, Common.Error, Common.GoblinDyn, Common.Layout, Places.number_in_expected}
+use Rattle.goblin_c.specs.{Dynamic.entry_expected, Dynamic.whole_entries_expected, Types.refusal_converted}
+use Rattle.goblin_c.specs.{Expected.count_of, Expected.header_expected, Write.symbol_of, Write.unfit, Write.with_bytes}
+use Rattle.goblin_c.specs.Write.{DynFits, FitsClass, dyn_layout, dyn_of, dyn_put_expected, header_of, ident_of, put_at}
+use Rattle.goblin_c.specs.Write.{named_ctx, put_if_there, put_unless, reloc_ctx, reloc_of, section_of, segment_of}
+use Rattle.goblin_c.specs.WriteLaws.{ChangesOnly, CountsStay, HeadersAreRead, IsUnfit, NumbersArePut, PutsAreRead}
+use Rattle.goblin_c.specs.WriteLaws.{NumbersInRangesArePut, PutsChangeOne, ReadsArePut, UnfitAreRefused}
+use Rattle.goblin_c.specs.declared.types.{GoblinSection.GoblinSection, GoblinSymbol.GoblinSymbol}
+use Rattle.goblin_headers.proofs.WholeTrips.{reads_back}
+use Rattle.std.proofs.{Common.append_assoc, Common.length-append, lemmas.List.drop_at, lemmas.List.take-append-drop}
+use Rattle.std.proofs.Math.Seq.{take-append_seam}
 
 -- the front of a list
 take_at : (front rest : List ℕ) (n : ℕ) → length front ≡ n → take n (front ++ rest) ≡ front
@@ -246,3 +247,129 @@ unfit_are_refused = record {
 }
 
 pub ruleset put_laws = (puts_are_read, puts_change_one, reads_are_put, counts_stay)
+
+-- ---- A header that is put is read again.
+
+-- a header that names a class and a byte order, and whose bytes there are
+record Named (bytes : List ℕ) (h : GoblinHeader) (ctx : Ctx) : Type 0 where
+  class_is : class_named h.ei_class ≡ Some ctx.container
+  order_is : order_named h.ei_data ≡ Some ctx.le
+  room : header_size ctx.container ≤ length bytes
+
+named : (bytes : List ℕ) (h : GoblinHeader) (ctx : Ctx) → named_ctx bytes h ≡ Ok ctx → Named bytes h ctx
+named bytes h ctx is = record {
+  class_is = grind (arith, nat_tests);
+  order_is = grind (arith, nat_tests);
+  room = grind (arith, nat_tests, fits-room_of (length bytes) 0);
+}
+
+is_read : (bytes : List ℕ) (h : GoblinHeader) (ctx : Ctx)
+    → FitsClass bytes h → Named bytes h ctx
+    → header_expected
+    ((header_layout ctx.container ctx.le).image (header_of bytes h) ++ drop (header_size ctx.container) bytes)
+    ≡ Ok (Some h)
+is_read bytes h ctx fits names =
+    let own = header_of bytes h in
+    let room : 16 ≤ header_size ctx.container = grind (arith, nat_tests) in
+    let padding : length (take 7 (drop 9 bytes)) ≡ 7 =
+    length-take-le 7 (drop 9 bytes) (omega (arith, room, names.room, length-drop 9 bytes)) in
+    let identifies : Identifies ctx.container ctx.le (ident_of bytes h) = record {
+      begins = refl;
+      named = names.class_is;
+      names_order = record { long = omega (arith, padding); named = names.order_is };
+    } in
+    let same : (ctx_of h).container ≡ ctx.container = grind (arith, nat_tests, names.class_is) in
+    rw (reads_back ctx.container ctx.le own (drop (header_size ctx.container) bytes) identifies (rw same at fits)) refl
+
+-- what is put is put in a context
+put_in : (answer : Result Ctx Error) (after : Ctx → List ℕ) (new : List ℕ)
+    → (refuse_as refusal_converted (refused_at 0 (refuse_as refusal_of answer)) >>= λ c. put_unless None 0 (after c))
+    ≡ Ok (Some new)
+    → (ctx : Ctx) × (answer ≡ Ok ctx) × (after ctx ≡ new)
+put_in answer after new put = grind arith
+
+pub headers_are_read : HeadersAreRead
+headers_are_read bytes new h fits put =
+    let own = put_in (named_ctx bytes h) (λ ctx. (header_layout ctx.container ctx.le).image (header_of bytes h)
+    ++ drop (header_size ctx.container) bytes) new put in
+    rw (← own.2) (is_read bytes h own.0 fits (named bytes h own.0 own.1))
+
+-- ---- Numbers and headers that are put are read again.
+
+-- a number that is read has a width, and lies in the file
+pub read_there : (bytes : List ℕ) (h : GoblinHeader) (offset width value : ℕ)
+    → number_expected bytes h offset width ≡ Ok (Some value)
+    → (is_width width ≡ true) × (offset + width ≤ length bytes)
+    × (value ≡ number_at (ctx_of h).le bytes offset width)
+read_there bytes h offset width value is = grind (arith, fits-room_of (length bytes) offset width)
+
+-- and so it is read where both hold
+read_of : (bytes : List ℕ) (h : GoblinHeader) (offset width : ℕ)
+    → is_width width ≡ true → offset + width ≤ length bytes
+    → number_expected bytes h offset width ≡ Ok (Some (number_at (ctx_of h).le bytes offset width))
+read_of bytes h offset width is room = rw (is, room_of_fits (length bytes) offset width room) refl
+
+-- the bytes of a number are written over those at its offset
+with_number-is : (order : Endian) (bytes : List ℕ) (offset width value : ℕ)
+    → with_number order bytes offset width value ≡ with_bytes bytes offset (spelled order width value)
+unfolding with_number
+with_number-is order bytes offset width value =
+    ap (λ (n : ℕ). take offset bytes ++ spelled order width value ++ drop (offset + n) bytes)
+    (sym (length-spelled order width value))
+
+number_stays : (order : Endian) (bytes : List ℕ) (offset width value : ℕ)
+    → offset + width ≤ length bytes → ChangesOnly offset width bytes (with_number order bytes offset width value)
+number_stays order bytes offset width value room =
+    rw (with_number-is order bytes offset width value)
+    (others_stay bytes offset (spelled order width value) width (length-spelled order width value) room)
+
+pub numbers_are_put : NumbersArePut
+numbers_are_put = record {
+  read = λ bytes new h offset width value fits put.
+      let order = (ctx_of h).le in
+      let put_bytes = with_number order bytes offset width value in
+      let found = put_found (number_expected bytes h offset width) None offset put_bytes new put in
+      let there = read_there bytes h offset width found.0 found.1 in
+      let stays = number_stays order bytes offset width value there.1 in
+      rw (
+        found.2,
+        read_of put_bytes h offset width there.0 (omega (arith, there.1, stays.same_length)),
+        number_at-with_number order bytes offset width value there.1,
+        mod-eq_of_lt fits,
+      ) refl;
+  one = λ bytes new h offset width value misfit put.
+      let order = (ctx_of h).le in
+      let found = put_found (number_expected bytes h offset width) misfit offset
+      (with_number order bytes offset width value) new put in
+      rw found.2
+      (number_stays order bytes offset width value (read_there bytes h offset width found.0 found.1).1);
+  back = λ bytes h offset width value are found.
+      let order = (ctx_of h).le in
+      let there = read_there bytes h offset width value found in
+      let own = take width (drop offset bytes) in
+      let spelt = spelled-number order own (IsBytes-part bytes offset width are) in
+      let same : spelled order width value ≡ own =
+      rw there.2 (rw (length-part bytes offset width there.1) at spelt) in (
+        omega (arith, number_at-lt order bytes offset width are there.1, there.2),
+        rw (
+          found,
+          with_number-is order bytes offset width value,
+          same,
+          rewritten bytes offset width there.1,
+        ) refl,
+      );
+}
+
+pub numbers_in_ranges_are_put : NumbersInRangesArePut
+numbers_in_ranges_are_put bytes h range offset width value found misfit is =
+    rw (is, (numbers_lie_in_range bytes h range offset width found is).2) refl
+
+-- a number that is found in a range lies in the file
+pub in_range_there : (bytes : List ℕ) (h : GoblinHeader) (range : GoblinRange) (offset width value : ℕ)
+    → number_in_expected bytes h range offset width ≡ Ok (Some value)
+    → range.offset + offset + width ≤ length bytes
+in_range_there bytes h range offset width value is =
+    (read_there bytes h (range.offset + offset) width value
+    (numbers_lie_in_range bytes h range offset width value is).2).1
+
+pub ruleset number_laws = (numbers_are_put, numbers_in_ranges_are_put)

@@ -4,26 +4,27 @@
 -- of its range (`in_range`): so the string stands in the file at both offsets together (`piece_there`). The library's
 -- look-up passes a name exactly if a call stores a string with its bytes (`named-Decides`), so the first item that it
 -- finds is the first with that name (`by_name`).
-use Rattle.goblin_c.proofs.Common.{◌≡◌, ◌+◌, ◌-◌, ◌<◌, ◌≤◌, ◌==◌, ℕ, Bool, nat_le, List, length, take, drop, min, Some}
-use Rattle.goblin_c.proofs.Common.{Result, Ok, Err, inl, inr, refl, sym, ap, subst, ◌∙◌, arith, nat_tests, drop-take}
-use Rattle.goblin_c.proofs.Common.{length-take, take_min, take-take, Decides, before_first, position_or_len, piece}
-use Rattle.goblin_c.proofs.Common.{◌>>=◌, RefusalAt, refused_at, GoblinRange, each_converted, first_item, is_named}
-use Rattle.goblin_c.proofs.Common.{item_at, sections_expected, string_utf8_expected, strings_expected, symbols_expected}
-use Rattle.goblin_c.proofs.Common.{section_converted, symbol_converted, bytes_eq-Decides, FindsItemFrom, bytes_in, true}
-use Rattle.goblin_c.proofs.Common.{if◌then◌else◌, Option, None, length-drop, fits-room_of, range_expected, LiesIn}
-use Rattle.goblin_c.proofs.Common.{ctx_of, slice_get, mod-eq_of_lt, string_expected}
-use Rattle.goblin_c.specs.Expected.{passes}
-use Rattle.goblin_c.proofs.FitLemmas.{fits_in, section_name, sections, symbol_parts, symbols}
-use Rattle.std.proofs.Math.Seq.{drop-drop}
-use Rattle.goblin_base.specs.Strtab.{has_name, plain, range_in}
-use Rattle.goblin_c.specs.Laws.{IsNameAt, RefusesInTurn, SectionsByName, StringsAreThere, SymbolsByName}
-use Rattle.goblin_c.specs.Laws.{StringsAreCompared, range_is, range_starts, BytesLieInFile, EmptyHaveNoBytes}
-use Rattle.goblin_c.specs.Laws.{StringsAreBytes, StringsLieInFile, TextIsFound, TextIsUtf8}
-use Rattle.goblin_c.proofs.SearchLemmas.{first_found}
-use Rattle.goblin_c.proofs.ListedLemmas.{one_converted}
-use Rattle.std.specs.Prelude.{IsErr}
-use Rattle.std.specs.Str.{is_utf8}
-use Rattle.goblin_base.specs.Wanted.{is_piece, starts_piece}
+use Rattle.goblin_base.specs.{Strtab.has_name, Strtab.plain, Strtab.range_in, Wanted.is_piece, Wanted.starts_piece}
+use Rattle.goblin_base.specs.Pieces.{piece}
+use Rattle.goblin_c.proofs.{Common.◌∙◌, Common.◌∷◌, Common.◌≡◌, Common.◌≤◌, ListLemmas.symbol_parts, ListLemmas.symbols}
+use Rattle.goblin_c.proofs.BufferLemmas.{stored_item}
+use Rattle.goblin_c.proofs.Common.{Bool, Decides, Err, GoblinRange, List, None, Ok, Option, RefusalAt, Result, Some, []}
+use Rattle.goblin_c.proofs.Common.{ap, arith, closed_len, ctx_of, drop, each_converted, false, first_item, fits-room_of}
+use Rattle.goblin_c.proofs.Common.{get_or, if◌then◌else◌, inl, is_utf8, item_at, length, length-drop, length-take, min}
+use Rattle.goblin_c.proofs.Common.{length-take-le, mod-eq_of_lt, nat_le, nat_tests, position_or_len, refl, refusal_at}
+use Rattle.goblin_c.proofs.Common.{refuse_as, refused_at, section_converted, slice_get, slice_get-get_or, subst, suc, ℕ}
+use Rattle.goblin_c.proofs.Common.{string_expected, sym, symbol_converted, take, true, zero, ◌+◌, ◌-◌, ◌<◌, ◌==◌, ◌>>=◌}
+use Rattle.goblin_c.proofs.ListLemmas.{expected_is, first_found, fits_in, one_converted, section_name, sections}
+use Rattle.goblin_c.specs.{Bytes.IsCString, Bytes.range_expected, Bytes.string_closed_expected, Refused.Returns}
+use Rattle.goblin_c.specs.{Common.GoblinRefusal, Common.Refused, Expected.symbols_expected, Status.Stores}
+use Rattle.goblin_c.specs.Expected.{is_named, passes, sections_expected, string_utf8_expected, strings_expected}
+use Rattle.goblin_c.specs.Laws.{BytesLieInFile, EmptyHaveNoBytes, FindsItemFrom, IsNameAt, LiesIn, RefusesInTurn}
+use Rattle.goblin_c.specs.Laws.{SectionsByName, StringsAreBytes, StringsAreCompared, StringsAreThere, StringsLieInFile}
+use Rattle.goblin_c.specs.Laws.{SymbolsByName, TextIsFound, TextIsUtf8, bytes_in, range_is, range_starts}
+use Rattle.std.proofs.{Common.inr, Common.slice_index, lemmas.List.get_or-drop, lemmas.List.get_or-take}
+use Rattle.std.proofs.{Math.Seq.drop-drop, Math.Seq.take-take, lemmas.List.take_min, lemmas.Slice.Eq.bytes_eq-Decides}
+use Rattle.std.proofs.lemmas.List.{drop-take, Sums.fails_before_first, Sums.passes_at_first, Sums.prefix_len-le-length}
+use Rattle.std.specs.{List.before_first, Prelude.All, Prelude.IsErr, Prelude.not, Prelude.◌≢◌}
 
 -- the strings of a range are its bytes, and lie in the file
 pub in_range : (bytes : List ℕ) (range : GoblinRange) (found : List ℕ)
@@ -290,3 +291,131 @@ strings_lie_in_file bytes range offset found is =
     bytes_lie_in_file.string bytes range offset found (strings_are_bytes bytes range offset found is)
 
 pub ruleset place_laws = (bytes_lie_in_file, empty_have_no_bytes, strings_are_bytes, text_is_utf8)
+
+-- ---- The bytes of many strings, each at an offset.
+
+-- the bytes of each string: at an offset in the strings, past them, and of strings that are refused
+pub bytes_there : (bytes : List ℕ) (range : GoblinRange) (offset : ℕ) (strings : List ℕ) (size : ℕ)
+    → strings_expected bytes range ≡ Ok strings → offset < length strings → size ≡ length (piece strings 0 offset)
+    → string_expected bytes range offset
+    ≡ Ok (Some (record { offset = range.offset + offset; size = size }))
+bytes_there bytes range offset strings size found before is = grind (arith, nat_tests)
+
+pub bytes_past : (bytes : List ℕ) (range : GoblinRange) (offset : ℕ) (strings : List ℕ)
+    → strings_expected bytes range ≡ Ok strings → length strings ≤ offset
+    → string_expected bytes range offset ≡ Ok None
+bytes_past bytes range offset strings found past = grind (arith, nat_tests)
+
+pub bytes_refused : (bytes : List ℕ) (range : GoblinRange) (offset : ℕ) (refusal : RefusalAt)
+    → strings_expected bytes range ≡ Err refusal → string_expected bytes range offset ≡ Err refusal
+bytes_refused bytes range offset refusal refused = rw refused refl
+
+-- ---- Strings that a zero byte closes.
+--
+-- If a piece ends before the strings do, the byte after it is the zero byte that ends it (`zero-after`), and no byte
+-- of it is zero (`none-before`). So the range that is stored for it is a C string (`is_c_string`).
+
+-- a string that ends before its strings do
+module _ (bytes : List ℕ) (range : GoblinRange) (offset : ℕ) (strings : List ℕ)
+    (found : strings_expected bytes range ≡ Ok strings)
+    (closed : offset + length (piece strings 0 offset) < length strings) where
+  abbrev rest : List ℕ
+  rest = drop offset strings
+
+  abbrev end : ℕ
+  end = position_or_len (λ b. b == 0) rest
+
+  piece_is : piece strings 0 offset ≡ take end rest
+  unfolding piece
+  piece_is = refl
+
+  size : length (piece strings 0 offset) ≡ end
+  size = ap length piece_is ∙ length-take-le end rest (prefix_len-le-length (λ b. not (b == 0)) rest)
+
+  -- the byte after it is zero
+  zero-after : slice_get bytes (range.offset + offset + length (piece strings 0 offset)) ≡ Some 0
+  zero-after =
+      let k = offset + end in
+      let inside : end < length rest = omega (arith, closed, size, length-drop offset strings) in
+      let is_zero : get_or rest end 0 ≡ 0 = grind (arith, nat_tests, passes_at_first (λ b. b == 0) rest 0 inside) in
+      let there = in_range bytes range strings found in
+      let all = drop range.offset bytes in
+      let few : k < range.size = omega (arith, closed, size, ap length there.0, length-take range.size all) in
+      let within : range.offset + k < length bytes = omega (arith, few, there.1) in
+      let same : range.offset + offset + length (piece strings 0 offset) ≡ range.offset + k = omega (arith, size) in
+      let byte : get_or bytes (range.offset + k) 0 ≡ 0 =
+      rw (
+        ← get_or-drop range.offset bytes k 0,
+        ← get_or-take range.size all k 0 few,
+        ← there.0,
+        ← get_or-drop offset strings end 0,
+      ) is_zero in
+      rw (same, slice_get-get_or bytes (range.offset + k) 0 within, byte) refl
+
+  -- and none of it is
+  none-before : All (λ b. b ≢ 0) (take end rest)
+  none-before k d inside is_zero =
+      let early : k < end = omega (arith, inside, length-take end rest) in
+      let same : get_or (take end rest) k d ≡ get_or rest k d = get_or-take end rest k d early in
+      let other : (get_or rest k d == 0) ≡ false = fails_before_first (λ b. b == 0) rest k d early in
+      grind (arith, nat_tests, same, other, is_zero)
+
+  closed_is : IsCString bytes (place_of range offset (piece strings 0 offset))
+  closed_is =
+      let before : offset < length strings = omega (arith, closed) in (
+        zero-after,
+        rw (piece_is_there bytes range offset strings found before, piece_is) none-before,
+      )
+
+closed_from : (bytes : List ℕ) (range : GoblinRange) (offset : ℕ) (found : GoblinRange)
+    (answer : Result (List ℕ) RefusalAt)
+    → strings_expected bytes range ≡ answer → string_closed_expected bytes range offset ≡ Ok (Some found)
+    → IsCString bytes found
+closed_from bytes range offset found (Ok strings) read is =
+    let closed : offset + length (piece strings 0 offset) < length strings = grind (arith, nat_tests) in
+    let same : place_of range offset (piece strings 0 offset) ≡ found = grind (arith, nat_tests) in
+    subst (IsCString bytes) same (closed_is bytes range offset strings read closed)
+closed_from bytes range offset found (Err e) read is = let refused = rw read at is in absurd (cc)
+
+-- of the first bytes the last one is the last zero byte, or it doesn't count
+pub closed_last : (bytes : List ℕ) (n : ℕ)
+    → n < length bytes
+    → closed_len (take (suc n) bytes) ≡ (if slice_index bytes n == 0 then suc n else closed_len (take n bytes))
+closed_last [] n before = absurd (omega (arith, before))
+closed_last (b ∷ rest) zero before = grind (arith, nat_tests)
+closed_last (b ∷ rest) (suc n) before =
+    let inside : n < length rest = omega (arith, before) in
+    let own = closed_last rest n inside in
+    grind (arith, nat_tests, own)
+
+pub closed_shorter : (bytes : List ℕ) (n : ℕ)
+    → 0 < n → n ≤ length bytes → slice_index bytes (n - 1) ≢ 0
+    → closed_len (take n bytes) ≡ closed_len (take (n - 1) bytes)
+closed_shorter bytes zero some few other = absurd (omega (arith, some))
+closed_shorter bytes (suc n) some few other =
+    let last = closed_last bytes n (omega (arith, few)) in grind (arith, nat_tests, last)
+
+pub closed_whole : (bytes : List ℕ) (n : ℕ)
+    → 0 < n → n ≤ length bytes → slice_index bytes (n - 1) ≡ 0 → closed_len (take n bytes) ≡ n
+closed_whole bytes zero some few is = absurd (omega (arith, some))
+closed_whole bytes (suc n) some few is =
+    let last = closed_last bytes n (omega (arith, few)) in grind (arith, nat_tests, last)
+
+-- what a call stores at 0 is a C string
+pub is_c_string : (bytes : List ℕ) (range : GoblinRange) (offset : ℕ) (result : Result (Option GoblinRange) Refused)
+    (old new : GoblinRange) (was why : GoblinRefusal) (status : ℕ)
+    → Returns (λ found. found) result (string_closed_expected bytes range offset)
+    → Stores (refuse_as refusal_at result) old was status new why → status ≡ 0 → IsCString bytes new
+is_c_string bytes range offset result old new was why status is stores ok =
+    closed_from bytes range offset new (strings_expected bytes range) refl
+    (sym (expected_is result (string_closed_expected bytes range offset) is)
+    ∙ (stored_item (refuse_as refusal_at result) old new was why status stores ok).0)
+
+-- a string that ends before the strings do is closed
+pub closed_there : (bytes : List ℕ) (range : GoblinRange) (offset : ℕ) (strings : List ℕ) (size : ℕ)
+    → strings_expected bytes range ≡ Ok strings → offset < length strings → size ≡ length (piece strings 0 offset)
+    → size ≢ length strings - offset
+    → string_closed_expected bytes range offset
+    ≡ Ok (Some (record { offset = range.offset + offset; size = size }))
+closed_there bytes range offset strings size found before is other =
+    grind (arith, nat_tests, piece_short strings offset)

@@ -26,7 +26,7 @@ pub fn texts()
 
 /// Law: the status of a call shows whether it stored an item, is past the end or is refused: the kind of
 /// a refusal is above 1.
-#[tactic(auto, using(crate::proofs::TextLemmas::kinds_are_above_one))]
+#[tactic(auto, using(crate::proofs::BufferLemmas::kinds_are_above_one))]
 pub fn kinds()
     ensures { KindsAreAboveOne }
 {}
@@ -59,7 +59,7 @@ pub fn whole()
 /// Laws: `goblin_linked_section` stores what `goblin_section` stores at an index, but nothing at index 0 or of a
 /// section without bytes in the file. `goblin_names_section` stores the table at the index in the header,
 /// or if that is 0xffff at the index that the first section links to.
-#[tactic(auto, using(crate::proofs::IndexLemmas::tables_by_index, crate::proofs::IndexLemmas::names_by_index))]
+#[tactic(auto, using(crate::proofs::ListLemmas::tables_by_index, crate::proofs::ListLemmas::names_by_index))]
 pub fn names()
     ensures tables { TablesByIndex }
     ensures names { NamesByIndex }
@@ -104,7 +104,7 @@ pub fn searches()
 
 /// Law: `goblin_section_by_type` stores the first section from an index on that has the type, as
 /// `goblin_section` stores it, with its index, and returns the end if there is none.
-#[tactic(auto, using(crate::proofs::SearchLemmas::sections_by_type))]
+#[tactic(auto, using(crate::proofs::ListLemmas::sections_by_type))]
 pub fn types()
     ensures { SectionsByType }
 {}

@@ -6,7 +6,7 @@ ghost use Rattle.goblin_c.specs.WriteLaws.{CountsStay, HeadersAreRead, ItemsAreW
 /// length a range has as many symbols and relocations. Only the bytes of the record change. An item that a call stores
 /// changes no byte if it is put at its index, and a section header, a program header and a symbol fit then. The structs
 /// for C have all of each item that is read.
-#[tactic(auto, using(crate::proofs::PutLemmas::put_laws, crate::proofs::FitLemmas::items_are_whole))]
+#[tactic(auto, using(crate::proofs::PutLemmas::put_laws, crate::proofs::ListLemmas::items_are_whole))]
 pub fn puts()
     ensures there { PutsAreRead }
     ensures one { PutsChangeOne }
@@ -18,14 +18,14 @@ pub fn puts()
 /// Laws: a number that `goblin_put_number` puts is what `goblin_number` stores then, and no other byte changes. A
 /// number that `goblin_number` stores fits, and changes no byte where it is put. Where `goblin_number_in` stores a
 /// number of a range, `goblin_put_number_in` puts one as `goblin_put_number` does at its offset in the file.
-#[tactic(auto, using(crate::proofs::NumberLemmas::number_laws))]
+#[tactic(auto, using(crate::proofs::PutLemmas::number_laws))]
 pub fn numbers()
     ensures file { NumbersArePut }
     ensures ranges { NumbersInRangesArePut }
 {}
 
 /// Law: a header that `goblin_put_header` puts is what `goblin_header` stores then.
-#[tactic(auto, using(crate::proofs::HeaderPutLemmas::headers_are_read))]
+#[tactic(auto, using(crate::proofs::PutLemmas::headers_are_read))]
 pub fn headers()
     ensures { HeadersAreRead }
 {}

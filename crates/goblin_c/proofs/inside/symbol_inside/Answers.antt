@@ -1,5 +1,5 @@
 -- The record that was found is the expected symbol (`symbol_is`).
-use Rattle.goblin_c.proofs.InsideLemmas.{symbol_is}
+use Rattle.goblin_c.proofs.ListLemmas.{symbol_is}
 use Rattle.goblin_c.proofs.inside.symbol_inside.Goals as goal
 
 pub returns : goal.returns

@@ -1,5 +1,5 @@
-use Rattle.goblin_c.proofs.Common.{[], ◌∷◌, refl, facts_of, facts_text}
-use Rattle.goblin_c.proofs.TextLemmas.{laid-part}
+use Rattle.goblin_c.proofs.{BufferLemmas.laid-part, Common.[], Common.facts_of, Common.refl, Common.◌∷◌}
+use Rattle.goblin_c.specs.Common.{facts_text}
 use Rattle.goblin_c.proofs.texts.write_report.Goals as goal
 
 pub returns : goal.returns

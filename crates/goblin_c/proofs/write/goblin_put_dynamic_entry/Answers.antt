@@ -1,4 +1,4 @@
-use Rattle.goblin_c.proofs.ReadLemmas.{entry_within}
+use Rattle.goblin_c.proofs.ListLemmas.{entry_within}
 use Rattle.goblin_c.proofs.write.goblin_put_dynamic_entry.Goals as goal
 
 pub put_found-requires : goal.put_found-requires

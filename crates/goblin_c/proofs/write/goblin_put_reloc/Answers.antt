@@ -1,5 +1,4 @@
-use Rattle.goblin_c.proofs.Common.{reloc_converted}
-use Rattle.goblin_c.proofs.ReadLemmas.{lists_relocs, room_for}
+use Rattle.goblin_c.{proofs.ListLemmas.lists_relocs, proofs.ListLemmas.room_for, specs.Types.reloc_converted}
 use Rattle.goblin_c.proofs.write.goblin_put_reloc.Goals as goal
 
 pub put_found-requires : goal.put_found-requires

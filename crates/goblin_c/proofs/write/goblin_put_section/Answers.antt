@@ -1,5 +1,4 @@
-use Rattle.goblin_c.proofs.Common.{section_converted}
-use Rattle.goblin_c.proofs.ReadLemmas.{lists_sections, room_for}
+use Rattle.goblin_c.proofs.{Common.section_converted, ListLemmas.lists_sections, ListLemmas.room_for}
 use Rattle.goblin_c.proofs.write.goblin_put_section.Goals as goal
 
 pub put_found-requires : goal.put_found-requires

@@ -1,5 +1,4 @@
-use Rattle.goblin_c.proofs.Common.{segment_converted}
-use Rattle.goblin_c.proofs.ReadLemmas.{lists_segments, room_for}
+use Rattle.goblin_c.proofs.{Common.segment_converted, ListLemmas.lists_segments, ListLemmas.room_for}
 use Rattle.goblin_c.proofs.write.goblin_put_segment.Goals as goal
 
 pub put_found-requires : goal.put_found-requires

@@ -1,5 +1,4 @@
-use Rattle.goblin_c.proofs.Common.{symbol_converted}
-use Rattle.goblin_c.proofs.ReadLemmas.{lists_symbols, room_for}
+use Rattle.goblin_c.proofs.{Common.symbol_converted, ListLemmas.lists_symbols, ListLemmas.room_for}
 use Rattle.goblin_c.proofs.write.goblin_put_symbol.Goals as goal
 
 pub put_found-requires : goal.put_found-requires

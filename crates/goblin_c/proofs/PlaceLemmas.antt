@@ -4,21 +4,22 @@
 -- is read only after the tests of room for its range and for itself (`numbers_lie_in_range`). The library's search
 -- stops at the first segment that passes its test (`first_loads`, `none_loads`), and the test is the one that is stated
 -- for C (`loads-Decides`).
-use Rattle.goblin_c.proofs.Common.{get_or_from_slice_get, position_or_len, slice_get_within, ◌≡◌, ◌≤◌, ◌<◌, ◌+◌, ◌-◌, ℕ}
-use Rattle.goblin_c.proofs.Common.{Bool, true, false, true≢false, nat_le, min, List, [], length, drop, find, slice_get}
-use Rattle.goblin_c.proofs.Common.{Option, Some, None, Result, Ok, Err, inl, inr, refl, sym, ap, subst, ◌∙◌, arith}
-use Rattle.goblin_c.proofs.Common.{leb-false, leb-true, nat_tests, drop_all, length-drop, take-nil, take_min}
-use Rattle.goblin_c.proofs.Common.{slice_get-map, Decides, option_map, misplaced, RefusalAt, refused_at, fits-room_of}
-use Rattle.goblin_c.proofs.Common.{room_of_fits, room_of, ◌>>=◌, refuse_as, loaded_from, loads, offset_in}
-use Rattle.goblin_c.proofs.Common.{ProgramHeader, GoblinHeader, GoblinRange, segment_expected, segments_expected}
-use Rattle.goblin_c.proofs.Common.{segment_converted, bytes_in, cut_range, in_file, passes_at_first}
+use Rattle.goblin.specs.ProgramHeaders.{loads, offset_in}
 use Rattle.goblin_base.specs.declared.scroll.Error.{Error as Misplaced}
-use Rattle.goblin_c.specs.declared.types.GoblinSegment.{GoblinSegment}
-use Rattle.goblin_c.specs.PlaceLaws.{AddressesAreLoaded, IsOffsetOf, IsSlice, LoadsByte, LoadsFirst, NumbersLieInRange}
-use Rattle.goblin_c.specs.PlaceLaws.{PartsLieInFile}
-use Rattle.goblin_c.proofs.FilledBufferLemmas.{ends-before}
-use Rattle.goblin_c.proofs.SearchLemmas.{converted_one, fails_before}
-use Rattle.std.proofs.lemmas.List.Folds.{find_at}
+use Rattle.goblin_c.proofs.{BufferLemmas.ends-before, ListLemmas.converted_one, ListLemmas.fails_before}
+use Rattle.goblin_c.proofs.Common.{Bool, Decides, Err, GoblinHeader, GoblinRange, List, None, Ok, Option, RefusalAt, []}
+use Rattle.goblin_c.proofs.Common.{Result, Some, ap, arith, drop, false, fits-room_of, get_or_from_slice_get, inl, min}
+use Rattle.goblin_c.proofs.Common.{leb-false, leb-true, length, length-drop, misplaced, nat_le, nat_tests, option_map}
+use Rattle.goblin_c.proofs.Common.{position_or_len, refl, refuse_as, refused_at, room_of, room_of_fits, slice_get, sym}
+use Rattle.goblin_c.proofs.Common.{segment_converted, slice_get-map, slice_get_within, subst, true, ℕ, ◌+◌, ◌-◌, ◌<◌}
+use Rattle.goblin_c.proofs.Common.{◌>>=◌, ◌∙◌, ◌≡◌, ◌≤◌}
+use Rattle.goblin_c.specs.{Bytes.range_expected, Laws.bytes_in}
+use Rattle.goblin_c.specs.{Common.ProgramHeader, Common.loaded_from, declared.types.GoblinSegment.GoblinSegment}
+use Rattle.goblin_c.specs.{Expected.segment_expected, Expected.segments_expected, Places.cut_range, Places.in_file}
+use Rattle.goblin_c.specs.PlaceLaws.{AddressesAreLoaded, BytesAreFound, IsOffsetOf, IsRange, IsSlice, LoadsByte}
+use Rattle.goblin_c.specs.PlaceLaws.{LoadsFirst, NotesRefuseThere, NumbersAreFound, NumbersLieInRange, PartsLieInFile}
+use Rattle.std.proofs.{Common.find, Common.inr, Common.true≢false, Math.Seq.take-nil}
+use Rattle.std.proofs.lemmas.List.{drop_all, take_min, Folds.find_at, Sums.passes_at_first}
 
 -- the part of a range has the same bytes of the file
 same_bytes : (bytes : List ℕ) (range : GoblinRange) (inside : Bool)
@@ -132,3 +133,23 @@ by_all bytes h address (Err e) short is = inl (λ index. rw is refl)
 
 pub addresses_are_loaded : AddressesAreLoaded
 addresses_are_loaded bytes h address short = by_all bytes h address (segments_expected bytes h) short refl
+
+-- ---- What lies in the file is found, and else refused at its offset: the test of room passes exactly if it does.
+
+-- a range that lies in the file, and one that doesn't
+range_is : (bytes : List ℕ) (range : GoblinRange) → IsRange bytes range (range_expected bytes range)
+unfolding room_of
+range_is bytes range = grind (arith, nat_tests)
+
+pub bytes_are_found : BytesAreFound
+bytes_are_found = record {
+  section = λ bytes s type other size. grind (arith, nat_tests, range_is bytes s.file);
+  segment = λ bytes s type size. grind (arith, nat_tests, range_is bytes s.file);
+}
+
+pub numbers_are_found : NumbersAreFound
+unfolding room_of
+numbers_are_found bytes h range offset width known = grind (arith, nat_tests, known)
+
+pub notes_refuse_there : NotesRefuseThere
+notes_refuse_there offset e = grind arith
