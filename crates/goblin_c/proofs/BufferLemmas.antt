@@ -7,13 +7,13 @@ use Rattle.goblin.{proofs.AddressLemmas.some-within, specs.Note.PartRefusal, spe
 use Rattle.goblin_base.specs.{Record.read_within, Refusal.bad_input}
 use Rattle.goblin_base.specs.{Texts.are_short, Texts.each_short, Texts.is_short, declared.texts.Part.Part}
 use Rattle.goblin_c.proofs.Common.{Endian, Err, List, None, Ok, Option, Refusal, RefusalAt, Result, Some, [], ap, arith}
-use Rattle.goblin_c.proofs.Common.{ctx_of, drop, drop-drop, get_or, get_or_from_slice_get, laid, leb-true, length, map}
-use Rattle.goblin_c.proofs.Common.{length-drop, length-map, length-take, length-take-le, min, misplaced, nat_le, refl}
+use Rattle.goblin_c.proofs.Common.{drop, drop-drop, get_or, get_or_from_slice_get, laid, leb-true, length, length-drop}
+use Rattle.goblin_c.proofs.Common.{length-map, length-take, length-take-le, map, min, misplaced, nat_tests, refl, suc}
 use Rattle.goblin_c.proofs.Common.{refuse_as, room_of, slice_get, slice_get-get_or, slice_get-map, slice_get_within, ℕ}
-use Rattle.goblin_c.proofs.Common.{suc, sym, take, zero, ◌++◌, ◌+◌, ◌-◌, ◌<◌, ◌∙◌, ◌∷◌, ◌≡◌, ◌≤◌}
-use Rattle.goblin_c.specs.{Common.GoblinRefusal, Common.buffer_too_short, Laws.KindsAreAboveOne, Laws.TextIsClosed}
-use Rattle.goblin_c.specs.{Laws.BufferIsFilled, Laws.IsFilled, TextLaws.PartHasSameText, TextLaws.PartsHaveSameText}
-use Rattle.goblin_c.specs.{Notes.bytes_from, Notes.note_whole_expected, Status.FillsEach, Status.StopsAt, Status.Stores}
+use Rattle.goblin_c.proofs.Common.{sym, take, zero, ◌++◌, ◌+◌, ◌-◌, ◌<◌, ◌∙◌, ◌∷◌, ◌≡◌, ◌≤◌}
+use Rattle.goblin_c.specs.{Laws.BufferIsFilled, Laws.IsFilled, Laws.KindsAreAboveOne, Laws.TextIsClosed, Status.Stores}
+use Rattle.goblin_c.specs.{Status.FillsEach, Status.StopsAt, TextLaws.PartHasSameText, TextLaws.PartsHaveSameText}
+use Rattle.goblin_c.specs.Common.{GoblinRefusal, buffer_too_short}
 use Rattle.std.proofs.{Common.IsTrue, Common.length-append, Common.take_all, Math.ListN.set}
 use Rattle.std.proofs.lemmas.{Bool.and_parts, List.take_rest, Option.slice_get_past, Slice.take-put_mid}
 use Rattle.std.proofs.lemmas.List.{drop-set-lt, get_or-drop, get_or-take, map-append, take_more, take_more_set}
@@ -47,8 +47,7 @@ laid-next i xs old x more within room is =
 pub laid-step : {X : Type 0} (i : ℕ) (xs old now : List X) (d : X)
     → now ≡ laid (take i xs) old → i < length xs → i < length old
     → set now i (get_or xs i d) ≡ laid (take (i + 1) xs) old
-laid-step {X = X} i xs old now d is within room =
-    rw is (laid-next i xs old (get_or xs i d) (take (i + 1) xs) (omega arith) room (take_more xs i d within))
+laid-step {X = X} i xs old now d is within room = grind (arith, nat_tests, laid-next, take_more)
 
 -- the step of a loop that writes the items from an index on
 pub laid-item : {X : Type 0} (all : List X) (first i : ℕ) (old now : List X) (x : X)
@@ -68,8 +67,7 @@ ends-before (x ∷ items) (suc i) none = omega (arith, ends-before items i none)
 -- where there is no item left, all of them were written
 pub laid-ended : {X : Type 0} (all : List X) (first i : ℕ) (old now : List X)
     → slice_get all (first + i) ≡ None → now ≡ laid (take i (drop first all)) old → now ≡ laid (drop first all) old
-laid-ended all first i old now none is =
-    is ∙ laid-enough i (drop first all) old (omega (arith, ends-before all (first + i) none, length-drop first all))
+laid-ended all first i old now none is = grind (arith, nat_tests, ends-before, laid-enough, length-drop)
 
 pub laid-nowhere : {X : Type 0} (xs : List X) → laid xs [] ≡ []
 laid-nowhere [] = refl
@@ -153,9 +151,7 @@ short_at (p ∷ parts) (suc i) d short h =
 pub short_parts : (parts : List Part)
     → IsTrue (are_short parts)
     → (length parts ≤ 16) × ((i : ℕ) (d : Part) → i < length parts → IsTrue (is_short (get_or parts i d)))
-short_parts parts short =
-    let both = and_parts (nat_le (length parts) 16) (each_short parts) short in
-    (leb-true _ _ both.0, λ i d h. short_at parts i d both.1 h)
+short_parts parts short = grind (arith, nat_tests, and_parts, leb-true, short_at)
 
 -- the step of a loop that writes parts
 pub laid-part : (text more part old now new : List ℕ) (len : ℕ)
@@ -198,9 +194,7 @@ same_text_of_part offset (Ok x) itemless = tt
 same_text_of_part offset (Err e) itemless = grind arith
 
 pub parts_have_same_text : PartsHaveSameText
-parts_have_same_text bytes h range alignment offset =
-    same_text_of_part offset (note_whole_expected bytes h range alignment offset)
-    (grind (arith, itemless_whole alignment (ctx_of h).le (bytes_from bytes range offset)))
+parts_have_same_text bytes h range alignment offset = grind (arith, nat_tests, itemless_whole, same_text_of_part)
 
 -- ---- A buffer that is filled with the items of expected results.
 --
@@ -228,15 +222,12 @@ rest-step old now i x rest =
 pub result_at : {X Y : Type 0} (f : X → Y) (n : ℕ) (xs : List X) (i : ℕ) (x d : X)
     → x ≡ get_or xs i d → i < min (length xs) n → slice_get (map f (take n xs)) i ≡ Some (f x)
 result_at {X = X} f n xs i x d is inside =
-    let within : i < length (take n xs) = omega (arith, length-take n xs) in
-    rw (slice_get-map f (take n xs) i, slice_get-get_or (take n xs) i d within, get_or-take n xs i d (omega arith), is)
-    refl
+    grind (arith, nat_tests, get_or-take, length-take, slice_get-get_or, slice_get-map)
 
 -- there is none from the end of either on
 none_left : {X Y : Type 0} (f : X → Y) (n : ℕ) (xs : List X) (i : ℕ)
     → min (length xs) n ≤ i → slice_get (map f (take n xs)) i ≡ None
-none_left f n xs i past =
-    slice_get_past (map f (take n xs)) i (omega (arith, length-map (take n xs) f, length-take n xs))
+none_left f n xs i past = grind (arith, nat_tests, length-map, length-take, slice_get_past)
 
 -- a call that returns 0 has stored the item that is expected
 pub stored_item : {X : Type 0} (expected : Result (Option X) RefusalAt) (old x : X) (was why : GoblinRefusal)
@@ -263,9 +254,4 @@ module _ {X Y : Type 0} (f : Y → Result (Option X) RefusalAt) (n : ℕ) (xs : 
       → map (λ x. Ok (Some x)) (take filled new) ≡ take filled (map f (take n xs))
       → drop filled new ≡ drop filled old → StopsAt {X = X} None was status why
       → FillsEach (map f (take n xs)) old was status new filled why
-  fills_all all are rest ends = (
-    omega (arith, all, length-map (take n xs) f, length-take n xs),
-    are,
-    rest,
-    rw (none_left f n xs filled (omega (arith, all))) ends,
-  )
+  fills_all all are rest ends = grind (arith, nat_tests, length-map, length-take, none_left)

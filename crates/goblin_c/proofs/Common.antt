@@ -7,9 +7,9 @@ pub use Rattle.goblin_c.specs.Expected.{ctx_of, each_converted, first_item, item
 pub use Rattle.goblin_c.specs.Types.{section_converted, segment_converted, symbol_converted}
 pub use Rattle.goblin_c.specs.{Bytes.closed_len, Bytes.string_expected, FilledBuffer.laid}
 pub use Rattle.goblin_c.specs.{Dynamic.entries_from, Refused.RefusalAt, Refused.refusal_at, Refused.refused_at}
-pub use Rattle.std.proofs.Common.{Bool, Err, List, None, Ok, Option, Result, Some, [], ap, arith, drop, false, get_or}
-pub use Rattle.std.proofs.Common.{if◌then◌else◌, inl, length, map, min, nat_le, refl, rules, slice_get, subst, suc, sym}
-pub use Rattle.std.proofs.Common.{take, true, zero, ℕ, ◌*◌, ◌++◌, ◌+◌, ◌-◌, ◌<◌, ◌==◌, ◌∙◌, ◌∷◌, ◌≡◌, ◌≤◌}
+pub use Rattle.std.proofs.Common.{Bool, Err, List, None, Ok, Option, Result, Some, [], ap, arith, drop, get_or, inl, ℕ}
+pub use Rattle.std.proofs.Common.{if◌then◌else◌, length, map, min, nat_le, refl, rules, slice_get, subst, suc, sym, ◌*◌}
+pub use Rattle.std.proofs.Common.{take, true, zero, ◌++◌, ◌+◌, ◌-◌, ◌<◌, ◌==◌, ◌∙◌, ◌∷◌, ◌≡◌, ◌≤◌}
 pub use Rattle.std.proofs.lemmas.Bool.{leb-false, leb-true, Decides.nat_tests}
 pub use Rattle.std.proofs.lemmas.Iterator.{Consumers.YieldsList-from_first, Search.position_from_yields_List}
 pub use Rattle.std.proofs.lemmas.List.{drop-drop, length-drop, length-map, length-take, length-take-le, take_all}

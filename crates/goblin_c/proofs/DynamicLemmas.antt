@@ -5,14 +5,14 @@
 -- the one at its place among them (`entry_at`). A range that is found lies in the file, because it is found after the
 -- test of room for it (`lies`).
 use Rattle.goblin_c.proofs.{ListLemmas.get_drop, StringLemmas.range_lies}
-use Rattle.goblin_c.proofs.Common.{GoblinRange, List, None, Ok, Option, RefusalAt, Result, Some, [], ap, arith, ctx_of}
-use Rattle.goblin_c.proofs.Common.{drop, drop-drop, entries_from, first_item, if◌then◌else◌, length, length-drop, map}
-use Rattle.goblin_c.proofs.Common.{length-map, nat_tests, option_map, refl, refusal_of, refuse_as, refused_at, suc, ℕ}
-use Rattle.goblin_c.proofs.Common.{slice_get, slice_get-map, zero, ◌+◌, ◌-◌, ◌==◌, ◌>>=◌, ◌∷◌, ◌≡◌, ◌≤◌}
-use Rattle.goblin_c.specs.{Common.Error, Laws.LiesIn, declared.types.GoblinDyn.GoblinDyn}
-use Rattle.goblin_c.specs.{Dynamic.file_range_of, Dynamic.range_in_file, Dynamic.unless_empty, Types.dyn_converted}
+use Rattle.goblin_c.proofs.Common.{GoblinRange, List, None, Ok, Option, RefusalAt, Result, Some, [], ap, arith, drop, ℕ}
+use Rattle.goblin_c.proofs.Common.{drop-drop, entries_from, first_item, if◌then◌else◌, length, length-drop, length-map}
+use Rattle.goblin_c.proofs.Common.{map, nat_tests, option_map, refl, refusal_of, refuse_as, refused_at, slice_get, suc}
+use Rattle.goblin_c.proofs.Common.{slice_get-map, zero, ◌+◌, ◌-◌, ◌==◌, ◌>>=◌, ◌∷◌, ◌≡◌, ◌≤◌}
+use Rattle.goblin_c.specs.{Common.Error, Types.dyn_converted}
+use Rattle.goblin_c.specs.{Dynamic.range_in_file, Dynamic.unless_empty, Laws.LiesIn, declared.types.GoblinDyn.GoblinDyn}
 use Rattle.goblin_c.specs.DynamicLaws.{DynamicLiesInFile, EntriesAreCounted, EntriesAreListed, ValueIsTheFirst}
-use Rattle.goblin_dynamic.specs.Dynamic.{entries_up_to_null, first_value, whole_entries_in}
+use Rattle.goblin_dynamic.specs.Dynamic.{entries_up_to_null, first_value}
 use Rattle.goblin_dynamic.specs.declared.{dynamic.FileRange.FileRange, entry.Dyn.Dyn}
 use Rattle.std.{proofs.Common.not, specs.Option.option_and_then}
 use Rattle.std.proofs.lemmas.List.{Folds.length-prefix_len, Sums.prefix_len-le-length, Sums.take_while-cons}
@@ -46,11 +46,7 @@ entry_at all first i within =
 
 -- they are no more than the list has from there on
 pub few_entries : (all : List Dyn) (first : ℕ) → length (entries_from all first) ≤ length all - first
-few_entries all first =
-    let test = λ (d : Dyn). not (d.d_tag == 0) in
-    let rest = drop first all in
-    rw (length-map (entries_up_to_null rest) dyn_converted, length-prefix_len test rest, ← length-drop first all)
-    (prefix_len-le-length test rest)
+few_entries all first = grind (arith, nat_tests, length-drop, length-map, length-prefix_len, prefix_len-le-length)
 
 listed : (all : Result (List Dyn) Error) (offset first : ℕ) (entries : List Dyn)
     → refused_at offset (refuse_as refusal_of (all >>= λ whole. Ok (entries_up_to_null whole))) ≡ Ok entries
@@ -60,8 +56,7 @@ listed : (all : Result (List Dyn) Error) (offset first : ℕ) (entries : List Dy
 listed all offset first entries is within = grind (arith, left)
 
 pub entries_are_listed : EntriesAreListed
-entries_are_listed bytes h range first entries is within =
-    listed (whole_entries_in bytes (file_range_of range) (ctx_of h)) range.offset first entries is within
+entries_are_listed bytes h range first entries is within = grind (arith, nat_tests, listed)
 
 pub entries_are_counted : EntriesAreCounted
 entries_are_counted bytes h range entries is = rw is refl
@@ -89,9 +84,6 @@ lies : (bytes : List ℕ) (range : Option FileRange) (found : GoblinRange)
 lies bytes range found is = grind (arith, range_lies)
 
 pub dynamic_lies_in_file : DynamicLiesInFile
-dynamic_lies_in_file = record {
-  dynamic = λ bytes h found is. grind (arith, lies);
-  strings = λ bytes h range found is. grind (arith, lies);
-}
+dynamic_lies_in_file = grind (arith, nat_tests, lies)
 
 pub ruleset dynamic_laws = (entries_are_listed, entries_are_counted, value_is_the_first, dynamic_lies_in_file)

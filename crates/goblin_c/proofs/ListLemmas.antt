@@ -14,24 +14,22 @@ use Rattle.goblin_base.specs.{Eager.records_from, Eager.records_in, Eager.room_o
 use Rattle.goblin_base.specs.{FieldLaws.IsBytes-part, Layout.IsRecord, RecordLaws.unless_fault-is, Steps.refuse_if}
 use Rattle.goblin_base.specs.{Record.records, Record.unless_fault, TableLaws.no_records, TableLaws.records-agree}
 use Rattle.goblin_base.specs.declared.container.Container.{Container, TheVariants.Big, TheVariants.Little}
-use Rattle.goblin_c.{proofs.Common.◌≤◌, specs.Refused.Returns, specs.Status.converted_list}
 use Rattle.goblin_c.proofs.Common.{Bool, Ctx, Decides, Endian, Err, GoblinHeader, GoblinRange, List, None, Ok, Option}
-use Rattle.goblin_c.proofs.Common.{Refusal, RefusalAt, Result, Some, [], ap, arith, ctx_of, drop, drop-drop, false, inl}
-use Rattle.goblin_c.proofs.Common.{each_converted, first_item, fits-room_of, get_or, get_or_from_slice_get, item_at, ℕ}
-use Rattle.goblin_c.proofs.Common.{if◌then◌else◌, leb-false, leb-true, length, length-drop, length-map, map, misplaced}
-use Rattle.goblin_c.proofs.Common.{mod-eq_of_lt, nat_le, nat_tests, option_map, position_or_len, refl, refusal_at, suc}
-use Rattle.goblin_c.proofs.Common.{refusal_of, refuse_as, refused_at, room_of, room_of_fits, section_converted, subst}
-use Rattle.goblin_c.proofs.Common.{segment_converted, slice_get, slice_get-get_or, slice_get-map, slice_get_within, sym}
-use Rattle.goblin_c.proofs.Common.{symbol_converted, take, true, zero, ◌*◌, ◌+◌, ◌-◌, ◌<◌, ◌==◌, ◌>>=◌, ◌∙◌, ◌∷◌, ◌≡◌}
-use Rattle.goblin_c.specs.{Laws.table_converted, Types.header_converted, Types.reloc_converted, WriteLaws.ItemsAreWhole}
+use Rattle.goblin_c.proofs.Common.{Refusal, RefusalAt, Result, Some, [], ap, arith, ctx_of, drop, drop-drop, first_item}
+use Rattle.goblin_c.proofs.Common.{each_converted, fits-room_of, get_or, get_or_from_slice_get, if◌then◌else◌, inl, map}
+use Rattle.goblin_c.proofs.Common.{item_at, leb-false, leb-true, length, length-drop, length-map, misplaced, nat_le, ℕ}
+use Rattle.goblin_c.proofs.Common.{mod-eq_of_lt, nat_tests, option_map, position_or_len, refl, refusal_at, refusal_of}
+use Rattle.goblin_c.proofs.Common.{refuse_as, refused_at, room_of, room_of_fits, section_converted, segment_converted}
+use Rattle.goblin_c.proofs.Common.{slice_get, slice_get-get_or, slice_get-map, slice_get_within, subst, suc, sym, take}
+use Rattle.goblin_c.proofs.Common.{symbol_converted, true, zero, ◌*◌, ◌+◌, ◌-◌, ◌<◌, ◌==◌, ◌>>=◌, ◌∙◌, ◌∷◌, ◌≡◌, ◌≤◌}
+use Rattle.goblin_c.specs.{Common.segment_count, Common.sym_layout, Common.sym_size, WriteLaws.ItemsAreWhole}
+use Rattle.goblin_c.specs.{Expected.symbol_expected, Expected.symbols_expected, Expected.whole_header, Refused.Returns}
+use Rattle.goblin_c.specs.{Laws.table_converted, Status.converted_list, Types.header_converted, Types.reloc_converted}
 use Rattle.goblin_c.specs.Common.{Dyn, GoblinReloc, GoblinSection, GoblinSymbol, Header, Layout, ProgramHeader, Refused}
-use Rattle.goblin_c.specs.Common.{Reloc, SectionHeader, Sym, buffer_too_short, program_headers_from, relocs_of}
-use Rattle.goblin_c.specs.Common.{section_headers_of, segment_count, sym_layout, sym_size}
+use Rattle.goblin_c.specs.Common.{Reloc, SectionHeader, Sym, buffer_too_short, program_headers_from, section_headers_of}
 use Rattle.goblin_c.specs.Dynamic.{entry_expected, file_range_of, whole_entries_expected}
-use Rattle.goblin_c.specs.Expected.{count_of, found_item, is_mips64el, items_from, reloc_expected, relocs_converted}
-use Rattle.goblin_c.specs.Expected.{relocs_expected, section_expected, sections_converted, sections_expected, table_at}
-use Rattle.goblin_c.specs.Expected.{segment_expected, segments_converted, segments_expected, symbol_expected}
-use Rattle.goblin_c.specs.Expected.{symbols_converted, symbols_expected, whole_header}
+use Rattle.goblin_c.specs.Expected.{count_of, found_item, is_mips64el, items_from, reloc_expected, relocs_expected}
+use Rattle.goblin_c.specs.Expected.{section_expected, sections_expected, segment_expected, segments_expected, table_at}
 use Rattle.goblin_c.specs.Laws.{ContextIsTheHeaders, FilledByIndex, FindsFrom, FindsItemFrom, GivenFrom, HasHeader}
 use Rattle.goblin_c.specs.Laws.{KeepsWhatIsRead, NamesByIndex, NamesContext, RefusesAll, RelocsByIndex, ReturnsCount}
 use Rattle.goblin_c.specs.Laws.{ReturnsEach, SectionsByIndex, SectionsByType, SegmentsByIndex, SymbolsByIndex}
@@ -43,7 +41,7 @@ use Rattle.goblin_headers.proofs.{WholeParts.sections_of_whole, WholeParts.segme
 use Rattle.goblin_headers.specs.{ProgramHeaderLaws.program_header_laws, SectionHeaderLaws.section_header_laws}
 use Rattle.goblin_records.specs.{Reloc.AddendFits, Reloc.StoredFits, Reloc.reloc_layout_in, SymLaws.sym_laws}
 use Rattle.goblin_records.specs.RelocLaws.{reloc_laws, reloc_laws_in}
-use Rattle.std.proofs.Common.{codes, max, nat_lt, position, true≢false, ◌/◌, ◌^◌, ◌⊎◌}
+use Rattle.std.proofs.Common.{codes, false, max, nat_lt, position, true≢false, ◌/◌, ◌^◌, ◌⊎◌}
 use Rattle.std.proofs.Math.Nat.{div-mul-le_self, le-div_iff_mul-le, mul-div_left, mul-le-mul_right}
 use Rattle.std.proofs.lemmas.{Bool.cases_lt, Bool.Decides.Decides-eqb, Option.slice_get_past}
 use Rattle.std.proofs.lemmas.List.{take-take, Quantifiers.position-Some, Sums.fails_before_first}
@@ -107,21 +105,13 @@ module _ {R : Type 0} {size : ℕ} {read : List ℕ → R} {bytes : List ℕ} {s
 pub listed_in : {R : Type 0} (size : ℕ) (read : List ℕ → R) (bytes : List ℕ) (start count : ℕ) (items : List R)
     → records_in size read bytes start count ≡ Ok items → IsListed size read bytes start count items
 unfolding records_in
-listed_in size read bytes start count items is =
-    let room = refuse_as misplaced (room_of_each (length bytes) start size count) in
-    let all = records size read count (drop start bytes) in
-    let parts = bind_ok room (λ _. Ok all) items is in
-    let each = found_within misplaced (room_of_each (length bytes) start size count) parts.0 parts.1 in
-    record { are = cc parts.2; fit = each_fits (length bytes) start size count parts.0 each }
+listed_in size read bytes start count items is = grind (arith, nat_tests, bind_ok, each_fits, found_within)
 
 pub listed_from : {R : Type 0} (size : ℕ) (read : List ℕ → R) (bytes : List ℕ) (start count : ℕ) (name : List ℕ)
     (items : List R)
     → records_from size read bytes start count name ≡ Ok items → IsListed size read bytes start count items
 unfolding records_from records_in
-listed_from size read bytes start count name items is =
-    let few = refuse_if (nat_lt (length bytes / size) count) (buffer_too_short count name) in
-    let parts = bind_ok few (λ _. records_in size read bytes start count) items is in
-    listed_in size read bytes start count items parts.2
+listed_from size read bytes start count name items is = grind (arith, nat_tests, bind_ok, listed_in)
 
 module _ (bytes : List ℕ) (start count : ℕ) (ctx : Ctx) where
   -- the section headers, as many as the file states
@@ -223,25 +213,17 @@ expected_is answer expected is = grind arith
 pub lists_sections : (bytes : List ℕ) (h : GoblinHeader)
     → Lists (section_header_size (ctx_of h).container) (section_header_of (ctx_of h).container (ctx_of h).le) bytes
     h.e_shoff (sections_expected bytes h)
-lists_sections bytes h items is =
-    let read = section_headers_of bytes h.e_shoff h.e_shnum (ctx_of h) in
-    sections_listed bytes h.e_shoff h.e_shnum (ctx_of h) items (refused_at_ok h.e_shoff read items is)
+lists_sections bytes h items is = grind (arith, nat_tests, refused_at_ok, sections_listed)
 
 pub lists_segments : (bytes : List ℕ) (h : GoblinHeader)
     → Lists (program_header_size (ctx_of h).container) (program_header_of (ctx_of h).container (ctx_of h).le) bytes
     h.e_phoff (segments_expected bytes h)
-lists_segments bytes h items is =
-    let count = refused_at h.e_shoff (refuse_as refusal_of (segment_count bytes h.e_phnum h.e_shoff (ctx_of h))) in
-    let read = λ (n : ℕ). program_headers_from bytes h.e_phoff n (ctx_of h) in
-    let parts = bind_ok count (λ n. refused_at h.e_phoff (read n)) items is in
-    (parts.0, listed_from _ _ bytes h.e_phoff parts.0 _ items (refused_at_ok h.e_phoff (read parts.0) items parts.2))
+lists_segments bytes h items is = grind (arith, nat_tests, bind_ok, listed_from, refused_at_ok)
 
 pub lists_symbols : (bytes : List ℕ) (h : GoblinHeader) (table : GoblinRange)
     → Lists (sym_size (ctx_of h).container) (sym_of (ctx_of h).container (ctx_of h).le) bytes table.offset
     (symbols_expected bytes h table)
-lists_symbols bytes h table items is =
-    let count = table.size / sym_size (ctx_of h).container in
-    (count, symbols_listed bytes table.offset count (ctx_of h) items is)
+lists_symbols bytes h table items is = grind (arith, nat_tests, symbols_listed)
 
 -- the relocations of a range, of which there are as many as lie in it whole
 in_range : {R : Type 0} (size : ℕ) (read : List ℕ → R) (bytes : List ℕ) (start filesz : ℕ) (items : List R)
@@ -265,11 +247,7 @@ in_range size read bytes start filesz items false is =
 pub lists_relocs : (bytes : List ℕ) (h : GoblinHeader) (table : GoblinRange) (is_rela : Bool)
     → Lists (reloc_size is_rela (ctx_of h).container) (reloc_in (reloc_ctx h is_rela)) bytes table.offset
     (relocs_expected bytes h table is_rela)
-lists_relocs bytes h table is_rela items is =
-    let found = relocs_of bytes table.offset table.size is_rela (ctx_of h) (is_mips64el h) in
-    let read = found_within refusal_of found items (refused_at_ok table.offset (refuse_as refusal_of found) items is) in
-    in_range (reloc_size is_rela (ctx_of h).container) (reloc_in (reloc_ctx h is_rela)) bytes table.offset table.size
-    items (table.size == 0) read
+lists_relocs bytes h table is_rela items is = grind (arith, nat_tests, found_within, in_range, refused_at_ok)
 
 -- the entries of a range of the dynamic section, which must lie in the file
 pub lists_entries : (bytes : List ℕ) (h : GoblinHeader) (range : GoblinRange)
@@ -420,15 +398,11 @@ pub section_whole : (h : GoblinHeader) (s : SectionHeader)
 section_whole h s fits = rw (mod-eq_of_lt (section_name (ctx_of h).container (ctx_of h).le s fits)) refl
 
 pub symbol_whole : (h : GoblinHeader) (s : Sym) → (symbol_layout h).Fits s → symbol_of (symbol_converted s) ≡ s
-symbol_whole h s fits =
-    let parts = symbol_parts (ctx_of h).container (ctx_of h).le s fits in
-    rw (mod-eq_of_lt parts.0, mod-eq_of_lt parts.1) refl
+symbol_whole h s fits = grind (arith, nat_tests, mod-eq_of_lt, symbol_parts)
 
 pub reloc_whole : (c : RelocCtx) (r : Reloc)
     → (reloc_layout_in c).Fits r → reloc_of c.is_rela (reloc_converted r) ≡ r
-reloc_whole c r fits =
-    let symbol = reloc_symbol c.is_mips64el c.is_rela c.ctx.container r fits in
-    rw (mod-eq_of_lt symbol, reloc_addend c.is_mips64el c.is_rela c.ctx.container r fits) refl
+reloc_whole c r fits = grind (arith, nat_tests, mod-eq_of_lt, reloc_addend, reloc_symbol)
 
 -- and an item of C's that fits is the one that is read where it is put
 pub section_same : (h : GoblinHeader) (s : GoblinSection)
@@ -447,10 +421,7 @@ addend_same false addend none = sym (none refl)
 
 pub reloc_same : (h : GoblinHeader) (is_rela : Bool) (r : GoblinReloc)
     → RelocFits h is_rela r → reloc_converted (reloc_of is_rela r) ≡ r
-reloc_same h is_rela r fits =
-    let c = reloc_ctx h is_rela in
-    let symbol = reloc_symbol c.is_mips64el c.is_rela c.ctx.container (reloc_of is_rela r) fits.0 in
-    rw (mod-eq_of_lt symbol, addend_same is_rela r.r_addend fits.1) refl
+reloc_same h is_rela r fits = grind (arith, nat_tests, addend_same, mod-eq_of_lt, reloc_symbol)
 
 pub items_are_whole : ItemsAreWhole
 items_are_whole = record {
@@ -480,12 +451,7 @@ context_is_the_headers bytes h has =
 -- a header names one context
 one_context : (bytes : List ℕ) (h : Header) (ctx : Ctx)
     → HasHeader bytes h → NamesContext h ctx → ctx_of (header_converted h) ≡ ctx
-one_context bytes h ctx has named =
-    let own = (context_is_the_headers bytes h has).0 in
-    let handed = ctx_of (header_converted h) in
-    let classes : handed.container ≡ ctx.container = cc in
-    let orders : handed.le ≡ ctx.le = cc in
-    λ j. record { container = classes j; le = orders j }
+one_context bytes h ctx has named = grind (arith, nat_tests, context_is_the_headers)
 
 -- the items of a list for C by index, and how many they are
 listed : {X Y : Type 0} (convert : X → Y) (all : Result (List X) RefusalAt)
@@ -541,12 +507,7 @@ from : {X : Type 0} (all : Result (List X) RefusalAt) (first : ℕ)
 from all first = grind (arith, nat_tests, given)
 
 pub filled_by_index : FilledByIndex
-filled_by_index = record {
-  sections = λ bytes h first. from (sections_converted bytes h) first;
-  segments = λ bytes h first. from (segments_converted bytes h) first;
-  symbols = λ bytes h range first. from (symbols_converted bytes h range) first;
-  relocs = λ bytes h range is_rela first. from (relocs_converted bytes h range is_rela) first;
-}
+filled_by_index = grind (arith, nat_tests, from, relocs, sections, segments, symbols)
 
 -- the table at an index is the section that is stored there
 converted_table : (index : ℕ) (found : Option SectionHeader)
@@ -699,38 +660,21 @@ listed_item : {R Y : Type 0} (convert : R → Y) (size : ℕ) (read : List ℕ �
     → x ≡ read (take size (drop (start + index * size) bytes))
     → item_at (each_converted convert all) index ≡ Ok (Some (convert x))
 listed_item convert size read bytes start count total index all x are some parts ends is =
-    let most : index + 1 ≤ total / size = (le-div_iff_mul-le some).1 ends in
-    rw (
-      are,
-      slice_get-map convert (records size read count (drop start bytes)) index,
-      get_records size read count (drop start bytes) index (omega (arith, most, parts)),
-      drop-drop (index * size) start bytes,
-      is,
-    ) refl
+    grind (arith, nat_tests, drop-drop, get_records, le-div_iff_mul-le, slice_get-map)
 
 pub symbol_is : (bytes : List ℕ) (h : GoblinHeader) (range : GoblinRange) (index : ℕ) (x : Sym)
     → let own = sym_size (ctx_of h).container in
     range.size < 2 ^ 64 → range.offset + range.size ≤ length bytes → (index + 1) * own ≤ range.size
     → x ≡ sym_of (ctx_of h).container (ctx_of h).le (take own (drop (range.offset + index * own) bytes))
     → symbol_expected bytes h range index ≡ Ok (Some (symbol_converted x))
-symbol_is bytes h range index x bound file ends is =
-    let own = sym_size (ctx_of h).container in
-    let read = sym_of (ctx_of h).container (ctx_of h).le in
-    let some = (sym_laws (ctx_of h).container (ctx_of h).le).size_positive in
-    let count = range.size / own in
-    let list : symbols_expected bytes h range ≡ Ok (records own read count (drop range.offset bytes)) =
-    grind (arith, nat_tests, some) in
-    listed_item symbol_converted own read bytes range.offset count range.size index (symbols_expected bytes h range) x
-    list some refl ends is
+symbol_is bytes h range index x bound file ends is = grind (arith, nat_tests, listed_item, sym_laws)
 
 -- records that lie in the bytes are read at once
 records_inside : {R : Type 0} (size : ℕ) (read : List ℕ → R) (bytes : List ℕ) (start count : ℕ)
     → 0 < size → start + count * size ≤ length bytes
     → records_in size read bytes start count ≡ Ok (records size read count (drop start bytes))
 unfolding records_in
-records_inside size read bytes start count some fits =
-    let few : count ≤ (length bytes - start) / size = (le-div_iff_mul-le some).1 (omega (arith, fits)) in
-    rw (all_fit (length bytes) start size count some (omega (arith, fits)) few) refl
+records_inside size read bytes start count some fits = grind (arith, nat_tests, all_fit, le-div_iff_mul-le)
 
 -- the section headers and the program headers, whose numbers the header states
 pub section_is : (bytes : List ℕ) (h : GoblinHeader) (index : ℕ) (x : SectionHeader)

@@ -3,27 +3,27 @@
 -- The item that a call stores is read from the bytes at its place (`found_at`). After a put these are the record's
 -- image (`own_bytes`), which is read as the record. The call finds one there if the list has as many items as before
 -- (`still_there`).
-use Rattle.goblin.specs.Header.{Identifies, class_named, header_layout, header_size, order_named}
+use Rattle.goblin.specs.Header.{class_named, header_layout, header_size, order_named}
 use Rattle.goblin_base.proofs.{ByteorderLemmas.length-part, Eager.length_records}
 use Rattle.goblin_base.specs.{NumberLaws.length-spelled, NumberLaws.spelled-number, Place.with_number}
 use Rattle.goblin_base.specs.FieldLaws.{IsBytes-part, number_at-lt, number_at-with_number}
 use Rattle.goblin_base.specs.Number.{IsBytes, number_at, spelled}
-use Rattle.goblin_c.{proofs.Common.◌≤◌, proofs.PlaceLemmas.numbers_lie_in_range, specs.Bytes.number_expected}
+use Rattle.goblin_c.{proofs.PlaceLemmas.numbers_lie_in_range, specs.Types.refusal_converted}
 use Rattle.goblin_c.proofs.Common.{Ctx, Endian, Err, GoblinHeader, GoblinRange, List, None, Ok, Option, RefusalAt, Some}
 use Rattle.goblin_c.proofs.Common.{Result, ap, arith, ctx_of, drop, drop-drop, each_converted, fits-room_of, get_or, ℕ}
 use Rattle.goblin_c.proofs.Common.{item_at, length, length-drop, length-map, length-take, length-take-le, mod-eq_of_lt}
 use Rattle.goblin_c.proofs.Common.{nat_tests, refl, refusal_of, refuse_as, refused_at, room_of_fits, slice_get-get_or}
-use Rattle.goblin_c.proofs.Common.{slice_get_within, sym, take, take_all, true, ◌*◌, ◌++◌, ◌+◌, ◌<◌, ◌>>=◌, ◌∙◌, ◌≡◌}
+use Rattle.goblin_c.proofs.Common.{slice_get_within, take, take_all, true, ◌*◌, ◌++◌, ◌+◌, ◌<◌, ◌>>=◌, ◌∙◌, ◌≡◌, ◌≤◌}
 use Rattle.goblin_c.proofs.ListLemmas.{Read, entries, found_at, reloc_same, reloc_whole, relocs, same_items, sections}
 use Rattle.goblin_c.proofs.ListLemmas.{section_same, section_whole, segments, symbol_same, symbol_whole, symbols}
-use Rattle.goblin_c.specs.{Bytes.is_width, declared.misfit.Misfit.Misfit, declared.types.GoblinReloc.GoblinReloc}
-use Rattle.goblin_c.specs.{Common.Dyn, Common.Error, Common.GoblinDyn, Common.Layout, Places.number_in_expected}
-use Rattle.goblin_c.specs.{Dynamic.entry_expected, Dynamic.whole_entries_expected, Types.refusal_converted}
-use Rattle.goblin_c.specs.{Expected.count_of, Expected.header_expected, Write.symbol_of, Write.unfit, Write.with_bytes}
-use Rattle.goblin_c.specs.Write.{DynFits, FitsClass, dyn_layout, dyn_of, dyn_put_expected, header_of, ident_of, put_at}
-use Rattle.goblin_c.specs.Write.{named_ctx, put_if_there, put_unless, reloc_ctx, reloc_of, section_of, segment_of}
+use Rattle.goblin_c.specs.{Bytes.is_width, Bytes.number_expected, Expected.count_of, Expected.header_expected}
+use Rattle.goblin_c.specs.{Common.Dyn, Common.Error, Common.GoblinDyn, Common.Layout, Write.unfit, Write.with_bytes}
+use Rattle.goblin_c.specs.{Dynamic.entry_expected, Dynamic.whole_entries_expected, Places.number_in_expected}
+use Rattle.goblin_c.specs.Write.{DynFits, FitsClass, dyn_layout, dyn_of, dyn_put_expected, header_of, named_ctx, put_at}
+use Rattle.goblin_c.specs.Write.{put_if_there, put_unless, reloc_ctx, reloc_of, section_of, segment_of, symbol_of}
 use Rattle.goblin_c.specs.WriteLaws.{ChangesOnly, CountsStay, HeadersAreRead, IsUnfit, NumbersArePut, PutsAreRead}
 use Rattle.goblin_c.specs.WriteLaws.{NumbersInRangesArePut, PutsChangeOne, ReadsArePut, UnfitAreRefused}
+use Rattle.goblin_c.specs.declared.{misfit.Misfit.Misfit, types.GoblinReloc.GoblinReloc}
 use Rattle.goblin_c.specs.declared.types.{GoblinSection.GoblinSection, GoblinSymbol.GoblinSymbol}
 use Rattle.goblin_headers.proofs.WholeTrips.{reads_back}
 use Rattle.std.proofs.{Common.append_assoc, Common.length-append, lemmas.List.drop_at, lemmas.List.take-append-drop}
@@ -41,21 +41,10 @@ module _ (bytes : List ℕ) (place : ℕ) (own : List ℕ) (size : ℕ) (long : 
 
   -- there they are
   pub own_bytes : take size (drop place (with_bytes bytes place own)) ≡ own
-  own_bytes =
-      let rest = drop (place + length own) bytes in
-      rw (append_assoc (take place bytes) own rest, drop_at (take place bytes) (own ++ rest) place front_is)
-      (take_at own rest size long)
+  own_bytes = grind (arith, nat_tests, append_assoc, drop_at, front_is, take_at)
 
   pub others_stay : ChangesOnly place size bytes (with_bytes bytes place own)
-  others_stay =
-      let front = take place bytes in
-      let rest = drop (place + length own) bytes in
-      let start : length (front ++ own) ≡ place + length own = omega (arith, length-append front own, front_is) in
-      record {
-        same_length = omega (arith, length-append (front ++ own) rest, start, length-drop (place + length own) bytes);
-        before = rw (append_assoc front own rest) (take_at front (own ++ rest) place front_is);
-        after = rw (← long) (drop_at (front ++ own) rest (place + length own) start);
-      }
+  others_stay = grind (arith, nat_tests, append_assoc, drop_at, front_is, length-append, length-drop, take_at)
 
 -- written over themselves they don't change
 pub rewritten : (bytes : List ℕ) (place size : ℕ)
@@ -102,14 +91,7 @@ module _ {R Y : Type 0} {l : Layout R} {convert : R → Y} {start : ℕ} {list :
       → count_of (each_converted convert (list new)) ≡ count_of (each_converted convert (list bytes))
       → item_at (each_converted convert (list new)) index ≡ Ok (Some (convert x))
   put_is_read bytes new index x fits put same =
-      let place = start + index * l.size in
-      let found = put_found (item_at (each_converted convert (list bytes)) index) None place
-      (with_bytes bytes place (l.image x)) new put in
-      let there = still_there (each_converted convert (list bytes)) (each_converted convert (list new)) index found.0
-      same found.1 in
-      let room = (was_read bytes index found.0 found.1).0 in
-      let image = own_bytes bytes place (l.image x) l.size (own.laws.length_image x) room in
-      rw (there.1, (was_read new index there.0 there.1).1, found.2, image, own.laws.reads_back x fits) refl
+      grind (arith, nat_tests, own_bytes, put_found, reads_back, still_there, was_read)
 
   put_changes_one : (bytes new : List ℕ) (index : ℕ) (x : R) (misfit : Option Misfit)
       → put_if_there (item_at (each_converted convert (list bytes)) index) (put_at l bytes start index x misfit)
@@ -155,8 +137,7 @@ module _ (h : GoblinHeader) (range : GoblinRange) where
       → dyn_put_expected bytes h range index d misfit ≡ Ok new
       → put_if_there (item_at (each_converted (λ (x : Dyn). x) (whole_entries_expected bytes h range)) index)
       (put_at (dyn_layout h) bytes range.offset index (dyn_of d) misfit) ≡ Ok new
-  as_item bytes index misfit d new is =
-      rw (same_items (whole_entries_expected bytes h range) index) is
+  as_item bytes index misfit d new is = grind (arith, nat_tests, same_items)
 
   entry_changes_one : (bytes new : List ℕ) (index : ℕ) (d : GoblinDyn) (misfit : Option Misfit)
       → dyn_put_expected bytes h range index d misfit ≡ Ok (Some new)
@@ -167,8 +148,7 @@ module _ (h : GoblinHeader) (range : GoblinRange) where
   as_many : (bytes new : List ℕ) → length new ≡ length bytes
       → count_of (each_converted (λ (x : Dyn). x) (whole_entries_expected new h range))
       ≡ count_of (each_converted (λ (x : Dyn). x) (whole_entries_expected bytes h range))
-  as_many bytes new same =
-      rw same (grind (arith, length-map, length_records, length-take, length-drop))
+  as_many bytes new same = grind (arith, nat_tests, length-drop, length-map, length-take, length_records)
 
   entry_is_read : (bytes new : List ℕ) (index : ℕ) (d : GoblinDyn)
       → DynFits h d → dyn_put_expected bytes h range index d None ≡ Ok (Some new)
@@ -225,10 +205,7 @@ puts_change_one = record {
 
 -- files of the same length have as many symbols and relocations in a range
 pub counts_stay : CountsStay
-counts_stay = record {
-  symbol = λ bytes new h table same. rw same (grind (arith, length-map, length_records));
-  reloc = λ bytes new h table is_rela same. rw same (grind (arith, length-map, length_records));
-}
+counts_stay = grind (arith, nat_tests, length-map, length_records)
 
 -- what doesn't fit is refused where it would be put
 unfit_put : {X : Type 0} (found : Result (Option X) RefusalAt) (x : X) (place : ℕ) (misfit : Misfit)
@@ -236,15 +213,7 @@ unfit_put : {X : Type 0} (found : Result (Option X) RefusalAt) (x : X) (place : 
 unfit_put found x place misfit is = grind arith
 
 pub unfit_are_refused : UnfitAreRefused
-unfit_are_refused = record {
-  section = λ bytes h index s found misfit is. unfit_put _ found _ misfit is;
-  segment = λ bytes h index s found misfit is. unfit_put _ found _ misfit is;
-  symbol = λ bytes h table index s found misfit is. unfit_put _ found _ misfit is;
-  reloc = λ bytes h table is_rela index r found misfit is. unfit_put _ found _ misfit is;
-  entry = λ bytes h range index d found misfit is. unfit_put _ found _ misfit is;
-  number = λ bytes h offset width value found misfit is. unfit_put _ found _ misfit is;
-  number_in = λ bytes h range offset width value found misfit is. unfit_put _ found _ misfit is;
-}
+unfit_are_refused = grind (arith, nat_tests, unfit_put)
 
 pub ruleset put_laws = (puts_are_read, puts_change_one, reads_are_put, counts_stay)
 
@@ -257,29 +226,14 @@ record Named (bytes : List ℕ) (h : GoblinHeader) (ctx : Ctx) : Type 0 where
   room : header_size ctx.container ≤ length bytes
 
 named : (bytes : List ℕ) (h : GoblinHeader) (ctx : Ctx) → named_ctx bytes h ≡ Ok ctx → Named bytes h ctx
-named bytes h ctx is = record {
-  class_is = grind (arith, nat_tests);
-  order_is = grind (arith, nat_tests);
-  room = grind (arith, nat_tests, fits-room_of (length bytes) 0);
-}
+named bytes h ctx is = grind (arith, nat_tests, fits-room_of)
 
 is_read : (bytes : List ℕ) (h : GoblinHeader) (ctx : Ctx)
     → FitsClass bytes h → Named bytes h ctx
     → header_expected
     ((header_layout ctx.container ctx.le).image (header_of bytes h) ++ drop (header_size ctx.container) bytes)
     ≡ Ok (Some h)
-is_read bytes h ctx fits names =
-    let own = header_of bytes h in
-    let room : 16 ≤ header_size ctx.container = grind (arith, nat_tests) in
-    let padding : length (take 7 (drop 9 bytes)) ≡ 7 =
-    length-take-le 7 (drop 9 bytes) (omega (arith, room, names.room, length-drop 9 bytes)) in
-    let identifies : Identifies ctx.container ctx.le (ident_of bytes h) = record {
-      begins = refl;
-      named = names.class_is;
-      names_order = record { long = omega (arith, padding); named = names.order_is };
-    } in
-    let same : (ctx_of h).container ≡ ctx.container = grind (arith, nat_tests, names.class_is) in
-    rw (reads_back ctx.container ctx.le own (drop (header_size ctx.container) bytes) identifies (rw same at fits)) refl
+is_read bytes h ctx fits names = grind (arith, nat_tests, length-drop, length-take-le, named, reads_back)
 
 -- what is put is put in a context
 put_in : (answer : Result Ctx Error) (after : Ctx → List ℕ) (new : List ℕ)
@@ -313,9 +267,7 @@ read_of bytes h offset width is room = rw (is, room_of_fits (length bytes) offse
 with_number-is : (order : Endian) (bytes : List ℕ) (offset width value : ℕ)
     → with_number order bytes offset width value ≡ with_bytes bytes offset (spelled order width value)
 unfolding with_number
-with_number-is order bytes offset width value =
-    ap (λ (n : ℕ). take offset bytes ++ spelled order width value ++ drop (offset + n) bytes)
-    (sym (length-spelled order width value))
+with_number-is order bytes offset width value = grind (arith, nat_tests, length-spelled)
 
 number_stays : (order : Endian) (bytes : List ℕ) (offset width value : ℕ)
     → offset + width ≤ length bytes → ChangesOnly offset width bytes (with_number order bytes offset width value)
@@ -368,8 +320,6 @@ numbers_in_ranges_are_put bytes h range offset width value found misfit is =
 pub in_range_there : (bytes : List ℕ) (h : GoblinHeader) (range : GoblinRange) (offset width value : ℕ)
     → number_in_expected bytes h range offset width ≡ Ok (Some value)
     → range.offset + offset + width ≤ length bytes
-in_range_there bytes h range offset width value is =
-    (read_there bytes h (range.offset + offset) width value
-    (numbers_lie_in_range bytes h range offset width value is).2).1
+in_range_there bytes h range offset width value is = grind (arith, nat_tests, numbers_lie_in_range, read_there)
 
 pub ruleset number_laws = (numbers_are_put, numbers_in_ranges_are_put)

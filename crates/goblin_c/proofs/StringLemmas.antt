@@ -6,14 +6,14 @@
 -- finds is the first with that name (`by_name`).
 use Rattle.goblin_base.specs.{Strtab.has_name, Strtab.plain, Strtab.range_in, Wanted.is_piece, Wanted.starts_piece}
 use Rattle.goblin_base.specs.Pieces.{piece}
-use Rattle.goblin_c.proofs.{Common.◌∙◌, Common.◌∷◌, Common.◌≡◌, Common.◌≤◌, ListLemmas.symbol_parts, ListLemmas.symbols}
-use Rattle.goblin_c.proofs.BufferLemmas.{stored_item}
+use Rattle.goblin_c.proofs.{BufferLemmas.stored_item, ListLemmas.symbol_parts, ListLemmas.symbols}
 use Rattle.goblin_c.proofs.Common.{Bool, Decides, Err, GoblinRange, List, None, Ok, Option, RefusalAt, Result, Some, []}
-use Rattle.goblin_c.proofs.Common.{ap, arith, closed_len, ctx_of, drop, each_converted, false, first_item, fits-room_of}
-use Rattle.goblin_c.proofs.Common.{get_or, if◌then◌else◌, inl, is_utf8, item_at, length, length-drop, length-take, min}
-use Rattle.goblin_c.proofs.Common.{length-take-le, mod-eq_of_lt, nat_le, nat_tests, position_or_len, refl, refusal_at}
-use Rattle.goblin_c.proofs.Common.{refuse_as, refused_at, section_converted, slice_get, slice_get-get_or, subst, suc, ℕ}
-use Rattle.goblin_c.proofs.Common.{string_expected, sym, symbol_converted, take, true, zero, ◌+◌, ◌-◌, ◌<◌, ◌==◌, ◌>>=◌}
+use Rattle.goblin_c.proofs.Common.{ap, arith, closed_len, ctx_of, drop, each_converted, first_item, fits-room_of, inl}
+use Rattle.goblin_c.proofs.Common.{get_or, if◌then◌else◌, is_utf8, item_at, length, length-drop, length-take, nat_le, ℕ}
+use Rattle.goblin_c.proofs.Common.{length-take-le, mod-eq_of_lt, nat_tests, position_or_len, refl, refusal_at, subst}
+use Rattle.goblin_c.proofs.Common.{refuse_as, refused_at, section_converted, slice_get, slice_get-get_or, suc, sym, ◌+◌}
+use Rattle.goblin_c.proofs.Common.{string_expected, symbol_converted, take, true, zero, ◌-◌, ◌<◌, ◌==◌, ◌>>=◌, ◌∙◌, ◌∷◌}
+use Rattle.goblin_c.proofs.Common.{◌≡◌, ◌≤◌}
 use Rattle.goblin_c.proofs.ListLemmas.{expected_is, first_found, fits_in, one_converted, section_name, sections}
 use Rattle.goblin_c.specs.{Bytes.IsCString, Bytes.range_expected, Bytes.string_closed_expected, Refused.Returns}
 use Rattle.goblin_c.specs.{Common.GoblinRefusal, Common.Refused, Expected.symbols_expected, Status.Stores}
@@ -36,12 +36,7 @@ in_range bytes range found is = (grind (arith, nat_tests), grind (arith, nat_tes
 -- what stands before the first byte that passes a test, among the first bytes, stands in front of all
 in_front : (test : ℕ → Bool) (n : ℕ) (all : List ℕ)
     → take (length (before_first test (take n all))) all ≡ before_first test (take n all)
-in_front test n all =
-    let part = take n all in
-    let end = position_or_len test part in
-    let long : length (take end part) ≡ min end (length part) = length-take end part in
-    let few : length (take end part) ≤ n = omega (arith, long, length-take n all) in
-    rw (← take-take (length (take end part)) n all few, long) (take_min end part)
+in_front test n all = grind (arith, nat_tests, length-take, take-take, take_min)
 
 -- so does the piece at an offset of a range, at its offset in the file
 pub piece_there : (bytes : List ℕ) (range : GoblinRange) (offset : ℕ)
@@ -70,22 +65,13 @@ place_of range offset text = record { offset = range.offset + offset; size = len
 text_there : (bytes : List ℕ) (range : GoblinRange) (offset : ℕ) (strings text : List ℕ)
     → strings_expected bytes range ≡ Ok strings → offset < length strings → plain strings 0 offset ≡ Ok text
     → bytes_in bytes (place_of range offset text) ≡ text
-text_there bytes range offset strings text found before is =
-    let of_range = (in_range bytes range strings found).0 in
-    rw (plain_is strings offset text is, of_range)
-    (piece_there bytes range offset (subst (λ (xs : List ℕ). offset < length xs) of_range before))
+text_there bytes range offset strings text found before is = grind (arith, nat_tests, in_range, piece_there, plain_is)
 
 -- a string whose range is stored was read in the string table, and lies at that range
 string_is : (bytes : List ℕ) (range : GoblinRange) (offset : ℕ) (strings : List ℕ) (place : GoblinRange)
     → strings_expected bytes range ≡ Ok strings → string_utf8_expected bytes range offset ≡ Ok (Some place)
     → (text : List ℕ) × (offset < length strings) × (plain strings 0 offset ≡ Ok text) × (bytes_in bytes place ≡ text)
-string_is bytes range offset strings place found is =
-    let steps = one_converted (nat_le (length strings) offset) (range.offset + offset) (plain strings 0 offset)
-    (place_of range offset) place
-    (rw found at is) in
-    let before : offset < length strings = grind (arith, nat_tests, steps.1) in
-    let there = text_there bytes range offset strings steps.0 found before steps.2 in
-    (steps.0, before, steps.2, ap (bytes_in bytes) steps.3 ∙ there)
+string_is bytes range offset strings place found is = grind (arith, nat_tests, bytes_in, one_converted, text_there)
 
 -- there is a string table if there is one of its strings
 strings_there : (bytes : List ℕ) (range : GoblinRange) (offset : ℕ) (place : GoblinRange)
@@ -97,23 +83,19 @@ strings_there bytes range offset place (Ok strings) found is =
 strings_there bytes range offset place (Err e) found is = let refused = rw found at is in absurd (cc)
 
 pub strings_are_there : StringsAreThere
-strings_are_there bytes range offset place is =
-    strings_there bytes range offset place (strings_expected bytes range) refl is
+strings_are_there bytes range offset place is = grind (arith, nat_tests, strings_there)
 
 -- the bytes at the range of a string are the piece at its offset
 pub piece_is_there : (bytes : List ℕ) (range : GoblinRange) (offset : ℕ) (strings : List ℕ)
     → strings_expected bytes range ≡ Ok strings → offset < length strings
     → bytes_in bytes (place_of range offset (piece strings 0 offset)) ≡ piece strings 0 offset
-piece_is_there bytes range offset strings found before =
-    let of_range = (in_range bytes range strings found).0 in
-    rw of_range (piece_there bytes range offset (subst (λ (xs : List ℕ). offset < length xs) of_range before))
+piece_is_there bytes range offset strings found before = grind (arith, nat_tests, in_range, piece_there)
 
 -- the range that a call stores for a string is that of the piece
 range_is_there : (bytes : List ℕ) (range : GoblinRange) (offset : ℕ) (strings : List ℕ) (place : GoblinRange)
     → strings_expected bytes range ≡ Ok strings → string_expected bytes range offset ≡ Ok (Some place)
     → (offset < length strings) × (place ≡ place_of range offset (piece strings 0 offset))
-range_is_there bytes range offset strings place found is =
-    (grind (arith, nat_tests), grind (arith, nat_tests))
+range_is_there bytes range offset strings place found is = grind (arith, nat_tests)
 
 -- a string has a name where the piece is the name, which is if a call stores the range of a string with these bytes
 named-Decides : (bytes : List ℕ) (names : GoblinRange) (name strings : List ℕ) (offset : ℕ)
@@ -245,23 +227,13 @@ range_lies bytes range found is = grind (arith, fits-room_of (length bytes) rang
 -- a piece is no longer than the strings from its offset on
 pub piece_short : (strings : List ℕ) (offset : ℕ) → length (piece strings 0 offset) ≤ length strings - offset
 unfolding piece
-piece_short strings offset =
-    let rest = drop offset strings in
-    omega (arith, length-drop offset strings, length-take (position_or_len (λ b. b == 0) rest) rest)
+piece_short strings offset = grind (arith, nat_tests, length-drop, length-take)
 
 pub bytes_lie_in_file : BytesLieInFile
-bytes_lie_in_file = record {
-  section = λ bytes s found is. grind (arith, range_lies bytes s.file found);
-  segment = λ bytes s found is. grind (arith, range_lies bytes s.file found);
-  string = λ bytes range offset found is.
-      grind (arith, nat_tests, in_range bytes range, piece_short, length-take, length-drop);
-}
+bytes_lie_in_file = grind (arith, nat_tests, in_range, length-drop, length-take, piece_short, range_lies)
 
 pub empty_have_no_bytes : EmptyHaveNoBytes
-empty_have_no_bytes = record {
-  section = λ bytes s is. grind (arith, nat_tests, is);
-  segment = λ bytes s is. grind (arith, nat_tests, is);
-}
+empty_have_no_bytes = grind (arith, nat_tests)
 
 -- a string that is text lies where its bytes do
 pub strings_are_bytes : StringsAreBytes
@@ -283,12 +255,10 @@ utf8_from bytes range offset found (Ok strings) read is text =
 utf8_from bytes range offset found (Err e) read is text = let refused = rw read at is in absurd (cc)
 
 pub text_is_utf8 : TextIsUtf8
-text_is_utf8 bytes range offset found is text =
-    utf8_from bytes range offset found (strings_expected bytes range) refl is text
+text_is_utf8 bytes range offset found is text = grind (arith, nat_tests, utf8_from)
 
 pub strings_lie_in_file : StringsLieInFile
-strings_lie_in_file bytes range offset found is =
-    bytes_lie_in_file.string bytes range offset found (strings_are_bytes bytes range offset found is)
+strings_lie_in_file bytes range offset found is = grind (arith, nat_tests, bytes_lie_in_file, strings_are_bytes)
 
 pub ruleset place_laws = (bytes_lie_in_file, empty_have_no_bytes, strings_are_bytes, text_is_utf8)
 
@@ -354,18 +324,10 @@ module _ (bytes : List ℕ) (range : GoblinRange) (offset : ℕ) (strings : List
 
   -- and none of it is
   none-before : All (λ b. b ≢ 0) (take end rest)
-  none-before k d inside is_zero =
-      let early : k < end = omega (arith, inside, length-take end rest) in
-      let same : get_or (take end rest) k d ≡ get_or rest k d = get_or-take end rest k d early in
-      let other : (get_or rest k d == 0) ≡ false = fails_before_first (λ b. b == 0) rest k d early in
-      grind (arith, nat_tests, same, other, is_zero)
+  none-before k d inside is_zero = grind (arith, nat_tests, fails_before_first, get_or-take, length-take)
 
   closed_is : IsCString bytes (place_of range offset (piece strings 0 offset))
-  closed_is =
-      let before : offset < length strings = omega (arith, closed) in (
-        zero-after,
-        rw (piece_is_there bytes range offset strings found before, piece_is) none-before,
-      )
+  closed_is = grind (arith, nat_tests, none-before, piece_is, piece_is_there, zero-after)
 
 closed_from : (bytes : List ℕ) (range : GoblinRange) (offset : ℕ) (found : GoblinRange)
     (answer : Result (List ℕ) RefusalAt)
@@ -417,5 +379,4 @@ pub closed_there : (bytes : List ℕ) (range : GoblinRange) (offset : ℕ) (stri
     → size ≢ length strings - offset
     → string_closed_expected bytes range offset
     ≡ Ok (Some (record { offset = range.offset + offset; size = size }))
-closed_there bytes range offset strings size found before is other =
-    grind (arith, nat_tests, piece_short strings offset)
+closed_there bytes range offset strings size found before is other = grind (arith, nat_tests, piece_short, size)
