@@ -6,11 +6,11 @@
 use Rattle.goblin.{proofs.AddressLemmas.some-within, specs.Note.PartRefusal, specs.Note.whole_places}
 use Rattle.goblin_base.specs.{Record.read_within, Refusal.bad_input}
 use Rattle.goblin_base.specs.{Texts.are_short, Texts.each_short, Texts.is_short, declared.texts.Part.Part}
-use Rattle.goblin_c.proofs.Common.{Endian, Err, List, None, Ok, Option, Refusal, RefusalAt, Result, Some, [], ap, arith}
-use Rattle.goblin_c.proofs.Common.{drop, drop-drop, get_or, get_or_from_slice_get, laid, leb-true, length, length-drop}
-use Rattle.goblin_c.proofs.Common.{length-map, length-take, length-take-le, map, min, misplaced, nat_tests, refl, suc}
-use Rattle.goblin_c.proofs.Common.{refuse_as, room_of, slice_get, slice_get-get_or, slice_get-map, slice_get_within, ℕ}
-use Rattle.goblin_c.proofs.Common.{sym, take, zero, ◌++◌, ◌+◌, ◌-◌, ◌<◌, ◌∙◌, ◌∷◌, ◌≡◌, ◌≤◌}
+use Rattle.goblin_c.proofs.Common.{Err, List, None, Ok, Option, Refusal, RefusalAt, Result, Some, [], ap, arith, drop}
+use Rattle.goblin_c.proofs.Common.{drop-drop, get_or, get_or_from_slice_get, laid, leb-true, length, length-drop, map}
+use Rattle.goblin_c.proofs.Common.{length-map, length-take, length-take-le, min, nat_tests, refl, room_of, slice_get, ℕ}
+use Rattle.goblin_c.proofs.Common.{slice_get-get_or, slice_get-map, slice_get_within, suc, sym, take, zero, ◌++◌, ◌+◌}
+use Rattle.goblin_c.proofs.Common.{◌-◌, ◌<◌, ◌∙◌, ◌∷◌, ◌≡◌, ◌≤◌}
 use Rattle.goblin_c.specs.{Laws.BufferIsFilled, Laws.IsFilled, Laws.KindsAreAboveOne, Laws.TextIsClosed, Status.Stores}
 use Rattle.goblin_c.specs.{Status.FillsEach, Status.StopsAt, TextLaws.PartHasSameText, TextLaws.PartsHaveSameText}
 use Rattle.goblin_c.specs.Common.{GoblinRefusal, buffer_too_short}
@@ -117,7 +117,7 @@ laid-after (x ∷ items) (o ∷ old) zero h = absurd (omega arith)
 laid-after (x ∷ items) (o ∷ old) (suc k) h = laid-after items old k (omega arith)
 
 is_filled : {X : Type 0} (items old : List X) → IsFilled items old (laid items old)
-is_filled items old = (laid-length items old, laid-before items old, laid-after items old)
+is_filled items old = grind (arith, nat_tests, laid-after, laid-before, laid-length)
 
 pub buffer_is_filled : BufferIsFilled
 buffer_is_filled = record {
@@ -157,14 +157,14 @@ short_parts parts short = grind (arith, nat_tests, and_parts, leb-true, short_at
 pub laid-part : (text more part old now new : List ℕ) (len : ℕ)
     → more ≡ text ++ part → now ≡ laid text old → len ≡ length text → new ≡ take len now ++ laid part (drop len now)
     → new ≡ laid more old
-laid-part text more part old now new len is was long step = rw (step, long, was, is) (laid-appended text part old)
+laid-part text more part old now new len is was long step = grind (arith, nat_tests, laid-appended)
 
 pub long-part : (text more part : List ℕ) (n len : ℕ)
     → more ≡ text ++ part → len ≡ length text → n ≡ len + length part → n ≡ length more
-long-part text more part n len is long sum = omega (arith, ap length is, length-append text part)
+long-part text more part n len is long sum = grind (arith, nat_tests, length-append)
 
 pub kinds_are_above_one : KindsAreAboveOne
-kinds_are_above_one refusal = grind arith
+kinds_are_above_one refusal = grind (arith, nat_tests)
 
 -- the text of a refusal has no item: for C the item of a whole note's refusal is the part
 abbrev Itemless : Refusal → Type 0
@@ -180,21 +180,14 @@ abbrev PartIsItemless : {X : Type 0} → Result X PartRefusal → Type 0
 PartIsItemless (Ok x) = ⊤
 PartIsItemless (Err e) = Itemless e.refusal
 
-itemless_room : (len offset size : ℕ) → IsItemless (refuse_as misplaced (room_of len offset size))
-unfolding room_of
-itemless_room len offset size = grind arith
-
-itemless_whole : (alignment : ℕ) (order : Endian) (bytes : List ℕ) → PartIsItemless (whole_places alignment order bytes)
-unfolding whole_places read_within
-itemless_whole alignment order bytes = grind (arith, itemless_room)
-
 same_text_of_part : {X : Type 0} (offset : ℕ) (answer : Result X PartRefusal)
     → PartIsItemless answer → PartHasSameText offset answer
 same_text_of_part offset (Ok x) itemless = tt
 same_text_of_part offset (Err e) itemless = grind arith
 
 pub parts_have_same_text : PartsHaveSameText
-parts_have_same_text bytes h range alignment offset = grind (arith, nat_tests, itemless_whole, same_text_of_part)
+unfolding whole_places read_within room_of
+parts_have_same_text bytes h range alignment offset = grind (arith, nat_tests, same_text_of_part)
 
 -- ---- A buffer that is filled with the items of expected results.
 --
@@ -224,11 +217,6 @@ pub result_at : {X Y : Type 0} (f : X → Y) (n : ℕ) (xs : List X) (i : ℕ) (
 result_at {X = X} f n xs i x d is inside =
     grind (arith, nat_tests, get_or-take, length-take, slice_get-get_or, slice_get-map)
 
--- there is none from the end of either on
-none_left : {X Y : Type 0} (f : X → Y) (n : ℕ) (xs : List X) (i : ℕ)
-    → min (length xs) n ≤ i → slice_get (map f (take n xs)) i ≡ None
-none_left f n xs i past = grind (arith, nat_tests, length-map, length-take, slice_get_past)
-
 -- a call that returns 0 has stored the item that is expected
 pub stored_item : {X : Type 0} (expected : Result (Option X) RefusalAt) (old x : X) (was why : GoblinRefusal)
     (status : ℕ)
@@ -254,4 +242,4 @@ module _ {X Y : Type 0} (f : Y → Result (Option X) RefusalAt) (n : ℕ) (xs : 
       → map (λ x. Ok (Some x)) (take filled new) ≡ take filled (map f (take n xs))
       → drop filled new ≡ drop filled old → StopsAt {X = X} None was status why
       → FillsEach (map f (take n xs)) old was status new filled why
-  fills_all all are rest ends = grind (arith, nat_tests, length-map, length-take, none_left)
+  fills_all all are rest ends = grind (arith, nat_tests, length-map, length-take, slice_get_past)

@@ -1,7 +1,6 @@
 -- What the proofs of this crate cite most, passed on from one place. Declares nothing.
-pub use Rattle.goblin_base.specs.Texts.{facts_of}
-pub use Rattle.goblin_base.specs.{RecordLaws.fits-room_of, RecordLaws.room_of_fits, declared.container.Endian.Endian}
-pub use Rattle.goblin_c.specs.Common.{Ctx, GoblinHeader, GoblinRange, Refusal, misplaced, refusal_of, refuse_as, ◌>>=◌}
+pub use Rattle.goblin_base.specs.{RecordLaws.fits-room_of, RecordLaws.room_of_fits, Texts.facts_of}
+pub use Rattle.goblin_c.specs.Common.{Ctx, GoblinHeader, GoblinRange, Refusal, refusal_of, refuse_as, ◌>>=◌}
 unfoldable pub use Rattle.goblin_c.specs.Common.{room_of}
 pub use Rattle.goblin_c.specs.Expected.{ctx_of, each_converted, first_item, item_at}
 pub use Rattle.goblin_c.specs.Types.{section_converted, segment_converted, symbol_converted}

@@ -7,33 +7,33 @@ use Rattle.goblin.specs.{ProgramHeader.program_header_of, ProgramHeader.program_
 use Rattle.goblin.specs.{Reloc.reloc_in, Reloc.reloc_size, Symtab.symtab_of}
 use Rattle.goblin.specs.{SectionHeaders.section_headers_from_tested, declared.elf.reloc.RelocCtx.RelocCtx}
 use Rattle.goblin.specs.SectionHeader.{section_header_layout, section_header_of, section_header_size}
-use Rattle.goblin.specs.SectionHeaders.{count_asked, link_of, linked, names_index, section_headers_from}
-use Rattle.goblin_base.{proofs.StepLemmas.found_within, specs.Number.IsBytes}
-use Rattle.goblin_base.proofs.{ByteorderLemmas.length-part, Eager.all_fit, Eager.get_records, Eager.past_records}
+use Rattle.goblin.specs.SectionHeaders.{count_asked, link_of, names_index, section_headers_from}
+use Rattle.goblin_base.{proofs.Eager.past_records, specs.Layout.IsRecord, specs.Number.IsBytes, specs.Steps.refuse_if}
+use Rattle.goblin_base.proofs.{ByteorderLemmas.length-part, Eager.all_fit, Eager.get_records, StepLemmas.found_within}
 use Rattle.goblin_base.specs.{Eager.records_from, Eager.records_in, Eager.room_of_each, Fields.Field, Fields.FieldsFit}
-use Rattle.goblin_base.specs.{FieldLaws.IsBytes-part, Layout.IsRecord, RecordLaws.unless_fault-is, Steps.refuse_if}
+use Rattle.goblin_base.specs.{FieldLaws.IsBytes-part, RecordLaws.unless_fault-is, declared.container.Endian.Endian}
 use Rattle.goblin_base.specs.{Record.records, Record.unless_fault, TableLaws.no_records, TableLaws.records-agree}
 use Rattle.goblin_base.specs.declared.container.Container.{Container, TheVariants.Big, TheVariants.Little}
-use Rattle.goblin_c.proofs.Common.{Bool, Ctx, Decides, Endian, Err, GoblinHeader, GoblinRange, List, None, Ok, Option}
-use Rattle.goblin_c.proofs.Common.{Refusal, RefusalAt, Result, Some, [], ap, arith, ctx_of, drop, drop-drop, first_item}
-use Rattle.goblin_c.proofs.Common.{each_converted, fits-room_of, get_or, get_or_from_slice_get, if◌then◌else◌, inl, map}
-use Rattle.goblin_c.proofs.Common.{item_at, leb-false, leb-true, length, length-drop, length-map, misplaced, nat_le, ℕ}
-use Rattle.goblin_c.proofs.Common.{mod-eq_of_lt, nat_tests, option_map, position_or_len, refl, refusal_at, refusal_of}
-use Rattle.goblin_c.proofs.Common.{refuse_as, refused_at, room_of, room_of_fits, section_converted, segment_converted}
-use Rattle.goblin_c.proofs.Common.{slice_get, slice_get-get_or, slice_get-map, slice_get_within, subst, suc, sym, take}
-use Rattle.goblin_c.proofs.Common.{symbol_converted, true, zero, ◌*◌, ◌+◌, ◌-◌, ◌<◌, ◌==◌, ◌>>=◌, ◌∙◌, ◌∷◌, ◌≡◌, ◌≤◌}
+use Rattle.goblin_c.proofs.Common.{Bool, Ctx, Decides, Err, GoblinHeader, GoblinRange, List, None, Ok, Option, Refusal}
+use Rattle.goblin_c.proofs.Common.{RefusalAt, Result, Some, [], ap, arith, ctx_of, drop, drop-drop, each_converted, inl}
+use Rattle.goblin_c.proofs.Common.{first_item, fits-room_of, get_or, get_or_from_slice_get, if◌then◌else◌, item_at, map}
+use Rattle.goblin_c.proofs.Common.{leb-false, leb-true, length, length-drop, length-map, mod-eq_of_lt, nat_le, refl, ℕ}
+use Rattle.goblin_c.proofs.Common.{nat_tests, option_map, position_or_len, refusal_at, refusal_of, refuse_as, room_of}
+use Rattle.goblin_c.proofs.Common.{refused_at, room_of_fits, section_converted, segment_converted, slice_get, subst}
+use Rattle.goblin_c.proofs.Common.{slice_get-get_or, slice_get-map, slice_get_within, suc, sym, symbol_converted, take}
+use Rattle.goblin_c.proofs.Common.{true, zero, ◌*◌, ◌+◌, ◌-◌, ◌<◌, ◌==◌, ◌>>=◌, ◌∙◌, ◌∷◌, ◌≡◌, ◌≤◌}
 use Rattle.goblin_c.specs.{Common.segment_count, Common.sym_layout, Common.sym_size, WriteLaws.ItemsAreWhole}
 use Rattle.goblin_c.specs.{Expected.symbol_expected, Expected.symbols_expected, Expected.whole_header, Refused.Returns}
-use Rattle.goblin_c.specs.{Laws.table_converted, Status.converted_list, Types.header_converted, Types.reloc_converted}
+use Rattle.goblin_c.specs.{Status.converted_list, Types.header_converted, Types.reloc_converted}
 use Rattle.goblin_c.specs.Common.{Dyn, GoblinReloc, GoblinSection, GoblinSymbol, Header, Layout, ProgramHeader, Refused}
-use Rattle.goblin_c.specs.Common.{Reloc, SectionHeader, Sym, buffer_too_short, program_headers_from, section_headers_of}
+use Rattle.goblin_c.specs.Common.{Reloc, SectionHeader, Sym, buffer_too_short, misplaced, program_headers_from}
 use Rattle.goblin_c.specs.Dynamic.{entry_expected, file_range_of, whole_entries_expected}
 use Rattle.goblin_c.specs.Expected.{count_of, found_item, is_mips64el, items_from, reloc_expected, relocs_expected}
 use Rattle.goblin_c.specs.Expected.{section_expected, sections_expected, segment_expected, segments_expected, table_at}
 use Rattle.goblin_c.specs.Laws.{ContextIsTheHeaders, FilledByIndex, FindsFrom, FindsItemFrom, GivenFrom, HasHeader}
 use Rattle.goblin_c.specs.Laws.{KeepsWhatIsRead, NamesByIndex, NamesContext, RefusesAll, RelocsByIndex, ReturnsCount}
 use Rattle.goblin_c.specs.Laws.{ReturnsEach, SectionsByIndex, SectionsByType, SegmentsByIndex, SymbolsByIndex}
-use Rattle.goblin_c.specs.Laws.{TablesByIndex, WholeHeaderIsTheLibrarys, WholeHeaderKeeps, section_if_table}
+use Rattle.goblin_c.specs.Laws.{TablesByIndex, WholeHeaderIsTheLibrarys, WholeHeaderKeeps}
 use Rattle.goblin_c.specs.Write.{RelocFits, SectionFits, SymbolFits, dyn_layout, reloc_ctx, reloc_layout, reloc_of}
 use Rattle.goblin_c.specs.Write.{section_layout, section_of, segment_layout, symbol_layout, symbol_of}
 use Rattle.goblin_dynamic.specs.{Dyn.entry_laws, Dyn.entry_of, Dyn.entry_size, Dynamic.whole_entries_in}
@@ -60,7 +60,7 @@ refused_at_ok offset answer y is = grind (arith, nat_tests)
 pub one_converted : {X Y : Type 0} (past : Bool) (offset : ℕ) (answer : Result X Refusal) (convert : X → Y) (found : Y)
     → (if past then Ok None else (refused_at offset answer >>= λ x. Ok (Some (convert x)))) ≡ Ok (Some found)
     → (x : X) × (past ≡ false) × (answer ≡ Ok x) × (found ≡ convert x)
-one_converted past offset answer convert found is = grind arith
+one_converted past offset answer convert found is = grind (arith, nat_tests)
 
 -- records that pass the test of room one by one lie in the bytes
 pub each_fits : (len start size count : ℕ) (u : Unit {0})
@@ -99,19 +99,13 @@ module _ {R : Type 0} {size : ℕ} {read : List ℕ → R} {bytes : List ℕ} {s
 
   -- and there is none from the number of them on
   pub none_at : (index : ℕ) → IsListed size read bytes start count items → count ≤ index → slice_get items index ≡ None
-  none_at index listed past = rw listed.are (past_records size read count (drop start bytes) index past)
+  none_at index listed past = grind (arith, nat_tests, listed, past_records)
 
 -- the lists of the library
 pub listed_in : {R : Type 0} (size : ℕ) (read : List ℕ → R) (bytes : List ℕ) (start count : ℕ) (items : List R)
     → records_in size read bytes start count ≡ Ok items → IsListed size read bytes start count items
 unfolding records_in
 listed_in size read bytes start count items is = grind (arith, nat_tests, bind_ok, each_fits, found_within)
-
-pub listed_from : {R : Type 0} (size : ℕ) (read : List ℕ → R) (bytes : List ℕ) (start count : ℕ) (name : List ℕ)
-    (items : List R)
-    → records_from size read bytes start count name ≡ Ok items → IsListed size read bytes start count items
-unfolding records_from records_in
-listed_from size read bytes start count name items is = grind (arith, nat_tests, bind_ok, listed_in)
 
 module _ (bytes : List ℕ) (start count : ℕ) (ctx : Ctx) where
   -- the section headers, as many as the file states
@@ -133,12 +127,6 @@ module _ (bytes : List ℕ) (start count : ℕ) (ctx : Ctx) where
       let parts = bind_ok (room >>= λ _. few) (λ _. records_in size read bytes start (max 1 asked)) items is in
       let listed = listed_in size read bytes start (max 1 asked) items parts.2 in
       (max 1 asked, listed)
-
-  pub sections_listed : (items : List SectionHeader)
-      → section_headers_of bytes start count ctx ≡ Ok items
-      → (stated : ℕ)
-      × IsListed (section_header_size ctx.container) (section_header_of ctx.container ctx.le) bytes start stated items
-  sections_listed items is = listed_by (start == 0) items is
 
   -- the symbols of a table
   pub symbols_listed : (items : List Sym)
@@ -202,23 +190,24 @@ pub converted_is : {L R Y : Type 0} (convert : R → Y) (view : L → List R) (a
     (expected : Result (List R) RefusalAt)
     → Returns view answer expected
     → converted_list (λ list. map convert (view list)) answer ≡ each_converted convert expected
-converted_is convert view answer expected is = grind arith
+converted_is convert view answer expected is = grind (arith, nat_tests)
 
 -- the result that is expected of a call is its own, with refusals for errors
 pub expected_is : {X : Type 0} (answer : Result X Refused) (expected : Result X RefusalAt)
     → Returns (λ found. found) answer expected → refuse_as refusal_at answer ≡ expected
-expected_is answer expected is = grind arith
+expected_is answer expected is = grind (arith, nat_tests)
 
 -- the lists of the calls
 pub lists_sections : (bytes : List ℕ) (h : GoblinHeader)
     → Lists (section_header_size (ctx_of h).container) (section_header_of (ctx_of h).container (ctx_of h).le) bytes
     h.e_shoff (sections_expected bytes h)
-lists_sections bytes h items is = grind (arith, nat_tests, refused_at_ok, sections_listed)
+lists_sections bytes h items is = grind (arith, nat_tests, refused_at_ok, listed_by)
 
 pub lists_segments : (bytes : List ℕ) (h : GoblinHeader)
     → Lists (program_header_size (ctx_of h).container) (program_header_of (ctx_of h).container (ctx_of h).le) bytes
     h.e_phoff (segments_expected bytes h)
-lists_segments bytes h items is = grind (arith, nat_tests, bind_ok, listed_from, refused_at_ok)
+unfolding records_from records_in
+lists_segments bytes h items is = grind (arith, nat_tests, bind_ok, listed_in, refused_at_ok)
 
 pub lists_symbols : (bytes : List ℕ) (h : GoblinHeader) (table : GoblinRange)
     → Lists (sym_size (ctx_of h).container) (sym_of (ctx_of h).container (ctx_of h).le) bytes table.offset
@@ -395,7 +384,7 @@ reloc_addend true is_rela class r fits = addend_whole is_rela _ r.r_addend fits.
 -- so what C has of an item that fits is all of it
 pub section_whole : (h : GoblinHeader) (s : SectionHeader)
     → (section_layout h).Fits s → section_of (section_converted s) ≡ s
-section_whole h s fits = rw (mod-eq_of_lt (section_name (ctx_of h).container (ctx_of h).le s fits)) refl
+section_whole h s fits = grind (arith, nat_tests, mod-eq_of_lt, section_name)
 
 pub symbol_whole : (h : GoblinHeader) (s : Sym) → (symbol_layout h).Fits s → symbol_of (symbol_converted s) ≡ s
 symbol_whole h s fits = grind (arith, nat_tests, mod-eq_of_lt, symbol_parts)
@@ -407,7 +396,7 @@ reloc_whole c r fits = grind (arith, nat_tests, mod-eq_of_lt, reloc_addend, relo
 -- and an item of C's that fits is the one that is read where it is put
 pub section_same : (h : GoblinHeader) (s : GoblinSection)
     → SectionFits h s → section_converted (section_of s) ≡ s
-section_same h s fits = rw (mod-eq_of_lt (section_name (ctx_of h).container (ctx_of h).le (section_of s) fits)) refl
+section_same h s fits = grind (arith, nat_tests, mod-eq_of_lt, section_name)
 
 pub symbol_same : (h : GoblinHeader) (s : GoblinSymbol) → SymbolFits h s → symbol_converted (symbol_of s) ≡ s
 symbol_same h s fits =
@@ -480,7 +469,7 @@ relocs_by_index bytes h ctx range is_rela has named =
     (listed reloc_converted (relocs_expected bytes (header_converted h) range is_rela))
 
 pub whole_header_is_the_librarys : WholeHeaderIsTheLibrarys
-whole_header_is_the_librarys bytes h ctx has named = rw (← one_context bytes h ctx has named) refl
+whole_header_is_the_librarys bytes h ctx has named = grind (arith, nat_tests, one_context)
 
 -- the item at an index after those that are dropped
 pub get_drop : {X : Type 0} (xs : List X) (n k : ℕ) → slice_get xs (n + k) ≡ slice_get (drop n xs) k
@@ -509,18 +498,8 @@ from all first = grind (arith, nat_tests, given)
 pub filled_by_index : FilledByIndex
 filled_by_index = grind (arith, nat_tests, from, relocs, sections, segments, symbols)
 
--- the table at an index is the section that is stored there
-converted_table : (index : ℕ) (found : Option SectionHeader)
-    → option_map section_converted (linked index found) ≡ section_if_table index (option_map section_converted found)
-converted_table index found = grind (arith, nat_tests)
-
-table_there : (all : Result (List SectionHeader) RefusalAt) (index : ℕ)
-    → (all >>= λ items. Ok (table_at items index))
-    ≡ table_converted index (item_at (each_converted section_converted all) index)
-table_there all index = grind (arith, converted_table, slice_get-map)
-
 pub tables_by_index : TablesByIndex
-tables_by_index bytes h index = table_there (sections_expected bytes h) index
+tables_by_index bytes h index = grind (arith, nat_tests, slice_get-map)
 
 -- the table with the index in the header, or the one that the first section links to
 in_header : (all : Result (List SectionHeader) RefusalAt) (index : ℕ)
@@ -747,7 +726,7 @@ plain_reloc_is bytes h range is_rela index x other file ends is =
 -- one list isn't refused, and is another where that isn't refused: so with the offsets of their refusals
 keeps_at : {X : Type 0} (place other_place : ℕ) (list part : Result (List X) Refusal)
     → IsListOfWhole list part → KeepsWhatIsRead (refused_at place list) (refused_at other_place part)
-keeps_at place other_place list part is = grind arith
+keeps_at place other_place list part is = grind (arith, nat_tests)
 
 sections_kept : (bytes : List ℕ) (h : GoblinHeader)
     → KeepsWhatIsRead (sections_expected bytes h) (sections_expected bytes (whole_header bytes h))

@@ -8,23 +8,18 @@ use Rattle.goblin.specs.{Notes.LieWithin, declared.elf.note.Nhdr32.Nhdr32, decla
 use Rattle.goblin.specs.Note.{NoteParts, bytes_at, item_and_rest, note_align, note_at, note_items, note_places}
 use Rattle.goblin.specs.NoteLaws.{note_by_note, whole_is_note}
 use Rattle.goblin_base.specs.Record.{read_within}
-use Rattle.goblin_c.proofs.{Common.◌>>=◌, Common.◌∙◌, Common.◌≡◌, Common.◌≤◌, ListLemmas.one_converted}
-use Rattle.goblin_c.proofs.Common.{Bool, Ctx, Endian, Err, GoblinHeader, GoblinRange, List, None, Ok, Option, Refusal}
-use Rattle.goblin_c.proofs.Common.{RefusalAt, Result, Some, [], ap, arith, ctx_of, drop, fits-room_of, if◌then◌else◌, ℕ}
-use Rattle.goblin_c.proofs.Common.{is_utf8, leb-false, length, length-drop, length-take, nat_le, nat_tests, refl, suc}
-use Rattle.goblin_c.proofs.Common.{refusal_of, refuse_as, refused_at, sym, take, take_all, true, zero, ◌+◌, ◌-◌, ◌<◌}
+use Rattle.goblin_c.proofs.{Common.◌∙◌, Common.◌≡◌, Common.◌≤◌, ListLemmas.one_converted}
+use Rattle.goblin_c.proofs.Common.{Bool, Ctx, Err, GoblinHeader, GoblinRange, List, None, Ok, Option, Refusal, Result}
+use Rattle.goblin_c.proofs.Common.{RefusalAt, Some, [], ap, arith, ctx_of, drop, fits-room_of, if◌then◌else◌, is_utf8}
+use Rattle.goblin_c.proofs.Common.{leb-false, length, length-drop, length-take, nat_le, nat_tests, refl, refusal_of, ℕ}
+use Rattle.goblin_c.proofs.Common.{refuse_as, refused_at, suc, sym, take, take_all, true, zero, ◌+◌, ◌-◌, ◌<◌, ◌>>=◌}
 use Rattle.goblin_c.specs.{Laws.items_reported, Laws.notes_reported, declared.types.GoblinNote.GoblinNote}
-use Rattle.goblin_c.specs.Laws.{NotesAreItems, NotesAreText, NotesInARow, NotesLieInFile, WholeNotesAreNotes, note_in}
+use Rattle.goblin_c.specs.Laws.{NotesAreItems, NotesAreText, NotesInARow, NotesLieInFile, WholeNotesAreNotes}
 use Rattle.goblin_c.specs.Notes.{bytes_from, note_expected, note_utf8_expected, parts_at, read_parts, without_last}
 use Rattle.goblin_c.specs.Types.{note_converted}
 use Rattle.std.proofs.Math.Seq.{drop-drop, take-nil}
 use Rattle.std.proofs.lemmas.{Bool.lt-leb, List.drop-take, List.drop_all}
 use Rattle.goblin_base.specs.declared.container.Endian.TheVariants as endian
-
--- the note that a file has at the ranges of a stored one is the one that its bytes from the offset on have at theirs
-note_same : (bytes : List ℕ) (offset : ℕ) (places : NotePlaces)
-    → note_there (drop offset bytes) places ≡ note_in bytes (note_converted offset places)
-note_same bytes offset places = grind (arith, nat_tests, drop-drop)
 
 -- the items of a result, before the range's end and from there on
 items_of : (past : Bool) (bytes : List ℕ) (answer : Result NotePlaces Refusal) (offset : ℕ)
@@ -34,7 +29,7 @@ items_of : (past : Bool) (bytes : List ℕ) (answer : Result NotePlaces Refusal)
     (λ len. rest (offset + len)))
     ≡ items_reported bytes
     (if past then Ok None else (refused_at offset answer >>= λ places. Ok (Some (note_converted offset places)))) rest
-items_of past bytes answer offset rest = grind (arith, nat_tests, note_same)
+items_of past bytes answer offset rest = grind (arith, nat_tests, drop-drop)
 
 items_there : (bytes : List ℕ) (h : GoblinHeader) (range : GoblinRange) (alignment offset : ℕ)
     → note_items bytes (range.offset + range.size) offset (alignment, ctx_of h)
@@ -129,29 +124,17 @@ parts_within bytes offset ctx places is =
 pub notes_lie_in_file : NotesLieInFile
 notes_lie_in_file bytes h range alignment offset note is = grind (arith, nat_tests, one_converted, parts_within)
 
--- a note with a name that is text is read alike
-text_of_parts : (alignment : ℕ) (order : Endian) (bytes : List ℕ) (places : NotePlaces)
-    → read_places alignment order bytes ≡ Ok places → read_parts alignment order bytes ≡ Ok places
-unfolding read_places read_parts
-text_of_parts alignment order bytes places is = grind (arith, nat_tests)
-
-parts_of_text : (alignment : ℕ) (order : Endian) (bytes : List ℕ) (places : NotePlaces)
-    → read_parts alignment order bytes ≡ Ok places
-    → is_utf8 (take places.name_size (drop places.name bytes)) ≡ true → read_places alignment order bytes ≡ Ok places
-unfolding read_places read_parts
-parts_of_text alignment order bytes places is text = grind (arith, nat_tests)
-
 parts_of_note : (bytes : List ℕ) (offset : ℕ) (ctx : ℕ × Ctx) (places : NotePlaces)
     → places_at bytes offset ctx ≡ Ok places → parts_at bytes offset ctx ≡ Ok places
-unfolding places_at parts_at
-parts_of_note bytes offset ctx places is = grind (arith, nat_tests, text_of_parts)
+unfolding places_at parts_at read_places read_parts
+parts_of_note bytes offset ctx places is = grind (arith, nat_tests)
 
 note_of_parts : (bytes : List ℕ) (offset : ℕ) (ctx : ℕ × Ctx) (places : NotePlaces)
     → parts_at bytes offset ctx ≡ Ok places
     → is_utf8 (take places.name_size (drop places.name (drop offset bytes))) ≡ true
     → places_at bytes offset ctx ≡ Ok places
-unfolding places_at parts_at
-note_of_parts bytes offset ctx places is text = grind (arith, nat_tests, parts_of_text)
+unfolding places_at parts_at read_places read_parts
+note_of_parts bytes offset ctx places is text = grind (arith, nat_tests)
 
 pub notes_are_text : NotesAreText
 notes_are_text = record {
@@ -197,19 +180,13 @@ whole_notes_are_notes bytes h range alignment offset note is within =
     (ap (λ (p : NotePlaces). Ok (Some (note_converted offset p))) last
     ∙ ap (λ (n : GoblinNote). Ok (Some n)) (sym steps.3))
 
--- the note of a little-endian file whose parts were read before the end of the bytes and of its range
-parts_at-before : (bytes : List ℕ) (offset : ℕ) (ctx : ℕ × Ctx)
-    → offset < length bytes
-    → parts_at bytes offset ctx ≡ read_parts ctx.0 ctx.1.le (take (length bytes - offset) (drop offset bytes))
-unfolding parts_at
-parts_at-before bytes offset ctx before = grind (arith, nat_tests, length-drop, lt-leb, take_all)
-
 pub usual_note_is : (bytes : List ℕ) (h : GoblinHeader) (range : GoblinRange) (alignment offset : ℕ)
     (places : NotePlaces) → (h.ei_data ≡ 2 → ⊥) → offset < length bytes → offset < range.offset + range.size
     → read_parts alignment endian.Little (take (length bytes - offset) (drop offset bytes)) ≡ Ok places
     → note_expected bytes h range alignment offset ≡ Ok (Some (note_converted offset places))
+unfolding parts_at
 usual_note_is bytes h range alignment offset places other there before is =
-    grind (arith, nat_tests, lt-leb, parts_at-before)
+    grind (arith, nat_tests, lt-leb, length-drop, take_all)
 
 pub ruleset note_laws =
     (notes_are_items, notes_in_a_row, notes_lie_in_file, whole_notes_are_notes, notes_are_text)

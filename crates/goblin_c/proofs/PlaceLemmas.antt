@@ -6,17 +6,17 @@
 -- for C (`loads-Decides`).
 use Rattle.goblin.specs.ProgramHeaders.{loads, offset_in}
 use Rattle.goblin_base.specs.declared.scroll.Error.{Error as Misplaced}
-use Rattle.goblin_c.{proofs.Common.◌≡◌, proofs.Common.◌≤◌, specs.Bytes.range_expected, specs.Laws.bytes_in}
 use Rattle.goblin_c.proofs.{BufferLemmas.ends-before, ListLemmas.converted_one, ListLemmas.fails_before}
 use Rattle.goblin_c.proofs.Common.{Bool, Decides, Err, GoblinHeader, GoblinRange, List, None, Ok, Option, RefusalAt, []}
 use Rattle.goblin_c.proofs.Common.{Result, Some, arith, drop, fits-room_of, get_or_from_slice_get, inl, leb-false, min}
-use Rattle.goblin_c.proofs.Common.{leb-true, length, length-drop, misplaced, nat_le, nat_tests, option_map, refl, subst}
-use Rattle.goblin_c.proofs.Common.{position_or_len, refuse_as, refused_at, room_of, room_of_fits, segment_converted, ℕ}
-use Rattle.goblin_c.proofs.Common.{slice_get, slice_get-map, slice_get_within, sym, true, ◌+◌, ◌-◌, ◌<◌, ◌>>=◌, ◌∙◌}
-use Rattle.goblin_c.specs.{Common.ProgramHeader, Common.loaded_from, declared.types.GoblinSegment.GoblinSegment}
-use Rattle.goblin_c.specs.{Expected.segment_expected, Expected.segments_expected, Places.cut_range, Places.in_file}
-use Rattle.goblin_c.specs.PlaceLaws.{AddressesAreLoaded, BytesAreFound, IsOffsetOf, IsRange, IsSlice, LoadsByte}
-use Rattle.goblin_c.specs.PlaceLaws.{LoadsFirst, NotesRefuseThere, NumbersAreFound, NumbersLieInRange, PartsLieInFile}
+use Rattle.goblin_c.proofs.Common.{leb-true, length, length-drop, nat_le, nat_tests, option_map, position_or_len, refl}
+use Rattle.goblin_c.proofs.Common.{refuse_as, refused_at, room_of, room_of_fits, segment_converted, slice_get, subst, ℕ}
+use Rattle.goblin_c.proofs.Common.{slice_get-map, slice_get_within, sym, true, ◌+◌, ◌-◌, ◌<◌, ◌>>=◌, ◌∙◌, ◌≡◌, ◌≤◌}
+use Rattle.goblin_c.specs.{Common.ProgramHeader, Common.loaded_from, Common.misplaced, Places.cut_range, Places.in_file}
+use Rattle.goblin_c.specs.{Expected.segment_expected, Expected.segments_expected, Laws.bytes_in}
+use Rattle.goblin_c.specs.PlaceLaws.{AddressesAreLoaded, BytesAreFound, IsOffsetOf, IsSlice, LoadsByte, LoadsFirst}
+use Rattle.goblin_c.specs.PlaceLaws.{NotesRefuseThere, NumbersAreFound, NumbersLieInRange, PartsLieInFile}
+use Rattle.goblin_c.specs.declared.types.GoblinSegment.{GoblinSegment}
 use Rattle.std.proofs.{Common.false, Common.find, Common.inr, Common.true≢false, Math.Seq.take-nil}
 use Rattle.std.proofs.lemmas.List.{drop_all, take_min, Folds.find_at, Sums.passes_at_first}
 
@@ -109,21 +109,17 @@ by_all bytes h address (Ok items) short is = by_found bytes h address short item
 by_all bytes h address (Err e) short is = inl (λ index. rw is refl)
 
 pub addresses_are_loaded : AddressesAreLoaded
-addresses_are_loaded bytes h address short = by_all bytes h address (segments_expected bytes h) short refl
+addresses_are_loaded bytes h address short = grind (arith, nat_tests, by_all)
 
 -- ---- What lies in the file is found, and else refused at its offset: the test of room passes exactly if it does.
 
--- a range that lies in the file, and one that doesn't
-range_is : (bytes : List ℕ) (range : GoblinRange) → IsRange bytes range (range_expected bytes range)
-unfolding room_of
-range_is bytes range = grind (arith, nat_tests)
-
 pub bytes_are_found : BytesAreFound
-bytes_are_found = grind (arith, nat_tests, range_is)
+unfolding room_of
+bytes_are_found = grind (arith, nat_tests)
 
 pub numbers_are_found : NumbersAreFound
 unfolding room_of
 numbers_are_found bytes h range offset width known = grind (arith, nat_tests, known)
 
 pub notes_refuse_there : NotesRefuseThere
-notes_refuse_there offset e = grind arith
+notes_refuse_there offset e = grind (arith, nat_tests)

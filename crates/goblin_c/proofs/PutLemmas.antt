@@ -5,46 +5,42 @@
 -- (`still_there`).
 use Rattle.goblin.specs.Header.{class_named, header_layout, header_size, order_named}
 use Rattle.goblin_base.proofs.{ByteorderLemmas.length-part, Eager.length_records}
-use Rattle.goblin_base.specs.{NumberLaws.length-spelled, NumberLaws.spelled-number, Place.with_number}
+use Rattle.goblin_base.specs.{Number.IsBytes, Number.number_at, Number.spelled, Place.with_number}
+use Rattle.goblin_base.specs.{NumberLaws.length-spelled, NumberLaws.spelled-number, declared.container.Endian.Endian}
 use Rattle.goblin_base.specs.FieldLaws.{IsBytes-part, number_at-lt, number_at-with_number}
-use Rattle.goblin_base.specs.Number.{IsBytes, number_at, spelled}
-use Rattle.goblin_c.{proofs.PlaceLemmas.numbers_lie_in_range, specs.Types.refusal_converted}
-use Rattle.goblin_c.proofs.Common.{Ctx, Endian, Err, GoblinHeader, GoblinRange, List, None, Ok, Option, RefusalAt, Some}
-use Rattle.goblin_c.proofs.Common.{Result, ap, arith, ctx_of, drop, drop-drop, each_converted, fits-room_of, get_or, ℕ}
-use Rattle.goblin_c.proofs.Common.{item_at, length, length-drop, length-map, length-take, length-take-le, mod-eq_of_lt}
-use Rattle.goblin_c.proofs.Common.{nat_tests, refl, refusal_of, refuse_as, refused_at, room_of_fits, slice_get-get_or}
-use Rattle.goblin_c.proofs.Common.{slice_get_within, take, take_all, true, ◌*◌, ◌++◌, ◌+◌, ◌<◌, ◌>>=◌, ◌∙◌, ◌≡◌, ◌≤◌}
+use Rattle.goblin_c.proofs.Common.{Ctx, Err, GoblinHeader, GoblinRange, List, None, Ok, Option, RefusalAt, Result, Some}
+use Rattle.goblin_c.proofs.Common.{ap, arith, ctx_of, drop, drop-drop, each_converted, fits-room_of, get_or, item_at, ℕ}
+use Rattle.goblin_c.proofs.Common.{length, length-drop, length-map, length-take, length-take-le, mod-eq_of_lt, refl}
+use Rattle.goblin_c.proofs.Common.{nat_tests, refusal_of, refuse_as, refused_at, room_of_fits, slice_get-get_or, take}
+use Rattle.goblin_c.proofs.Common.{slice_get_within, take_all, true, ◌*◌, ◌++◌, ◌+◌, ◌<◌, ◌>>=◌, ◌∙◌, ◌≡◌, ◌≤◌}
 use Rattle.goblin_c.proofs.ListLemmas.{Read, entries, found_at, reloc_same, reloc_whole, relocs, same_items, sections}
 use Rattle.goblin_c.proofs.ListLemmas.{section_same, section_whole, segments, symbol_same, symbol_whole, symbols}
+use Rattle.goblin_c.proofs.PlaceLemmas.{numbers_lie_in_range}
 use Rattle.goblin_c.specs.{Bytes.is_width, Bytes.number_expected, Expected.count_of, Expected.header_expected}
-use Rattle.goblin_c.specs.{Common.Dyn, Common.Error, Common.GoblinDyn, Common.Layout, Write.unfit, Write.with_bytes}
-use Rattle.goblin_c.specs.{Dynamic.entry_expected, Dynamic.whole_entries_expected, Places.number_in_expected}
+use Rattle.goblin_c.specs.{Common.Dyn, Common.Error, Common.GoblinDyn, Common.Layout, Places.number_in_expected}
+use Rattle.goblin_c.specs.{Dynamic.entry_expected, Dynamic.whole_entries_expected, Types.refusal_converted}
+use Rattle.goblin_c.specs.{Write.with_bytes, declared.misfit.Misfit.Misfit, declared.types.GoblinReloc.GoblinReloc}
 use Rattle.goblin_c.specs.Write.{DynFits, FitsClass, dyn_layout, dyn_of, dyn_put_expected, header_of, named_ctx, put_at}
 use Rattle.goblin_c.specs.Write.{put_if_there, put_unless, reloc_ctx, reloc_of, section_of, segment_of, symbol_of}
-use Rattle.goblin_c.specs.WriteLaws.{ChangesOnly, CountsStay, HeadersAreRead, IsUnfit, NumbersArePut, PutsAreRead}
-use Rattle.goblin_c.specs.WriteLaws.{NumbersInRangesArePut, PutsChangeOne, ReadsArePut, UnfitAreRefused}
-use Rattle.goblin_c.specs.declared.{misfit.Misfit.Misfit, types.GoblinReloc.GoblinReloc}
+use Rattle.goblin_c.specs.WriteLaws.{ChangesOnly, CountsStay, HeadersAreRead, NumbersArePut, NumbersInRangesArePut}
+use Rattle.goblin_c.specs.WriteLaws.{PutsAreRead, PutsChangeOne, ReadsArePut, UnfitAreRefused}
 use Rattle.goblin_c.specs.declared.types.{GoblinSection.GoblinSection, GoblinSymbol.GoblinSymbol}
 use Rattle.goblin_headers.proofs.WholeTrips.{reads_back}
 use Rattle.std.proofs.{Common.append_assoc, Common.length-append, lemmas.List.drop_at, lemmas.List.take-append-drop}
 use Rattle.std.proofs.Math.Seq.{take-append_seam}
 
--- the front of a list
-take_at : (front rest : List ℕ) (n : ℕ) → length front ≡ n → take n (front ++ rest) ≡ front
-take_at front rest n long = rw (← long) (take-append_seam front rest)
-
 -- the bytes after some were written over them at an offset
 module _ (bytes : List ℕ) (place : ℕ) (own : List ℕ) (size : ℕ) (long : length own ≡ size)
     (room : place + size ≤ length bytes) where
   front_is : length (take place bytes) ≡ place
-  front_is = length-take-le place bytes (omega (arith, room))
+  front_is = grind (arith, nat_tests, length-take-le)
 
   -- there they are
   pub own_bytes : take size (drop place (with_bytes bytes place own)) ≡ own
-  own_bytes = grind (arith, nat_tests, append_assoc, drop_at, front_is, take_at)
+  own_bytes = grind (arith, nat_tests, append_assoc, drop_at, front_is, take-append_seam)
 
   pub others_stay : ChangesOnly place size bytes (with_bytes bytes place own)
-  others_stay = grind (arith, nat_tests, append_assoc, drop_at, front_is, length-append, length-drop, take_at)
+  others_stay = grind (arith, nat_tests, append_assoc, drop_at, front_is, length-append, length-drop, take-append_seam)
 
 -- written over themselves they don't change
 pub rewritten : (bytes : List ℕ) (place size : ℕ)
@@ -62,7 +58,7 @@ pub put_found : {Y : Type 0} (found : Result (Option Y) RefusalAt) (misfit : Opt
     (put new : List ℕ)
     → put_if_there found (put_unless misfit place put) ≡ Ok (Some new)
     → (y : Y) × (found ≡ Ok (Some y)) × (new ≡ put)
-put_found found misfit place put new is = grind arith
+put_found found misfit place put new is = grind (arith, nat_tests)
 
 -- a list of as many items has one at the same index
 still_there : {X : Type 0} (items others : Result (List X) RefusalAt) (index : ℕ) (x : X)
@@ -207,13 +203,8 @@ puts_change_one = record {
 pub counts_stay : CountsStay
 counts_stay = grind (arith, nat_tests, length-map, length_records)
 
--- what doesn't fit is refused where it would be put
-unfit_put : {X : Type 0} (found : Result (Option X) RefusalAt) (x : X) (place : ℕ) (misfit : Misfit)
-    → found ≡ Ok (Some x) → IsUnfit place misfit (put_if_there found (Err (unfit place misfit)))
-unfit_put found x place misfit is = grind arith
-
 pub unfit_are_refused : UnfitAreRefused
-unfit_are_refused = grind (arith, nat_tests, unfit_put)
+unfit_are_refused = grind (arith, nat_tests)
 
 pub ruleset put_laws = (puts_are_read, puts_change_one, reads_are_put, counts_stay)
 
@@ -240,7 +231,7 @@ put_in : (answer : Result Ctx Error) (after : Ctx → List ℕ) (new : List ℕ)
     → (refuse_as refusal_converted (refused_at 0 (refuse_as refusal_of answer)) >>= λ c. put_unless None 0 (after c))
     ≡ Ok (Some new)
     → (ctx : Ctx) × (answer ≡ Ok ctx) × (after ctx ≡ new)
-put_in answer after new put = grind arith
+put_in answer after new put = grind (arith, nat_tests)
 
 pub headers_are_read : HeadersAreRead
 headers_are_read bytes new h fits put =
@@ -261,7 +252,7 @@ read_there bytes h offset width value is = grind (arith, fits-room_of (length by
 read_of : (bytes : List ℕ) (h : GoblinHeader) (offset width : ℕ)
     → is_width width ≡ true → offset + width ≤ length bytes
     → number_expected bytes h offset width ≡ Ok (Some (number_at (ctx_of h).le bytes offset width))
-read_of bytes h offset width is room = rw (is, room_of_fits (length bytes) offset width room) refl
+read_of bytes h offset width is room = grind (arith, nat_tests, room_of_fits)
 
 -- the bytes of a number are written over those at its offset
 with_number-is : (order : Endian) (bytes : List ℕ) (offset width value : ℕ)
@@ -314,7 +305,7 @@ numbers_are_put = record {
 
 pub numbers_in_ranges_are_put : NumbersInRangesArePut
 numbers_in_ranges_are_put bytes h range offset width value found misfit is =
-    rw (is, (numbers_lie_in_range bytes h range offset width found is).2) refl
+    grind (arith, nat_tests, numbers_lie_in_range)
 
 -- a number that is found in a range lies in the file
 pub in_range_there : (bytes : List ℕ) (h : GoblinHeader) (range : GoblinRange) (offset width value : ℕ)

@@ -21,10 +21,10 @@ use Rattle.goblin_c.specs.Expected.{is_named, passes, sections_expected, string_
 use Rattle.goblin_c.specs.Laws.{BytesLieInFile, EmptyHaveNoBytes, FindsItemFrom, IsNameAt, LiesIn, RefusesInTurn}
 use Rattle.goblin_c.specs.Laws.{SectionsByName, StringsAreBytes, StringsAreCompared, StringsAreThere, StringsLieInFile}
 use Rattle.goblin_c.specs.Laws.{SymbolsByName, TextIsFound, TextIsUtf8, bytes_in, range_is, range_starts}
-use Rattle.std.proofs.{Common.inr, Common.slice_index, lemmas.List.get_or-drop, lemmas.List.get_or-take}
-use Rattle.std.proofs.{Math.Seq.drop-drop, Math.Seq.take-take, lemmas.List.take_min, lemmas.Slice.Eq.bytes_eq-Decides}
-use Rattle.std.proofs.lemmas.List.{drop-take, Sums.fails_before_first, Sums.passes_at_first, Sums.prefix_len-le-length}
-use Rattle.std.specs.{List.before_first, Prelude.All, Prelude.IsErr, Prelude.not, Prelude.◌≢◌}
+use Rattle.std.{proofs.Common.slice_index, specs.List.before_first, specs.Prelude.IsErr, specs.Prelude.◌≢◌}
+use Rattle.std.proofs.{Common.inr, Math.Seq.drop-drop, Math.Seq.take-take, lemmas.Slice.Eq.bytes_eq-Decides}
+use Rattle.std.proofs.lemmas.List.{drop-take, get_or-drop, get_or-take, take_min}
+use Rattle.std.proofs.lemmas.List.Sums.{fails_before_first, passes_at_first, prefix_len-le-length}
 
 -- the strings of a range are its bytes, and lie in the file
 pub in_range : (bytes : List ℕ) (range : GoblinRange) (found : List ℕ)
@@ -53,25 +53,15 @@ piece_there bytes range offset before =
     let place : drop (range.offset + offset) bytes ≡ drop offset all = sym (drop-drop offset range.offset bytes) in
     rw (rest, place) (in_front (λ b. b == 0) n (drop offset all))
 
--- the string that is read at an offset of strings is the piece there
-pub plain_is : (strings : List ℕ) (offset : ℕ) (text : List ℕ)
-    → plain strings 0 offset ≡ Ok text → text ≡ piece strings 0 offset
-plain_is strings offset text is = grind arith
-
 -- where a string lies that was read
 abbrev pub place_of : GoblinRange → ℕ → List ℕ → GoblinRange
 place_of range offset text = record { offset = range.offset + offset; size = length text }
-
-text_there : (bytes : List ℕ) (range : GoblinRange) (offset : ℕ) (strings text : List ℕ)
-    → strings_expected bytes range ≡ Ok strings → offset < length strings → plain strings 0 offset ≡ Ok text
-    → bytes_in bytes (place_of range offset text) ≡ text
-text_there bytes range offset strings text found before is = grind (arith, nat_tests, in_range, piece_there, plain_is)
 
 -- a string whose range is stored was read in the string table, and lies at that range
 string_is : (bytes : List ℕ) (range : GoblinRange) (offset : ℕ) (strings : List ℕ) (place : GoblinRange)
     → strings_expected bytes range ≡ Ok strings → string_utf8_expected bytes range offset ≡ Ok (Some place)
     → (text : List ℕ) × (offset < length strings) × (plain strings 0 offset ≡ Ok text) × (bytes_in bytes place ≡ text)
-string_is bytes range offset strings place found is = grind (arith, nat_tests, bytes_in, one_converted, text_there)
+string_is bytes range offset strings place found is = grind (arith, nat_tests, bytes_in, one_converted, in_range, piece_there)
 
 -- there is a string table if there is one of its strings
 strings_there : (bytes : List ℕ) (range : GoblinRange) (offset : ℕ) (place : GoblinRange)
@@ -224,20 +214,16 @@ pub range_lies : (bytes : List ℕ) (range found : GoblinRange)
     → range_expected bytes range ≡ Ok (Some found) → LiesIn bytes found
 range_lies bytes range found is = grind (arith, fits-room_of (length bytes) range.offset range.size)
 
--- a piece is no longer than the strings from its offset on
-pub piece_short : (strings : List ℕ) (offset : ℕ) → length (piece strings 0 offset) ≤ length strings - offset
-unfolding piece
-piece_short strings offset = grind (arith, nat_tests, length-drop, length-take)
-
 pub bytes_lie_in_file : BytesLieInFile
-bytes_lie_in_file = grind (arith, nat_tests, in_range, length-drop, length-take, piece_short, range_lies)
+unfolding piece
+bytes_lie_in_file = grind (arith, nat_tests, in_range, length-drop, length-take, range_lies)
 
 pub empty_have_no_bytes : EmptyHaveNoBytes
 empty_have_no_bytes = grind (arith, nat_tests)
 
 -- a string that is text lies where its bytes do
 pub strings_are_bytes : StringsAreBytes
-strings_are_bytes bytes range offset found is = grind (arith, nat_tests, plain_is)
+strings_are_bytes bytes range offset found is = grind (arith, nat_tests)
 
 -- and one that is UTF-8 is read as text
 utf8_from : (bytes : List ℕ) (range : GoblinRange) (offset : ℕ) (found : GoblinRange)
@@ -278,7 +264,7 @@ bytes_past bytes range offset strings found past = grind (arith, nat_tests)
 
 pub bytes_refused : (bytes : List ℕ) (range : GoblinRange) (offset : ℕ) (refusal : RefusalAt)
     → strings_expected bytes range ≡ Err refusal → string_expected bytes range offset ≡ Err refusal
-bytes_refused bytes range offset refusal refused = rw refused refl
+bytes_refused bytes range offset refusal refused = grind (arith, nat_tests)
 
 -- ---- Strings that a zero byte closes.
 --
@@ -295,12 +281,9 @@ module _ (bytes : List ℕ) (range : GoblinRange) (offset : ℕ) (strings : List
   abbrev end : ℕ
   end = position_or_len (λ b. b == 0) rest
 
-  piece_is : piece strings 0 offset ≡ take end rest
-  unfolding piece
-  piece_is = refl
-
   size : length (piece strings 0 offset) ≡ end
-  size = ap length piece_is ∙ length-take-le end rest (prefix_len-le-length (λ b. not (b == 0)) rest)
+  unfolding piece
+  size = grind (arith, nat_tests, length-take-le, prefix_len-le-length)
 
   -- the byte after it is zero
   zero-after : slice_get bytes (range.offset + offset + length (piece strings 0 offset)) ≡ Some 0
@@ -322,12 +305,9 @@ module _ (bytes : List ℕ) (range : GoblinRange) (offset : ℕ) (strings : List
       ) is_zero in
       rw (same, slice_get-get_or bytes (range.offset + k) 0 within, byte) refl
 
-  -- and none of it is
-  none-before : All (λ b. b ≢ 0) (take end rest)
-  none-before k d inside is_zero = grind (arith, nat_tests, fails_before_first, get_or-take, length-take)
-
   closed_is : IsCString bytes (place_of range offset (piece strings 0 offset))
-  closed_is = grind (arith, nat_tests, none-before, piece_is, piece_is_there, zero-after)
+  unfolding piece
+  closed_is = grind (arith, nat_tests, fails_before_first, get_or-take, length-take, piece_is_there, zero-after)
 
 closed_from : (bytes : List ℕ) (range : GoblinRange) (offset : ℕ) (found : GoblinRange)
     (answer : Result (List ℕ) RefusalAt)
@@ -379,4 +359,5 @@ pub closed_there : (bytes : List ℕ) (range : GoblinRange) (offset : ℕ) (stri
     → size ≢ length strings - offset
     → string_closed_expected bytes range offset
     ≡ Ok (Some (record { offset = range.offset + offset; size = size }))
-closed_there bytes range offset strings size found before is other = grind (arith, nat_tests, piece_short, size)
+unfolding piece
+closed_there bytes range offset strings size found before is other = grind (arith, nat_tests, length-drop, length-take, size)
