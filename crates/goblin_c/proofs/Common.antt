@@ -3,7 +3,6 @@ pub use Rattle.goblin_base.specs.{RecordLaws.fits-room_of, RecordLaws.room_of_fi
 pub use Rattle.goblin_c.specs.Common.{Ctx, GoblinHeader, GoblinRange, Refusal, refusal_of, refuse_as, ◌>>=◌}
 unfoldable pub use Rattle.goblin_c.specs.Common.{room_of}
 pub use Rattle.goblin_c.specs.Expected.{ctx_of, each_converted, first_item, item_at}
-pub use Rattle.goblin_c.specs.Types.{section_converted, segment_converted, symbol_converted}
 pub use Rattle.goblin_c.specs.{Bytes.closed_len, Bytes.string_expected, FilledBuffer.laid}
 pub use Rattle.goblin_c.specs.{Dynamic.entries_from, Refused.RefusalAt, Refused.refusal_at, Refused.refused_at}
 pub use Rattle.std.proofs.Common.{Bool, Err, List, None, Ok, Option, Result, Some, [], ap, arith, drop, get_or, inl, ℕ}

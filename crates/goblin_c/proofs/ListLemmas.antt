@@ -1,47 +1,46 @@
--- The lists of records that calls read, and the record with an index of them.
+-- The lists of records that calls read, and the item with an index of them.
 --
--- A list that was read passed the test of room for each of its records, so all of them lie in the bytes (`each_fits`).
--- The record with an index is then the one that its own bytes are read as (`listed_at`).
+-- A list that was read passed the test of room for each of its records (`each_fits`), so each was read from its own
+-- bytes, which lie in the file (`each_read`, `read_part`). What is read of bytes fits (`fits_in`), so the low bits that
+-- C has of it are all of it.
 use Rattle.goblin.specs.{Header.HeaderFits, Header.as32, Header.as64, Header.header32, Header.header64, Sym.sym_of}
 use Rattle.goblin.specs.{ProgramHeader.program_header_of, ProgramHeader.program_header_size, WholePart.IsListOfWhole}
-use Rattle.goblin.specs.{Reloc.reloc_in, Reloc.reloc_size, Symtab.symtab_of}
 use Rattle.goblin.specs.{SectionHeaders.section_headers_from_tested, declared.elf.reloc.RelocCtx.RelocCtx}
+use Rattle.goblin.specs.Reloc.{reloc_in, reloc_size}
 use Rattle.goblin.specs.SectionHeader.{section_header_layout, section_header_of, section_header_size}
 use Rattle.goblin.specs.SectionHeaders.{count_asked, link_of, names_index, section_headers_from}
-use Rattle.goblin_base.{proofs.Eager.past_records, specs.Layout.IsRecord, specs.Number.IsBytes, specs.Steps.refuse_if}
-use Rattle.goblin_base.proofs.{ByteorderLemmas.length-part, Eager.all_fit, Eager.get_records, StepLemmas.found_within}
+use Rattle.goblin_base.proofs.{ByteorderLemmas.length-part, Eager.all_fit, Eager.get_records, Eager.past_records}
 use Rattle.goblin_base.specs.{Eager.records_from, Eager.records_in, Eager.room_of_each, Fields.Field, Fields.FieldsFit}
-use Rattle.goblin_base.specs.{FieldLaws.IsBytes-part, RecordLaws.unless_fault-is, declared.container.Endian.Endian}
-use Rattle.goblin_base.specs.{Record.records, Record.unless_fault, TableLaws.no_records, TableLaws.records-agree}
+use Rattle.goblin_base.specs.{FieldLaws.IsBytes-part, Number.IsBytes, TableLaws.records-agree}
+use Rattle.goblin_base.specs.{Layout.IsRecord, Record.records, Record.unless_fault, declared.container.Endian.Endian}
 use Rattle.goblin_base.specs.declared.container.Container.{Container, TheVariants.Big, TheVariants.Little}
+use Rattle.goblin_c.{proofs.Common.◌≡◌, proofs.Common.◌≤◌, specs.Status.converted_list}
 use Rattle.goblin_c.proofs.Common.{Bool, Ctx, Decides, Err, GoblinHeader, GoblinRange, List, None, Ok, Option, Refusal}
 use Rattle.goblin_c.proofs.Common.{RefusalAt, Result, Some, [], ap, arith, ctx_of, drop, drop-drop, each_converted, inl}
 use Rattle.goblin_c.proofs.Common.{first_item, fits-room_of, get_or, get_or_from_slice_get, if◌then◌else◌, item_at, map}
 use Rattle.goblin_c.proofs.Common.{leb-false, leb-true, length, length-drop, length-map, mod-eq_of_lt, nat_le, refl, ℕ}
 use Rattle.goblin_c.proofs.Common.{nat_tests, option_map, position_or_len, refusal_at, refusal_of, refuse_as, room_of}
-use Rattle.goblin_c.proofs.Common.{refused_at, room_of_fits, section_converted, segment_converted, slice_get, subst}
-use Rattle.goblin_c.proofs.Common.{slice_get-get_or, slice_get-map, slice_get_within, suc, sym, symbol_converted, take}
-use Rattle.goblin_c.proofs.Common.{true, zero, ◌*◌, ◌+◌, ◌-◌, ◌<◌, ◌==◌, ◌>>=◌, ◌∙◌, ◌∷◌, ◌≡◌, ◌≤◌}
-use Rattle.goblin_c.specs.{Common.segment_count, Common.sym_layout, Common.sym_size, WriteLaws.ItemsAreWhole}
+use Rattle.goblin_c.proofs.Common.{refused_at, room_of_fits, slice_get, slice_get-get_or, slice_get-map, subst, suc}
+use Rattle.goblin_c.proofs.Common.{slice_get_within, sym, take, true, zero, ◌*◌, ◌+◌, ◌-◌, ◌<◌, ◌==◌, ◌>>=◌, ◌∙◌, ◌∷◌}
+use Rattle.goblin_c.specs.{Dynamic.whole_entries_expected, Types.symbol_converted, WriteLaws.ItemsAreWhole}
 use Rattle.goblin_c.specs.{Expected.symbol_expected, Expected.symbols_expected, Expected.whole_header, Refused.Returns}
-use Rattle.goblin_c.specs.{Status.converted_list, Types.header_converted, Types.reloc_converted}
-use Rattle.goblin_c.specs.Common.{Dyn, GoblinReloc, GoblinSection, GoblinSymbol, Header, Layout, ProgramHeader, Refused}
-use Rattle.goblin_c.specs.Common.{Reloc, SectionHeader, Sym, buffer_too_short, misplaced, program_headers_from}
-use Rattle.goblin_c.specs.Dynamic.{entry_expected, file_range_of, whole_entries_expected}
+use Rattle.goblin_c.specs.Common.{GoblinReloc, GoblinSection, GoblinSymbol, Header, Layout, ProgramHeader, Refused, Sym}
+use Rattle.goblin_c.specs.Common.{Reloc, SectionHeader, program_headers_from, segment_count, sym_layout, sym_size}
 use Rattle.goblin_c.specs.Expected.{count_of, found_item, is_mips64el, items_from, reloc_expected, relocs_expected}
 use Rattle.goblin_c.specs.Expected.{section_expected, sections_expected, segment_expected, segments_expected, table_at}
 use Rattle.goblin_c.specs.Laws.{ContextIsTheHeaders, FilledByIndex, FindsFrom, FindsItemFrom, GivenFrom, HasHeader}
 use Rattle.goblin_c.specs.Laws.{KeepsWhatIsRead, NamesByIndex, NamesContext, RefusesAll, RelocsByIndex, ReturnsCount}
 use Rattle.goblin_c.specs.Laws.{ReturnsEach, SectionsByIndex, SectionsByType, SegmentsByIndex, SymbolsByIndex}
 use Rattle.goblin_c.specs.Laws.{TablesByIndex, WholeHeaderIsTheLibrarys, WholeHeaderKeeps}
+use Rattle.goblin_c.specs.Types.{header_converted, reloc_converted, section_converted, segment_converted}
 use Rattle.goblin_c.specs.Write.{RelocFits, SectionFits, SymbolFits, dyn_layout, reloc_ctx, reloc_layout, reloc_of}
 use Rattle.goblin_c.specs.Write.{section_layout, section_of, segment_layout, symbol_layout, symbol_of}
-use Rattle.goblin_dynamic.specs.{Dyn.entry_laws, Dyn.entry_of, Dyn.entry_size, Dynamic.whole_entries_in}
+use Rattle.goblin_dynamic.specs.Dyn.{entry_laws}
 use Rattle.goblin_headers.proofs.{WholeParts.sections_of_whole, WholeParts.segments_of_whole, WholeTrips.was_read}
 use Rattle.goblin_headers.specs.{ProgramHeaderLaws.program_header_laws, SectionHeaderLaws.section_header_laws}
 use Rattle.goblin_records.specs.{Reloc.AddendFits, Reloc.StoredFits, Reloc.reloc_layout_in, SymLaws.sym_laws}
 use Rattle.goblin_records.specs.RelocLaws.{reloc_laws, reloc_laws_in}
-use Rattle.std.proofs.Common.{codes, false, max, nat_lt, position, true≢false, ◌/◌, ◌^◌, ◌⊎◌}
+use Rattle.std.proofs.Common.{false, max, nat_lt, position, true≢false, ◌/◌, ◌^◌, ◌⊎◌}
 use Rattle.std.proofs.Math.Nat.{div-mul-le_self, le-div_iff_mul-le, mul-div_left, mul-le-mul_right}
 use Rattle.std.proofs.lemmas.{Bool.cases_lt, Bool.Decides.Decides-eqb, Option.slice_get_past}
 use Rattle.std.proofs.lemmas.List.{take-take, Quantifiers.position-Some, Sums.fails_before_first}
@@ -52,10 +51,6 @@ pub bind_ok : {A B E : Type 0} (first : Result A E) (next : A → Result B E) (y
     → (first >>= next) ≡ Ok y → (x : A) × (first ≡ Ok x) × (next x ≡ Ok y)
 bind_ok first next y is = grind (arith, nat_tests)
 
-pub refused_at_ok : {A : Type 0} (offset : ℕ) (answer : Result A Refusal) (y : A)
-    → refused_at offset answer ≡ Ok y → answer ≡ Ok y
-refused_at_ok offset answer y is = grind (arith, nat_tests)
-
 -- an item for C was read, and is this item converted
 pub one_converted : {X Y : Type 0} (past : Bool) (offset : ℕ) (answer : Result X Refusal) (convert : X → Y) (found : Y)
     → (if past then Ok None else (refused_at offset answer >>= λ x. Ok (Some (convert x)))) ≡ Ok (Some found)
@@ -63,116 +58,132 @@ pub one_converted : {X Y : Type 0} (past : Bool) (offset : ℕ) (answer : Result
 one_converted past offset answer convert found is = grind (arith, nat_tests)
 
 -- records that pass the test of room one by one lie in the bytes
-pub each_fits : (len start size count : ℕ) (u : Unit {0})
+each_fits : (len start size count : ℕ) (u : Unit {0})
     → room_of_each len start size count ≡ Ok u → 0 < count → start + count * size ≤ len
 each_fits len start size zero u is some = absurd (omega arith)
 each_fits len start size (suc zero) u is some = grind (arith, fits-room_of len start size)
 each_fits len start size (suc (suc count)) u is some =
-    let first = bind_ok (room_of len start size) (λ _. room_of_each len (start + size) size (suc count)) u is in
-    let rest = each_fits len (start + size) size (suc count) u first.2 (omega arith) in
     let sizes : suc (suc count) * size ≡ size + suc count * size = omega arith in
-    omega (arith, rest, sizes)
+    grind (arith, sizes, each_fits len (start + size) size (suc count) u)
 
--- a table that is accepted passes each test
-accepted : {A E : Type 0} (first second third : Bool) (a b c : E) (x y : A)
-    → (if first then Err a else if second then Err b else if third then Err c else Ok x) ≡ Ok y
-    → (first ≡ false) × (third ≡ false) × (y ≡ x)
-accepted first second third a b c x y is = grind (arith, nat_tests)
+-- a record was read from the bytes at a place
+abbrev pub ReadAt : {R : Type 0} → ℕ → (List ℕ → R) → List ℕ → ℕ → R → Type 0
+ReadAt size read bytes place x = (place + size ≤ length bytes) × (x ≡ read (take size (drop place bytes)))
 
--- a list has so many records of a size, which lie in the bytes from an offset on
-pub record IsListed
-    {R : Type 0} (size : ℕ) (read : List ℕ → R) (bytes : List ℕ) (start count : ℕ) (items : List R) : Type 0 where
-  pub are : items ≡ records size read count (drop start bytes)
-  pub fit : 0 < count → start + count * size ≤ length bytes
+-- so was each of a list, one after another
+abbrev pub EachRead : {R : Type 0} → ℕ → (List ℕ → R) → List ℕ → ℕ → List R → Type 0
+EachRead {R} size read bytes start items =
+    (index : ℕ) (x : R) → slice_get items index ≡ Some x → ReadAt size read bytes (start + index * size) x
 
-module _ {R : Type 0} {size : ℕ} {read : List ℕ → R} {bytes : List ℕ} {start count : ℕ} {items : List R} where
-  -- the record at an index is read from its own bytes
-  pub listed_at : (index : ℕ)
-      → IsListed size read bytes start count items → index < count
-      → (slice_get items index ≡ Some (read (take size (drop (start + index * size) bytes))))
-      × (start + index * size + size ≤ length bytes)
-  listed_at index listed inside =
-      let there = listed.fit (omega (arith, inside)) in
-      let before : (index + 1) * size ≤ count * size = mul-le-mul_right size (omega (arith, inside)) in
-      let item = get_records size read count (drop start bytes) index inside in
-      (rw (listed.are, item, drop-drop (index * size) start bytes) refl, omega (arith, there, before))
+module _ {R : Type 0} (size : ℕ) (read : List ℕ → R) (bytes : List ℕ) (start count : ℕ) (items : List R) where
+  each_read : items ≡ records size read count (drop start bytes) → (0 < count → start + count * size ≤ length bytes)
+      → EachRead size read bytes start items
+  each_read are fit index x found =
+      let before : index < count → (index + 1) * size ≤ count * size = λ h. mul-le-mul_right size (omega (arith, h)) in
+      let all = drop start bytes in
+      grind (
+        arith,
+        before,
+        get_records size read count all index,
+        past_records size read count all index,
+        drop-drop (index * size) start bytes,
+      )
 
-  -- and there is none from the number of them on
-  pub none_at : (index : ℕ) → IsListed size read bytes start count items → count ≤ index → slice_get items index ≡ None
-  none_at index listed past = grind (arith, nat_tests, listed, past_records)
+  read_in : records_in size read bytes start count ≡ Ok items → EachRead size read bytes start items
+  unfolding records_in
+  read_in is = grind (arith, each_fits (length bytes) start size count tt, each_read)
 
--- the lists of the library
-pub listed_in : {R : Type 0} (size : ℕ) (read : List ℕ → R) (bytes : List ℕ) (start count : ℕ) (items : List R)
-    → records_in size read bytes start count ≡ Ok items → IsListed size read bytes start count items
-unfolding records_in
-listed_in size read bytes start count items is = grind (arith, nat_tests, bind_ok, each_fits, found_within)
+-- as many as lie whole in a range
+read_part : {R : Type 0} (size : ℕ) (read : List ℕ → R) (bytes : List ℕ) (start filesz : ℕ) (items : List R)
+    → unless_fault (room_of (length bytes) start filesz)
+    (records size read (filesz / size) (take filesz (drop start bytes))) ≡ Ok items
+    → EachRead size read bytes start items
+read_part size read bytes start filesz items is =
+    let inside : filesz / size * size ≤ filesz = div-mul-le_self filesz size in
+    let same = records-agree size read (filesz / size) (take filesz (drop start bytes)) (drop start bytes)
+    (take-take (filesz / size * size) filesz (drop start bytes) inside) in
+    grind (arith, same, inside, fits-room_of (length bytes) start filesz, each_read size read bytes start (filesz / size) items)
 
-module _ (bytes : List ℕ) (start count : ℕ) (ctx : Ctx) where
-  -- the section headers, as many as the file states
-  listed_by : (none : Bool) (items : List SectionHeader)
-      → (if none then Ok [] else section_headers_from bytes start count ctx) ≡ Ok items
-      → (stated : ℕ)
-      × IsListed (section_header_size ctx.container) (section_header_of ctx.container ctx.le) bytes start stated items
+-- records of a layout that a call reads from an offset on, and converts for C
+pub record Read
+    {R Y : Type 0} (l : Layout R) (convert : R → Y) (start : ℕ)
+    (list : List ℕ → Result (List R) RefusalAt) : Type 0 where
+  pub laws : IsRecord l
+  pub lie : (bytes : List ℕ) (items : List R) → list bytes ≡ Ok items → EachRead l.size l.read bytes start items
+
+module _ {R Y : Type 0} {l : Layout R} {convert : R → Y} {start : ℕ} {list : List ℕ → Result (List R) RefusalAt}
+    (own : Read l convert start list) (bytes : List ℕ) where
+  -- an item of such a list fits
+  pub fits_in : (items : List R) (index : ℕ) (x : R)
+      → IsBytes bytes → list bytes ≡ Ok items → slice_get items index ≡ Some x → l.Fits x
+  fits_in items index x are is found =
+      let read = own.lie bytes items is index x found in
+      let place = start + index * l.size in
+      let fits = own.laws.reads_fit (take l.size (drop place bytes)) (IsBytes-part bytes place l.size are) in
+      grind (arith, fits, read, length-part bytes place l.size)
+
+  -- and the item for C was read so
+  pub item_read : (index : ℕ) (y : Y)
+      → item_at (each_converted convert (list bytes)) index ≡ Ok (Some y)
+      → (start + index * l.size + l.size ≤ length bytes)
+      × (y ≡ convert (l.read (take l.size (drop (start + index * l.size) bytes))))
+  item_read index y is = grind (arith, own.lie bytes, slice_get-map)
+
+  -- so it is with an item that a call found
+  pub room_for : {L : Type 0} (view : L → List R) (index : ℕ) (answer : Result L Refused)
+      (found : Result (Option Y) Refused) (y : Y)
+      → Returns view answer (list bytes)
+      → Returns (λ x. x) found (item_at (converted_list (λ list. map convert (view list)) answer) index)
+      → found ≡ Ok (Some y)
+      → start + index * l.size + l.size ≤ length bytes
+  room_for view index answer found y is stored there = grind (arith, item_read index y)
+
+module _ (h : GoblinHeader) where
+  pub sections : Read (section_layout h) section_converted h.e_shoff (λ xs. sections_expected xs h)
   unfolding section_headers_from section_headers_from_tested
-  listed_by true items is =
-      let empty = no_records (section_header_size ctx.container) (section_header_of ctx.container ctx.le) 0
-      (drop start bytes) refl in
-      (0, record { are = cc; fit = λ some. absurd (omega arith) })
-  listed_by false items is =
-      let size = section_header_size ctx.container in
-      let read = section_header_of ctx.container ctx.le in
-      let asked = count_asked bytes start count ctx in
-      let room = refuse_as misplaced (room_of (length bytes) start size) in
-      let few = refuse_if (nat_lt (length bytes / size) asked) (buffer_too_short asked (codes "section headers")) in
-      let parts = bind_ok (room >>= λ _. few) (λ _. records_in size read bytes start (max 1 asked)) items is in
-      let listed = listed_in size read bytes start (max 1 asked) items parts.2 in
-      (max 1 asked, listed)
+  sections = record {
+    laws = section_header_laws (ctx_of h).container (ctx_of h).le;
+    lie = λ bytes items is. grind (
+      arith,
+      nat_tests,
+      read_in (section_layout h).size (section_layout h).read bytes h.e_shoff
+          (max 1 (count_asked bytes h.e_shoff h.e_shnum (ctx_of h))) items,
+    );
+  }
 
-  -- the symbols of a table
-  pub symbols_listed : (items : List Sym)
-      → (refused_at start (refuse_as refusal_of (symtab_of bytes start count ctx)) >>= λ table. Ok table.symbols)
-      ≡ Ok items
-      → IsListed (sym_size ctx.container) (sym_of ctx.container ctx.le) bytes start count items
-  symbols_listed items is =
-      let read = refuse_as refusal_of (symtab_of bytes start count ctx) in
-      let parts = bind_ok (refused_at start read) (λ table. Ok table.symbols) items is in
-      let table = found_within refusal_of (symtab_of bytes start count ctx) parts.0
-      (refused_at_ok start read parts.0 parts.1) in
-      let tests = accepted (nat_le (length bytes) start) (nat_le (2 ^ 64) (count * sym_size ctx.container))
-      (nat_lt (length bytes - start) (count * sym_size ctx.container)) _ _ _ _ parts.0 table in
-      record { are = cc parts.2; fit = λ some. grind (arith, nat_tests) }
+  pub segments : Read (segment_layout h) segment_converted h.e_phoff (λ xs. segments_expected xs h)
+  unfolding records_from records_in
+  segments = record {
+    laws = program_header_laws (ctx_of h).container (ctx_of h).le;
+    lie = λ bytes items is. grind (arith, nat_tests, bind_ok, read_in (segment_layout h).size (segment_layout h).read bytes h.e_phoff);
+  }
 
--- ---- Where the records that calls read lie, by their index.
---
--- The records of a list that isn't refused stand one after another in the file (`IsListed`). So an item that a call
--- stores was read from its own bytes, which lie in the file (`found_at`).
+  pub symbols : (table : GoblinRange)
+      → Read (symbol_layout h) symbol_converted table.offset (λ xs. symbols_expected xs h table)
+  symbols table = record {
+    laws = sym_laws (ctx_of h).container (ctx_of h).le;
+    lie = λ bytes items is. grind (
+      arith,
+      nat_tests,
+      each_read (symbol_layout h).size (symbol_layout h).read bytes
+          table.offset (table.size / (symbol_layout h).size) items,
+    );
+  }
 
--- a list that is not refused has so many records
-abbrev pub Lists : {R : Type 0} → ℕ → (List ℕ → R) → List ℕ → ℕ → Result (List R) RefusalAt → Type 0
-Lists {R} size read bytes start all =
-    (items : List R) → all ≡ Ok items → (count : ℕ) × IsListed size read bytes start count items
+  pub relocs : (table : GoblinRange) (is_rela : Bool)
+      → Read (reloc_layout h is_rela) reloc_converted table.offset (λ xs. relocs_expected xs h table is_rela)
+  relocs table is_rela = record {
+    laws = reloc_laws_in (reloc_ctx h is_rela);
+    lie = λ bytes items is. grind (arith, nat_tests, read_part (reloc_layout h is_rela).size (reloc_layout h is_rela).read bytes table.offset table.size items);
+  }
 
-module _ {R Y : Type 0} (convert : R → Y) (size : ℕ) (read : List ℕ → R) (bytes : List ℕ) (start index : ℕ) where
-  -- an item for C was read from its own bytes, which lie in the file
-  abbrev pub ReadAt : Y → Type 0
-  ReadAt y =
-      (start + index * size + size ≤ length bytes)
-      × (y ≡ convert (read (take size (drop (start + index * size) bytes))))
-
-  found_in : (items : List R) (count : ℕ) (past : Bool) (y : Y)
-      → nat_le count index ≡ past → IsListed size read bytes start count items
-      → slice_get (map convert items) index ≡ Some y → ReadAt y
-  found_in items count true y is listed found =
-      let none = none_at index listed (leb-true count index is) in grind (arith, slice_get-map)
-  found_in items count false y is listed found =
-      let item = listed_at index listed (leb-false count index is) in
-      (item.1, grind (arith, slice_get-map, item.0))
-
-  pub found_at : (all : Result (List R) RefusalAt) (y : Y)
-      → Lists size read bytes start all → item_at (each_converted convert all) index ≡ Ok (Some y) → ReadAt y
-  found_at (Ok items) y lists is =
-      let listed = lists items refl in found_in items listed.0 (nat_le listed.0 index) y refl listed.1 (cc)
-  found_at (Err e) y lists is = absurd (cc)
+  -- the entries of a range, which are not converted
+  pub entries : (range : GoblinRange)
+      → Read (dyn_layout h) (λ d. d) range.offset (λ xs. whole_entries_expected xs h range)
+  entries range = record {
+    laws = entry_laws (ctx_of h).container (ctx_of h).le;
+    lie = λ bytes items is. grind (arith, nat_tests, length-part bytes range.offset range.size, fits-room_of (length bytes) range.offset range.size, read_part (dyn_layout h).size (dyn_layout h).read bytes range.offset range.size items);
+  }
 
 -- the items of a list that is not converted
 same_item : {R : Type 0} (found : Option R) → option_map (λ (x : R). x) found ≡ found
@@ -185,104 +196,10 @@ same_items {R} (Ok items) index =
     ap Ok (slice_get-map (λ (x : R). x) items index ∙ same_item (slice_get items index))
 same_items (Err e) index = refl
 
--- a list for C that was made of what a call of the library returned
-pub converted_is : {L R Y : Type 0} (convert : R → Y) (view : L → List R) (answer : Result L Refused)
-    (expected : Result (List R) RefusalAt)
-    → Returns view answer expected
-    → converted_list (λ list. map convert (view list)) answer ≡ each_converted convert expected
-converted_is convert view answer expected is = grind (arith, nat_tests)
-
 -- the result that is expected of a call is its own, with refusals for errors
 pub expected_is : {X : Type 0} (answer : Result X Refused) (expected : Result X RefusalAt)
     → Returns (λ found. found) answer expected → refuse_as refusal_at answer ≡ expected
 expected_is answer expected is = grind (arith, nat_tests)
-
--- the lists of the calls
-pub lists_sections : (bytes : List ℕ) (h : GoblinHeader)
-    → Lists (section_header_size (ctx_of h).container) (section_header_of (ctx_of h).container (ctx_of h).le) bytes
-    h.e_shoff (sections_expected bytes h)
-lists_sections bytes h items is = grind (arith, nat_tests, refused_at_ok, listed_by)
-
-pub lists_segments : (bytes : List ℕ) (h : GoblinHeader)
-    → Lists (program_header_size (ctx_of h).container) (program_header_of (ctx_of h).container (ctx_of h).le) bytes
-    h.e_phoff (segments_expected bytes h)
-unfolding records_from records_in
-lists_segments bytes h items is = grind (arith, nat_tests, bind_ok, listed_in, refused_at_ok)
-
-pub lists_symbols : (bytes : List ℕ) (h : GoblinHeader) (table : GoblinRange)
-    → Lists (sym_size (ctx_of h).container) (sym_of (ctx_of h).container (ctx_of h).le) bytes table.offset
-    (symbols_expected bytes h table)
-lists_symbols bytes h table items is = grind (arith, nat_tests, symbols_listed)
-
--- the relocations of a range, of which there are as many as lie in it whole
-in_range : {R : Type 0} (size : ℕ) (read : List ℕ → R) (bytes : List ℕ) (start filesz : ℕ) (items : List R)
-    (none : Bool)
-    → (if none then Ok [] else unless_fault (room_of (length bytes) start filesz)
-    (records size read (filesz / size) (take filesz (drop start bytes)))) ≡ Ok items
-    → (count : ℕ) × IsListed size read bytes start count items
-in_range size read bytes start filesz items true is =
-    let none = no_records size read 0 (drop start bytes) refl in
-    (0, record { are = cc; fit = λ some. absurd (omega arith) })
-in_range size read bytes start filesz items false is =
-    let count = filesz / size in
-    let all = records size read count (take filesz (drop start bytes)) in
-    let parts = unless_fault-is (room_of (length bytes) start filesz) items all (sym is) in
-    let inside : count * size ≤ filesz = div-mul-le_self filesz size in
-    let own = records-agree size read count (take filesz (drop start bytes)) (drop start bytes)
-    (take-take (count * size) filesz (drop start bytes) inside) in
-    let room = fits-room_of (length bytes) start filesz tt parts.0 in
-    (count, record { are = parts.1 ∙ own; fit = λ some. omega (arith, inside, room) })
-
-pub lists_relocs : (bytes : List ℕ) (h : GoblinHeader) (table : GoblinRange) (is_rela : Bool)
-    → Lists (reloc_size is_rela (ctx_of h).container) (reloc_in (reloc_ctx h is_rela)) bytes table.offset
-    (relocs_expected bytes h table is_rela)
-lists_relocs bytes h table is_rela items is = grind (arith, nat_tests, found_within, in_range, refused_at_ok)
-
--- the entries of a range of the dynamic section, which must lie in the file
-pub lists_entries : (bytes : List ℕ) (h : GoblinHeader) (range : GoblinRange)
-    → Lists (entry_size (ctx_of h).container) (entry_of (ctx_of h).container (ctx_of h).le) bytes range.offset
-    (whole_entries_expected bytes h range)
-lists_entries bytes h range items is =
-    let size = entry_size (ctx_of h).container in
-    let read = entry_of (ctx_of h).container (ctx_of h).le in
-    let whole = whole_entries_in bytes (file_range_of range) (ctx_of h) in
-    let found = found_within refusal_of whole items
-    (refused_at_ok range.offset (refuse_as refusal_of whole) items is) in
-    let part = take range.size (drop range.offset bytes) in
-    let all = records size read (length part / size) part in
-    let parts = unless_fault-is (room_of (length bytes) range.offset range.size) items all (sym found) in
-    let room = fits-room_of (length bytes) range.offset range.size tt parts.0 in
-    let long : length part ≡ range.size = length-part bytes range.offset range.size room in
-    let are : items ≡ records size read (range.size / size) part =
-    parts.1 ∙ ap (λ (n : ℕ). records size read (n / size) part) long in
-    in_range size read bytes range.offset range.size items false
-    (rw (room_of_fits (length bytes) range.offset range.size room) (ap Ok (sym are)))
-
--- ---- puts: a record that is found is put at its place, in range, and the library's test decides whether it fits
-
--- an item that a call found in a list lies in the file
-pub room_for : {L R Y : Type 0} (convert : R → Y) (view : L → List R) {size : ℕ} {read : List ℕ → R}
-    {bytes : List ℕ} {start : ℕ} (index : ℕ) (answer : Result L Refused) {expected : Result (List R) RefusalAt}
-    (found : Result (Option Y) Refused) (y : Y)
-    → Lists size read bytes start expected → Returns view answer expected
-    → Returns (λ x. x) found (item_at (converted_list (λ list. map convert (view list)) answer) index)
-    → found ≡ Ok (Some y)
-    → start + index * size + size ≤ length bytes
-room_for convert view {size} {read} {bytes} {start} index answer {expected} found y lists is stored there =
-    (found_at convert size read bytes start index expected y lists
-    (rw (there, converted_is convert view answer expected is) at stored)).0
-
--- so does an entry
-pub entry_within : (bytes : List ℕ) (h : GoblinHeader) (range : GoblinRange) (index : ℕ)
-    (found : Result (Option Dyn) Refused) (d : Dyn)
-    → Returns (λ x. x) found (entry_expected bytes h range index) → found ≡ Ok (Some d)
-    → let size = entry_size (ctx_of h).container in range.offset + index * size + size ≤ length bytes
-entry_within bytes h range index found d stored there =
-    let all = whole_entries_expected bytes h range in
-    let size = entry_size (ctx_of h).container in
-    let read = entry_of (ctx_of h).container (ctx_of h).le in
-    (found_at (λ (x : Dyn). x) size read bytes range.offset index all d (lists_entries bytes h range)
-    (same_items all index ∙ rw there at stored)).0
 
 -- fields fit, or not
 fields_decided : (fields : List Field) → FieldsFit fields ⊎ (¬ (FieldsFit fields))
@@ -292,65 +209,6 @@ fields_decided (f ∷ fields) = grind (arith, cases_lt f.value (256 ^ f.width), 
 pub header_decided : (class : Container) (h : Header) → HeaderFits class h ⊎ (¬ (HeaderFits class h))
 header_decided Little h = fields_decided (header32.fields (as32 h))
 header_decided Big h = fields_decided (header64.fields (as64 h))
-
--- ---- Items that were read from a file fit their fields, and so C's.
---
--- Each item of a list is read from its own bytes (`found_at`), and what is read of bytes fits (`fits_in`). So the low
--- bits that C has of it are all of it.
-
--- records of a layout that a call reads from an offset on, and converts for C
-pub record Read
-    {R Y : Type 0} (l : Layout R) (convert : R → Y) (start : ℕ)
-    (list : List ℕ → Result (List R) RefusalAt) : Type 0 where
-  pub laws : IsRecord l
-  pub lists : (bytes : List ℕ) → Lists l.size l.read bytes start (list bytes)
-
--- an item of such a list fits
-pub fits_in : {R Y : Type 0} {l : Layout R} {convert : R → Y} {start : ℕ} {list : List ℕ → Result (List R) RefusalAt}
-    (own : Read l convert start list) (bytes : List ℕ) (items : List R) (index : ℕ) (x : R)
-    → IsBytes bytes → list bytes ≡ Ok items → slice_get items index ≡ Some x → l.Fits x
-fits_in {R} {l = l} {start = start} {list = list} own bytes items index x are is found =
-    let place = start + index * l.size in
-    let there = take l.size (drop place bytes) in
-    let read = found_at (λ (y : R). y) l.size l.read bytes start index (list bytes) x (own.lists bytes)
-    (rw is (ap Ok (slice_get-map (λ (y : R). y) items index ∙ ap (option_map (λ (y : R). y)) found))) in
-    let long = length-part bytes place l.size read.0 in
-    rw read.1 (own.laws.reads_fit there (IsBytes-part bytes place l.size are) (omega (arith, long)))
-
-module _ (h : GoblinHeader) where
-  pub sections : Read (section_layout h) section_converted h.e_shoff (λ xs. sections_expected xs h)
-  sections = record {
-    laws = section_header_laws (ctx_of h).container (ctx_of h).le;
-    lists = λ xs. lists_sections xs h;
-  }
-
-  pub segments : Read (segment_layout h) segment_converted h.e_phoff (λ xs. segments_expected xs h)
-  segments = record {
-    laws = program_header_laws (ctx_of h).container (ctx_of h).le;
-    lists = λ xs. lists_segments xs h;
-  }
-
-  pub symbols : (table : GoblinRange)
-      → Read (symbol_layout h) symbol_converted table.offset (λ xs. symbols_expected xs h table)
-  symbols table = record {
-    laws = sym_laws (ctx_of h).container (ctx_of h).le;
-    lists = λ xs. lists_symbols xs h table;
-  }
-
-  pub relocs : (table : GoblinRange) (is_rela : Bool)
-      → Read (reloc_layout h is_rela) reloc_converted table.offset (λ xs. relocs_expected xs h table is_rela)
-  relocs table is_rela = record {
-    laws = reloc_laws_in (reloc_ctx h is_rela);
-    lists = λ xs. lists_relocs xs h table is_rela;
-  }
-
--- the entries of a range, which are not converted
-pub entries : (h : GoblinHeader) (range : GoblinRange)
-    → Read (dyn_layout h) (λ d. d) range.offset (λ xs. whole_entries_expected xs h range)
-entries h range = record {
-  laws = entry_laws (ctx_of h).container (ctx_of h).le;
-  lists = λ xs. lists_entries xs h range;
-}
 
 -- the numbers that are narrower for C
 pub section_name : (class : Container) (order : Endian) (s : SectionHeader)

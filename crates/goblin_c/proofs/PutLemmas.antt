@@ -1,6 +1,6 @@
 -- What is put is read again, and no other byte changes.
 --
--- The item that a call stores is read from the bytes at its place (`found_at`). After a put these are the record's
+-- The item that a call stores is read from the bytes at its place (`item_read`). After a put these are the record's
 -- image (`own_bytes`), which is read as the record. The call finds one there if the list has as many items as before
 -- (`still_there`).
 use Rattle.goblin.specs.Header.{class_named, header_layout, header_size, order_named}
@@ -13,7 +13,7 @@ use Rattle.goblin_c.proofs.Common.{ap, arith, ctx_of, drop, drop-drop, each_conv
 use Rattle.goblin_c.proofs.Common.{length, length-drop, length-map, length-take, length-take-le, mod-eq_of_lt, refl}
 use Rattle.goblin_c.proofs.Common.{nat_tests, refusal_of, refuse_as, refused_at, room_of_fits, slice_get-get_or, take}
 use Rattle.goblin_c.proofs.Common.{slice_get_within, take_all, true, ◌*◌, ◌++◌, ◌+◌, ◌<◌, ◌>>=◌, ◌∙◌, ◌≡◌, ◌≤◌}
-use Rattle.goblin_c.proofs.ListLemmas.{Read, entries, found_at, reloc_same, reloc_whole, relocs, same_items, sections}
+use Rattle.goblin_c.proofs.ListLemmas.{Read, entries, item_read, reloc_same, reloc_whole, relocs, same_items, sections}
 use Rattle.goblin_c.proofs.ListLemmas.{section_same, section_whole, segments, symbol_same, symbol_whole, symbols}
 use Rattle.goblin_c.proofs.PlaceLemmas.{numbers_lie_in_range}
 use Rattle.goblin_c.specs.{Bytes.is_width, Bytes.number_expected, Expected.count_of, Expected.header_expected}
@@ -73,12 +73,6 @@ still_there (Err e) others index x same found = absurd (cc)
 
 module _ {R Y : Type 0} {l : Layout R} {convert : R → Y} {start : ℕ} {list : List ℕ → Result (List R) RefusalAt}
     (own : Read l convert start list) where
-  was_read : (bytes : List ℕ) (index : ℕ) (y : Y)
-      → item_at (each_converted convert (list bytes)) index ≡ Ok (Some y)
-      → (start + index * l.size + l.size ≤ length bytes)
-      × (y ≡ convert (l.read (take l.size (drop (start + index * l.size) bytes))))
-  was_read bytes index y is = found_at convert l.size l.read bytes start index (list bytes) y (own.lists bytes) is
-
   -- such a call stores what was put
   put_is_read : (bytes new : List ℕ) (index : ℕ) (x : R)
       → l.Fits x
@@ -87,7 +81,7 @@ module _ {R Y : Type 0} {l : Layout R} {convert : R → Y} {start : ℕ} {list :
       → count_of (each_converted convert (list new)) ≡ count_of (each_converted convert (list bytes))
       → item_at (each_converted convert (list new)) index ≡ Ok (Some (convert x))
   put_is_read bytes new index x fits put same =
-      grind (arith, nat_tests, own_bytes, put_found, reads_back, still_there, was_read)
+      grind (arith, nat_tests, own_bytes, put_found, reads_back, still_there, item_read own)
 
   put_changes_one : (bytes new : List ℕ) (index : ℕ) (x : R) (misfit : Option Misfit)
       → put_if_there (item_at (each_converted convert (list bytes)) index) (put_at l bytes start index x misfit)
@@ -98,7 +92,7 @@ module _ {R Y : Type 0} {l : Layout R} {convert : R → Y} {start : ℕ} {list :
       let found = put_found (item_at (each_converted convert (list bytes)) index) misfit place
       (with_bytes bytes place (l.image x)) new put in
       rw found.2
-      (others_stay bytes place (l.image x) l.size (own.laws.length_image x) (was_read bytes index found.0 found.1).0)
+      (others_stay bytes place (l.image x) l.size (own.laws.length_image x) (item_read own bytes index found.0 found.1).0)
 
   -- what such a call stores fits if what is read does, and is put without a change
   read_is_put : (back : Y → R) (bytes : List ℕ) (index : ℕ) (y : Y)
@@ -109,7 +103,7 @@ module _ {R Y : Type 0} {l : Layout R} {convert : R → Y} {start : ℕ} {list :
       ≡ Ok (Some bytes))
   read_is_put back bytes index y same are found =
       let place = start + index * l.size in
-      let read = was_read bytes index y found in
+      let read = item_read own bytes index y found in
       let there = take l.size (drop place bytes) in
       let long : length there ≡ l.size = length-part bytes place l.size read.0 in
       let some = IsBytes-part bytes place l.size are in

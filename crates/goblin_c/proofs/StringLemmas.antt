@@ -11,12 +11,12 @@ use Rattle.goblin_c.proofs.Common.{Bool, Decides, Err, GoblinRange, List, None, 
 use Rattle.goblin_c.proofs.Common.{ap, arith, closed_len, ctx_of, drop, each_converted, first_item, fits-room_of, inl}
 use Rattle.goblin_c.proofs.Common.{get_or, if◌then◌else◌, is_utf8, item_at, length, length-drop, length-take, nat_le, ℕ}
 use Rattle.goblin_c.proofs.Common.{length-take-le, mod-eq_of_lt, nat_tests, position_or_len, refl, refusal_at, subst}
-use Rattle.goblin_c.proofs.Common.{refuse_as, refused_at, section_converted, slice_get, slice_get-get_or, suc, sym, ◌+◌}
-use Rattle.goblin_c.proofs.Common.{string_expected, symbol_converted, take, true, zero, ◌-◌, ◌<◌, ◌==◌, ◌>>=◌, ◌∙◌, ◌∷◌}
-use Rattle.goblin_c.proofs.Common.{◌≡◌, ◌≤◌}
+use Rattle.goblin_c.proofs.Common.{refuse_as, refused_at, slice_get, slice_get-get_or, string_expected, suc, sym, take}
+use Rattle.goblin_c.proofs.Common.{true, zero, ◌+◌, ◌-◌, ◌<◌, ◌==◌, ◌>>=◌, ◌∙◌, ◌∷◌, ◌≡◌, ◌≤◌}
 use Rattle.goblin_c.proofs.ListLemmas.{expected_is, first_found, fits_in, one_converted, section_name, sections}
 use Rattle.goblin_c.specs.{Bytes.IsCString, Bytes.range_expected, Bytes.string_closed_expected, Refused.Returns}
-use Rattle.goblin_c.specs.{Common.GoblinRefusal, Common.Refused, Expected.symbols_expected, Status.Stores}
+use Rattle.goblin_c.specs.{Common.GoblinRefusal, Common.Refused, Types.section_converted, Types.symbol_converted}
+use Rattle.goblin_c.specs.{Expected.symbols_expected, Status.Stores}
 use Rattle.goblin_c.specs.Expected.{is_named, passes, sections_expected, string_utf8_expected, strings_expected}
 use Rattle.goblin_c.specs.Laws.{BytesLieInFile, EmptyHaveNoBytes, FindsItemFrom, IsNameAt, LiesIn, RefusesInTurn}
 use Rattle.goblin_c.specs.Laws.{SectionsByName, StringsAreBytes, StringsAreCompared, StringsAreThere, StringsLieInFile}
