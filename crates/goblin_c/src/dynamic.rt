@@ -111,7 +111,7 @@ fn entry_at(all: &Table<'_, Dyn, Ctx>, index: usize) -> Option<GoblinDyn>
 }
 
 // Fills a buffer with the entries from an index on. Returns how many it holds.
-#[tactic(auto, using(crate::proofs::DynamicLemmas::few_entries, crate::proofs::FilledBufferLemmas::laid_steps))]
+#[tactic(auto, using(crate::proofs::DynamicLemmas::few_entries, crate::proofs::BufferLemmas::laid_steps))]
 fn fill(all: &Table<'_, Dyn, Ctx>, first: usize, buffer: &mut [GoblinDyn]) -> usize
     requires { first ≤ length all.now }
     ensures written { buffer.new ≡ laid (entries_from all.now first) buffer.old }

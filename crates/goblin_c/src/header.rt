@@ -238,7 +238,7 @@ fn named_ctx(bytes: &[u8], header: &GoblinHeader) -> goblin::error::Result<Ctx>
 }
 
 /// Puts the header at the start of the file, in the class and the byte order that it names.
-#[tactic(auto, using(crate::proofs::ReadLemmas::header_decided))]
+#[tactic(auto, using(crate::proofs::ListLemmas::header_decided))]
 #[unsafe(no_mangle)]
 pub extern "C" fn goblin_put_header(
     bytes: &mut [u8],

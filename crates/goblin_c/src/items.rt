@@ -60,7 +60,7 @@ pub fn store_item<L: Listed>(
 }
 
 // Fills a buffer with the items from an index on. Returns how many it holds.
-#[tactic(auto, using(crate::proofs::FilledBufferLemmas::laid_steps))]
+#[tactic(auto, using(crate::proofs::BufferLemmas::laid_steps))]
 fn fill<L: Listed>(all: &L, first: usize, buffer: &mut [L::Converted]) -> usize
     requires { first < length (L.listed all.now) }
     ensures written { buffer.new ≡ laid (drop first (L.listed all.now)) buffer.old }

@@ -29,7 +29,7 @@ pub fn texts()
 
 /// Law: the status of a call shows whether it stored an item, is past the end or is refused: the kind of
 /// a refusal is above 1.
-#[tactic(auto, using(crate::proofs::TextLemmas::kinds_are_above_one))]
+#[tactic(auto, using(crate::proofs::BufferLemmas::kinds_are_above_one))]
 pub fn kinds()
     ensures { KindsAreAboveOne }
 {}
@@ -62,7 +62,7 @@ pub fn whole()
 /// Laws: `goblin_linked_section` stores what `goblin_section` stores at an index, but nothing at index 0 or of a
 /// section without bytes in the file. `goblin_names_section` stores the table at the index in the header,
 /// or if that is 0xffff at the index that the first section links to.
-#[tactic(auto, using(crate::proofs::IndexLemmas::tables_by_index, crate::proofs::IndexLemmas::names_by_index))]
+#[tactic(auto, using(crate::proofs::ListLemmas::tables_by_index, crate::proofs::ListLemmas::names_by_index))]
 pub fn names()
     ensures tables { TablesByIndex }
     ensures names { NamesByIndex }
@@ -107,7 +107,7 @@ pub fn searches()
 
 /// Law: `goblin_section_by_type` stores the first section from an index on that has the type, as
 /// `goblin_section` stores it, with its index, and returns the end if there is none.
-#[tactic(auto, using(crate::proofs::SearchLemmas::sections_by_type))]
+#[tactic(auto, using(crate::proofs::ListLemmas::sections_by_type))]
 pub fn types()
     ensures { SectionsByType }
 {}
@@ -126,7 +126,7 @@ pub fn places()
 /// Law: `goblin_section_range` stores the range of a section that has another type than 0 and 8 and a size, and
 /// `goblin_segment_range` that of a segment that has another type than 0 and a size, if the range lies in the file.
 /// Else they refuse it at its offset.
-#[tactic(auto, using(crate::proofs::FoundLemmas::bytes_are_found))]
+#[tactic(auto, using(crate::proofs::PlaceLemmas::bytes_are_found))]
 pub fn bytes()
     ensures { BytesAreFound }
 {}
@@ -134,14 +134,14 @@ pub fn bytes()
 /// Laws: a number that `goblin_number_in` stores lies in the range, and the range in the file. `goblin_number` stores
 /// the same one at its offset in the file. One of 1, 2, 4 or 8 bytes that lies so is stored. Else the call refuses at
 /// the offset of the range, if this doesn't lie in the file, and then at that of the number.
-#[tactic(auto, using(crate::proofs::FoundLemmas::numbers_are_found, crate::proofs::OffsetLemmas::numbers_lie_in_range))]
+#[tactic(auto, using(crate::proofs::PlaceLemmas::numbers_are_found, crate::proofs::PlaceLemmas::numbers_lie_in_range))]
 pub fn numbers_in_ranges()
     ensures within { NumbersLieInRange }
     ensures found { NumbersAreFound }
 {}
 
 /// Law: a refusal of `goblin_note_whole` has the note's offset.
-#[tactic(auto, using(crate::proofs::FoundLemmas::notes_refuse_there))]
+#[tactic(auto, using(crate::proofs::PlaceLemmas::notes_refuse_there))]
 pub fn note_refusals()
     ensures { NotesRefuseThere }
 {}
@@ -149,14 +149,14 @@ pub fn note_refusals()
 /// Law: the offset that `goblin_address_to_offset` stores is that of a byte of the file, by the first segment that
 /// loads the address. The call returns the end if no segment does. If the file has no byte there, the refusal has the
 /// same offset, at most `u64::MAX`.
-#[tactic(auto, using(crate::proofs::OffsetLemmas::addresses_are_loaded))]
+#[tactic(auto, using(crate::proofs::PlaceLemmas::addresses_are_loaded))]
 pub fn addresses()
     ensures { AddressesAreLoaded }
 {}
 
 /// Laws: the range that `goblin_range_in_file` stores lies in the file, and has the same bytes of the file as the range
 /// that it is given. A range that lies in the file stays the same.
-#[tactic(auto, using(crate::proofs::OffsetLemmas::parts_lie_in_file))]
+#[tactic(auto, using(crate::proofs::PlaceLemmas::parts_lie_in_file))]
 pub fn parts()
     ensures { PartsLieInFile }
 {}
@@ -178,7 +178,7 @@ pub fn dynamic()
 /// length a range has as many symbols and relocations. Only the bytes of the record change. An item that a call stores
 /// changes no byte if it is put at its index, and a section header, a program header and a symbol fit then. The structs
 /// for C have all of each item that is read.
-#[tactic(auto, using(crate::proofs::PutLemmas::put_laws, crate::proofs::FitLemmas::items_are_whole))]
+#[tactic(auto, using(crate::proofs::PutLemmas::put_laws, crate::proofs::ListLemmas::items_are_whole))]
 pub fn puts()
     ensures there { PutsAreRead }
     ensures one { PutsChangeOne }
@@ -190,14 +190,14 @@ pub fn puts()
 /// Laws: a number that `goblin_put_number` puts is what `goblin_number` stores then, and no other byte changes. A
 /// number that `goblin_number` stores fits, and changes no byte where it is put. Where `goblin_number_in` stores a
 /// number of a range, `goblin_put_number_in` puts one as `goblin_put_number` does at its offset in the file.
-#[tactic(auto, using(crate::proofs::NumberLemmas::number_laws))]
+#[tactic(auto, using(crate::proofs::PutLemmas::number_laws))]
 pub fn put_numbers()
     ensures file { NumbersArePut }
     ensures ranges { NumbersInRangesArePut }
 {}
 
 /// Law: a header that `goblin_put_header` puts is what `goblin_header` stores then.
-#[tactic(auto, using(crate::proofs::HeaderPutLemmas::headers_are_read))]
+#[tactic(auto, using(crate::proofs::PutLemmas::headers_are_read))]
 pub fn put_headers()
     ensures { HeadersAreRead }
 {}

@@ -155,7 +155,7 @@ pub fn write_text(text: &str, buffer: &mut [u8]) -> u64
 
 /// Writes as much of a text after the bytes so far as the buffer holds. Returns how many bytes there are then, if none
 /// is cut.
-#[tactic(auto, using(crate::proofs::FilledBufferLemmas::laid_steps))]
+#[tactic(auto, using(crate::proofs::BufferLemmas::laid_steps))]
 pub fn write_after(text: &[u8], len: u64, buffer: &mut [u8]) -> u64
     requires { len + length text.now < 2 ^ 64 }
     ensures written { buffer.new ≡ take len buffer.old ++ laid text.now (drop len buffer.old) }
@@ -168,7 +168,7 @@ pub fn write_after(text: &[u8], len: u64, buffer: &mut [u8]) -> u64
 }
 
 // Writes as many bytes as the buffer holds. Returns the number of all bytes.
-#[tactic(auto, using(crate::proofs::FilledBufferLemmas::laid_steps))]
+#[tactic(auto, using(crate::proofs::BufferLemmas::laid_steps))]
 fn write_bytes(bytes: &[u8], buffer: &mut [u8]) -> u64
     ensures written { buffer.new ≡ laid bytes.now buffer.old }
     ensures value { result ≡ length bytes.now }

@@ -1,8 +1,7 @@
-use Rattle.goblin_c.proofs.ReadLemmas.{entry_within}
+use Rattle.goblin_c.proofs.{Common.arith, ListLemmas.entries, ListLemmas.item_read, ListLemmas.same_items}
 use Rattle.goblin_c.proofs.dynamic.goblin_put_dynamic_entry.Goals as goal
 
 pub put_found-requires : goal.put_found-requires
 put_found-requires c =
-    rw c.ctx-ctx.ensures
-    (λ x there. entry_within c.args.bytes.now c.args.header.now c.args.dynamic.now c.args.index
-    c.entry_of-found.result x (rw (c.of.ensures.bytes, c.of.ensures.header) at c.entry_of-found.ensures) there)
+    let read = item_read (entries c.args.header.now c.args.dynamic.now) c.args.bytes.now c.args.index in
+    rw c.ctx-ctx.ensures (λ x there. grind (arith, there, c.entry_of-found.ensures, read x, same_items))

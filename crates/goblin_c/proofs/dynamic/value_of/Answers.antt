@@ -1,6 +1,4 @@
-use Rattle.goblin_c.proofs.Common.{rules}
-use Rattle.goblin_c.specs.Dynamic.{entries_expected}
-use Rattle.goblin_c.proofs.DynamicLemmas.{found_is_expected}
+use Rattle.goblin_c.{proofs.Common.rules, proofs.DynamicLemmas.found_is_expected, specs.Dynamic.entries_expected}
 use Rattle.goblin_c.proofs.dynamic.value_of.Goals as goal
 
 pub returns : goal.returns

@@ -1,7 +1,8 @@
 -- After i turns the buffer holds the first i items from `first` on (`laid-item`). Where the list has no item for the
 -- next place, these were all, so the buffer stays as it is (`laid-ended`).
-use Rattle.goblin_c.proofs.Common.{◌≡◌, ◌+◌, slice_get, Some, sym, ◌∙◌, arith, set-get_or, slice_get_within}
-use Rattle.goblin_c.proofs.FilledBufferLemmas.{laid-item, laid-ended}
+use Rattle.goblin_c.proofs.BufferLemmas.{laid-ended, laid-item}
+use Rattle.goblin_c.proofs.Common.{Some, arith, slice_get, slice_get_within, sym, ◌+◌, ◌∙◌, ◌≡◌}
+use Rattle.std.proofs.lemmas.List.{set-get_or}
 use Rattle.goblin_c.proofs.items.fill.Goals as goal
 
 pub loop-i-preserved : goal.loop-i-preserved

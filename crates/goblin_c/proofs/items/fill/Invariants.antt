@@ -1,4 +1,4 @@
-use Rattle.goblin_c.proofs.Common.{◌≡◌, ◌≤◌, ◌+◌, length, take, drop, laid}
+use Rattle.goblin_c.proofs.Common.{drop, laid, length, take, ◌+◌, ◌≡◌, ◌≤◌}
 use Rattle.goblin_c.proofs.items.fill.Given as goal
 
 abbrev pub invariant-loop-i : goal.invariant-loop-i

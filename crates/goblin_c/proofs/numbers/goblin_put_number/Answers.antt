@@ -1,5 +1,4 @@
-use Rattle.goblin_c.proofs.Common.{Ok, ap, ◌∙◌}
-use Rattle.goblin_c.proofs.NumberLemmas.{read_there}
+use Rattle.goblin_c.proofs.{Common.Ok, Common.ap, Common.◌∙◌, PutLemmas.read_there}
 use Rattle.goblin_c.proofs.numbers.goblin_put_number.Goals as goal
 
 pub put_width-requires-clause-within : goal.put_width-requires-clause-within

@@ -1,5 +1,4 @@
-use Rattle.goblin_c.proofs.Common.{arith}
-use Rattle.goblin_c.proofs.ClosedLemmas.{closed_there}
+use Rattle.goblin_c.proofs.{Common.arith, StringLemmas.closed_there}
 use Rattle.goblin_c.proofs.strings.closed_string_at.Goals as goal
 
 pub returns : goal.returns

@@ -1,10 +1,10 @@
 -- At an offset in the table the string there is expected (`bytes_there`), so there is one item more (`each-step`,
 -- `rest-step`). At one past the table none is (`bytes_past`), and the call stops there (`fills_before`). So it does at
 -- the first offset if the table is refused (`bytes_refused`).
-use Rattle.goblin_c.proofs.Common.{◌≡◌, length, map, take, get_or, slice_get, Some, None, Ok, Err, refl, ap, ◌∙◌}
-use Rattle.goblin_c.proofs.Common.{arith, refusal_at, string_expected}
-use Rattle.goblin_c.proofs.PieceLemmas.{bytes_past, bytes_refused, bytes_there}
-use Rattle.goblin_c.proofs.EachLemmas.{each-step, fills_all, fills_before, rest-step, result_at}
+use Rattle.goblin_c.proofs.BufferLemmas.{each-step, fills_all, fills_before, rest-step, result_at}
+use Rattle.goblin_c.proofs.Common.{Err, None, Ok, Some, ap, arith, get_or, length, map, refl, refusal_at}
+use Rattle.goblin_c.proofs.Common.{slice_get, string_expected, take, ◌∙◌, ◌≡◌}
+use Rattle.goblin_c.proofs.StringLemmas.{bytes_past, bytes_refused, bytes_there}
 use Rattle.goblin_c.proofs.strings.goblin_strings.Goals as goal
 
 pub loop-i-preserved : goal.loop-i-preserved

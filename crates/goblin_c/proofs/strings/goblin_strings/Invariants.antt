@@ -1,4 +1,4 @@
-use Rattle.goblin_c.proofs.Common.{◌≡◌, Some, Ok, map, length, take, drop, string_expected}
+use Rattle.goblin_c.proofs.Common.{Ok, Some, drop, length, map, string_expected, take, ◌≡◌}
 use Rattle.goblin_c.proofs.strings.goblin_strings.Given as goal
 
 abbrev pub invariant-loop-i : goal.invariant-loop-i

@@ -1,7 +1,7 @@
 -- The record that was found is the expected symbol (`symbol_is`).
-use Rattle.goblin_c.proofs.InsideLemmas.{symbol_is}
+use Rattle.goblin_c.proofs.ListLemmas.{symbol_is}
+use Rattle.goblin_c.proofs.Common.{Ok, Some, ap, sym, ◌∙◌}
 use Rattle.goblin_c.proofs.symbols.symbol_inside.Goals as goal
-use Rattle.goblin_c.proofs.Common.{Ok, Some, sym, ap, ◌∙◌}
 
 pub returns : goal.returns
 returns c =

@@ -1,4 +1,4 @@
-use Rattle.goblin_c.proofs.Common.{◌≡◌, take, laid}
+use Rattle.goblin_c.proofs.Common.{laid, take, ◌≡◌}
 use Rattle.goblin_c.proofs.texts.write_bytes.Given as goal
 
 abbrev pub invariant-loop-i : goal.invariant-loop-i

@@ -1,5 +1,4 @@
-use Rattle.goblin_c.proofs.Common.{[], ◌∷◌, refl}
-use Rattle.goblin_c.proofs.TextLemmas.{laid-part}
+use Rattle.goblin_c.proofs.{BufferLemmas.laid-part, Common.[], Common.refl, Common.◌∷◌}
 use Rattle.goblin_c.proofs.texts.write_text.Goals as goal
 
 pub returns : goal.returns

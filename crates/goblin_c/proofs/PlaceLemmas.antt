@@ -4,21 +4,21 @@
 -- is read only after the tests of room for its range and for itself (`numbers_lie_in_range`). The library's search
 -- stops at the first segment that passes its test (`first_loads`, `none_loads`), and the test is the one that is stated
 -- for C (`loads-Decides`).
-use Rattle.goblin_c.proofs.Common.{get_or_from_slice_get, position_or_len, slice_get_within, ◌≡◌, ◌≤◌, ◌<◌, ◌+◌, ◌-◌, ℕ}
-use Rattle.goblin_c.proofs.Common.{Bool, true, false, true≢false, nat_le, min, List, [], length, drop, find, slice_get}
-use Rattle.goblin_c.proofs.Common.{Option, Some, None, Result, Ok, Err, inl, inr, refl, sym, ap, subst, ◌∙◌, arith}
-use Rattle.goblin_c.proofs.Common.{leb-false, leb-true, nat_tests, drop_all, length-drop, take-nil, take_min}
-use Rattle.goblin_c.proofs.Common.{slice_get-map, Decides, option_map, misplaced, RefusalAt, refused_at, fits-room_of}
-use Rattle.goblin_c.proofs.Common.{room_of_fits, room_of, ◌>>=◌, refuse_as, loaded_from, loads, offset_in}
-use Rattle.goblin_c.proofs.Common.{ProgramHeader, GoblinHeader, GoblinRange, segment_expected, segments_expected}
-use Rattle.goblin_c.proofs.Common.{segment_converted, bytes_in, cut_range, in_file, passes_at_first}
+use Rattle.goblin.specs.ProgramHeaders.{loads, offset_in}
 use Rattle.goblin_base.specs.declared.scroll.Error.{Error as Misplaced}
-use Rattle.goblin_c.specs.declared.segments.GoblinSegment.{GoblinSegment}
-use Rattle.goblin_c.specs.PlaceLaws.{AddressesAreLoaded, IsOffsetOf, IsSlice, LoadsByte, LoadsFirst, NumbersLieInRange}
-use Rattle.goblin_c.specs.PlaceLaws.{PartsLieInFile}
-use Rattle.goblin_c.proofs.FilledBufferLemmas.{ends-before}
-use Rattle.goblin_c.proofs.SearchLemmas.{converted_one, fails_before}
-use Rattle.std.proofs.lemmas.List.Folds.{find_at}
+use Rattle.goblin_c.proofs.{BufferLemmas.ends-before, ListLemmas.converted_one, ListLemmas.fails_before}
+use Rattle.goblin_c.proofs.Common.{Bool, Decides, Err, GoblinHeader, GoblinRange, List, None, Ok, Option, RefusalAt, []}
+use Rattle.goblin_c.proofs.Common.{Result, Some, arith, drop, fits-room_of, get_or_from_slice_get, inl, leb-false, min}
+use Rattle.goblin_c.proofs.Common.{leb-true, length, length-drop, nat_le, nat_tests, option_map, position_or_len, refl}
+use Rattle.goblin_c.proofs.Common.{refuse_as, refused_at, room_of, room_of_fits, slice_get, slice_get-map, subst, sym}
+use Rattle.goblin_c.proofs.Common.{slice_get_within, true, ℕ, ◌+◌, ◌-◌, ◌<◌, ◌>>=◌, ◌∙◌, ◌≡◌, ◌≤◌}
+use Rattle.goblin_c.specs.{Common.ProgramHeader, Common.loaded_from, Common.misplaced, Places.cut_range, Places.in_file}
+use Rattle.goblin_c.specs.{Expected.segment_expected, Expected.segments_expected, Types.segment_converted}
+use Rattle.goblin_c.specs.{Laws.bytes_in, declared.segments.GoblinSegment.GoblinSegment}
+use Rattle.goblin_c.specs.PlaceLaws.{AddressesAreLoaded, BytesAreFound, IsOffsetOf, IsSlice, LoadsByte, LoadsFirst}
+use Rattle.goblin_c.specs.PlaceLaws.{NotesRefuseThere, NumbersAreFound, NumbersLieInRange, PartsLieInFile}
+use Rattle.std.proofs.{Common.false, Common.find, Common.inr, Common.true≢false, Math.Seq.take-nil}
+use Rattle.std.proofs.lemmas.List.{drop_all, take_min, Folds.find_at, Sums.passes_at_first}
 
 -- the part of a range has the same bytes of the file
 same_bytes : (bytes : List ℕ) (range : GoblinRange) (inside : Bool)
@@ -36,22 +36,11 @@ same_bytes bytes range false is =
     rw (none, drop_all range.offset bytes (omega (arith, past)), take-nil) (sym (take-nil range.size))
 
 pub parts_lie_in_file : PartsLieInFile
-parts_lie_in_file bytes range = record {
-  within = omega arith;
-  same_bytes = same_bytes bytes range (nat_le range.offset (length bytes)) refl;
-  same_range = λ lies.
-      let start : min range.offset (length bytes) ≡ range.offset = omega (arith, lies) in
-      let size : min range.size (length bytes - min range.offset (length bytes)) ≡ range.size = omega (arith, lies) in
-      λ j. record { offset = start j; size = size j };
-}
+parts_lie_in_file bytes range = grind (arith, nat_tests, same_bytes)
 
 -- a number in a range was read after the tests of room for both
 pub numbers_lie_in_range : NumbersLieInRange
-numbers_lie_in_range bytes h range offset width value is = (
-  grind (arith, nat_tests, fits-room_of (length bytes) range.offset range.size),
-  grind (arith, nat_tests, fits-room_of range.size offset width),
-  grind (arith, nat_tests),
-)
+numbers_lie_in_range bytes h range offset width value is = grind (arith, nat_tests, fits-room_of)
 
 -- the first segment that loads an address stands at some index, and none before it does
 abbrev FirstLoads : ℕ → List ProgramHeader → ProgramHeader → Type 0
@@ -71,18 +60,11 @@ first_loads address items s is =
 none_loads : (address : ℕ) (items : List ProgramHeader)
     → find (loads address) items ≡ None
     → (k : ℕ) (y : ProgramHeader) → slice_get items k ≡ Some y → loads address y ≡ false
-none_loads address items none k y found =
-    let index = position_or_len (loads address) items in
-    let past = ends-before items index (sym (find_at (loads address) items) ∙ none) in
-    let inside = slice_get_within items k y found in
-    fails_before (loads address) items k y found (omega (arith, past, inside))
+none_loads address items none k y found = grind (arith, nat_tests, ends-before, fails_before, find_at, slice_get_within)
 
 -- the library's test is the one for C
 loads-Decides : (address : ℕ) (x : ProgramHeader) → Decides (loads address x) (LoadsByte address (segment_converted x))
-loads-Decides address x = (
-  λ is. (grind (arith, nat_tests), grind (arith, nat_tests), grind (arith, nat_tests)),
-  λ is. grind (arith, nat_tests, is),
-)
+loads-Decides address x = grind (arith, nat_tests)
 
 module _ (bytes : List ℕ) (h : GoblinHeader) (address : ℕ) (short : IsSlice bytes) (items : List ProgramHeader)
     (is : segments_expected bytes h ≡ Ok items) where
@@ -97,11 +79,7 @@ module _ (bytes : List ℕ) (h : GoblinHeader) (address : ℕ) (short : IsSlice 
 
   loads_first : (s : ProgramHeader) (first : FirstLoads address items s)
       → LoadsFirst bytes h address first.0 (segment_converted s)
-  loads_first s first = (
-    rw is (ap Ok (slice_get-map segment_converted items first.0 ∙ ap (option_map segment_converted) first.1.0)),
-    (loads-Decides address s).0 first.1.1,
-    λ k y before stored. not_loaded k y stored (λ x found. first.1.2 k x before found),
-  )
+  loads_first s first = grind (arith, nat_tests, loads-Decides, not_loaded, slice_get-map)
 
   -- the file has no byte at an offset without room
   no_byte : (s : ProgramHeader) (e : Misplaced)
@@ -131,4 +109,17 @@ by_all bytes h address (Ok items) short is = by_found bytes h address short item
 by_all bytes h address (Err e) short is = inl (λ index. rw is refl)
 
 pub addresses_are_loaded : AddressesAreLoaded
-addresses_are_loaded bytes h address short = by_all bytes h address (segments_expected bytes h) short refl
+addresses_are_loaded bytes h address short = grind (arith, nat_tests, by_all)
+
+-- ---- What lies in the file is found, and else refused at its offset: the test of room passes exactly if it does.
+
+pub bytes_are_found : BytesAreFound
+unfolding room_of
+bytes_are_found = grind (arith, nat_tests)
+
+pub numbers_are_found : NumbersAreFound
+unfolding room_of
+numbers_are_found bytes h range offset width known = grind (arith, nat_tests, known)
+
+pub notes_refuse_there : NotesRefuseThere
+notes_refuse_there offset e = grind (arith, nat_tests)
