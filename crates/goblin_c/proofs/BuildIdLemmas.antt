@@ -3,14 +3,14 @@
 -- What is left to look at has the same first build ID as all that there was, and as many notes less as were read
 -- (`at_end`, `at_refusal`, `at_id`, `after_note`). So it is of the notes of headers: those of the first one stand before
 -- those of the others (`after_holder`).
-use Rattle.goblin_c.proofs.Common.{◌≡◌, ◌+◌, ◌≤◌, ◌++◌, ℕ, zero, suc, Bool, true, List, [], length, take, drop, map}
-use Rattle.goblin_c.proofs.Common.{Option, None, Some, Result, Ok, Err, refl, sym, ap, ◌∙◌, arith, length-take, slice_get}
-use Rattle.goblin_c.proofs.Common.{GoblinHeader, GoblinRange, slice_get_within, get_or_from_slice_get}
+use Rattle.goblin_c.proofs.Common.{Bool, Err, GoblinHeader, GoblinRange, List, None, Ok, Option, Result, Some, [], ap}
+use Rattle.goblin_c.proofs.Common.{arith, drop, get_or_from_slice_get, length, length-take, map, refl, slice_get}
+use Rattle.goblin_c.proofs.Common.{slice_get_within, suc, sym, take, true, zero, ℕ, ◌++◌, ◌+◌, ◌∙◌, ◌≡◌, ◌≤◌}
 use Rattle.goblin_c.specs.BuildId.{Seek, build_id_expected, first_build_id, holder_of_segment, id_of_sections}
 use Rattle.goblin_c.specs.BuildId.{is_build_id, note_and_rest, notes_of, whole_notes}
 use Rattle.goblin_c.specs.Common.{GoblinNote, GoblinRefusal, ProgramHeader, is_some}
-use Rattle.goblin_c.specs.{Expected.segments_expected, Notes.whole_note}
-use Rattle.std.proofs.Common.{◌∷◌, ◌-◌, ◌<◌, false, if◌then◌else◌, length-append, true≢false}
+use Rattle.goblin_c.specs.{Notes.whole_note, Segments.segments_expected}
+use Rattle.std.proofs.Common.{false, if◌then◌else◌, length-append, true≢false, ◌-◌, ◌<◌, ◌∷◌}
 use Rattle.std.proofs.{Math.Seq.take-nil, lemmas.List.at_drop_more, lemmas.Option.none-some}
 
 -- the notes from an offset on, by the note there

@@ -4,15 +4,18 @@
 -- before an index, those from there on are what is left of them (`left`). So an entry that is read at a later index is
 -- the one at its place among them (`entry_at`). A range that is found lies in the file, because it is found after the
 -- test of room for it (`lies`).
-use Rattle.goblin_c.proofs.{Common.◌≤◌, ListLemmas.get_drop, StringLemmas.range_lies}
-use Rattle.goblin_c.proofs.Common.{List, None, Ok, Option, RefusalAt, Result, Some, [], arith, drop, drop-drop, length}
-use Rattle.goblin_c.proofs.Common.{entries_from, first_item, if◌then◌else◌, length-drop, length-map, nat_tests, refl, ℕ}
-use Rattle.goblin_c.proofs.Common.{option_map, slice_get, slice_get-map, suc, zero, ◌+◌, ◌-◌, ◌==◌, ◌>>=◌, ◌∷◌, ◌≡◌}
-use Rattle.goblin_c.specs.{Types.dyn_converted, declared.dynamic.GoblinDyn.GoblinDyn}
-use Rattle.goblin_c.specs.DynamicLaws.{DynamicLiesInFile, EntriesAreCounted, EntriesAreListed, ValueIsTheFirst}
+use Rattle.goblin_c.proofs.Common.{List, None, Ok, Option, RefusalAt, Result, Some, [], arith, drop, drop-drop}
+use Rattle.goblin_c.proofs.Common.{entries_from, first_item, if◌then◌else◌, length, length-drop, length-map, nat_tests}
+use Rattle.goblin_c.proofs.Common.{option_map, refl, slice_get, slice_get-map, suc, zero, ℕ, ◌+◌, ◌-◌, ◌==◌, ◌>>=◌, ◌∷◌}
+use Rattle.goblin_c.proofs.Common.{◌≡◌}
+use Rattle.goblin_c.proofs.{Common.◌≤◌}
+use Rattle.goblin_c.proofs.{ListLemmas.get_drop, StringLemmas.range_lies}
+use Rattle.goblin_c.specs.Dynamic.{DynamicLiesInFile, EntriesAreCounted, EntriesAreListed, ValueIsTheFirst}
+use Rattle.goblin_c.specs.{Dynamic.dyn_converted, declared.dynamic.GoblinDyn.GoblinDyn}
 use Rattle.goblin_dynamic.specs.{Dynamic.entries_up_to_null, Dynamic.first_value, declared.entry.Dyn.Dyn}
-use Rattle.std.{proofs.Common.not, specs.Option.option_and_then}
-use Rattle.std.proofs.lemmas.List.{Folds.length-prefix_len, Sums.prefix_len-le-length, Sums.take_while-cons}
+use Rattle.std.proofs.lemmas.List.Sums.{prefix_len-le-length, take_while-cons}
+use Rattle.std.proofs.{Common.not, lemmas.List.Folds.length-prefix_len}
+use Rattle.std.specs.Option.{option_and_then}
 
 -- an entry for C, unless it ends the entries
 abbrev pub unless_end : Dyn → Option GoblinDyn

@@ -3,47 +3,51 @@
 -- A list that was read passed the test of room for each of its records (`each_fits`), so each was read from its own
 -- bytes, which lie in the file (`each_read`, `read_part`). What is read of bytes fits (`fits_in`), so the low bits that
 -- C has of it are all of it.
-use Rattle.goblin.specs.{Header.HeaderFits, Header.as32, Header.as64, Header.header32, Header.header64, Sym.sym_of}
-use Rattle.goblin.specs.{ProgramHeader.program_header_of, ProgramHeader.program_header_size, WholePart.IsListOfWhole}
-use Rattle.goblin.specs.{SectionHeaders.section_headers_from_tested, declared.elf.reloc.RelocCtx.RelocCtx}
-use Rattle.goblin.specs.Reloc.{reloc_in, reloc_size}
+use Rattle.goblin.specs.Header.{HeaderFits, as32, as64, header32, header64}
+use Rattle.goblin.specs.ProgramHeader.{program_header_of, program_header_size}
 use Rattle.goblin.specs.SectionHeader.{section_header_layout, section_header_of, section_header_size}
 use Rattle.goblin.specs.SectionHeaders.{count_asked, link_of, names_index, section_headers_from}
+use Rattle.goblin.specs.{Reloc.reloc_in, Reloc.reloc_size, SectionHeaders.section_headers_from_tested, Sym.sym_of}
+use Rattle.goblin.specs.{WholePart.IsListOfWhole, declared.elf.reloc.RelocCtx.RelocCtx}
 use Rattle.goblin_base.proofs.{ByteorderLemmas.length-part, Eager.all_fit, Eager.get_records, Eager.past_records}
-use Rattle.goblin_base.specs.{Eager.records_from, Eager.records_in, Eager.room_of_each, Fields.Field, Fields.FieldsFit}
-use Rattle.goblin_base.specs.{FieldLaws.IsBytes-part, Number.IsBytes, TableLaws.records-agree}
-use Rattle.goblin_base.specs.{Layout.IsRecord, Record.records, Record.unless_fault, declared.container.Endian.Endian}
-use Rattle.goblin_base.specs.declared.container.Container.{Container, TheVariants.Big, TheVariants.Little}
-use Rattle.goblin_c.{proofs.Common.◌≡◌, proofs.Common.◌≤◌, specs.Status.converted_list}
+use Rattle.goblin_base.specs.declared.container.Container.TheVariants.{Big, Little}
+use Rattle.goblin_base.specs.{Eager.records_from, Eager.records_in, Eager.room_of_each, FieldLaws.IsBytes-part}
+use Rattle.goblin_base.specs.{Fields.Field, Fields.FieldsFit, Layout.IsRecord, Number.IsBytes, Record.records}
+use Rattle.goblin_base.specs.{Record.unless_fault, TableLaws.records-agree, declared.container.Container.Container}
+use Rattle.goblin_base.specs.{declared.container.Endian.Endian}
 use Rattle.goblin_c.proofs.Common.{Bool, Ctx, Decides, Err, GoblinHeader, GoblinRange, List, None, Ok, Option, Refusal}
-use Rattle.goblin_c.proofs.Common.{RefusalAt, Result, Some, [], ap, arith, ctx_of, drop, drop-drop, each_converted, inl}
-use Rattle.goblin_c.proofs.Common.{first_item, fits-room_of, get_or, get_or_from_slice_get, if◌then◌else◌, item_at, map}
-use Rattle.goblin_c.proofs.Common.{leb-false, leb-true, length, length-drop, length-map, mod-eq_of_lt, nat_le, refl, ℕ}
-use Rattle.goblin_c.proofs.Common.{nat_tests, option_map, position_or_len, refusal_at, refusal_of, refuse_as, room_of}
-use Rattle.goblin_c.proofs.Common.{refused_at, room_of_fits, slice_get, slice_get-get_or, slice_get-map, subst, suc}
-use Rattle.goblin_c.proofs.Common.{slice_get_within, sym, take, true, zero, ◌*◌, ◌+◌, ◌-◌, ◌<◌, ◌==◌, ◌>>=◌, ◌∙◌, ◌∷◌}
-use Rattle.goblin_c.specs.{Dynamic.whole_entries_expected, Types.symbol_converted, WriteLaws.ItemsAreWhole}
-use Rattle.goblin_c.specs.{Expected.symbol_expected, Expected.symbols_expected, Expected.whole_header, Refused.Returns}
-use Rattle.goblin_c.specs.Common.{GoblinReloc, GoblinSection, GoblinSymbol, Header, Layout, ProgramHeader, Refused, Sym}
-use Rattle.goblin_c.specs.Common.{Reloc, SectionHeader, program_headers_from, segment_count, sym_layout, sym_size}
-use Rattle.goblin_c.specs.Expected.{count_of, found_item, is_mips64el, items_from, reloc_expected, relocs_expected}
-use Rattle.goblin_c.specs.Expected.{section_expected, sections_expected, segment_expected, segments_expected, table_at}
-use Rattle.goblin_c.specs.Laws.{ContextIsTheHeaders, FilledByIndex, FindsFrom, FindsItemFrom, GivenFrom, HasHeader}
-use Rattle.goblin_c.specs.Laws.{KeepsWhatIsRead, NamesByIndex, NamesContext, RefusesAll, RelocsByIndex, ReturnsCount}
-use Rattle.goblin_c.specs.Laws.{ReturnsEach, SectionsByIndex, SectionsByType, SegmentsByIndex, SymbolsByIndex}
-use Rattle.goblin_c.specs.Laws.{TablesByIndex, WholeHeaderIsTheLibrarys, WholeHeaderKeeps}
-use Rattle.goblin_c.specs.Types.{header_converted, reloc_converted, section_converted, segment_converted}
-use Rattle.goblin_c.specs.Write.{RelocFits, SectionFits, SymbolFits, dyn_layout, reloc_ctx, reloc_layout, reloc_of}
-use Rattle.goblin_c.specs.Write.{section_layout, section_of, segment_layout, symbol_layout, symbol_of}
+use Rattle.goblin_c.proofs.Common.{RefusalAt, Result, Some, [], ap, arith, ctx_of, drop, drop-drop, each_converted}
+use Rattle.goblin_c.proofs.Common.{first_item, fits-room_of, get_or, get_or_from_slice_get, if◌then◌else◌, inl, item_at}
+use Rattle.goblin_c.proofs.Common.{leb-false, leb-true, length, length-drop, length-map, map, mod-eq_of_lt, nat_le}
+use Rattle.goblin_c.proofs.Common.{nat_tests, option_map, position_or_len, refl, refusal_at, refusal_of, refuse_as}
+use Rattle.goblin_c.proofs.Common.{refused_at, room_of, room_of_fits, slice_get, slice_get-get_or, slice_get-map}
+use Rattle.goblin_c.proofs.Common.{slice_get_within, subst, suc, sym, take, true, zero, ℕ, ◌*◌, ◌+◌, ◌-◌, ◌<◌, ◌==◌}
+use Rattle.goblin_c.proofs.Common.{◌>>=◌, ◌∙◌, ◌∷◌}
+use Rattle.goblin_c.specs.Common.{GoblinReloc, GoblinSection, GoblinSymbol, Header, Layout, ProgramHeader, Refused}
+use Rattle.goblin_c.specs.Common.{Reloc, SectionHeader, Sym, program_headers_from, segment_count, sym_layout, sym_size}
+use Rattle.goblin_c.specs.Header.{ContextIsTheHeaders, HasHeader, NamesContext, WholeHeaderIsTheLibrarys}
+use Rattle.goblin_c.specs.Header.{header_converted, is_mips64el, whole_header}
+use Rattle.goblin_c.specs.Items.{FindsFrom, FindsItemFrom, GivenFrom, RefusesAll, ReturnsCount, ReturnsEach, count_of}
+use Rattle.goblin_c.specs.Laws.{FilledByIndex, ItemsAreWhole, KeepsWhatIsRead, WholeHeaderKeeps}
+use Rattle.goblin_c.specs.Relocs.{RelocFits, RelocsByIndex, reloc_converted, reloc_ctx, reloc_expected, reloc_layout}
+use Rattle.goblin_c.specs.Sections.{NamesByIndex, SectionFits, SectionsByIndex, SectionsByType, TablesByIndex}
+use Rattle.goblin_c.specs.Sections.{section_converted, section_expected, section_layout, section_of, sections_expected}
+use Rattle.goblin_c.specs.Segments.{SegmentsByIndex, segment_converted, segment_expected, segment_layout}
+use Rattle.goblin_c.specs.Symbols.{SymbolFits, SymbolsByIndex, symbol_converted, symbol_expected, symbol_layout}
+use Rattle.goblin_c.specs.{Dynamic.dyn_layout, Dynamic.whole_entries_expected, Items.found_item, Items.items_from}
+use Rattle.goblin_c.specs.{Relocs.reloc_of, Relocs.relocs_expected, Results.Returns, Results.converted_list}
+use Rattle.goblin_c.specs.{Sections.table_at, Segments.segments_expected, Symbols.symbol_of, Symbols.symbols_expected}
+use Rattle.goblin_c.{proofs.Common.◌≡◌, proofs.Common.◌≤◌}
 use Rattle.goblin_dynamic.specs.Dyn.{entry_laws}
 use Rattle.goblin_headers.proofs.{WholeParts.sections_of_whole, WholeParts.segments_of_whole, WholeTrips.was_read}
 use Rattle.goblin_headers.specs.{ProgramHeaderLaws.program_header_laws, SectionHeaderLaws.section_header_laws}
-use Rattle.goblin_records.specs.{Reloc.AddendFits, Reloc.StoredFits, Reloc.reloc_layout_in, SymLaws.sym_laws}
-use Rattle.goblin_records.specs.RelocLaws.{reloc_laws, reloc_laws_in}
+use Rattle.goblin_records.specs.{Reloc.AddendFits, Reloc.StoredFits, Reloc.reloc_layout_in, RelocLaws.reloc_laws}
+use Rattle.goblin_records.specs.{RelocLaws.reloc_laws_in, SymLaws.sym_laws}
 use Rattle.std.proofs.Common.{false, max, nat_lt, position, true≢false, ◌/◌, ◌^◌, ◌⊎◌}
 use Rattle.std.proofs.Math.Nat.{div-mul-le_self, le-div_iff_mul-le, mul-div_left, mul-le-mul_right}
-use Rattle.std.proofs.lemmas.{Bool.cases_lt, Bool.Decides.Decides-eqb, Option.slice_get_past}
-use Rattle.std.proofs.lemmas.List.{take-take, Quantifiers.position-Some, Sums.fails_before_first}
+use Rattle.std.proofs.{lemmas.Bool.cases_lt, lemmas.Bool.Decides.Decides-eqb, lemmas.List.take-take}
+use Rattle.std.proofs.{lemmas.List.Quantifiers.position-Some, lemmas.List.Sums.fails_before_first}
+use Rattle.std.proofs.{lemmas.Option.slice_get_past}
 use Rattle.std.specs.Prelude.{pos, unwrap_or, ℤ}
 
 -- the value of a step that went on

@@ -3,22 +3,24 @@
 -- What a call stores is one step of the definition of a range's items: the note at the offset, and the items from the
 -- next offset on (`items_there`). So several calls, each at the offset that the last one stored, store as many items
 -- (`in_a_row`). The parts of a note lie in the file because its places do (`notes_lie_in_file`).
-use Rattle.goblin.specs.{Nhdr.nhdr32_of, Nhdr.nhdr32_size, Note.note_there, Note.places_at, Note.read_places}
-use Rattle.goblin.specs.{Notes.LieWithin, declared.elf.note.Nhdr32.Nhdr32, declared.elf.note.NotePlaces.NotePlaces}
 use Rattle.goblin.specs.Note.{NoteParts, bytes_at, item_and_rest, note_align, note_at, note_items, note_places}
-use Rattle.goblin.specs.NoteLaws.{note_by_note, whole_is_note}
+use Rattle.goblin.specs.{Nhdr.nhdr32_of, Nhdr.nhdr32_size, Note.note_there, Note.places_at, Note.read_places}
+use Rattle.goblin.specs.{NoteLaws.note_by_note, NoteLaws.whole_is_note, Notes.LieWithin}
+use Rattle.goblin.specs.{declared.elf.note.Nhdr32.Nhdr32, declared.elf.note.NotePlaces.NotePlaces}
 use Rattle.goblin_base.specs.Record.{read_within}
-use Rattle.goblin_c.proofs.{Common.◌∙◌, Common.◌≡◌, Common.◌≤◌, ListLemmas.one_converted}
-use Rattle.goblin_c.proofs.Common.{Bool, Ctx, Err, GoblinHeader, GoblinRange, List, None, Ok, Option, Refusal, Result}
-use Rattle.goblin_c.proofs.Common.{RefusalAt, Some, [], ap, arith, ctx_of, drop, fits-room_of, if◌then◌else◌, is_utf8}
-use Rattle.goblin_c.proofs.Common.{leb-false, length, length-drop, length-take, nat_le, nat_tests, refl, refusal_of, ℕ}
-use Rattle.goblin_c.proofs.Common.{refuse_as, refused_at, suc, sym, take, take_all, true, zero, ◌+◌, ◌-◌, ◌<◌, ◌>>=◌}
-use Rattle.goblin_c.specs.{Laws.items_reported, Laws.notes_reported, declared.notes.GoblinNote.GoblinNote}
-use Rattle.goblin_c.specs.Laws.{NotesAreItems, NotesAreText, NotesInARow, NotesLieInFile, WholeNotesAreNotes}
-use Rattle.goblin_c.specs.Notes.{bytes_from, note_expected, note_utf8_expected, parts_at, read_parts, without_last}
-use Rattle.goblin_c.specs.Types.{note_converted}
-use Rattle.std.proofs.Math.Seq.{drop-drop, take-nil}
-use Rattle.std.proofs.lemmas.{Bool.lt-leb, List.drop-take, List.drop_all}
+use Rattle.goblin_c.proofs.Common.{Bool, Ctx, Err, GoblinHeader, GoblinRange, List, None, Ok, Option, Refusal}
+use Rattle.goblin_c.proofs.Common.{RefusalAt, Result, Some, [], ap, arith, ctx_of, drop, fits-room_of, if◌then◌else◌}
+use Rattle.goblin_c.proofs.Common.{is_utf8, leb-false, length, length-drop, length-take, nat_le, nat_tests, refl}
+use Rattle.goblin_c.proofs.Common.{refusal_of, refuse_as, refused_at, suc, sym, take, take_all, true, zero, ℕ, ◌+◌, ◌-◌}
+use Rattle.goblin_c.proofs.Common.{◌<◌, ◌>>=◌}
+use Rattle.goblin_c.proofs.ListLemmas.{one_converted}
+use Rattle.goblin_c.proofs.{Common.◌∙◌, Common.◌≡◌, Common.◌≤◌}
+use Rattle.goblin_c.specs.Notes.{NotesAreItems, NotesAreText, NotesInARow, NotesLieInFile, WholeNotesAreNotes}
+use Rattle.goblin_c.specs.Notes.{bytes_from, items_reported, note_converted, note_expected, note_utf8_expected}
+use Rattle.goblin_c.specs.Notes.{notes_reported, parts_at, read_parts, without_last}
+use Rattle.goblin_c.specs.declared.notes.GoblinNote.{GoblinNote}
+use Rattle.std.proofs.{Math.Seq.drop-drop, Math.Seq.take-nil, lemmas.Bool.lt-leb, lemmas.List.drop-take}
+use Rattle.std.proofs.{lemmas.List.drop_all}
 use Rattle.goblin_base.specs.declared.container.Endian.TheVariants as endian
 
 -- the items of a result, before the range's end and from there on

@@ -5,29 +5,30 @@
 -- (`still_there`).
 use Rattle.goblin.specs.Header.{class_named, header_layout, header_size, order_named}
 use Rattle.goblin_base.proofs.{ByteorderLemmas.length-part, Eager.length_records}
-use Rattle.goblin_base.specs.{Number.IsBytes, Number.number_at, Number.spelled, Place.with_number}
-use Rattle.goblin_base.specs.{NumberLaws.length-spelled, NumberLaws.spelled-number, declared.container.Endian.Endian}
 use Rattle.goblin_base.specs.FieldLaws.{IsBytes-part, number_at-lt, number_at-with_number}
+use Rattle.goblin_base.specs.{Number.IsBytes, Number.number_at, Number.spelled, NumberLaws.length-spelled}
+use Rattle.goblin_base.specs.{NumberLaws.spelled-number, Place.with_number, declared.container.Endian.Endian}
 use Rattle.goblin_c.proofs.Common.{Ctx, Err, GoblinHeader, GoblinRange, List, None, Ok, Option, RefusalAt, Result, Some}
-use Rattle.goblin_c.proofs.Common.{ap, arith, ctx_of, drop, drop-drop, each_converted, fits-room_of, get_or, item_at, ℕ}
-use Rattle.goblin_c.proofs.Common.{length, length-drop, length-map, length-take, length-take-le, mod-eq_of_lt, refl}
-use Rattle.goblin_c.proofs.Common.{nat_tests, refusal_of, refuse_as, refused_at, room_of_fits, slice_get-get_or, take}
-use Rattle.goblin_c.proofs.Common.{slice_get_within, take_all, true, ◌*◌, ◌++◌, ◌+◌, ◌<◌, ◌>>=◌, ◌∙◌, ◌≡◌, ◌≤◌}
-use Rattle.goblin_c.proofs.ListLemmas.{Read, entries, item_read, reloc_same, reloc_whole, relocs, same_items, sections}
-use Rattle.goblin_c.proofs.ListLemmas.{section_same, section_whole, segments, symbol_same, symbol_whole, symbols}
-use Rattle.goblin_c.proofs.PlaceLemmas.{numbers_lie_in_range}
-use Rattle.goblin_c.specs.{Bytes.is_width, Bytes.number_expected, Expected.count_of, Expected.header_expected}
-use Rattle.goblin_c.specs.{Common.Dyn, Common.Error, Common.GoblinDyn, Common.Layout, Places.number_in_expected}
-use Rattle.goblin_c.specs.{Dynamic.entry_expected, Dynamic.whole_entries_expected, Types.refusal_converted}
-use Rattle.goblin_c.specs.{Write.with_bytes, declared.misfit.Misfit.Misfit, declared.relocs.GoblinReloc.GoblinReloc}
-use Rattle.goblin_c.specs.Write.{DynFits, FitsClass, dyn_layout, dyn_of, dyn_put_expected, header_of, named_ctx, put_at}
-use Rattle.goblin_c.specs.Write.{put_if_there, put_unless, reloc_ctx, reloc_of, section_of, segment_of, symbol_of}
-use Rattle.goblin_c.specs.WriteLaws.{ChangesOnly, CountsStay, HeadersAreRead, NumbersArePut, NumbersInRangesArePut}
-use Rattle.goblin_c.specs.WriteLaws.{PutsAreRead, PutsChangeOne, ReadsArePut, UnfitAreRefused}
-use Rattle.goblin_c.specs.declared.{sections.GoblinSection.GoblinSection, symbols.GoblinSymbol.GoblinSymbol}
+use Rattle.goblin_c.proofs.Common.{ap, arith, ctx_of, drop, drop-drop, each_converted, fits-room_of, get_or, item_at}
+use Rattle.goblin_c.proofs.Common.{length, length-drop, length-map, length-take, length-take-le, mod-eq_of_lt}
+use Rattle.goblin_c.proofs.Common.{nat_tests, refl, refusal_of, refuse_as, refused_at, room_of_fits, slice_get-get_or}
+use Rattle.goblin_c.proofs.Common.{slice_get_within, take, take_all, true, ℕ, ◌*◌, ◌++◌, ◌+◌, ◌<◌, ◌>>=◌, ◌∙◌, ◌≡◌, ◌≤◌}
+use Rattle.goblin_c.proofs.ListLemmas.{Read, entries, item_read, reloc_same, reloc_whole, relocs, same_items}
+use Rattle.goblin_c.proofs.ListLemmas.{section_same, section_whole, sections, segments, symbol_same, symbol_whole}
+use Rattle.goblin_c.proofs.{ListLemmas.symbols, PlaceLemmas.numbers_lie_in_range}
+use Rattle.goblin_c.specs.Dynamic.{DynFits, dyn_layout, dyn_of, dyn_put_expected, entry_expected}
+use Rattle.goblin_c.specs.Header.{FitsClass, HeadersAreRead, header_expected, header_of, named_ctx}
+use Rattle.goblin_c.specs.Laws.{CountsStay, PutsAreRead, PutsChangeOne, ReadsArePut, UnfitAreRefused}
+use Rattle.goblin_c.specs.Numbers.{NumbersArePut, NumbersInRangesArePut, is_width, number_expected, number_in_expected}
+use Rattle.goblin_c.specs.Puts.{ChangesOnly, put_at, put_if_there, put_unless, with_bytes}
+use Rattle.goblin_c.specs.{Common.Dyn, Common.Error, Common.GoblinDyn, Common.Layout, Dynamic.whole_entries_expected}
+use Rattle.goblin_c.specs.{Items.count_of, Relocs.reloc_ctx, Relocs.reloc_of, Results.refusal_converted}
+use Rattle.goblin_c.specs.{Sections.section_of, Segments.segment_of, Symbols.symbol_of, declared.misfit.Misfit.Misfit}
+use Rattle.goblin_c.specs.{declared.relocs.GoblinReloc.GoblinReloc, declared.sections.GoblinSection.GoblinSection}
+use Rattle.goblin_c.specs.{declared.symbols.GoblinSymbol.GoblinSymbol}
 use Rattle.goblin_headers.proofs.WholeTrips.{reads_back}
-use Rattle.std.proofs.{Common.append_assoc, Common.length-append, lemmas.List.drop_at, lemmas.List.take-append-drop}
-use Rattle.std.proofs.Math.Seq.{take-append_seam}
+use Rattle.std.proofs.{Common.append_assoc, Common.length-append, Math.Seq.take-append_seam, lemmas.List.drop_at}
+use Rattle.std.proofs.{lemmas.List.take-append-drop}
 
 -- the bytes after some were written over them at an offset
 module _ (bytes : List ℕ) (place : ℕ) (own : List ℕ) (size : ℕ) (long : length own ≡ size)

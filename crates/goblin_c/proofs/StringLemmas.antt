@@ -4,27 +4,30 @@
 -- of its range (`in_range`): so the string stands in the file at both offsets together (`piece_there`). The library's
 -- look-up passes a name exactly if a call stores a string with its bytes (`named-Decides`), so the first item that it
 -- finds is the first with that name (`by_name`).
-use Rattle.goblin_base.specs.{Strtab.has_name, Strtab.plain, Strtab.range_in, Wanted.is_piece, Wanted.starts_piece}
-use Rattle.goblin_base.specs.Pieces.{piece}
-use Rattle.goblin_c.proofs.{BufferLemmas.stored_item, ListLemmas.symbol_parts, ListLemmas.symbols}
+use Rattle.goblin_base.specs.{Pieces.piece, Strtab.has_name, Strtab.plain, Strtab.range_in, Wanted.is_piece}
+use Rattle.goblin_base.specs.{Wanted.starts_piece}
 use Rattle.goblin_c.proofs.Common.{Bool, Decides, Err, GoblinRange, List, None, Ok, Option, RefusalAt, Result, Some, []}
-use Rattle.goblin_c.proofs.Common.{ap, arith, closed_len, ctx_of, drop, each_converted, first_item, fits-room_of, inl}
-use Rattle.goblin_c.proofs.Common.{get_or, if◌then◌else◌, is_utf8, item_at, length, length-drop, length-take, nat_le, ℕ}
-use Rattle.goblin_c.proofs.Common.{length-take-le, mod-eq_of_lt, nat_tests, position_or_len, refl, refusal_at, subst}
-use Rattle.goblin_c.proofs.Common.{refuse_as, refused_at, slice_get, slice_get-get_or, string_expected, suc, sym, take}
-use Rattle.goblin_c.proofs.Common.{true, zero, ◌+◌, ◌-◌, ◌<◌, ◌==◌, ◌>>=◌, ◌∙◌, ◌∷◌, ◌≡◌, ◌≤◌}
+use Rattle.goblin_c.proofs.Common.{ap, arith, closed_len, ctx_of, drop, each_converted, first_item, fits-room_of}
+use Rattle.goblin_c.proofs.Common.{get_or, if◌then◌else◌, inl, is_utf8, item_at, length, length-drop, length-take}
+use Rattle.goblin_c.proofs.Common.{length-take-le, mod-eq_of_lt, nat_le, nat_tests, position_or_len, refl, refusal_at}
+use Rattle.goblin_c.proofs.Common.{refuse_as, refused_at, slice_get, slice_get-get_or, string_expected, subst, suc, sym}
+use Rattle.goblin_c.proofs.Common.{take, true, zero, ℕ, ◌+◌, ◌-◌, ◌<◌, ◌==◌, ◌>>=◌, ◌∙◌, ◌∷◌, ◌≡◌, ◌≤◌}
 use Rattle.goblin_c.proofs.ListLemmas.{expected_is, first_found, fits_in, one_converted, section_name, sections}
-use Rattle.goblin_c.specs.{Bytes.IsCString, Bytes.range_expected, Bytes.string_closed_expected, Refused.Returns}
-use Rattle.goblin_c.specs.{Common.GoblinRefusal, Common.Refused, Types.section_converted, Types.symbol_converted}
-use Rattle.goblin_c.specs.{Expected.symbols_expected, Status.Stores}
-use Rattle.goblin_c.specs.Expected.{is_named, passes, sections_expected, string_utf8_expected, strings_expected}
-use Rattle.goblin_c.specs.Laws.{BytesLieInFile, EmptyHaveNoBytes, FindsItemFrom, IsNameAt, LiesIn, RefusesInTurn}
-use Rattle.goblin_c.specs.Laws.{SectionsByName, StringsAreBytes, StringsAreCompared, StringsAreThere, StringsLieInFile}
-use Rattle.goblin_c.specs.Laws.{SymbolsByName, TextIsFound, TextIsUtf8, bytes_in, range_is, range_starts}
-use Rattle.std.{proofs.Common.slice_index, specs.List.before_first, specs.Prelude.IsErr, specs.Prelude.◌≢◌}
-use Rattle.std.proofs.{Common.inr, Math.Seq.drop-drop, Math.Seq.take-take, lemmas.Slice.Eq.bytes_eq-Decides}
-use Rattle.std.proofs.lemmas.List.{drop-take, get_or-drop, get_or-take, take_min}
+use Rattle.goblin_c.proofs.{BufferLemmas.stored_item, ListLemmas.symbol_parts, ListLemmas.symbols}
+use Rattle.goblin_c.specs.Sections.{SectionsByName, section_converted, sections_expected}
+use Rattle.goblin_c.specs.Strings.{IsCString, IsNameAt, RefusesInTurn, StringsAreBytes, StringsAreCompared}
+use Rattle.goblin_c.specs.Strings.{StringsAreThere, StringsLieInFile, TextIsUtf8, is_named, passes, range_is}
+use Rattle.goblin_c.specs.Strings.{range_starts, string_closed_expected, string_utf8_expected, strings_expected}
+use Rattle.goblin_c.specs.Symbols.{SymbolsByName, symbol_converted, symbols_expected}
+use Rattle.goblin_c.specs.{Common.GoblinRefusal, Common.Refused, Items.FindsItemFrom, Laws.BytesLieInFile}
+use Rattle.goblin_c.specs.{Laws.EmptyHaveNoBytes, Laws.TextIsFound, Numbers.LiesIn, Numbers.bytes_in}
+use Rattle.goblin_c.specs.{Numbers.range_expected, Results.Returns, Results.Stores}
 use Rattle.std.proofs.lemmas.List.Sums.{fails_before_first, passes_at_first, prefix_len-le-length}
+use Rattle.std.proofs.lemmas.List.{drop-take, get_or-drop, get_or-take, take_min}
+use Rattle.std.proofs.{Common.inr, Common.slice_index, Math.Seq.drop-drop, Math.Seq.take-take}
+use Rattle.std.proofs.{lemmas.Slice.Eq.bytes_eq-Decides}
+use Rattle.std.specs.{List.before_first, Prelude.IsErr}
+use Rattle.std.{specs.Prelude.◌≢◌}
 
 -- the strings of a range are its bytes, and lie in the file
 pub in_range : (bytes : List ℕ) (range : GoblinRange) (found : List ℕ)

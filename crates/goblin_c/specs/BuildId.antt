@@ -1,14 +1,12 @@
 -- The build ID of a file: the descriptor of the first note that is one, among those of the segments, and then of the
 -- sections (System V gABI, "Note Section"; its type and name are GNU's).
-use Rattle.std.specs.Prelude.{◌≡◌, ℕ, zero, suc, ◌+◌, ◌-◌, ◌==◌, ◌&&◌, ◌++◌, if◌then◌else◌, Bool, List, [], ◌∷◌}
-use Rattle.std.specs.Prelude.{length, take, drop, map, Option, Some, None, MatchOption, Result, Ok, Err, ⊤}
-use Rattle.goblin_c.specs.Common.{bytes_eq, ◌>>=◌, refuse_as, GoblinHeader, GoblinNote, GoblinRange, GoblinRefusal}
-use Rattle.goblin_c.specs.Common.{ProgramHeader, SectionHeader}
-use Rattle.goblin_c.specs.Expected.{sections_expected, segments_expected}
-use Rattle.goblin_c.specs.Notes.{whole_note}
-use Rattle.goblin_c.specs.Types.{refusal_converted}
-use Rattle.goblin_c.specs.declared.build_id.Holders.{Holders}
-use Rattle.goblin_c.specs.declared.build_id.Holders.TheVariants.{Segments, Sections}
+use Rattle.goblin_c.specs.Common.{GoblinHeader, GoblinNote, GoblinRange, GoblinRefusal, ProgramHeader, SectionHeader}
+use Rattle.goblin_c.specs.Common.{bytes_eq, refuse_as, ◌>>=◌}
+use Rattle.goblin_c.specs.declared.build_id.Holders.TheVariants.{Sections, Segments}
+use Rattle.goblin_c.specs.{Notes.whole_note, Results.refusal_converted, Sections.sections_expected}
+use Rattle.goblin_c.specs.{Segments.segments_expected, declared.build_id.Holders.Holders}
+use Rattle.std.specs.Prelude.{Bool, Err, List, MatchOption, None, Ok, Option, Result, Some, [], drop, if◌then◌else◌}
+use Rattle.std.specs.Prelude.{length, map, suc, take, zero, ℕ, ⊤, ◌&&◌, ◌++◌, ◌+◌, ◌-◌, ◌==◌, ◌∷◌, ◌≡◌}
 
 -- a note is a build ID: its type is 3, and its name "GNU", which a zero byte closes
 abbrev pub is_build_id : List ℕ → GoblinNote → Bool

@@ -1,13 +1,12 @@
 -- The text of a refusal that C has.
-use Rattle.goblin_base.specs.declared.texts.Kind.{Kind}
 use Rattle.goblin.specs.SectionNames.{section_flag_name}
-use Rattle.std.specs.Prelude.{◌≡◌, ◌⊎◌, ⊤, ℕ, ◌==◌, ◌^◌, ◌&&◌, ◌++◌, nat_lt, not, if◌then◌else◌, Bool, List, [], codes}
-use Rattle.std.specs.Prelude.{Option, Some, None}
+use Rattle.goblin_base.specs.declared.texts.Kind.{Kind}
+use Rattle.goblin_c.specs.Common.{Facts, GoblinRefusal, INVALID_UTF8, PROGRAM_HEADERS, Refusal, SECTION_HEADERS}
+use Rattle.goblin_c.specs.Common.{bad_input, buffer_too_short, facts_text, kind_with, refusal_text}
+use Rattle.goblin_c.specs.Results.{RefusalAt, refusal_converted}
 use Rattle.std.specs.Fmt.{decimal}
-use Rattle.goblin_c.specs.Common.{Refusal, buffer_too_short, Facts, facts_text, kind_with, refusal_text, INVALID_UTF8}
-use Rattle.goblin_c.specs.Common.{SECTION_HEADERS, PROGRAM_HEADERS, GoblinRefusal, bad_input}
-use Rattle.goblin_c.specs.Refused.{RefusalAt}
-use Rattle.goblin_c.specs.Types.{refusal_converted}
+use Rattle.std.specs.Prelude.{Bool, List, None, Option, Some, [], codes, if◌then◌else◌, nat_lt, not, ℕ, ⊤, ◌&&◌, ◌++◌}
+use Rattle.std.specs.Prelude.{◌==◌, ◌^◌, ◌≡◌, ◌⊎◌}
 
 -- the name of one flag of a section, of which one that isn't among the low 32 has none, as 0 has
 abbrev pub flag_name : ℕ → List ℕ

@@ -1,7 +1,7 @@
 //! The build ID: the descriptor of a note, in which a linker writes a number of its own for each file that it makes.
 ghost use Rattle.goblin_c.specs.BuildId.{Seek, build_id_expected, holders_in, id_of_sections, is_build_id, notes_of, whole_notes};
-ghost use Rattle.goblin_c.specs.Status.{Stored};
-ghost use Rattle.std.specs.Prelude.{◌≡◌, ◌<◌, ◌≤◌, Some, length, slice_get, take};
+ghost use Rattle.goblin_c.specs.Results.{Stored};
+ghost use Rattle.std.specs.Prelude.{Some, length, slice_get, take, ◌<◌, ◌≡◌, ◌≤◌};
 
 use crate::header::GoblinFile;
 use crate::notes::{GoblinNote, whole_note};

@@ -1,11 +1,9 @@
 //! The dynamic section: its range, its entries, the value of a tag, the range of its strings, and how an entry is put.
-ghost use Rattle.goblin_c.specs.Dynamic.{whole_entries_expected, dynamic_count_expected, dynamic_expected, dynamic_strings_expected, dynamic_value_expected, entries_expected, entries_from, entries_from_expected, entry_expected, file_range_of, range_in_file};
-ghost use Rattle.goblin_c.specs.Expected.{first_item, found_item};
-ghost use Rattle.goblin_c.specs.FilledBuffer.{laid};
-ghost use Rattle.goblin_c.specs.Refused.{Returns};
-ghost use Rattle.goblin_c.specs.Status.{Fills, Stores, StoresBoth};
-ghost use Rattle.goblin_c.specs.Types.{dyn_converted};
-ghost use Rattle.goblin_c.specs.Write.{DynFits, Puts, dyn_misfit, dyn_of, dyn_put_expected};
+ghost use Rattle.goblin_c.specs.Buffers.{laid};
+ghost use Rattle.goblin_c.specs.Dynamic.{DynFits, dyn_converted, dyn_misfit, dyn_of, dyn_put_expected, dynamic_count_expected, dynamic_expected, dynamic_strings_expected, dynamic_value_expected, entries_expected, entries_from, entries_from_expected, entry_expected, file_range_of, range_in_file, whole_entries_expected};
+ghost use Rattle.goblin_c.specs.Items.{first_item, found_item};
+ghost use Rattle.goblin_c.specs.Puts.{Puts};
+ghost use Rattle.goblin_c.specs.Results.{Fills, Returns, Stores, StoresBoth};
 ghost use Rattle.goblin_dynamic.specs.Dyn.{entry_layout};
 ghost use Rattle.std.specs.Prelude.{IfSome, IsTrue, drop, length, min, position, slice_get, ◌+◌, ◌<◌, ◌==◌, ◌^◌, ◌↔◌, ◌≡◌, ◌≤◌};
 

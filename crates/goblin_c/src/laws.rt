@@ -1,9 +1,17 @@
 //! Laws of the calls: what they store is what the library reads, and what they put is read again.
-ghost use Rattle.goblin_c.specs.DynamicLaws.{DynamicLiesInFile, EntriesAreCounted, EntriesAreListed, ValueIsTheFirst};
-ghost use Rattle.goblin_c.specs.Laws.{BufferIsFilled, BytesLieInFile, ContextIsTheHeaders, EmptyHaveNoBytes, FilledByIndex, KindsAreAboveOne, NamesByIndex, NotesAreItems, NotesAreText, NotesInARow, NotesLieInFile, PartsAreNumbered, RelocsByIndex, SectionsByIndex, SectionsByName, SectionsByType, SegmentsByIndex, StringsAreBytes, StringsAreCompared, StringsAreThere, StringsLieInFile, SymbolsByIndex, SymbolsByName, TablesByIndex, TextIsClosed, TextIsFound, TextIsUtf8, WholeHeaderIsTheLibrarys, WholeHeaderKeeps, WholeNotesAreNotes};
-ghost use Rattle.goblin_c.specs.PlaceLaws.{AddressesAreLoaded, BytesAreFound, NotesRefuseThere, NumbersAreFound, NumbersLieInRange, PartsLieInFile};
+ghost use Rattle.goblin_c.specs.Buffers.{BufferIsFilled, TextIsClosed};
+ghost use Rattle.goblin_c.specs.Dynamic.{DynamicLiesInFile, EntriesAreCounted, EntriesAreListed, ValueIsTheFirst};
+ghost use Rattle.goblin_c.specs.Header.{ContextIsTheHeaders, HeadersAreRead, WholeHeaderIsTheLibrarys};
+ghost use Rattle.goblin_c.specs.Laws.{BytesAreFound, BytesLieInFile, CountsStay, EmptyHaveNoBytes, FilledByIndex, ItemsAreWhole, PutsAreRead, PutsChangeOne, ReadsArePut, TextIsFound, UnfitAreRefused, WholeHeaderKeeps};
+ghost use Rattle.goblin_c.specs.Notes.{NotesAreItems, NotesAreText, NotesInARow, NotesLieInFile, NotesRefuseThere, PartsAreNumbered, WholeNotesAreNotes};
+ghost use Rattle.goblin_c.specs.Numbers.{NumbersAreFound, NumbersArePut, NumbersInRangesArePut, NumbersLieInRange, PartsLieInFile};
+ghost use Rattle.goblin_c.specs.Relocs.{RelocsByIndex};
+ghost use Rattle.goblin_c.specs.Results.{KindsAreAboveOne};
+ghost use Rattle.goblin_c.specs.Sections.{NamesByIndex, SectionsByIndex, SectionsByName, SectionsByType, TablesByIndex};
+ghost use Rattle.goblin_c.specs.Segments.{AddressesAreLoaded, SegmentsByIndex};
+ghost use Rattle.goblin_c.specs.Strings.{StringsAreBytes, StringsAreCompared, StringsAreThere, StringsLieInFile, TextIsUtf8};
+ghost use Rattle.goblin_c.specs.Symbols.{SymbolsByIndex, SymbolsByName};
 ghost use Rattle.goblin_c.specs.TextLaws.{PartsHaveSameText, RefusalsHaveSameText};
-ghost use Rattle.goblin_c.specs.WriteLaws.{CountsStay, HeadersAreRead, ItemsAreWhole, NumbersArePut, NumbersInRangesArePut, PutsAreRead, PutsChangeOne, ReadsArePut, UnfitAreRefused};
 
 /// Laws: calls of `goblin_note_utf8` at a range's start and then at each `next` store exactly the notes of the
 /// library's iterator over the range, in its order, up to the end or the first refusal. `goblin_note` stores each of

@@ -1,7 +1,7 @@
 //! The widths of numbers, and which value of a record doesn't fit its field.
 ghost use Rattle.goblin_base.specs.Fields.{field};
-ghost use Rattle.goblin_c.specs.Bytes.{is_width};
-ghost use Rattle.goblin_c.specs.Write.{NumberFits, misfit_from, unfit};
+ghost use Rattle.goblin_c.specs.Numbers.{NumberFits, is_width};
+ghost use Rattle.goblin_c.specs.Puts.{misfit_from, unfit};
 ghost use Rattle.std.specs.Prelude.{All, IsTrue, length, map, ◌*◌, ◌+◌, ◌<◌, ◌^◌, ◌↔◌, ◌≡◌, ◌≤◌};
 
 use crate::results::GoblinRefusal;

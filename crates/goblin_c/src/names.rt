@@ -5,7 +5,7 @@ ghost use Rattle.goblin.specs.NoteType.{note_type_name};
 ghost use Rattle.goblin.specs.SectionNames.{section_name};
 ghost use Rattle.goblin.specs.SegmentNames.{segment_name};
 ghost use Rattle.goblin.specs.SymParts.{bind_name, type_name, visibility_name};
-ghost use Rattle.goblin_c.specs.FilledBuffer.{WritesText};
+ghost use Rattle.goblin_c.specs.Buffers.{WritesText};
 ghost use Rattle.goblin_c.specs.Texts.{flag_name};
 ghost use Rattle.std.specs.Prelude.{◌≡◌};
 

@@ -3,12 +3,11 @@ ghost use Rattle.goblin.specs.NoteType.{note_type_name};
 ghost use Rattle.goblin.specs.Notes.{LieWithin};
 ghost use Rattle.goblin.specs.Refusal.{refusal_of};
 ghost use Rattle.goblin_base.specs.Common.{Returns as Gives};
-ghost use Rattle.goblin_base.specs.declared.container.Endian.TheVariants as endian;
-ghost use Rattle.goblin_c.specs.Notes.{whole_note, bytes_from, note_expected, note_utf8_expected, note_whole_expected, part_converted, part_number, parts_at, read_parts, without_last};
-ghost use Rattle.goblin_c.specs.Status.{Stored, Stores};
-ghost use Rattle.goblin_c.specs.Types.{note_converted};
+ghost use Rattle.goblin_c.specs.Notes.{bytes_from, note_converted, note_expected, note_utf8_expected, note_whole_expected, part_converted, part_number, parts_at, read_parts, whole_note, without_last};
+ghost use Rattle.goblin_c.specs.Results.{Stored, Stores};
 ghost use Rattle.std.specs.Prelude.{IfOk, IfSome, IsAscii, IsTrue, Ok, Some, length, take, ◌+◌, ◌-◌, ◌<◌, ◌^◌, ◌≡◌, ◌≤◌, ◌⊎◌};
 ghost use Rattle.std.specs.Str.{IsAscii};
+ghost use Rattle.goblin_base.specs.declared.container.Endian.TheVariants as endian;
 
 use crate::header::{GoblinFile, GoblinHeader};
 use crate::numbers::{GoblinRange, fits};

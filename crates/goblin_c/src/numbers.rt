@@ -3,11 +3,9 @@ ghost use Rattle.goblin.specs.Refusal.{misplaced};
 ghost use Rattle.goblin.specs.Room.{room_of};
 ghost use Rattle.goblin.specs.Steps.{refuse_as};
 ghost use Rattle.goblin_base.specs.Place.{with_number};
-ghost use Rattle.goblin_c.specs.Bytes.{is_width, number_expected, range_expected};
-ghost use Rattle.goblin_c.specs.Places.{cut_range, number_in_expected};
-ghost use Rattle.goblin_c.specs.Refused.{Returns, refused_at};
-ghost use Rattle.goblin_c.specs.Status.{Stores};
-ghost use Rattle.goblin_c.specs.Write.{NumberFits, Puts, number_in_put_expected, number_misfit, number_put_expected};
+ghost use Rattle.goblin_c.specs.Numbers.{NumberFits, cut_range, is_width, number_expected, number_in_expected, number_in_put_expected, number_misfit, number_put_expected, range_expected};
+ghost use Rattle.goblin_c.specs.Puts.{Puts};
+ghost use Rattle.goblin_c.specs.Results.{Returns, Stores, refused_at};
 ghost use Rattle.std.specs.Prelude.{IsOk, IsTrue, length, min, ◌+◌, ◌-◌, ◌^◌, ◌≡◌, ◌≤◌};
 
 use crate::header::{GoblinFile, GoblinHeader};

@@ -1,8 +1,7 @@
 //! Records that are put where the call that reads one finds it, if they fit. Then their bytes change, and no other.
 ghost use Rattle.goblin.specs.Steps.{refuse_as};
-ghost use Rattle.goblin_c.specs.Refused.{refusal_at};
-ghost use Rattle.goblin_c.specs.Status.{Stored};
-ghost use Rattle.goblin_c.specs.Write.{put_at, put_if_there, with_bytes};
+ghost use Rattle.goblin_c.specs.Puts.{put_at, put_if_there, with_bytes};
+ghost use Rattle.goblin_c.specs.Results.{Stored, refusal_at};
 ghost use Rattle.std.specs.Prelude.{Ok, Some, length, ◌*◌, ◌+◌, ◌≡◌, ◌≤◌};
 
 use crate::misfit::Misfit;

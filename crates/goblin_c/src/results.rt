@@ -1,8 +1,6 @@
 //! What a call returns and stores: a status, an item, or a refusal with the offset of what is refused.
 ghost use Rattle.goblin.specs.Steps.{refuse_as};
-ghost use Rattle.goblin_c.specs.Refused.{refusal_at, with_offset};
-ghost use Rattle.goblin_c.specs.Status.{Stored, Stores, StoresBoth};
-ghost use Rattle.goblin_c.specs.Types.{item_number, refusal_converted};
+ghost use Rattle.goblin_c.specs.Results.{Stored, Stores, StoresBoth, item_number, refusal_at, refusal_converted, with_offset};
 ghost use Rattle.std.specs.Prelude.{[], ◌∷◌, ◌≡◌};
 
 use goblin::error::Error;

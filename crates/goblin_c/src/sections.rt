@@ -1,10 +1,8 @@
 //! Section headers: one, many, how many, by type or name, those that are tables, their bytes, and how one is put.
-ghost use Rattle.goblin_c.specs.Bytes.{section_range_expected};
-ghost use Rattle.goblin_c.specs.Expected.{found_item, is_wanted, names_section_expected, section_by_name_expected, section_by_type_expected, section_count_expected, section_expected, sections_expected, sections_from_expected, table_at, table_expected};
-ghost use Rattle.goblin_c.specs.Refused.{Returns};
-ghost use Rattle.goblin_c.specs.Status.{Fills, Stores, StoresBoth};
-ghost use Rattle.goblin_c.specs.Types.{section_converted};
-ghost use Rattle.goblin_c.specs.Write.{Puts, SectionFits, section_misfit, section_of, section_put_expected};
+ghost use Rattle.goblin_c.specs.Items.{found_item};
+ghost use Rattle.goblin_c.specs.Puts.{Puts};
+ghost use Rattle.goblin_c.specs.Results.{Fills, Returns, Stores, StoresBoth};
+ghost use Rattle.goblin_c.specs.Sections.{SectionFits, is_wanted, names_section_expected, section_by_name_expected, section_by_type_expected, section_converted, section_count_expected, section_expected, section_misfit, section_of, section_put_expected, section_range_expected, sections_expected, sections_from_expected, table_at, table_expected};
 ghost use Rattle.std.specs.Prelude.{IfSome, Ok, Some, drop, map, position, ◌+◌, ◌-◌, ◌<◌, ◌^◌, ◌≡◌};
 
 use crate::header::{GoblinFile, GoblinHeader};

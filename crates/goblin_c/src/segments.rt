@@ -1,11 +1,7 @@
 //! Program headers: one, many, how many, their bytes, the offset of an address, and how one is put.
-ghost use Rattle.goblin_c.specs.Bytes.{segment_range_expected};
-ghost use Rattle.goblin_c.specs.Expected.{segment_count_expected, segment_expected, segments_expected, segments_from_expected};
-ghost use Rattle.goblin_c.specs.Places.{address_to_offset_expected};
-ghost use Rattle.goblin_c.specs.Refused.{Returns};
-ghost use Rattle.goblin_c.specs.Status.{Fills, Stores};
-ghost use Rattle.goblin_c.specs.Types.{segment_converted};
-ghost use Rattle.goblin_c.specs.Write.{Puts, SegmentFits, segment_misfit, segment_of, segment_put_expected};
+ghost use Rattle.goblin_c.specs.Puts.{Puts};
+ghost use Rattle.goblin_c.specs.Results.{Fills, Returns, Stores};
+ghost use Rattle.goblin_c.specs.Segments.{SegmentFits, address_to_offset_expected, segment_converted, segment_count_expected, segment_expected, segment_misfit, segment_of, segment_put_expected, segment_range_expected, segments_expected, segments_from_expected};
 ghost use Rattle.std.specs.Prelude.{IfSome, Ok, Some, map, ◌-◌, ◌≡◌};
 
 use crate::header::{GoblinFile, GoblinHeader};

@@ -1,9 +1,7 @@
 //! Strings: where they lie in the file, and what they are.
-ghost use Rattle.goblin_c.specs.Bytes.{IsCString, closed_len, closed_strings_expected, string_closed_expected, string_expected};
 ghost use Rattle.goblin_c.specs.Common.{is_piece, starts_piece};
-ghost use Rattle.goblin_c.specs.Expected.{string_is_expected, string_starts_expected, string_utf8_expected, strings_expected};
-ghost use Rattle.goblin_c.specs.Refused.{Returns};
-ghost use Rattle.goblin_c.specs.Status.{FillsEach, Stores};
+ghost use Rattle.goblin_c.specs.Results.{FillsEach, Returns, Stores};
+ghost use Rattle.goblin_c.specs.Strings.{IsCString, closed_len, closed_strings_expected, string_closed_expected, string_expected, string_is_expected, string_starts_expected, string_utf8_expected, strings_expected};
 ghost use Rattle.std.specs.Prelude.{IfOk, IfSome, IsErr, MatchOption, Ok, drop, length, map, take, ◌+◌, ◌≡◌, ◌≤◌};
 
 use crate::header::GoblinFile;

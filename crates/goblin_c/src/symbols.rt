@@ -1,9 +1,10 @@
 //! Symbols: one, many, how many, by name or address, and how one is put.
-ghost use Rattle.goblin_c.specs.Expected.{ctx_of, found_item, is_named, symbol_by_address_expected, symbol_by_name_expected, symbol_count_expected, symbol_expected, symbols_expected, symbols_from_expected};
-ghost use Rattle.goblin_c.specs.Refused.{Returns};
-ghost use Rattle.goblin_c.specs.Status.{Fills, Stores, StoresBoth};
-ghost use Rattle.goblin_c.specs.Types.{symbol_converted};
-ghost use Rattle.goblin_c.specs.Write.{Puts, SymbolFits, symbol_misfit, symbol_of, symbol_put_expected};
+ghost use Rattle.goblin_c.specs.Header.{ctx_of};
+ghost use Rattle.goblin_c.specs.Items.{found_item};
+ghost use Rattle.goblin_c.specs.Puts.{Puts};
+ghost use Rattle.goblin_c.specs.Results.{Fills, Returns, Stores, StoresBoth};
+ghost use Rattle.goblin_c.specs.Strings.{is_named};
+ghost use Rattle.goblin_c.specs.Symbols.{SymbolFits, symbol_by_address_expected, symbol_by_name_expected, symbol_converted, symbol_count_expected, symbol_expected, symbol_misfit, symbol_of, symbol_put_expected, symbols_expected, symbols_from_expected};
 ghost use Rattle.std.specs.Prelude.{IfSome, Ok, Some, drop, map, position, ◌+◌, ◌-◌, ◌<◌, ◌^◌, ◌≡◌};
 
 use crate::header::{GoblinFile, GoblinHeader};

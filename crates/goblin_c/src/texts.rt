@@ -1,6 +1,6 @@
 //! Texts, written into a buffer of the caller's and cut at its end, and the text of a refusal.
 ghost use Rattle.goblin_base.specs.Texts.{digits_text, facts_of, facts_text, is_short, part_text, word_of};
-ghost use Rattle.goblin_c.specs.FilledBuffer.{WritesText, laid};
+ghost use Rattle.goblin_c.specs.Buffers.{WritesText, laid};
 ghost use Rattle.goblin_c.specs.Texts.{TextIsSame, converted_text, facts_from, is_misfit, item_text, misfit_text, with_misfit};
 ghost use Rattle.std.specs.Prelude.{IsAscii, IsTrue, drop, length, take, ◌++◌, ◌+◌, ◌<◌, ◌^◌, ◌≡◌, ◌≤◌};
 

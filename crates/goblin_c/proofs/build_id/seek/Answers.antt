@@ -1,6 +1,6 @@
 -- Each note that is read is the first of those that are left (`one_more`), and they end at the end or at a refusal.
-use Rattle.goblin_c.proofs.Common.{◌≡◌, ◌+◌, ◌-◌, refl, sym, ap, ◌∙◌, arith, Ok}
-use Rattle.goblin_c.proofs.BuildIdLemmas.{no_more, one_refused, one_more, at_end, at_refusal, at_id, after_note}
+use Rattle.goblin_c.proofs.BuildIdLemmas.{after_note, at_end, at_id, at_refusal, no_more, one_more, one_refused}
+use Rattle.goblin_c.proofs.Common.{Ok, ap, arith, refl, sym, ◌+◌, ◌-◌, ◌∙◌, ◌≡◌}
 use Rattle.goblin_c.specs.BuildId.{whole_notes}
 use Rattle.goblin_c.proofs.build_id.seek.Goals as goal
 

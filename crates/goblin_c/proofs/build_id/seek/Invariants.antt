@@ -1,4 +1,4 @@
-use Rattle.goblin_c.proofs.Common.{◌≡◌, ◌+◌, ℕ, length}
+use Rattle.goblin_c.proofs.Common.{length, ℕ, ◌+◌, ◌≡◌}
 use Rattle.goblin_c.specs.BuildId.{first_build_id, whole_notes}
 use Rattle.goblin_c.proofs.build_id.seek.Given as goal
 

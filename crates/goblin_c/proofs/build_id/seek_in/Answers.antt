@@ -1,9 +1,9 @@
 -- The notes of each header end the search (`ended`), or it goes on with those of the next one (`passed`, `past_holder`).
-use Rattle.goblin_c.proofs.Common.{◌∙◌, ap, sym, Some, take, length, arith}
 use Rattle.goblin_c.proofs.BuildIdLemmas.{ended, passed, past_holder}
+use Rattle.goblin_c.proofs.Common.{Some, ap, arith, length, sym, take, ◌∙◌}
+use Rattle.goblin_c.proofs.build_id.seek_in.Goals.{in-Some+else-is_some, in_default}
 use Rattle.goblin_c.specs.BuildId.{first_build_id, holders_in, notes_of}
 use Rattle.goblin_c.proofs.build_id.seek_in.Goals as goal
-use Rattle.goblin_c.proofs.build_id.seek_in.Goals.{in-Some+else-is_some, in_default}
 
 pub returns-then-is_some : goal.returns-then-is_some
 returns-then-is_some c =

@@ -1,4 +1,4 @@
-use Rattle.goblin_c.proofs.Common.{◌≡◌, ◌+◌, ◌≤◌, length, take, drop}
+use Rattle.goblin_c.proofs.Common.{drop, length, take, ◌+◌, ◌≡◌, ◌≤◌}
 use Rattle.goblin_c.specs.BuildId.{first_build_id, holders_in, notes_of}
 use Rattle.goblin_c.proofs.build_id.seek_in.Given as goal
 

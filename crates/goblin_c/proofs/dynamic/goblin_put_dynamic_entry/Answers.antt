@@ -1,4 +1,5 @@
-use Rattle.goblin_c.proofs.{Common.arith, ListLemmas.entries, ListLemmas.item_read, ListLemmas.same_items}
+use Rattle.goblin_c.proofs.Common.{arith}
+use Rattle.goblin_c.proofs.ListLemmas.{entries, item_read, same_items}
 use Rattle.goblin_c.proofs.dynamic.goblin_put_dynamic_entry.Goals as goal
 
 pub put_found-requires : goal.put_found-requires

@@ -1,4 +1,5 @@
-use Rattle.goblin_c.{proofs.Common.rules, proofs.DynamicLemmas.found_is_expected, specs.Dynamic.entries_expected}
+use Rattle.goblin_c.proofs.{Common.rules, DynamicLemmas.found_is_expected}
+use Rattle.goblin_c.specs.Dynamic.{entries_expected}
 use Rattle.goblin_c.proofs.dynamic.value_of.Goals as goal
 
 pub returns : goal.returns

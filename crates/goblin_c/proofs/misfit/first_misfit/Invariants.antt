@@ -1,6 +1,6 @@
 use Rattle.goblin_base.specs.Fields.{field}
 use Rattle.goblin_c.proofs.Common.{drop, map, ◌*◌, ◌+◌, ◌≡◌, ◌≤◌}
-use Rattle.goblin_c.specs.{Bytes.is_width, Write.misfit_from}
+use Rattle.goblin_c.specs.{Numbers.is_width, Puts.misfit_from}
 use Rattle.std.specs.Prelude.{All, IsTrue}
 use Rattle.goblin_c.proofs.misfit.first_misfit.Given as goal
 

@@ -1,4 +1,5 @@
-use Rattle.goblin_c.proofs.{Common.Ok, Common.ap, Common.◌∙◌, PutLemmas.read_there}
+use Rattle.goblin_c.proofs.{Common.Ok, Common.ap, PutLemmas.read_there}
+use Rattle.goblin_c.proofs.{Common.◌∙◌}
 use Rattle.goblin_c.proofs.numbers.goblin_put_number.Goals as goal
 
 pub put_width-requires-clause-within : goal.put_width-requires-clause-within

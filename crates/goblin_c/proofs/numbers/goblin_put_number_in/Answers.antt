@@ -1,6 +1,6 @@
 use Rattle.goblin_c.proofs.Common.{None, Ok, Option, Some, ap, arith, ◌∙◌}
 use Rattle.goblin_c.proofs.PutLemmas.{in_range_there, numbers_in_ranges_are_put}
-use Rattle.goblin_c.specs.{Write.number_misfit, declared.misfit.Misfit.Misfit}
+use Rattle.goblin_c.specs.{Numbers.number_misfit, declared.misfit.Misfit.Misfit}
 use Rattle.goblin_c.proofs.numbers.goblin_put_number_in.Goals as goal
 
 pub overflow_add-place : goal.overflow_add-place

@@ -1,5 +1,6 @@
 -- The record that was found is the expected relocation (`plain_reloc_is`).
-use Rattle.goblin_c.proofs.{Common.Ok, Common.Some, Common.ap, Common.sym, Common.◌∙◌, ListLemmas.plain_reloc_is}
+use Rattle.goblin_c.proofs.{Common.Ok, Common.Some, Common.ap, Common.sym, ListLemmas.plain_reloc_is}
+use Rattle.goblin_c.proofs.{Common.◌∙◌}
 use Rattle.goblin_c.proofs.relocs.reloc_inside.Goals as goal
 
 pub returns : goal.returns

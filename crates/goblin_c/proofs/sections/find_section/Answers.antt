@@ -1,5 +1,5 @@
 use Rattle.goblin_c.proofs.Common.{YieldsList-from_first, YieldsList-from_skip, position_from_yields_List, rules, ◌∙◌}
-use Rattle.goblin_c.specs.Expected.{is_wanted}
+use Rattle.goblin_c.specs.Sections.{is_wanted}
 use Rattle.goblin_c.proofs.sections.find_section.Goals as goal
 
 pub returns-clause-value : goal.returns-clause-value

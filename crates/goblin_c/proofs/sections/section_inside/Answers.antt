@@ -1,5 +1,6 @@
 -- The record that was found is the expected section header (`section_is`).
-use Rattle.goblin_c.proofs.{Common.Ok, Common.Some, Common.ap, Common.sym, Common.◌∙◌, ListLemmas.section_is}
+use Rattle.goblin_c.proofs.{Common.Ok, Common.Some, Common.ap, Common.sym, ListLemmas.section_is}
+use Rattle.goblin_c.proofs.{Common.◌∙◌}
 use Rattle.goblin_c.proofs.sections.section_inside.Goals as goal
 
 pub returns : goal.returns

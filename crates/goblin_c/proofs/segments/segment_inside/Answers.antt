@@ -1,5 +1,6 @@
 -- The record that was found is the expected program header (`segment_is`).
-use Rattle.goblin_c.proofs.{Common.Ok, Common.Some, Common.ap, Common.sym, Common.◌∙◌, ListLemmas.segment_is}
+use Rattle.goblin_c.proofs.{Common.Ok, Common.Some, Common.ap, Common.sym, ListLemmas.segment_is}
+use Rattle.goblin_c.proofs.{Common.◌∙◌}
 use Rattle.goblin_c.proofs.segments.segment_inside.Goals as goal
 
 pub returns : goal.returns

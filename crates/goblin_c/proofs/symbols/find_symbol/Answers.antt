@@ -1,5 +1,5 @@
 use Rattle.goblin_c.proofs.Common.{YieldsList-from_first, YieldsList-from_skip, position_from_yields_List, rules, ◌∙◌}
-use Rattle.goblin_c.specs.Expected.{is_named}
+use Rattle.goblin_c.specs.Strings.{is_named}
 use Rattle.goblin_c.proofs.symbols.find_symbol.Goals as goal
 
 pub returns-clause-value : goal.returns-clause-value

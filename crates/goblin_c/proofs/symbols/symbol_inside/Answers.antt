@@ -1,6 +1,6 @@
 -- The record that was found is the expected symbol (`symbol_is`).
-use Rattle.goblin_c.proofs.ListLemmas.{symbol_is}
 use Rattle.goblin_c.proofs.Common.{Ok, Some, ap, sym, ◌∙◌}
+use Rattle.goblin_c.proofs.ListLemmas.{symbol_is}
 use Rattle.goblin_c.proofs.symbols.symbol_inside.Goals as goal
 
 pub returns : goal.returns

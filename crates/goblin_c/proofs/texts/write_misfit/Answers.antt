@@ -1,7 +1,7 @@
 -- Each part is written right after those before it (`laid-on`).
+use Rattle.goblin_c.proofs.BufferLemmas.{laid-on}
 use Rattle.std.proofs.Common.{arith, codes, ◌++◌}
 use Rattle.std.specs.Fmt.{decimal}
-use Rattle.goblin_c.proofs.BufferLemmas.{laid-on}
 use Rattle.goblin_c.proofs.texts.write_misfit.Goals as goal
 
 pub returns : goal.returns

@@ -1,11 +1,10 @@
 -- The zero byte is written after the library's text (`laid-part`), and after the number and the offset, if there are some.
-use Rattle.std.proofs.Common.{[], ap, if◌then◌else◌, length, refl, sym, ◌++◌, ◌∙◌, ◌∷◌, ◌≡◌}
 use Rattle.goblin_base.specs.Texts.{facts_of, facts_text}
-use Rattle.goblin_c.specs.FilledBuffer.{laid}
 use Rattle.goblin_c.proofs.BufferLemmas.{laid-part, long-part}
-use Rattle.goblin_c.specs.Texts.{misfit_text, with_misfit}
+use Rattle.goblin_c.proofs.texts.write_report.Goals.{else-is_misfit, then-is_misfit}
+use Rattle.goblin_c.specs.{Buffers.laid, Texts.misfit_text, Texts.with_misfit}
+use Rattle.std.proofs.Common.{[], ap, if◌then◌else◌, length, refl, sym, ◌++◌, ◌∙◌, ◌∷◌, ◌≡◌}
 use Rattle.goblin_c.proofs.texts.write_report.Goals as goal
-use Rattle.goblin_c.proofs.texts.write_report.Goals.{then-is_misfit, else-is_misfit}
 
 pub returns : goal.returns
 returns c =
