@@ -90,7 +90,7 @@ dynamic_strings_expected bytes h range = do
 
 -- an entry of the dynamic section is put at an index of those that lie in the range whole
 abbrev pub dyn_of : GoblinDyn → Dyn
-dyn_of d = record { d_tag = d.d_tag; d_val = d.d_val }
+dyn_of own = record { d_tag = own.d_tag; d_val = own.d_val }
 
 abbrev pub dyn_layout : GoblinHeader → Layout Dyn
 dyn_layout h = entry_layout (ctx_of h).container (ctx_of h).le

@@ -70,21 +70,21 @@ abbrev pub ident_of : List ℕ → GoblinHeader → List ℕ
 ident_of bytes h = magic ++ h.ei_class ∷ h.ei_data ∷ h.ei_version ∷ h.ei_osabi ∷ h.ei_abiversion ∷ take 7 (drop 9 bytes)
 
 abbrev pub header_of : List ℕ → GoblinHeader → Header
-header_of bytes h = record {
-  e_ident = ident_of bytes h;
-  e_type = h.e_type;
-  e_machine = h.e_machine;
-  e_version = h.e_version;
-  e_entry = h.e_entry;
-  e_phoff = h.e_phoff;
-  e_shoff = h.e_shoff;
-  e_flags = h.e_flags;
-  e_ehsize = h.e_ehsize;
-  e_phentsize = h.e_phentsize;
-  e_phnum = h.e_phnum;
-  e_shentsize = h.e_shentsize;
-  e_shnum = h.e_shnum;
-  e_shstrndx = h.e_shstrndx;
+header_of bytes own = record {
+  e_ident = ident_of bytes own;
+  e_type = own.e_type;
+  e_machine = own.e_machine;
+  e_version = own.e_version;
+  e_entry = own.e_entry;
+  e_phoff = own.e_phoff;
+  e_shoff = own.e_shoff;
+  e_flags = own.e_flags;
+  e_ehsize = own.e_ehsize;
+  e_phentsize = own.e_phentsize;
+  e_phnum = own.e_phnum;
+  e_shentsize = own.e_shentsize;
+  e_shnum = own.e_shnum;
+  e_shstrndx = own.e_shstrndx;
 }
 
 -- the header is put at the start of the file, in the class and the byte order that it names: first the class is

@@ -42,11 +42,11 @@ reloc_count_expected bytes h range is_rela = count_of (relocs_converted bytes h 
 
 -- a relocation of a table with addends or without
 abbrev pub reloc_of : Bool → GoblinReloc → Reloc
-reloc_of is_rela r = record {
-  r_offset = r.r_offset;
-  r_addend = if is_rela then Some r.r_addend else None;
-  r_sym = r.r_sym;
-  r_type = r.r_type;
+reloc_of is_rela own = record {
+  r_offset = own.r_offset;
+  r_addend = if is_rela then Some own.r_addend else None;
+  r_sym = own.r_sym;
+  r_type = own.r_type;
 }
 
 abbrev pub reloc_ctx : GoblinHeader → Bool → RelocCtx

@@ -85,17 +85,17 @@ abbrev pub section_range_expected : List ℕ → GoblinSection → Result (Optio
 section_range_expected bytes s = if section_has_bytes s then range_expected bytes s.file else Ok None
 
 abbrev pub section_of : GoblinSection → SectionHeader
-section_of s = record {
-  sh_name = s.sh_name;
-  sh_type = s.sh_type;
-  sh_flags = s.sh_flags;
-  sh_addr = s.sh_addr;
-  sh_offset = s.file.offset;
-  sh_size = s.file.size;
-  sh_link = s.sh_link;
-  sh_info = s.sh_info;
-  sh_addralign = s.sh_addralign;
-  sh_entsize = s.sh_entsize;
+section_of own = record {
+  sh_name = own.sh_name;
+  sh_type = own.sh_type;
+  sh_flags = own.sh_flags;
+  sh_addr = own.sh_addr;
+  sh_offset = own.file.offset;
+  sh_size = own.file.size;
+  sh_link = own.sh_link;
+  sh_info = own.sh_info;
+  sh_addralign = own.sh_addralign;
+  sh_entsize = own.sh_entsize;
 }
 
 -- how records of a file lie in it

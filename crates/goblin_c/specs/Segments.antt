@@ -63,15 +63,15 @@ address_to_offset_expected bytes h address = do
   in_file bytes (loaded_from address segments)
 
 abbrev pub segment_of : GoblinSegment → ProgramHeader
-segment_of s = record {
-  p_type = s.p_type;
-  p_flags = s.p_flags;
-  p_offset = s.file.offset;
-  p_vaddr = s.p_vaddr;
-  p_paddr = s.p_paddr;
-  p_filesz = s.file.size;
-  p_memsz = s.p_memsz;
-  p_align = s.p_align;
+segment_of own = record {
+  p_type = own.p_type;
+  p_flags = own.p_flags;
+  p_offset = own.file.offset;
+  p_vaddr = own.p_vaddr;
+  p_paddr = own.p_paddr;
+  p_filesz = own.file.size;
+  p_memsz = own.p_memsz;
+  p_align = own.p_align;
 }
 
 abbrev pub segment_layout : GoblinHeader → Layout ProgramHeader

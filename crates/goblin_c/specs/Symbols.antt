@@ -57,13 +57,13 @@ symbol_by_address_expected bytes h range address = do
   Ok (symbol_at address sections h.e_type symbols)
 
 abbrev pub symbol_of : GoblinSymbol → Sym
-symbol_of s = record {
-  st_name = s.st_name;
-  st_info = s.st_info;
-  st_other = s.st_other;
-  st_shndx = s.st_shndx;
-  st_value = s.st_value;
-  st_size = s.st_size;
+symbol_of own = record {
+  st_name = own.st_name;
+  st_info = own.st_info;
+  st_other = own.st_other;
+  st_shndx = own.st_shndx;
+  st_value = own.st_value;
+  st_size = own.st_size;
 }
 
 abbrev pub symbol_layout : GoblinHeader → Layout Sym

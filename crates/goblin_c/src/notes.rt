@@ -113,7 +113,7 @@ fn store_any_note(
     ensures { Stores (note_expected file.now.bytes.now file.now.header range.now alignment offset)
         note.old why.old result note.new why.new }
 {
-    if offset >= range.offset && offset - range.offset >= range.size {
+    if range.ends_before(offset) {
         return END;
     }
     let ctx = file.header.ctx();
@@ -155,7 +155,7 @@ fn store_any_text_note(
     ensures { Stores (note_utf8_expected file.now.bytes.now file.now.header range.now alignment offset)
         note.old why.old result note.new why.new }
 {
-    if offset >= range.offset && offset - range.offset >= range.size {
+    if range.ends_before(offset) {
         return END;
     }
     let ctx = (alignment as usize, file.header.ctx());
@@ -231,7 +231,7 @@ pub fn whole_note(
 ) -> result::Result<Option<GoblinNote>, GoblinRefusal>
     ensures { result ≡ whole_note file.now.bytes.now file.now.header range.now alignment offset }
 {
-    if offset >= range.offset && offset - range.offset >= range.size {
+    if range.ends_before(offset) {
         return Ok(None);
     }
     let part = bytes_from(file.bytes, range, offset);
@@ -328,7 +328,7 @@ pub fn usual_note(
     if header.ei_data == ELFDATA2MSB || offset >= bytes.len() as u64 {
         return None;
     }
-    if offset >= range.offset && offset - range.offset >= range.size {
+    if range.ends_before(offset) {
         return None;
     }
     let part = &bytes[offset as usize..];

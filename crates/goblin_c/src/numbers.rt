@@ -6,7 +6,7 @@ ghost use Rattle.goblin_base.specs.Place.{with_number};
 ghost use Rattle.goblin_c.specs.Numbers.{NumberFits, cut_range, is_width, number_expected, number_in_expected, number_in_put_expected, number_misfit, number_put_expected, range_expected};
 ghost use Rattle.goblin_c.specs.Puts.{Puts};
 ghost use Rattle.goblin_c.specs.Results.{Returns, Stores, refused_at};
-ghost use Rattle.std.specs.Prelude.{IsOk, IsTrue, length, min, ◌+◌, ◌-◌, ◌^◌, ◌≡◌, ◌≤◌};
+ghost use Rattle.std.specs.Prelude.{IsOk, IsTrue, length, min, ◌+◌, ◌-◌, ◌^◌, ◌≡◌, ◌≤◌, nat_le};
 
 use crate::header::{GoblinFile, GoblinHeader};
 use crate::misfit::{Misfit, is_width, number_fits};
@@ -32,6 +32,14 @@ impl GoblinRange {
         ensures { result ≡ record { offset = offset; size = size } }
     {
         Self { offset, size }
+    }
+
+    /// Reports whether an offset of the file is past all bytes of the range.
+    #[inline(always)]
+    pub fn ends_before(&self, offset: u64) -> bool
+        ensures { result ≡ nat_le (self.now.offset + self.now.size) offset }
+    {
+        offset >= self.offset && offset - self.offset >= self.size
     }
 }
 

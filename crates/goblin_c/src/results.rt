@@ -140,11 +140,7 @@ pub fn store_converted<T: Copy>(
     ensures { Stored answer place.old why.old result place.new why.new }
 {
     match answer {
-        Ok(Some(item)) => {
-            *place = item;
-            OK
-        }
-        Ok(None) => END,
+        Ok(item) => store(Ok(item), place, why),
         Err(refusal) => {
             *why = refusal;
             why.kind

@@ -104,12 +104,12 @@ fn write_report(why: &GoblinRefusal, report: &Report, buffer: &mut [u8]) -> u64
     requires item { length report.now.item.now ≤ 15 }
     ensures { WritesText (with_misfit why.now (facts_text (facts_of report.now))) buffer.old result buffer.new }
 {
-    let mut len = write_parts(report, buffer);
+    let mut end = write_parts(report, buffer);
     if is_misfit(why) {
-        len = write_misfit(why, len, buffer);
+        end = write_misfit(why, end, buffer);
     }
-    write_after(b"\0", len, buffer);
-    len
+    write_after(b"\0", end, buffer);
+    end
 }
 
 // Returns a refusal of a kind that C has, as the library's kind, numbers and item.
