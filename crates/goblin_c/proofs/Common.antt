@@ -4,7 +4,7 @@ pub use Rattle.goblin_base.specs.Texts.{facts_of}
 pub use Rattle.goblin_c.specs.Buffers.{laid}
 pub use Rattle.goblin_c.specs.Common.{Ctx, GoblinHeader, GoblinRange, Refusal, refusal_of, refuse_as, ◌>>=◌}
 pub use Rattle.goblin_c.specs.Dynamic.{entries_from}
-pub use Rattle.goblin_c.specs.Header.{ctx_of}
+pub use Rattle.goblin_c.specs.File.{ctx_of}
 pub use Rattle.goblin_c.specs.Items.{each_converted, first_item, item_at}
 pub use Rattle.goblin_c.specs.Results.{RefusalAt, refusal_at, refused_at}
 pub use Rattle.goblin_c.specs.Strings.{closed_len, string_expected}

@@ -25,8 +25,8 @@ use Rattle.goblin_c.proofs.Common.{slice_get_within, subst, suc, sym, take, true
 use Rattle.goblin_c.proofs.Common.{◌>>=◌, ◌∙◌, ◌∷◌}
 use Rattle.goblin_c.specs.Common.{GoblinReloc, GoblinSection, GoblinSymbol, Header, Layout, ProgramHeader, Refused}
 use Rattle.goblin_c.specs.Common.{Reloc, SectionHeader, Sym, program_headers_from, segment_count, sym_layout, sym_size}
-use Rattle.goblin_c.specs.Header.{ContextIsTheHeaders, HasHeader, NamesContext, WholeHeaderIsTheLibrarys}
-use Rattle.goblin_c.specs.Header.{header_converted, is_mips64el, whole_header}
+use Rattle.goblin_c.specs.File.{ContextIsTheHeaders, HasHeader, NamesContext, WholeHeaderIsTheLibrarys}
+use Rattle.goblin_c.specs.File.{header_converted, is_mips64el, whole_header}
 use Rattle.goblin_c.specs.Items.{FindsFrom, FindsItemFrom, GivenFrom, RefusesAll, ReturnsCount, ReturnsEach, count_of}
 use Rattle.goblin_c.specs.Laws.{FilledByIndex, ItemsAreWhole, KeepsWhatIsRead, WholeHeaderKeeps}
 use Rattle.goblin_c.specs.Relocs.{RelocFits, RelocsByIndex, reloc_converted, reloc_ctx, reloc_expected, reloc_layout}

@@ -17,7 +17,7 @@ use Rattle.goblin_c.proofs.ListLemmas.{Read, entries, item_read, reloc_same, rel
 use Rattle.goblin_c.proofs.ListLemmas.{section_same, section_whole, sections, segments, symbol_same, symbol_whole}
 use Rattle.goblin_c.proofs.{ListLemmas.symbols, PlaceLemmas.numbers_lie_in_range}
 use Rattle.goblin_c.specs.Dynamic.{DynFits, dyn_layout, dyn_of, dyn_put_expected, entry_expected}
-use Rattle.goblin_c.specs.Header.{FitsClass, HeadersAreRead, header_expected, header_of, named_ctx}
+use Rattle.goblin_c.specs.File.{FitsClass, HeadersAreRead, header_expected, header_of, named_ctx}
 use Rattle.goblin_c.specs.Laws.{CountsStay, PutsAreRead, PutsChangeOne, ReadsArePut, UnfitAreRefused}
 use Rattle.goblin_c.specs.Numbers.{NumbersArePut, NumbersInRangesArePut, is_width, number_expected, number_in_expected}
 use Rattle.goblin_c.specs.Puts.{ChangesOnly, put_at, put_if_there, put_unless, with_bytes}

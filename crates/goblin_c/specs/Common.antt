@@ -24,7 +24,7 @@ pub use Rattle.goblin_base.specs.declared.error.Error.{Error}
 pub use Rattle.goblin_base.specs.declared.error.Fault.TheVariants.{Data, DataType, IntegerFit, InvalidClass}
 pub use Rattle.goblin_base.specs.declared.error.Fault.TheVariants.{InvalidEndianness}
 pub use Rattle.goblin_c.specs.declared.dynamic.GoblinDyn.{GoblinDyn}
-pub use Rattle.goblin_c.specs.declared.header.GoblinHeader.{GoblinHeader}
+pub use Rattle.goblin_c.specs.declared.file.GoblinHeader.{GoblinHeader}
 pub use Rattle.goblin_c.specs.declared.misfit.Misfit.{Misfit}
 pub use Rattle.goblin_c.specs.declared.notes.GoblinNote.{GoblinNote}
 pub use Rattle.goblin_c.specs.declared.numbers.GoblinRange.{GoblinRange}

@@ -1,7 +1,7 @@
 -- The dynamic section: its range, its entries, the value of a tag, the range of its strings, and as an entry is put.
 use Rattle.goblin_c.specs.Common.{Dyn, GoblinDyn, GoblinHeader, GoblinRange, Layout, Misfit, ProgramHeader}
 use Rattle.goblin_c.specs.Common.{SectionHeader, option_map, refusal_of, refuse_as, ◌>>=◌}
-use Rattle.goblin_c.specs.{Header.ctx_of, Items.count_of, Items.first_item, Items.item_at, Numbers.LiesIn}
+use Rattle.goblin_c.specs.{File.ctx_of, Items.count_of, Items.first_item, Items.item_at, Numbers.LiesIn}
 use Rattle.goblin_c.specs.{Numbers.range_expected, Puts.Put, Puts.misfit_from, Puts.put_at, Puts.put_if_there}
 use Rattle.goblin_c.specs.{Results.RefusalAt, Results.refused_at, Sections.sections_expected}
 use Rattle.goblin_c.specs.{Segments.segments_expected}

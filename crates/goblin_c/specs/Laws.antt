@@ -13,7 +13,7 @@ use Rattle.goblin_c.specs.Segments.{SegmentFits, segment_converted, segment_coun
 use Rattle.goblin_c.specs.Segments.{segment_layout, segment_of, segment_put_expected, segment_range_expected}
 use Rattle.goblin_c.specs.Symbols.{SymbolFits, symbol_by_name_expected, symbol_converted, symbol_count_expected}
 use Rattle.goblin_c.specs.Symbols.{symbol_expected, symbol_layout, symbol_of, symbol_put_expected, symbols_expected}
-use Rattle.goblin_c.specs.{Header.whole_header, Items.GivenFrom, Items.first_item, Numbers.number_put_expected}
+use Rattle.goblin_c.specs.{File.whole_header, Items.GivenFrom, Items.first_item, Numbers.number_put_expected}
 use Rattle.goblin_c.specs.{Puts.ChangesOnly, Puts.IsUnfit, Results.RefusalAt, Segments.segments_from_expected}
 use Rattle.goblin_c.specs.{Strings.string_expected, Strings.strings_expected, Symbols.symbols_from_expected}
 use Rattle.std.specs.Prelude.{Bool, IsOk, List, None, Ok, Option, Result, Some, length, slice_get, true, ℕ, ◌*◌, ◌+◌}

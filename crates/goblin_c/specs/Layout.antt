@@ -1,7 +1,7 @@
 -- One of each struct that calls share with C, with marks by which C can check the place of each field.
 use Rattle.goblin.specs.{Header.header_of_values, ProgramHeader.program_header_of_values}
 use Rattle.goblin.specs.{SectionHeader.section_header_of_values, Sym.sym_of_values}
-use Rattle.goblin_c.specs.{Common.GoblinRange, Dynamic.dyn_converted, Header.header_converted, Notes.note_converted}
+use Rattle.goblin_c.specs.{Common.GoblinRange, Dynamic.dyn_converted, File.header_converted, Notes.note_converted}
 use Rattle.goblin_c.specs.{Sections.section_converted, Segments.segment_converted, Symbols.symbol_converted}
 use Rattle.goblin_c.specs.{declared.layout.GoblinLayout.GoblinLayout}
 use Rattle.std.specs.Prelude.{[], pos, ℕ, ◌*◌, ◌+◌, ◌-◌, ◌/◌, ◌^◌, ◌∷◌}

@@ -2,7 +2,7 @@ pub mod Buffers
 pub mod BuildId
 pub mod Common
 pub mod Dynamic
-pub mod Header
+pub mod File
 pub mod Items
 pub mod Laws
 pub mod Layout

@@ -8,7 +8,7 @@ use Rattle.goblin_c.specs.Common.{Ctx, GoblinHeader, GoblinNote, GoblinRange, Go
 use Rattle.goblin_c.specs.Common.{Refusal, is_utf8, places_at, refusal_of, refuse_as, whole_places, ◌>>=◌}
 use Rattle.goblin_c.specs.Results.{RefusalAt, refusal_converted, refused_at}
 use Rattle.goblin_c.specs.declared.results.TheConstants.{NOTE_DESC, NOTE_HEADER, NOTE_NAME}
-use Rattle.goblin_c.specs.{Header.ctx_of, Numbers.LiesIn, Numbers.bytes_in}
+use Rattle.goblin_c.specs.{File.ctx_of, Numbers.LiesIn, Numbers.bytes_in}
 use Rattle.std.specs.Prelude.{Err, List, None, Ok, Option, Result, Some, [], drop, if◌then◌else◌, length, nat_le, suc}
 use Rattle.std.specs.Prelude.{take, true, zero, ℕ, ◌+◌, ◌-◌, ◌∷◌, ◌≡◌, ◌≤◌}
 use Rattle.goblin.specs.declared.elf.note.NotePart.TheVariants as part

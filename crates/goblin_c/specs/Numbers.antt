@@ -3,7 +3,7 @@ use Rattle.goblin_base.specs.Place.{with_number}
 use Rattle.goblin_c.specs.Common.{GoblinHeader, GoblinRange, IsBytes, Misfit, misplaced, number_at, refuse_as, room_of}
 use Rattle.goblin_c.specs.Common.{◌>>=◌}
 use Rattle.goblin_c.specs.Puts.{ChangesOnly, Put, put_if_there, put_unless}
-use Rattle.goblin_c.specs.{Header.ctx_of, Results.RefusalAt, Results.refused_at}
+use Rattle.goblin_c.specs.{File.ctx_of, Results.RefusalAt, Results.refused_at}
 use Rattle.std.specs.Prelude.{Bool, Err, List, None, Ok, Option, Result, Some, drop, if◌then◌else◌, length, min, take}
 use Rattle.std.specs.Prelude.{ℕ, ◌+◌, ◌-◌, ◌<◌, ◌==◌, ◌^◌, ◌||◌, ◌≡◌, ◌≤◌, ◌⊎◌}
 

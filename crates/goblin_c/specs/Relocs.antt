@@ -4,7 +4,7 @@ use Rattle.goblin.specs.{declared.elf.reloc.RelocCtx.RelocCtx}
 use Rattle.goblin_base.specs.{Signed.complement, declared.container.Container.Container}
 use Rattle.goblin_c.specs.Common.{Ctx, GoblinHeader, GoblinRange, GoblinReloc, Header, Layout, Misfit, Reloc}
 use Rattle.goblin_c.specs.Common.{is_of_mips64el, refusal_of, refuse_as, relocs_of, word_size}
-use Rattle.goblin_c.specs.Header.{HasHeader, NamesContext, ctx_of, header_converted, is_mips64el}
+use Rattle.goblin_c.specs.File.{HasHeader, NamesContext, ctx_of, header_converted, is_mips64el}
 use Rattle.goblin_c.specs.Items.{ReturnsCount, ReturnsEach, count_of, each_converted, item_at, items_from}
 use Rattle.goblin_c.specs.{Puts.Put, Puts.put_at, Puts.put_if_there, Results.RefusalAt, Results.refused_at}
 use Rattle.goblin_c.specs.{declared.results.TheConstants.ADDEND}

@@ -2,7 +2,7 @@
 use Rattle.goblin.specs.SectionHeader.{as32 as section_as32, section_header32, section_header_layout}
 use Rattle.goblin_c.specs.Common.{Ctx, GoblinHeader, GoblinRange, GoblinSection, Header, IsBytes, Layout, Misfit}
 use Rattle.goblin_c.specs.Common.{SectionHeader, is_nobits, is_table, linked, option_map, section_headers_of, ◌>>=◌}
-use Rattle.goblin_c.specs.Header.{HasHeader, NamesContext, ctx_of, header_converted, names_index_of}
+use Rattle.goblin_c.specs.File.{HasHeader, NamesContext, ctx_of, header_converted, names_index_of}
 use Rattle.goblin_c.specs.Items.{FindsItemFrom, RefusesAll, ReturnsCount, ReturnsEach, count_of, each_converted}
 use Rattle.goblin_c.specs.Strings.{IsNameAt, RefusesInTurn, is_named, string_expected, strings_expected}
 use Rattle.goblin_c.specs.{Items.first_item, Items.item_at, Items.items_from, Numbers.range_expected, Puts.Put}

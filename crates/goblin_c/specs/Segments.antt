@@ -3,7 +3,7 @@ use Rattle.goblin.specs.ProgramHeader.{as32 as segment_as32, program_header32, p
 use Rattle.goblin_c.specs.Common.{Ctx, GoblinHeader, GoblinRange, GoblinSegment, Header, Layout, Misfit, ProgramHeader}
 use Rattle.goblin_c.specs.Common.{loaded_from, misplaced, program_headers_from, refusal_of, refuse_as, room_of}
 use Rattle.goblin_c.specs.Common.{segment_count, ◌>>=◌}
-use Rattle.goblin_c.specs.Header.{HasHeader, NamesContext, ctx_of, header_converted}
+use Rattle.goblin_c.specs.File.{HasHeader, NamesContext, ctx_of, header_converted}
 use Rattle.goblin_c.specs.Items.{RefusesAll, ReturnsCount, ReturnsEach, count_of, each_converted, item_at, items_from}
 use Rattle.goblin_c.specs.{Numbers.IsSlice, Numbers.range_expected, Puts.Put, Puts.misfit_from, Puts.put_at}
 use Rattle.goblin_c.specs.{Puts.put_if_there, Results.RefusalAt, Results.refused_at}

@@ -3,7 +3,7 @@ use Rattle.goblin.specs.Addresses.{symbol_at}
 use Rattle.goblin.specs.Sym.{as32 as symbol_as32, sym32}
 use Rattle.goblin_c.specs.Common.{Ctx, GoblinHeader, GoblinRange, GoblinSymbol, Header, IsBytes, Layout, Misfit, Sym}
 use Rattle.goblin_c.specs.Common.{refusal_of, refuse_as, sym_layout, sym_size, symtab_of, ◌>>=◌}
-use Rattle.goblin_c.specs.Header.{HasHeader, NamesContext, ctx_of, header_converted}
+use Rattle.goblin_c.specs.File.{HasHeader, NamesContext, ctx_of, header_converted}
 use Rattle.goblin_c.specs.Items.{FindsItemFrom, ReturnsCount, ReturnsEach, count_of, each_converted, first_item}
 use Rattle.goblin_c.specs.Strings.{IsNameAt, RefusesInTurn, is_named, string_expected, strings_expected}
 use Rattle.goblin_c.specs.{Items.item_at, Items.items_from, Puts.Put, Puts.misfit_from, Puts.put_at, Puts.put_if_there}

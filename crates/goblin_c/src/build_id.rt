@@ -3,7 +3,7 @@ ghost use Rattle.goblin_c.specs.BuildId.{Seek, build_id_expected, holders_in, id
 ghost use Rattle.goblin_c.specs.Results.{Stored};
 ghost use Rattle.std.specs.Prelude.{Some, length, slice_get, take, ◌<◌, ◌≡◌, ◌≤◌};
 
-use crate::header::GoblinFile;
+use crate::file::GoblinFile;
 use crate::notes::{GoblinNote, whole_note};
 use crate::numbers::GoblinRange;
 use crate::results::{GoblinRefusal, convert_refusal, store_converted};

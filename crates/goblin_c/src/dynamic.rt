@@ -7,7 +7,7 @@ ghost use Rattle.goblin_c.specs.Results.{Fills, Returns, Stores, StoresBoth};
 ghost use Rattle.goblin_dynamic.specs.Dyn.{entry_layout};
 ghost use Rattle.std.specs.Prelude.{IfSome, IsTrue, drop, length, min, position, slice_get, ◌+◌, ◌<◌, ◌==◌, ◌^◌, ◌↔◌, ◌≡◌, ◌≤◌};
 
-use crate::header::{GoblinFile, GoblinHeader};
+use crate::file::{GoblinFile, GoblinHeader};
 use crate::misfit::{Misfit, first_misfit};
 use crate::numbers::{GoblinRange, fits};
 use crate::puts::put_found;

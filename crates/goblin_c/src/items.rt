@@ -1,14 +1,14 @@
 //! Lists whose items are converted for C: how many there are, one at an index, and many at once, into a
 //! buffer of the caller's; and records that lie in the file, which are read at once.
 ghost use Rattle.goblin_c.specs.Buffers.{laid};
-ghost use Rattle.goblin_c.specs.Header.{ctx_of};
+ghost use Rattle.goblin_c.specs.File.{ctx_of};
 ghost use Rattle.goblin_c.specs.Items.{count_of, item_at, items_from};
 ghost use Rattle.goblin_c.specs.Results.{Fills, Returns, Stores, converted_list};
 ghost use Rattle.std.specs.Prelude.{IfSome, IsTrue, List, drop, length, min, slice_get, take, ◌*◌, ◌+◌, ◌-◌, ◌<◌, ◌^◌, ◌≡◌, ◌≤◌};
 ghost use Rattle.goblin_base.specs.declared.container.Container.TheVariants as class;
 ghost use Rattle.goblin_base.specs.declared.container.Endian.TheVariants as endian;
 
-use crate::header::GoblinHeader;
+use crate::file::GoblinHeader;
 use crate::results::{END, GoblinRefusal, OK, Result, refuse, store};
 use goblin::elf::header::{ELFCLASS64, ELFDATA2MSB};
 use goblin_base::laid_out::LaidOut;

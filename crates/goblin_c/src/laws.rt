@@ -1,7 +1,7 @@
 //! Laws of the calls: what they store is what the library reads, and what they put is read again.
 ghost use Rattle.goblin_c.specs.Buffers.{BufferIsFilled, TextIsClosed};
 ghost use Rattle.goblin_c.specs.Dynamic.{DynamicLiesInFile, EntriesAreCounted, EntriesAreListed, ValueIsTheFirst};
-ghost use Rattle.goblin_c.specs.Header.{ContextIsTheHeaders, HeadersAreRead, WholeHeaderIsTheLibrarys};
+ghost use Rattle.goblin_c.specs.File.{ContextIsTheHeaders, HeadersAreRead, WholeHeaderIsTheLibrarys};
 ghost use Rattle.goblin_c.specs.Laws.{BytesAreFound, BytesLieInFile, CountsStay, EmptyHaveNoBytes, FilledByIndex, ItemsAreWhole, PutsAreRead, PutsChangeOne, ReadsArePut, TextIsFound, UnfitAreRefused, WholeHeaderKeeps};
 ghost use Rattle.goblin_c.specs.Notes.{NotesAreItems, NotesAreText, NotesInARow, NotesLieInFile, NotesRefuseThere, PartsAreNumbered, WholeNotesAreNotes};
 ghost use Rattle.goblin_c.specs.Numbers.{NumbersAreFound, NumbersArePut, NumbersInRangesArePut, NumbersLieInRange, PartsLieInFile};

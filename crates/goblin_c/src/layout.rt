@@ -3,7 +3,7 @@ ghost use Rattle.goblin_c.specs.Layout.{each_byte, marked, range_marked};
 ghost use Rattle.std.specs.Prelude.{if◌then◌else◌, nat_lt, ◌<◌, ◌==◌, ◌^◌, ◌≡◌};
 
 use crate::dynamic::GoblinDyn;
-use crate::header::{GoblinFile, GoblinHeader};
+use crate::file::{GoblinFile, GoblinHeader};
 use crate::notes::GoblinNote;
 use crate::numbers::GoblinRange;
 use crate::relocs::GoblinReloc;

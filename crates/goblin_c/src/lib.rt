@@ -6,7 +6,7 @@ ghost use Rattle.std.specs.Prelude.{◌≡◌};
 
 mod build_id;
 mod dynamic;
-mod header;
+mod file;
 mod items;
 mod laws;
 mod layout;
@@ -30,7 +30,7 @@ pub use dynamic::{
     goblin_dynamic, goblin_dynamic_count, goblin_dynamic_entries, goblin_dynamic_strings,
     goblin_dynamic_value, goblin_put_dynamic_entry,
 };
-pub use header::{goblin_file, goblin_put_header, goblin_whole_header};
+pub use file::{goblin_file, goblin_put_header, goblin_whole_header};
 pub use layout::goblin_layout;
 pub use names::{
     goblin_bind_to_str, goblin_class_to_str, goblin_et_to_str, goblin_machine_to_str,

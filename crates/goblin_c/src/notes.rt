@@ -9,7 +9,7 @@ ghost use Rattle.std.specs.Prelude.{IfOk, IfSome, IsAscii, IsTrue, Ok, Some, len
 ghost use Rattle.std.specs.Str.{IsAscii};
 ghost use Rattle.goblin_base.specs.declared.container.Endian.TheVariants as endian;
 
-use crate::header::{GoblinFile, GoblinHeader};
+use crate::file::{GoblinFile, GoblinHeader};
 use crate::numbers::{GoblinRange, fits};
 use crate::results::{
     END, GoblinRefusal, NOTE_DESC, NOTE_HEADER, NOTE_NAME, OK, Refused, Result, convert_refusal,

@@ -8,7 +8,7 @@ ghost use Rattle.goblin_c.specs.Puts.{Puts};
 ghost use Rattle.goblin_c.specs.Results.{Returns, Stores, refused_at};
 ghost use Rattle.std.specs.Prelude.{IsOk, IsTrue, length, min, ◌+◌, ◌-◌, ◌^◌, ◌≡◌, ◌≤◌, nat_le};
 
-use crate::header::{GoblinFile, GoblinHeader};
+use crate::file::{GoblinFile, GoblinHeader};
 use crate::misfit::{Misfit, is_width, number_fits};
 use crate::results::{END, GoblinRefusal, OK, Refused, Result, refuse, refused_at, store};
 use goblin::container::Endian;

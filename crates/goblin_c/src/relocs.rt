@@ -1,12 +1,12 @@
 //! Relocations: one, many, how many, and how one is put.
-ghost use Rattle.goblin_c.specs.Header.{ctx_of};
+ghost use Rattle.goblin_c.specs.File.{ctx_of};
 ghost use Rattle.goblin_c.specs.Puts.{Puts};
 ghost use Rattle.goblin_c.specs.Relocs.{RelocFits, reloc_converted, reloc_count_expected, reloc_ctx, reloc_expected, reloc_misfit, reloc_of, reloc_put_expected, relocs_expected, relocs_from_expected};
 ghost use Rattle.goblin_c.specs.Results.{Fills, Returns, Stores};
 ghost use Rattle.std.specs.Prelude.{IfSome, IsTrue, Ok, Some, false, map, pos, ◌-◌, ◌↔◌, ◌≡◌};
 ghost use Rattle.goblin_base.specs.declared.container.Container.TheVariants as class;
 
-use crate::header::{GoblinFile, GoblinHeader};
+use crate::file::{GoblinFile, GoblinHeader};
 use crate::items::{Listed, count_of, is_usual, item_at, record_in, store_from, store_item};
 use crate::misfit::Misfit;
 use crate::numbers::{GoblinRange, fits};

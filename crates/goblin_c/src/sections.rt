@@ -5,7 +5,7 @@ ghost use Rattle.goblin_c.specs.Results.{Fills, Returns, Stores, StoresBoth};
 ghost use Rattle.goblin_c.specs.Sections.{SectionFits, is_wanted, names_section_expected, section_by_name_expected, section_by_type_expected, section_converted, section_count_expected, section_expected, section_misfit, section_of, section_put_expected, section_range_expected, sections_expected, sections_from_expected, table_at, table_expected};
 ghost use Rattle.std.specs.Prelude.{IfSome, Ok, Some, drop, map, position, ◌+◌, ◌-◌, ◌<◌, ◌^◌, ◌≡◌};
 
-use crate::header::{GoblinFile, GoblinHeader};
+use crate::file::{GoblinFile, GoblinHeader};
 use crate::items::{Listed, count_of, item_at, record_in, store_from, store_item};
 use crate::misfit::{Misfit, first_misfit};
 use crate::numbers::{GoblinRange, fits, range_in};

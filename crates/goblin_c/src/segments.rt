@@ -4,7 +4,7 @@ ghost use Rattle.goblin_c.specs.Results.{Fills, Returns, Stores};
 ghost use Rattle.goblin_c.specs.Segments.{SegmentFits, address_to_offset_expected, segment_converted, segment_count_expected, segment_expected, segment_misfit, segment_of, segment_put_expected, segment_range_expected, segments_expected, segments_from_expected};
 ghost use Rattle.std.specs.Prelude.{IfSome, Ok, Some, map, ◌-◌, ◌≡◌};
 
-use crate::header::{GoblinFile, GoblinHeader};
+use crate::file::{GoblinFile, GoblinHeader};
 use crate::items::{Listed, count_of, item_at, record_in, store_from, store_item};
 use crate::misfit::{Misfit, first_misfit};
 use crate::numbers::{GoblinRange, fits, range_in};

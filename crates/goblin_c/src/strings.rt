@@ -4,7 +4,7 @@ ghost use Rattle.goblin_c.specs.Results.{FillsEach, Returns, Stores};
 ghost use Rattle.goblin_c.specs.Strings.{IsCString, closed_len, closed_strings_expected, string_closed_expected, string_expected, string_is_expected, string_starts_expected, string_utf8_expected, strings_expected};
 ghost use Rattle.std.specs.Prelude.{IfOk, IfSome, IsErr, MatchOption, Ok, drop, length, map, take, ◌+◌, ◌≡◌, ◌≤◌};
 
-use crate::header::GoblinFile;
+use crate::file::GoblinFile;
 use crate::numbers::GoblinRange;
 use crate::results::{END, GoblinRefusal, OK, Result, refuse, refused_at, store};
 use goblin::options::ParseMode;

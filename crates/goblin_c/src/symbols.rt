@@ -1,5 +1,5 @@
 //! Symbols: one, many, how many, by name or address, and how one is put.
-ghost use Rattle.goblin_c.specs.Header.{ctx_of};
+ghost use Rattle.goblin_c.specs.File.{ctx_of};
 ghost use Rattle.goblin_c.specs.Items.{found_item};
 ghost use Rattle.goblin_c.specs.Puts.{Puts};
 ghost use Rattle.goblin_c.specs.Results.{Fills, Returns, Stores, StoresBoth};
@@ -7,7 +7,7 @@ ghost use Rattle.goblin_c.specs.Strings.{is_named};
 ghost use Rattle.goblin_c.specs.Symbols.{SymbolFits, symbol_by_address_expected, symbol_by_name_expected, symbol_converted, symbol_count_expected, symbol_expected, symbol_misfit, symbol_of, symbol_put_expected, symbols_expected, symbols_from_expected};
 ghost use Rattle.std.specs.Prelude.{IfSome, Ok, Some, drop, map, position, ◌+◌, ◌-◌, ◌<◌, ◌^◌, ◌≡◌};
 
-use crate::header::{GoblinFile, GoblinHeader};
+use crate::file::{GoblinFile, GoblinHeader};
 use crate::items::{Listed, count_of, is_usual, item_at, record_in, store_from, store_item};
 use crate::misfit::{Misfit, first_misfit};
 use crate::numbers::{GoblinRange, fits};

@@ -1,6 +1,6 @@
 //! Each export on a small little endian file of the 32-bit class. It consists of its header, the strings
 //! "" and "f", two symbols, and three section headers: the null one, the strings' and the symbols'.
-use crate::header::{GoblinFile, GoblinHeader};
+use crate::file::{GoblinFile, GoblinHeader};
 use crate::layout::marked_layout;
 use crate::notes::GoblinNote;
 use crate::numbers::GoblinRange;
@@ -8,6 +8,7 @@ use crate::relocs::GoblinReloc;
 use crate::results::GoblinRefusal;
 use crate::*;
 
+mod build_id;
 mod bytes;
 mod dynamic;
 mod places;
@@ -639,6 +640,8 @@ fn writes_faults(rt: HostRuntime) {
             Overflowed: true";
         24, 0, [0; 4] => "Malformed entity: Integer do not fit: out of range integral type \
             conversion attempted";
+        24, 7, [4294967296, 0, 0, 0] => "Malformed entity: Integer do not fit: out of range integral type \
+            conversion attempted: 4294967296 at offset 506381209866536711";
     ];
 }
 

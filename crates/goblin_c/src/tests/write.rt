@@ -1,6 +1,6 @@
 //! Records and numbers that are put into files of both classes and byte orders: the bytes after, and the refusals.
 use crate::dynamic::GoblinDyn;
-use crate::header::GoblinHeader;
+use crate::file::GoblinHeader;
 use crate::layout::marked_layout;
 use crate::numbers::GoblinRange;
 use crate::relocs::GoblinReloc;

@@ -1,6 +1,6 @@
 //! The file and its header.
 ghost use Rattle.goblin_c.specs.Common.{header_size, option_map, order_named};
-ghost use Rattle.goblin_c.specs.Header.{FitsClass, ctx_of, header_converted, header_expected, header_misfit, header_of, header_put_expected, named_ctx, names_index_of, whole_header};
+ghost use Rattle.goblin_c.specs.File.{FitsClass, ctx_of, header_converted, header_expected, header_misfit, header_of, header_put_expected, named_ctx, names_index_of, whole_header};
 ghost use Rattle.goblin_c.specs.Puts.{Puts};
 ghost use Rattle.goblin_c.specs.Results.{Stores};
 ghost use Rattle.std.specs.Prelude.{IfOk, Some, if◌then◌else◌, length, ◌==◌, ◌≡◌, ◌≤◌};
