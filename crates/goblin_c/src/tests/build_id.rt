@@ -37,7 +37,8 @@ fn finds_the_build_id(rt: HostRuntime) {
 
 // The answer for a file without its last byte, which cuts the descriptor of the last note: its kind, part and offset.
 fn refused(bytes: &[u8]) -> (u32, u32, u64) {
-    let (status, _, why) = called!(goblin_build_id(&file_of(&bytes[..bytes.len() - 1]).1) => range);
+    let (status, _, why) =
+        called!(goblin_build_id(&file_of(&bytes[..bytes.len().saturating_sub(1)]).1) => range);
     (status, why.item, why.offset)
 }
 
