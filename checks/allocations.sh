@@ -1,6 +1,6 @@
 #!/bin/sh
 # Checks that each call that allocates reports out of memory, or returns what it returns with ample memory, whichever one of its
-# allocations is refused. The calls are those that crates/goblin_refused lists in its stdin, a run of goblin_text over files that
+# allocations is refused. The calls are those that crates/goblin_allocation_tests lists in its stdin, a run of goblin_text over files that
 # reach each of its lines, and text_of over two of them. Nothing is proved here. Run from the repository's root.
 . checks/faces/shared.sh
 mkdir "$folder/calls" "$folder/runs"
@@ -61,16 +61,16 @@ try_allocations() {
 
 while read -r name; do
     add_call "$folder/calls" "$name" 8 "$name" /dev/null
-done < crates/goblin_refused/stdin
+done < crates/goblin_allocation_tests/stdin
 add_call "$folder/calls" too_few 1 segments-parse /dev/null
-try_allocations crates/goblin_refused "$folder/calls"
+try_allocations crates/goblin_allocation_tests "$folder/calls"
 
 # Puts together a program that runs goblin_text with its allocations refused.
 cp -r --parents crates.txt crates/*/src crates/*/specs crates/*/proofs "$folder"
 echo 'goblin_runs: goblin goblin_text' >> "$folder/crates.txt"
 mkdir -p "$folder/crates/goblin_runs/src"
-cp checks/refused_runs.main "$folder/crates/goblin_runs/src/main.rt"
-cp crates/goblin_refused/src/allocations.rt "$folder/crates/goblin_runs/src"
+cp checks/allocations.main "$folder/crates/goblin_runs/src/main.rt"
+cp crates/goblin_allocation_tests/src/allocations.rt "$folder/crates/goblin_runs/src"
 
 # Adds a run over a file with zeros after it. Standard input has what the run writes with ample memory.
 add_run() {

@@ -3,7 +3,7 @@
 //! A line `NAME` of standard input makes the call with this name and prints its result. A line `NAME N R`
 //! makes it twice, with its allocation N refused and with ample memory, and prints whether the two results
 //! are as expected. The runner refuses allocation R of the program, so R - N are made before the call. With
-//! `NAME N R last` it also prints if the call makes allocation N. `checks/refused.sh` tries all calls.
+//! `NAME N R last` it also prints if the call makes allocation N. `checks/allocations.sh` tries all calls.
 //! The calls of `held.rt` are made by `checks/limits.py` alone, with little memory.
 #![tactic(auto)]
 

@@ -1,6 +1,6 @@
 #!/usr/bin/env python3
-"""Which functions the search proves with little to spare, and which take longest: python3 bench/margin.py [CRATE ..], from the
-repository's root.
+"""Which functions the search proves with little to spare, and which take longest: python3 checks/margin.py [CRATE ..], from the repository's
+root.
 
 Each crate of crates.txt, or each one named, is checked without its tests: at the full limits, unless earlier checks in its folder
 have cached that, and then at half of them. A function is open where a goal of its own stays open then: the next toolchain, or one
@@ -17,7 +17,7 @@ import tempfile
 import time
 
 sys.dont_write_bytecode = True
-sys.path[:0] = ['checks/edits', 'checks']
+sys.path.append('checks/edits')
 from crates import crates_listed, fail, run
 from gate import copied
 from verdict import CHECKED, Said
