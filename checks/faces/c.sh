@@ -1,7 +1,7 @@
 #!/bin/sh
 # Tests the library's calls from C: sh checks/faces/c.sh FOLDER, after library.sh
-# It compares goblin.h with the library and with glibc's <elf.h>, compiles its examples, and runs the programs of faces/c over whole and
-# damaged files that made.c makes.
+# It compares goblin.h with the library and with glibc's <elf.h>, compiles its examples, and runs the programs of faces/c over whole
+# and damaged files that made.c makes.
 . checks/faces/shared.sh
 
 # The value, letter, section index and name of each symbol in the files that made.c makes.
@@ -38,10 +38,10 @@ check_header() {
     "$folder/layout" assertions > "$folder/assertions.c"
     strictly cc -std=c11 -Ifaces/c -c -o "$folder/assertions.o" "$folder/assertions.c"
     if has c++ 'goblin.h is not compiled as C++'; then
-        strictly c++ -x c++ -std=c++11 -I"$folder" -o "$folder/layout" faces/c/layout.c -x none -L"$folder" -lgoblin_c
+        strictly c++ -x c++ -std=c++11 -Ifaces/c -I"$folder" -o "$folder/layout" faces/c/tests/layout.c -x none -L"$folder" -lgoblin_c
         strictly c++ -x c++ -std=c++11 -Ifaces/c -c -o "$folder/assertions.o" "$folder/assertions.c"
         for example in $c_examples; do
-            strictly c++ -x c++ -std=c++11 -Ifaces/c -c -o "$folder/example.o" "faces/c/$example.c"
+            strictly c++ -x c++ -std=c++11 -Ifaces/c -c -o "$folder/example.o" "faces/c/examples/$example.c"
         done
         echo "the examples can be compiled as C++"
     fi
@@ -91,7 +91,7 @@ check_cost() {
         faces/c/goblin.h > "$folder/calls"
     [ -s "$folder/calls" ] || fail "goblin.h has no calls that are passed a file"
     while read -r call; do
-        grep -qE "\b$call\((&[a-z]+|bytes, len)," faces/c/cost.c || fail "$call is passed a file and cost.c does not call it: give it a row there"
+        grep -qE "\b$call\((&[a-z]+|bytes, len)," faces/c/tests/cost.c || fail "$call is passed a file and has no row in cost.c"
     done < "$folder/calls"
     quietly "$folder/cost"
     lists=$(wc -l < "$folder/output") calls=$(wc -l < "$folder/calls")
@@ -133,7 +133,7 @@ check_instructions() {
 check_bench() {
     echo '#include <gelf.h>' | cc -E - > "$folder/output" 2>&1 \
         || { left_out "the header of libelf is not installed, so bench.c is not compiled"; return; }
-    strictly cc -std=c99 -Ifaces/c -o "$folder/bench" faces/c/bench.c -L"$folder" -lgoblin_c -lelf
+    strictly cc -std=c99 -Ifaces/c -o "$folder/bench" faces/c/tests/bench.c -L"$folder" -lgoblin_c -lelf
     quietly "$folder/bench" $program_file
     echo "bench.c reads what libelf reads"
 }
@@ -285,7 +285,7 @@ check_programs() {
     ends_with 1 "*	$program_file" sh -c 'ulimit -n 16 && exec "$@"' sh "$folder/size" . . . . . . . . . . . . . . . . . . . . $program_file
     # (values.c shares no code with the others; its main is called many times)
     {
-        cat faces/c/values.c
+        cat faces/c/examples/values.c
         echo '#undef main'
         echo 'int main(int argc, char **argv) { for (int i = 0; i < 20; i++) values(argc, argv); return values(argc, argv); }'
     } > "$folder/often.c"
@@ -304,7 +304,7 @@ check_damaged() {
         set --
     fi
     build damaged -std=c99 "$@"
-    strictly cc -std=c99 -Ifaces/c -o "$folder/plain" faces/c/damaged.c faces/c/plain.c
+    strictly cc -std=c99 -Ifaces/c -o "$folder/plain" faces/c/tests/damaged.c faces/c/tests/plain.c
     for file in checks/files/made/s390x_program checks/files/made/mips_program "$folder/nm" "$folder/made" "$files"; do
         if [ -d "$file" ]; then set -- "$file"/*; else set -- "$file"; fi
         quietly "$folder/plain" 1000 "$@"
