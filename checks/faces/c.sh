@@ -28,8 +28,9 @@ c V 2 weak_data
 
 # Compiles goblin.h by each standard, and compares its structs with the library's layout.
 check_header() {
-    grep -qxF "#define GOBLIN_VERSION_STRING \"$version\"" faces/c/goblin.h \
-        || fail "goblin.h and faces/rust/Cargo.toml have different versions: GOBLIN_VERSION_STRING is to be \"$version\""
+    { echo "VERSION_STRING \"$version\""; echo "$version" | awk -F . '{ print "PACKAGE_MAJOR " $1 "\nPACKAGE_MINOR " $2 "\nPACKAGE_PATCH " $3 }'; } \
+        | sed 's/^/#define GOBLIN_/' > "$folder/wanted"
+    grep -E '^#define GOBLIN_(VERSION_STRING|PACKAGE_[A-Z]+) ' faces/c/goblin.h | quietly diff "$folder/wanted" -
     python3 faces/constants.py --fields > "$folder/fields.h"
     for standard in c99 c11; do
         build layout -std=$standard
