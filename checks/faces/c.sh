@@ -92,7 +92,7 @@ check_cost() {
         faces/c/goblin.h > "$folder/calls"
     [ -s "$folder/calls" ] || fail "goblin.h has no calls that are passed a file"
     while read -r call; do
-        grep -qE "\b$call\((&[a-z]+|bytes, len)," faces/c/tests/cost.c || fail "$call is passed a file and has no row in cost.c"
+        grep -qE "\b$call(\(|, )(&[a-z]+|bytes, len)," faces/c/tests/cost.c || fail "$call is passed a file and has no row in cost.c"
     done < "$folder/calls"
     quietly "$folder/cost"
     lists=$(wc -l < "$folder/output") calls=$(wc -l < "$folder/calls")
