@@ -99,13 +99,26 @@ check_cost() {
     echo "c: $lists lists and repeated calls, among them the $calls that are passed a file, take less than their limit (cost.c)"
 }
 
-# Counts the instructions of calls for one item, by callgrind, over a program and over names that single.c makes. Each limit is a quarter
-# more than was counted: a function that is no longer put into its caller, or a refusal that is prepared before it is needed, costs more.
-# Of 64 strings at once one may take seven tenths of what it takes alone, and a comparison one and a half times what a client's own takes,
-# with its memcmp. Of the program's names most differ, so comparing them has a limit below that, too.
+# Of each call for one item the most instructions that it may take over a program, and of some over the names that single.c makes: at most a
+# tenth more than were counted. So a function that is no longer put into its caller, or a refusal that is prepared before it is needed, costs
+# more. goblin_symbol_by_address is counted for each symbol of the table, so a second reading of them all costs more, too.
+instructions='goblin_file 79
+goblin_section 52
+goblin_symbol 33
+goblin_symbol_by_address 48
+goblin_reloc 34
+goblin_note 63
+goblin_note_utf8 76
+goblin_string 49 70
+goblin_string_utf8 64
+goblin_string_is 35 82
+goblin_string_starts 38'
+
+# Counts the instructions of these calls, by callgrind, over a program and over names that single.c makes. Of 64 strings at once one may take
+# seven tenths of what it takes alone, and a comparison one and a half times what a client's own takes, with its memcmp.
 check_instructions() {
     has valgrind 'the instructions of calls for one item are not counted' || return 0
-    # (the limits count what gcc makes of a client's own comparison, and clang makes fewer instructions)
+    # (what gcc makes of a client's own comparison is counted, and clang makes fewer instructions)
     case $(cc --version) in *clang*) left_out "cc is clang, so the instructions of calls for one item are not counted" && return 0 ;; esac
     build single -std=c99
     for file in $program_file ''; do
@@ -115,16 +128,12 @@ check_instructions() {
         if ! "$folder/single" $file > "$folder/calls" || [ ! -s "$folder/calls" ]; then fail "single.c reads nothing of ${file:-its names}"; fi
         callgrind_annotate --inclusive=yes --threshold=100 "$folder/counts" > "$folder/listed"
         while read -r call times; do
-            case $file$call in
-                goblin_string) limit=90 ;; goblin_string_is) limit=$((own * 3 / 2)) ;; *goblin_string_is) limit=46 ;; *starts) limit=50 ;;
-                *file) limit=84 ;; *section) limit=81 ;; *symbol) limit=45 ;; *reloc) limit=54 ;; *string_utf8) limit=73 ;; *string) limit=67 ;;
-                *strings) limit=$((alone * 7 / 10)) ;; *) limit=100 ;;
-            esac
             all=$(awk -v call="$call" '$0 ~ ":" call " " { gsub(/,/, "", $1); print $1; exit }' "$folder/listed")
             each=$((${all:-0} / times))
-            if [ "$each" -eq 0 ] || [ "$each" -gt "$limit" ]; then fail "$call takes $each instructions, and its limit is $limit"; fi
-            case $call in *string) alone=$each ;; plain*) own=$each ;; esac
+            limit=$(echo "$instructions" | awk -v call="$call" -v made="${file:+no}" '$1 == call { print made ? $2 : $3 }')
+            case $call in plain_is) own=$each limit=$each ;; *strings) limit=$((alone * 7 / 10)) ;; *string) alone=$each ;; esac
             case $call in *_is | *starts) [ "$each" -le $((own * 3 / 2)) ] || fail "$call takes $each instructions, and a client $own" ;; esac
+            if [ "$each" -eq 0 ] || [ "$each" -gt "$limit" ]; then fail "$call takes $each instructions, and its limit is $limit"; fi
             printf '%s %s of %s, ' "$call" "$each" "$limit" >> "$folder/counted"
         done < "$folder/calls"
     done
