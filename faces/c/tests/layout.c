@@ -1,7 +1,7 @@
 /* Tests goblin.h against the library: layout [assertions]
    Each field of each struct has the library's offset, by goblin_layout. Each field that is read from files of both
    classes and byte orders, whose fields all differ, is the number that was written there. Each refusal has the number
-   of its name. With the argument `assertions` it prints the offsets as static assertions.
+   of its name, and its numbers. With the argument `assertions` it prints the offsets as static assertions.
    faces/constants.py makes fields.h from goblin.h, so no field is left out. It has STRUCT(name) for each struct and
    FIELD(struct, field, number) for each of its fields. */
 #include "goblin.h"
@@ -9,25 +9,49 @@
 #include <stdlib.h>
 #include <string.h>
 
-static uint8_t file[0x1000];
+/* Where the file has program headers, section headers, symbols, relocations, notes and dynamic entries. */
+enum { SEGMENTS = 0x123, SECTIONS = 0x456, SYMBOLS = 0x700, RELOCS = 0x800, NOTES = 0x900, ENTRIES = 0xe00 };
+
+static uint8_t file[0x1000], first[sizeof file], before[sizeof file];
 static size_t end, wide;
 static bool is_big;
 static int compared, wrong;
+static goblin_file_t f; /* what the calls are passed: the first bytes of the file, and a header */
+static goblin_refusal_t why;
+static goblin_layout_t wanted, got;
+static goblin_range_t symbols, relocs; /* tables of two items each */
+static goblin_header_t none;           /* each field is 0 */
 
-static goblin_header_t none; /* (each field of which stays 0) */
-
-/* Returns the first bytes of the file with a header, up to the next call. */
-static const goblin_file_t *over(size_t len, const goblin_header_t *h) {
-    static goblin_file_t made;
-    return made.bytes = file, made.len = len, made.header = *h, &made;
+/* Passes the first bytes of the file with a header to the next calls. */
+static void over(size_t len, const goblin_header_t *h) {
+    f.bytes = file, f.len = len, f.header = *h;
 }
 
-static void same(const char *what, uint64_t is, uint64_t should) {
+static void same(int line, const char *what, uint64_t is, uint64_t should) {
     compared++;
     if (is == should) return;
-    printf("%s is 0x%llx (expected 0x%llx)\n", what, (unsigned long long)is, (unsigned long long)should);
+    printf("line %d: %s is 0x%llx (expected 0x%llx)\n", line, what, (unsigned long long)is, (unsigned long long)should);
     wrong++;
 }
+#define SAME(is, should) same(__LINE__, #is, (uint64_t)(is), (uint64_t)(should))
+
+/* Tests what a call over `f` returns, or one that writes into the file. */
+#define IS(status, call, ...) SAME(call(&f, __VA_ARGS__, &why), status)
+#define PUTS(status, call, ...) SAME(call(file, sizeof file, __VA_ARGS__, &why), status)
+
+/* Tests a status and all of the refusal. */
+static void refused(int line, uint32_t status, uint32_t kind, uint32_t item, uint64_t a, uint64_t b, uint64_t c,
+                    uint64_t d, uint64_t offset) {
+    same(line, "the status", status, kind), same(line, "kind", why.kind, kind), same(line, "item", why.item, item);
+    same(line, "first", why.first, a), same(line, "second", why.second, b), same(line, "third", why.third, c);
+    same(line, "fourth", why.fourth, d), same(line, "offset", why.offset, offset);
+}
+#define REFUSED(kind, item, a, b, offset, call) REFUSED_BY_FOUR(kind, item, a, b, 0, 0, offset, call)
+#define REFUSED_BY_FOUR(kind, item, a, b, c, d, offset, call) \
+    (memset(&why, 0xee, sizeof why), refused(__LINE__, call, GOBLIN_REFUSED_##kind, item, a, b, c, d, offset))
+
+/* Returns one of two numbers by the class. */
+static size_t by_class(size_t of_64, size_t of_32) { return wide == 8 ? of_64 : of_32; }
 
 /* Writes a number of `width` bytes after the bytes that were written last. */
 static uint64_t put(size_t width, uint64_t value) {
@@ -43,134 +67,110 @@ static uint64_t any(size_t width) {
     for (size_t i = 0; i < width; i++) value = value << 8 | (last = (uint8_t)(last % 250 + 3));
     return put(width, value);
 }
+static uint32_t any_4(void) { return (uint32_t)any(4); }
+static uint16_t any_2(void) { return (uint16_t)any(2); }
+static uint8_t any_1(void) { return (uint8_t)any(1); }
 
 static void header(goblin_header_t *h) {
     memset(file, 0xee, sizeof file);
     memcpy(file, "\177ELF", 4);
     end = 4;
     h->ei_class = (uint8_t)put(1, wide / 4), h->ei_data = (uint8_t)put(1, is_big ? 2 : 1);
-    h->ei_version = (uint8_t)any(1), h->ei_osabi = (uint8_t)any(1), h->ei_abiversion = (uint8_t)any(1);
+    h->ei_version = any_1(), h->ei_osabi = any_1(), h->ei_abiversion = any_1();
     end = 16;
-    h->e_type = (uint16_t)any(2), h->e_machine = (uint16_t)any(2), h->e_version = (uint32_t)any(4);
-    h->e_entry = any(wide), h->e_phoff = put(wide, 0x123), h->e_shoff = put(wide, 0x456);
-    h->e_flags = (uint32_t)any(4), h->e_ehsize = (uint16_t)any(2), h->e_phentsize = (uint16_t)any(2);
-    h->e_phnum = (uint16_t)put(2, 2), h->e_shentsize = (uint16_t)any(2), h->e_shnum = (uint16_t)put(2, 3);
+    h->e_type = any_2(), h->e_machine = any_2(), h->e_version = any_4();
+    h->e_entry = any(wide), h->e_phoff = put(wide, SEGMENTS), h->e_shoff = put(wide, SECTIONS);
+    h->e_flags = any_4(), h->e_ehsize = any_2(), h->e_phentsize = any_2();
+    h->e_phnum = (uint16_t)put(2, 2), h->e_shentsize = any_2(), h->e_shnum = (uint16_t)put(2, 3);
     h->e_shstrndx = (uint16_t)put(2, 1);
 }
 
-/* Writes this program header after an empty one at e_phoff. */
-static void segment(goblin_segment_t *p) {
-    end = 0x123 + (wide == 8 ? 56 : 32);
-    p->p_type = (uint32_t)any(4);
-    if (wide == 8) p->p_flags = (uint32_t)any(4);
+/* Writes a program header, a section header, a symbol and a relocation, each as the second of its table. */
+static void records(void) {
+    goblin_segment_t *p = &wanted.segment;
+    goblin_section_t *s = &wanted.section;
+    goblin_symbol_t *y = &wanted.symbol;
+    goblin_reloc_t *r = &wanted.reloc;
+    end = SEGMENTS + by_class(56, 32);
+    p->p_type = any_4();
+    if (wide == 8) p->p_flags = any_4();
     p->file.offset = any(wide), p->p_vaddr = any(wide), p->p_paddr = any(wide);
     p->file.size = any(wide), p->p_memsz = any(wide);
-    if (wide == 4) p->p_flags = (uint32_t)any(4);
+    if (wide == 4) p->p_flags = any_4();
     p->p_align = any(wide);
-}
-
-/* Writes this section header after another one at e_shoff, and one more after it. */
-static void section(goblin_section_t *s) {
-    end = 0x456 + (wide == 8 ? 64 : 40);
-    s->sh_name = (uint32_t)any(4), s->sh_type = (uint32_t)any(4), s->sh_flags = any(wide), s->sh_addr = any(wide);
-    s->file.offset = any(wide), s->file.size = any(wide), s->sh_link = (uint32_t)any(4), s->sh_info = (uint32_t)any(4);
+    end = SECTIONS + by_class(64, 40);
+    s->sh_name = any_4(), s->sh_type = any_4(), s->sh_flags = any(wide), s->sh_addr = any(wide);
+    s->file.offset = any(wide), s->file.size = any(wide), s->sh_link = any_4(), s->sh_info = any_4();
     s->sh_addralign = any(wide), s->sh_entsize = any(wide);
-}
-
-/* Writes this symbol as the second of the table at 0x700. */
-static void symbol(goblin_symbol_t *s) {
-    end = 0x700 + (wide == 8 ? 24 : 16);
-    s->st_name = (uint32_t)any(4);
-    if (wide == 4) s->st_value = any(4), s->st_size = any(4);
-    s->st_info = (uint8_t)any(1), s->st_other = (uint8_t)any(1), s->st_shndx = (uint16_t)any(2);
-    if (wide == 8) s->st_value = any(8), s->st_size = any(8);
-}
-
-/* Writes this relocation as the second of the table at 0x800. */
-static void reloc(goblin_reloc_t *r) {
-    end = 0x800 + 3 * wide;
+    end = SYMBOLS + by_class(24, 16);
+    y->st_name = any_4();
+    if (wide == 4) y->st_value = any(4), y->st_size = any(4);
+    y->st_info = any_1(), y->st_other = any_1(), y->st_shndx = any_2();
+    if (wide == 8) y->st_value = any(8), y->st_size = any(8);
+    end = RELOCS + 3 * wide;
     r->r_offset = any(wide);
     uint64_t info = any(wide), addend = any(wide);
     r->r_sym = (uint32_t)(wide == 8 ? info >> 32 : info >> 8), r->r_type = (uint32_t)(wide == 8 ? info : info & 0xff);
     r->r_addend = wide == 8 ? (int64_t)addend : (int32_t)addend;
 }
 
-/* Writes this note at 0x900. Its name has seven bytes and a zero byte, its descriptor five and three of padding. */
+/* Writes a note. Its name has seven bytes and a zero byte, its descriptor five and three of padding. */
 static void note(goblin_note_t *n) {
-    end = 0x900;
-    put(4, 8), n->desc.size = put(4, 5), n->n_type = (uint32_t)any(4);
+    end = NOTES;
+    put(4, 8), n->desc.size = put(4, 5), n->n_type = any_4();
     memcpy(file + end, "goblins", 8);
     n->name.offset = end, n->name.size = 7, n->desc.offset = end + 8, n->next = end + 16;
 }
 
-/* Writes this entry as the second of the dynamic section at 0xe00, between another one and the one that ends it. */
-static void entry(goblin_dyn_t *d) {
-    end = 0xe00;
-    put(wide, GOBLIN_DT_SONAME), put(wide, 0x21);
-    d->d_tag = any(wide), d->d_val = any(wide);
-    put(wide, GOBLIN_DT_NULL), put(wide, 7);
-}
-
-/* Tests the calls for the dynamic section. The file has no segment of it. */
-static void dynamic_all(const goblin_header_t *h, const goblin_dyn_t *wanted, goblin_dyn_t *got,
-                        goblin_refusal_t *why) {
-    goblin_range_t dynamic = {0xe00, 8 * wide}, found;
+/* Tests the calls for the dynamic section: an entry, `wanted.dyn`, and the one that ends them. The file has no segment
+   of it. */
+static void dynamic_all(void) {
+    goblin_range_t dynamic = {ENTRIES, 8 * wide}, found;
     goblin_dyn_t both[3];
     uint64_t number = 0, index = 0;
-    same("goblin_dynamic", goblin_dynamic(over(sizeof file, h), &found, why), GOBLIN_END);
-    same("goblin_dynamic_entries",
-         goblin_dynamic_entries(over(sizeof file, h), &dynamic, 1, got, 1, &number, why), GOBLIN_OK);
-    same("goblin_dynamic_entries",
-         goblin_dynamic_entries(over(sizeof file, h), &dynamic, 0, both, 3, &number, why), GOBLIN_OK);
-    same("goblin_dynamic_entries", number, 2), same("goblin_dynamic_entries", both[1].d_val, wanted->d_val);
-    same("goblin_dynamic_entries",
-         goblin_dynamic_entries(over(sizeof file, h), &dynamic, 2, both, 3, &number, why), GOBLIN_END);
-    same("goblin_dynamic_count", goblin_dynamic_count(over(sizeof file, h), &dynamic, &number, why), GOBLIN_OK);
-    same("goblin_dynamic_count", number, 2);
-    same("goblin_dynamic_value",
-         goblin_dynamic_value(over(sizeof file, h), &dynamic, wanted->d_tag, 0, &index, &number, why), GOBLIN_OK);
-    same("goblin_dynamic_value", number, wanted->d_val), same("goblin_dynamic_value", index, 1);
-    same("goblin_dynamic_value",
-         goblin_dynamic_value(over(sizeof file, h), &dynamic, GOBLIN_DT_NULL, 0, &index, &number, why), GOBLIN_END);
-    same("goblin_dynamic_strings", goblin_dynamic_strings(over(sizeof file, h), &dynamic, &found, why), GOBLIN_END);
+    end = ENTRIES;
+    put(wide, GOBLIN_DT_SONAME), put(wide, 0x21);
+    wanted.dyn.d_tag = any(wide), wanted.dyn.d_val = any(wide);
+    put(wide, GOBLIN_DT_NULL), put(wide, 7);
+    SAME(goblin_dynamic(&f, &found, &why), GOBLIN_END);
+    IS(GOBLIN_OK, goblin_dynamic_entries, &dynamic, 1, &got.dyn, 1, &number);
+    IS(GOBLIN_OK, goblin_dynamic_entries, &dynamic, 0, both, 3, &number);
+    SAME(number, 2), SAME(both[1].d_val, wanted.dyn.d_val);
+    IS(GOBLIN_END, goblin_dynamic_entries, &dynamic, 2, both, 3, &number);
+    IS(GOBLIN_OK, goblin_dynamic_count, &dynamic, &number), SAME(number, 2);
+    IS(GOBLIN_OK, goblin_dynamic_value, &dynamic, wanted.dyn.d_tag, 0, &index, &number);
+    SAME(number, wanted.dyn.d_val), SAME(index, 1);
+    IS(GOBLIN_END, goblin_dynamic_value, &dynamic, GOBLIN_DT_NULL, 0, &index, &number);
+    IS(GOBLIN_END, goblin_dynamic_strings, &dynamic, &found);
     dynamic.size = sizeof file;
-    same("entries outside",
-         goblin_dynamic_entries(over(sizeof file, h), &dynamic, 0, both, 0, &number, why), GOBLIN_REFUSED_TOO_BIG);
-    same("entries outside", why->offset, 0xe00);
+    for (size_t capacity = 0; capacity <= 3; capacity += 3)
+        REFUSED(TOO_BIG, 0, sizeof file, sizeof file - ENTRIES, ENTRIES,
+                goblin_dynamic_entries(&f, &dynamic, 0, both, capacity, &number, &why));
 }
 
 /* Tests the calls for numbers of items and for sections of a type. */
-static void count_all(const goblin_header_t *h, const goblin_range_t *symbols, const goblin_range_t *relocs,
-                      goblin_refusal_t *why) {
+static void count_all(void) {
     goblin_section_t second, same_section;
     uint64_t number;
-    same("goblin_segment_count", goblin_segment_count(over(sizeof file, h), &number, why), GOBLIN_OK);
-    same("goblin_segment_count", number, 2);
-    same("goblin_symbol_count", goblin_symbol_count(over(sizeof file, h), symbols, &number, why), GOBLIN_OK);
-    same("goblin_symbol_count", number, 2);
-    same("goblin_reloc_count", goblin_reloc_count(over(sizeof file, h), relocs, true, &number, why), GOBLIN_OK);
-    same("goblin_reloc_count", number, 2);
-    same("goblin_section", goblin_section(over(sizeof file, h), 1, &second, why), GOBLIN_OK);
-    same("goblin_section_by_type",
-         goblin_section_by_type(over(sizeof file, h), second.sh_type, 0, &number, &same_section, why), GOBLIN_OK);
-    same("goblin_section_by_type", number, 1);
-    same("goblin_section_by_type, the section", same_section.sh_info, second.sh_info);
-    same("goblin_section_by_type",
-         goblin_section_by_type(over(sizeof file, h), second.sh_type, 2, &number, &same_section, why), GOBLIN_END);
+    SAME(goblin_segment_count(&f, &number, &why), GOBLIN_OK), SAME(number, 2);
+    IS(GOBLIN_OK, goblin_symbol_count, &symbols, &number), SAME(number, 2);
+    IS(GOBLIN_OK, goblin_reloc_count, &relocs, true, &number), SAME(number, 2);
+    IS(GOBLIN_OK, goblin_section, 1, &second);
+    IS(GOBLIN_OK, goblin_section_by_type, second.sh_type, 0, &number, &same_section);
+    SAME(number, 1), SAME(same_section.sh_info, second.sh_info);
+    IS(GOBLIN_END, goblin_section_by_type, second.sh_type, 2, &number, &same_section);
     for (size_t width = 1; width <= 8; width *= 2) {
         uint64_t value = (end = 0xd00, any(width));
-        same("goblin_number", goblin_number(over(sizeof file, h), 0xd00, width, &number, why), GOBLIN_OK);
-        same("goblin_number", number, value);
+        IS(GOBLIN_OK, goblin_number, 0xd00, width, &number), SAME(number, value);
     }
-    same("goblin_number of 3", goblin_number(over(sizeof file, h), 0xd00, 3, &number, why), GOBLIN_END);
-    same("goblin_number outside",
-         goblin_number(over(sizeof file, h), sizeof file - 1, 2, &number, why), GOBLIN_REFUSED_TOO_BIG);
+    IS(GOBLIN_END, goblin_number, 0xd00, 3, &number);
+    REFUSED(TOO_BIG, 0, 2, 1, sizeof file - 1, goblin_number(&f, sizeof file - 1, 2, &number, &why));
 }
 
 /* Tests the header that counts what is whole in a cut file, a number of segments that the first section has, and calls
    for ranges. */
-static void whole_all(const goblin_header_t *h, const goblin_layout_t *wanted, goblin_refusal_t *why) {
-    size_t cut = 0x456 + 2 * (wide == 8 ? 64 : 40) + 1;
+static void whole_all(void) {
+    const goblin_header_t *h = &got.header;
     goblin_file_t whole;
     goblin_header_t many = *h;
     goblin_section_t s;
@@ -178,484 +178,439 @@ static void whole_all(const goblin_header_t *h, const goblin_layout_t *wanted, g
     goblin_range_t part = {0, 0}, all = {0, sizeof file}, past = {sizeof file - 3, 9};
     uint64_t number = 0;
     memset(&s, 0, sizeof s), memset(&whole, 0, sizeof whole);
-    same("section of a cut file", goblin_section(over(cut, h), 1, &s, why), GOBLIN_REFUSED_TOO_BIG);
-    goblin_whole_header(over(cut, h), &whole);
-    same("goblin_whole_header", whole.header.e_shnum, 2);
-    same("goblin_whole_header", whole.header.e_shoff, h->e_shoff);
-    same("goblin_whole_header", whole.header.e_phnum, 2), same("goblin_whole_header", whole.len, cut);
-    same("goblin_whole_header", whole.header.e_entry, h->e_entry), same("its bytes", whole.bytes == file, 1);
-    same("whole section", goblin_section(&whole, 1, &s, why), GOBLIN_OK);
-    same("whole section", s.file.offset, wanted->section.file.offset);
-    same("whole section", goblin_section(&whole, 2, &s, why), GOBLIN_END);
-    cut = 0x123 + 2 * (wide == 8 ? 56 : 32) - 1;
-    same("segment of a cut file", goblin_segment(over(cut, h), 0, &p, why), GOBLIN_REFUSED_TOO_BIG);
-    goblin_whole_header(over(cut, h), &whole);
-    same("goblin_whole_header", whole.header.e_phnum, 1);
-    same("goblin_whole_header", whole.header.e_shoff + whole.header.e_shnum, 0);
-    same("whole segment", goblin_segment(&whole, 0, &p, why), GOBLIN_OK);
-    same("whole segment", goblin_segment(&whole, 1, &p, why), GOBLIN_END);
-    same("no whole section", goblin_section(&whole, 0, &s, why), GOBLIN_END);
+    over(SECTIONS + 2 * by_class(64, 40) + 1, h);
+    IS(GOBLIN_REFUSED_TOO_BIG, goblin_section, 1, &s);
+    goblin_whole_header(&f, &whole);
+    SAME(whole.header.e_shnum, 2), SAME(whole.header.e_shoff, h->e_shoff), SAME(whole.header.e_phnum, 2);
+    SAME(whole.len, f.len), SAME(whole.header.e_entry, h->e_entry), SAME(whole.bytes == file, 1);
+    SAME(goblin_section(&whole, 1, &s, &why), GOBLIN_OK), SAME(s.file.offset, wanted.section.file.offset);
+    SAME(goblin_section(&whole, 2, &s, &why), GOBLIN_END);
+    f.len = SEGMENTS + 2 * by_class(56, 32) - 1;
+    IS(GOBLIN_REFUSED_TOO_BIG, goblin_segment, 0, &p);
+    goblin_whole_header(&f, &whole);
+    SAME(whole.header.e_phnum, 1), SAME(whole.header.e_shoff + whole.header.e_shnum, 0);
+    SAME(goblin_segment(&whole, 0, &p, &why), GOBLIN_OK), SAME(goblin_segment(&whole, 1, &p, &why), GOBLIN_END);
+    SAME(goblin_section(&whole, 0, &s, &why), GOBLIN_END);
     /* sh_info of the first section is the number of segments if e_phnum is 0xffff. */
+    size_t at = SECTIONS + by_class(44, 28);
+    uint64_t kept = 0;
     many.e_phnum = 0xffff;
-    size_t at = 0x456 + (wide == 8 ? 44 : 28);
-    uint64_t before = 0;
-    same("goblin_number", goblin_number(over(sizeof file, h), at, 4, &before, why), GOBLIN_OK);
-    same("goblin_put_number", goblin_put_number(file, sizeof file, h, at, 4, 3, why), GOBLIN_OK);
-    same("PN_XNUM", goblin_segment_count(over(sizeof file, &many), &number, why), GOBLIN_OK),
-        same("PN_XNUM", number, 3);
-    same("PN_XNUM", goblin_segment(over(sizeof file, &many), 2, &p, why), GOBLIN_OK);
-    same("PN_XNUM", goblin_segment(over(sizeof file, &many), 3, &p, why), GOBLIN_END);
-    same("goblin_put_number", goblin_put_number(file, sizeof file, h, at, 4, before, why), GOBLIN_OK);
-    same("PN_XNUM, cut", goblin_segment_count(over(0x460, &many), &number, why), GOBLIN_REFUSED_TOO_BIG),
-        same("PN_XNUM, cut", why->offset, 0x456);
-    many.e_shoff = 0;
-    same("PN_XNUM, no sections", goblin_segment_count(over(sizeof file, &many), &number, why),
-        GOBLIN_REFUSED_BUFFER_TOO_SHORT);
-    same("PN_XNUM, no sections", why->first, 0xffff);
-    same("goblin_number_in", goblin_number_in(over(sizeof file, h), &all, 4, 1, &number, why), GOBLIN_OK);
-    same("goblin_number_in", number, wide / 4);
-    part.offset = 0x700, part.size = 9;
-    same("number past a range",
-         goblin_number_in(over(sizeof file, h), &part, part.size, 1, &number, why), GOBLIN_REFUSED_BAD_OFFSET);
-    goblin_range_in_file(over(sizeof file, &none), &past, &part);
-    same("goblin_range_in_file", part.offset << 16 | part.size, 0xffd0003);
-    same("goblin_address_to_offset", goblin_address_to_offset(over(sizeof file, h), 0, &number, why), GOBLIN_END);
+    over(sizeof file, &many);
+    IS(GOBLIN_OK, goblin_number, at, 4, &kept);
+    PUTS(GOBLIN_OK, goblin_put_number, h, at, 4, 3);
+    SAME(goblin_segment_count(&f, &number, &why), GOBLIN_OK), SAME(number, 3);
+    IS(GOBLIN_OK, goblin_segment, 2, &p), IS(GOBLIN_END, goblin_segment, 3, &p);
+    PUTS(GOBLIN_OK, goblin_put_number, h, at, 4, kept);
+    f.len = SECTIONS + 10;
+    REFUSED(TOO_BIG, 0, by_class(64, 40), 10, SECTIONS, goblin_segment_count(&f, &number, &why));
+    f.len = sizeof file, f.header.e_shoff = 0;
+    REFUSED(BUFFER_TOO_SHORT, GOBLIN_ITEM_PROGRAM_HEADERS, 0xffff, 0, SEGMENTS,
+            goblin_segment_count(&f, &number, &why));
+    over(sizeof file, h);
+    IS(GOBLIN_OK, goblin_number_in, &all, 4, 1, &number), SAME(number, wide / 4);
+    part.offset = SYMBOLS, part.size = 9;
+    REFUSED(BAD_OFFSET, 0, 9, 0, SYMBOLS + 9, goblin_number_in(&f, &part, part.size, 1, &number, &why));
+    goblin_range_in_file(&f, &past, &part);
+    SAME(part.offset, sizeof file - 3), SAME(part.size, 3);
+    IS(GOBLIN_END, goblin_address_to_offset, 0, &number);
 }
 
 /* Tests that a call has written `size` bytes at an offset as they were in the first file, and that no other byte of the
    file is changed from what it was after `before` was made. */
-static uint8_t first[sizeof file], before[sizeof file];
-static void written(const char *what, size_t offset, size_t size) {
-    same(what, (uint64_t)memcmp(file + offset, first + offset, size), 0);
-    same(what, (uint64_t)memcmp(file, before, offset), 0);
-    same(what, (uint64_t)memcmp(file + offset + size, before + offset + size, sizeof file - offset - size), 0);
+static void written(int line, size_t offset, size_t size) {
+    same(line, "what is written", (uint64_t)memcmp(file + offset, first + offset, size), 0);
+    same(line, "what is before it", (uint64_t)memcmp(file, before, offset), 0);
+    same(line, "what is after it", (uint64_t)memcmp(file + offset + size, before + offset + size,
+                                                    sizeof file - offset - size), 0);
 }
 
 /* Tests each call that writes: it brings back the bytes of a record that are lost, of a table with two of each. */
-static void write_all(const goblin_layout_t *wanted, const goblin_range_t *symbols, const goblin_range_t *relocs,
-                      goblin_refusal_t *why) {
-    const goblin_header_t *h = &wanted->header;
-    size_t header_size = wide == 8 ? 64 : 52, p = 0x123 + (wide == 8 ? 56 : 32), s = 0x456 + (wide == 8 ? 64 : 40);
-    size_t y = 0x700 + (wide == 8 ? 24 : 16), r = 0x800 + 3 * wide;
+static void write_all(void) {
+    const goblin_header_t *h = &wanted.header;
+    size_t header_size = by_class(64, 52), p = by_class(56, 32), s = by_class(64, 40), y = by_class(24, 16);
     memcpy(first, file, sizeof file);
-#define WRITES(call, offset, size, ...) \
+#define WRITES(offset, size, call, ...) \
     (memset(file + (offset), 0xdd, size), memcpy(before, file, sizeof file), \
-     same(#call, call(file, sizeof file, __VA_ARGS__, why), GOBLIN_OK), written(#call, offset, size))
-    WRITES(goblin_put_segment, p, wide == 8 ? 56 : 32, h, 1, &wanted->segment);
-    WRITES(goblin_put_section, s, wide == 8 ? 64 : 40, h, 1, &wanted->section);
-    WRITES(goblin_put_symbol, y, wide == 8 ? 24 : 16, h, symbols, 1, &wanted->symbol);
-    WRITES(goblin_put_reloc, r, 3 * wide, h, relocs, true, 1, &wanted->reloc);
-    WRITES(goblin_put_number, 4, 2, h, 4, 2, is_big ? (uint64_t)(wide / 4 << 8 | 2) : (uint64_t)(wide / 4 | 1 << 8));
+     PUTS(GOBLIN_OK, call, __VA_ARGS__), written(__LINE__, offset, size))
+    WRITES(SEGMENTS + p, p, goblin_put_segment, h, 1, &wanted.segment);
+    WRITES(SECTIONS + s, s, goblin_put_section, h, 1, &wanted.section);
+    WRITES(SYMBOLS + y, y, goblin_put_symbol, h, &symbols, 1, &wanted.symbol);
+    WRITES(RELOCS + 3 * wide, 3 * wide, goblin_put_reloc, h, &relocs, true, 1, &wanted.reloc);
+    WRITES(4, 2, goblin_put_number, h, 4, 2, is_big ? (uint64_t)(wide / 4 << 8 | 2) : (uint64_t)(wide / 4 | 1 << 8));
     /* (the padding of the identification stays) */
     memset(file + 16, 0xdd, header_size - 16), memset(file, 0xdd, 9), memcpy(before, file, sizeof file);
-    same("goblin_put_header", goblin_put_header(file, sizeof file, h, why), GOBLIN_OK);
-    written("goblin_put_header", 0, header_size);
+    PUTS(GOBLIN_OK, goblin_put_header, h);
+    written(__LINE__, 0, header_size);
 #undef WRITES
-    same("no segment", goblin_put_segment(file, sizeof file, h, 2, &wanted->segment, why), GOBLIN_END);
-    same("no section", goblin_put_section(file, sizeof file, h, 3, &wanted->section, why), GOBLIN_END);
-    same("no symbol", goblin_put_symbol(file, sizeof file, h, symbols, 2, &wanted->symbol, why), GOBLIN_END);
-    same("no reloc", goblin_put_reloc(file, sizeof file, h, relocs, true, 2, &wanted->reloc, why), GOBLIN_END);
-    same("no width", goblin_put_number(file, sizeof file, h, 0, 3, 0, why), GOBLIN_END);
-    same("nothing written", (uint64_t)memcmp(file, first, sizeof file), 0);
+    PUTS(GOBLIN_END, goblin_put_segment, h, 2, &wanted.segment);
+    PUTS(GOBLIN_END, goblin_put_section, h, 3, &wanted.section);
+    PUTS(GOBLIN_END, goblin_put_symbol, h, &symbols, 2, &wanted.symbol);
+    PUTS(GOBLIN_END, goblin_put_reloc, h, &relocs, true, 2, &wanted.reloc);
+    PUTS(GOBLIN_END, goblin_put_number, h, 0, 3, 0);
+    SAME(memcmp(file, first, sizeof file), 0);
 }
 
-/* Tests what the calls that write refuse: what does not fit, and what is not there. */
-static void refuse_to_write(const goblin_layout_t *wanted, const goblin_range_t *symbols, const goblin_range_t *relocs,
-                            goblin_refusal_t *why) {
-    goblin_layout_t items = *wanted;
-    const goblin_header_t *h = &wanted->header;
-    uint32_t wide_status = wide == 8 ? GOBLIN_OK : GOBLIN_REFUSED_INTEGER_FIT;
+/* Tests that a record with numbers that don't fit 32 bits is refused in a 32-bit file, by the first of them in the
+   order of the file, and that nothing is written. In a 64-bit file it is written. */
+static void misfits(int line, uint32_t status, uint64_t number, uint64_t offset) {
+    if (wide == 4) refused(line, status, GOBLIN_REFUSED_INTEGER_FIT, 0, number, 0, 0, 0, offset);
+    else same(line, "the status", status, GOBLIN_OK), memcpy(file, first, sizeof file);
+    same(line, "nothing is written", (uint64_t)memcmp(file, first, sizeof file), 0);
+}
+#define MISFITS(number, offset, call, ...) \
+    (memset(&why, 0xee, sizeof why), misfits(__LINE__, call(file, sizeof file, __VA_ARGS__, &why), number, offset))
+
+/* Tests what the calls that write refuse: what does not fit. */
+static void write_too_wide(void) {
+    const uint64_t high = (uint64_t)1 << 32;
+    const goblin_header_t *h = &wanted.header;
+    goblin_layout_t items = wanted;
+    goblin_range_t part = {SYMBOLS, 9}, dynamic = {ENTRIES, 8 * wide};
     memcpy(first, file, sizeof file);
-    items.section.sh_flags = items.symbol.st_size = items.segment.p_align = (uint64_t)1 << 32;
-    if (wide == 4) {
-        same("wide flags", goblin_put_section(file, sizeof file, h, 1, &items.section, why), wide_status);
-        same("wide flags", why->first, items.section.sh_flags), same("wide flags", why->offset, 0x47e + 8);
-        same("a wide size", goblin_put_symbol(file, sizeof file, h, symbols, 1, &items.symbol, why), wide_status);
-        same("a wide size", why->first, items.symbol.st_size), same("a wide size", why->offset, 0x710 + 8);
-    }
-    same("no addends", goblin_put_reloc(file, sizeof file, h, relocs, false, 0, &items.reloc, why),
-        GOBLIN_REFUSED_INTEGER_FIT);
-    same("no addends", why->first, (uint64_t)items.reloc.r_addend), same("no addends", why->offset, 0x800 + 2 * wide);
-    same("no addends, item", why->item, GOBLIN_ITEM_ADDEND);
-    same("a high number", goblin_put_number(file, sizeof file, h, 0x10, 2, 0x10000, why), GOBLIN_REFUSED_INTEGER_FIT);
-    same("a high number", why->first, 0x10000), same("a high number", why->offset, 0x10);
-    items.header.ei_class = 3, items.header.ei_data = 3;
-    same("class 3", goblin_put_header(file, sizeof file, &items.header, why), GOBLIN_REFUSED_INVALID_CLASS),
-        same("class 3", why->first, 3);
-    items.header.ei_class = h->ei_class;
-    same("order 3", goblin_put_header(file, sizeof file, &items.header, why), GOBLIN_REFUSED_DATA),
-        same("order 3", why->first, 3);
-    same("no bytes", goblin_put_header(file, 0, h, why), GOBLIN_REFUSED_BAD_OFFSET);
-    same("51 bytes", goblin_put_header(file, 51, h, why), GOBLIN_REFUSED_TOO_BIG);
-    same("sections outside", goblin_put_section(file, 0x456, h, 0, &wanted->section, why), GOBLIN_REFUSED_BAD_OFFSET);
-    same("segments outside", goblin_put_segment(file, 0x123, h, 0, &wanted->segment, why), GOBLIN_REFUSED_BAD_OFFSET);
-    same("symbols outside", goblin_put_symbol(file, 0x6ff, h, symbols, 0, &wanted->symbol, why),
-        GOBLIN_REFUSED_SYMTAB_OFFSET);
-    same("relocs outside", goblin_put_reloc(file, 0x801, h, relocs, true, 0, &wanted->reloc, why),
-        GOBLIN_REFUSED_TOO_BIG);
-    same("number outside", goblin_put_number(file, 7, h, 4, 4, 0, why), GOBLIN_REFUSED_TOO_BIG);
-    same("nothing written", (uint64_t)memcmp(file, first, sizeof file), 0);
-    same("a high alignment", goblin_put_segment(file, sizeof file, h, 1, &items.segment, why), wide_status);
-    items.header = *h, items.header.e_entry = (uint64_t)1 << 32;
-    same("a high entry", goblin_put_header(file, sizeof file, &items.header, why), wide_status);
+    /* (the fields of a 32-bit header, two of which don't fit from the second on) */
+    uint64_t *const fields[] = {&items.header.e_shoff, &items.header.e_phoff, &items.header.e_entry};
+    for (size_t i = 0; i < 3; i++)
+        *fields[i] = high + i, MISFITS(high + i, 32 - 4 * i, goblin_put_header, &items.header);
+    items.section.sh_flags = items.symbol.st_size = items.segment.p_align = high;
+    MISFITS(high, SECTIONS + 40 + 8, goblin_put_section, h, 1, &items.section);
+    MISFITS(high, SYMBOLS + 16 + 8, goblin_put_symbol, h, &symbols, 1, &items.symbol);
+    MISFITS(high, SEGMENTS + 32 + 28, goblin_put_segment, h, 1, &items.segment);
+    items.dyn.d_val = high + 1;
+    MISFITS(high + 1, ENTRIES + 8 + 4, goblin_put_dynamic_entry, h, &dynamic, 1, &items.dyn);
+    items.dyn.d_tag = high;
+    MISFITS(high, ENTRIES + 8, goblin_put_dynamic_entry, h, &dynamic, 1, &items.dyn);
+    items.reloc.r_addend = (int64_t)1 << 31;
+    MISFITS((uint64_t)1 << 31, RELOCS + 20, goblin_put_reloc, h, &relocs, true, 1, &items.reloc);
+    items.reloc.r_type = 0x100;
+    MISFITS(0x100, RELOCS + 16, goblin_put_reloc, h, &relocs, true, 1, &items.reloc);
     items.reloc.r_sym = 0x1000000;
-    same("a high symbol", goblin_put_reloc(file, sizeof file, h, relocs, true, 1, &items.reloc, why), wide_status);
-    memcpy(file, first, sizeof file);
+    MISFITS(0x1000000, RELOCS + 16, goblin_put_reloc, h, &relocs, true, 1, &items.reloc);
+    items.reloc.r_offset = high;
+    MISFITS(high, RELOCS + 12, goblin_put_reloc, h, &relocs, true, 1, &items.reloc);
+    REFUSED(INTEGER_FIT, GOBLIN_ITEM_ADDEND, (uint64_t)wanted.reloc.r_addend, 0, RELOCS + 2 * wide,
+            goblin_put_reloc(file, sizeof file, h, &relocs, false, 0, &wanted.reloc, &why));
+    REFUSED(INTEGER_FIT, 0, 0x10000, 0, 0x10, goblin_put_number(file, sizeof file, h, 0x10, 2, 0x10000, &why));
+    REFUSED(INTEGER_FIT, 0, 0x100, 0, SYMBOLS + 8,
+            goblin_put_number_in(file, sizeof file, h, &part, 8, 1, 0x100, &why));
+    SAME(memcmp(file, first, sizeof file), 0);
+}
+
+/* Tests what these calls refuse, too: what is not there. */
+static void write_outside(void) {
+    const goblin_header_t *h = &wanted.header;
+    goblin_header_t odd = *h;
+    odd.ei_class = 3, odd.ei_data = 3;
+    REFUSED(INVALID_CLASS, 0, 3, 0, 0, goblin_put_header(file, sizeof file, &odd, &why));
+    odd.ei_class = h->ei_class;
+    REFUSED(DATA, 0, 3, 0, 0, goblin_put_header(file, sizeof file, &odd, &why));
+    REFUSED(BAD_OFFSET, 0, 0, 0, 0, goblin_put_header(file, 0, h, &why));
+    REFUSED(TOO_BIG, 0, by_class(64, 52), 51, 0, goblin_put_header(file, 51, h, &why));
+    REFUSED(BAD_OFFSET, 0, SECTIONS, 0, SECTIONS, goblin_put_section(file, SECTIONS, h, 0, &wanted.section, &why));
+    REFUSED(BAD_OFFSET, 0, SEGMENTS, 0, SEGMENTS, goblin_put_segment(file, SEGMENTS, h, 0, &wanted.segment, &why));
+    REFUSED(SYMTAB_OFFSET, 0, SYMBOLS, SYMBOLS - 1, SYMBOLS,
+            goblin_put_symbol(file, SYMBOLS - 1, h, &symbols, 0, &wanted.symbol, &why));
+    REFUSED(TOO_BIG, 0, 6 * wide, 1, RELOCS,
+            goblin_put_reloc(file, RELOCS + 1, h, &relocs, true, 0, &wanted.reloc, &why));
+    REFUSED(TOO_BIG, 0, 4, 3, 4, goblin_put_number(file, 7, h, 4, 4, 0, &why));
+    SAME(memcmp(file, first, sizeof file), 0);
 }
 
 /* Tests the calls for bytes of sections, segments and strings. */
-static void range_all(const goblin_layout_t *items, goblin_refusal_t *why) {
-    goblin_section_t s = items->section;
-    goblin_segment_t p = items->segment;
+static void range_all(void) {
+    goblin_section_t s = wanted.section;
+    goblin_segment_t p = wanted.segment;
     goblin_range_t found = {0, 0}, names = {0xc00, 4};
     s.sh_type = 1, s.file.offset = p.file.offset = 0xa00, s.file.size = p.file.size = 0x33, p.p_type = 1;
-    same("goblin_section_range", goblin_section_range(over(sizeof file, &none), &s, &found, why), GOBLIN_OK);
-    same("goblin_section_range", found.offset << 16 | found.size, 0xa000033);
+    IS(GOBLIN_OK, goblin_section_range, &s, &found), SAME(found.offset, 0xa00), SAME(found.size, 0x33);
     found.size = 0;
-    same("goblin_segment_range", goblin_segment_range(over(sizeof file, &none), &p, &found, why), GOBLIN_OK);
-    same("goblin_segment_range", found.offset << 16 | found.size, 0xa000033);
-    same("goblin_string", goblin_string(over(sizeof file, &none), &names, 1, &found, why), GOBLIN_OK);
-    same("goblin_string", found.offset << 16 | found.size, 0xc010003);
+    IS(GOBLIN_OK, goblin_segment_range, &p, &found), SAME(found.offset, 0xa00), SAME(found.size, 0x33);
+    IS(GOBLIN_OK, goblin_string, &names, 1, &found), SAME(found.offset, 0xc01), SAME(found.size, 3);
     s.file.size = p.file.size = sizeof file;
-    same("bytes outside", goblin_section_range(over(sizeof file, &none), &s, &found, why), GOBLIN_REFUSED_TOO_BIG);
-    same("bytes outside", goblin_segment_range(over(sizeof file, &none), &p, &found, why), GOBLIN_REFUSED_TOO_BIG);
+    REFUSED(TOO_BIG, 0, sizeof file, 0x600, 0xa00, goblin_section_range(&f, &s, &found, &why));
+    REFUSED(TOO_BIG, 0, sizeof file, 0x600, 0xa00, goblin_segment_range(&f, &p, &found, &why));
     s.sh_type = 8, p.p_type = 0;
-    same("no bytes", goblin_section_range(over(sizeof file, &none), &s, &found, why), GOBLIN_END);
-    same("no bytes", goblin_segment_range(over(sizeof file, &none), &p, &found, why), GOBLIN_END);
+    IS(GOBLIN_END, goblin_section_range, &s, &found), IS(GOBLIN_END, goblin_segment_range, &p, &found);
 }
 
 /* Reads the header of the first bytes of the file. */
-static uint32_t read_header(size_t len, goblin_header_t *h, goblin_refusal_t *why) {
+static uint32_t read_header(size_t len, goblin_header_t *h) {
     goblin_file_t read;
     memset(&read, 0, sizeof read);
-    uint32_t status = goblin_file(file, len, &read, why);
-    if (status == GOBLIN_OK) same("goblin_file", read.bytes == file && read.len == len, 1), *h = read.header;
-    else same("goblin_file, refused", (uintptr_t)read.bytes + read.len + read.header.ei_class, 0);
+    uint32_t status = goblin_file(file, len, &read, &why);
+    if (status == GOBLIN_OK) SAME(read.bytes == file && read.len == len, 1), *h = read.header;
+    else SAME((uintptr_t)read.bytes + read.len + read.header.ei_class, 0);
     return status;
 }
 
 /* Reads each item of a file, and compares it with what was written. */
 static void read_all(void) {
-    goblin_layout_t wanted, got;
     memset(&wanted, 0, sizeof wanted), memset(&got, 0, sizeof got);
-    header(&wanted.header), segment(&wanted.segment), section(&wanted.section);
-    symbol(&wanted.symbol), reloc(&wanted.reloc), note(&wanted.note), entry(&wanted.dyn);
-    goblin_header_t *h = &got.header;
-    goblin_refusal_t *why = &got.refusal;
-    same("goblin_header", read_header(sizeof file, h, why), GOBLIN_OK);
-    same("goblin_segment", goblin_segment(over(sizeof file, h), 1, &got.segment, why), GOBLIN_OK);
-    same("goblin_segment", goblin_segment(over(sizeof file, h), 2, &got.segment, why), GOBLIN_END);
-    same("goblin_names_section", goblin_names_section(over(sizeof file, h), &got.section, why), GOBLIN_OK);
-    same("goblin_section", goblin_section(over(sizeof file, h), 1, &got.section, why), GOBLIN_OK);
-    same("goblin_section", goblin_section(over(sizeof file, h), 3, &got.section, why), GOBLIN_END);
-    goblin_range_t symbols = {0x700, wide == 8 ? 48U : 32U}, relocs = {0x800, wide * 6}, notes = {0x900, 28};
-    count_all(h, &symbols, &relocs, why);
-    range_all(&wanted, why);
-    whole_all(h, &wanted, why);
-    dynamic_all(h, &wanted.dyn, &got.dyn, why);
-    same("goblin_symbol", goblin_symbol(over(sizeof file, h), &symbols, 1, &got.symbol, why), GOBLIN_OK);
-    same("goblin_symbol", goblin_symbol(over(sizeof file, h), &symbols, 2, &got.symbol, why), GOBLIN_END);
-    same("goblin_reloc", goblin_reloc(over(sizeof file, h), &relocs, true, 1, &got.reloc, why), GOBLIN_OK);
-    same("goblin_reloc", goblin_reloc(over(sizeof file, h), &relocs, true, 2, &got.reloc, why), GOBLIN_END);
-    same("goblin_note_utf8", goblin_note_utf8(over(sizeof file, h), &notes, 4, 0x900, &got.note, why), GOBLIN_OK);
-    same("goblin_note_utf8", goblin_note_utf8(over(sizeof file, h), &notes, 4, got.note.next, &got.note, why),
-        GOBLIN_END);
+    header(&wanted.header), records(), note(&wanted.note);
+    symbols.offset = SYMBOLS, symbols.size = by_class(48, 32), relocs.offset = RELOCS, relocs.size = 6 * wide;
+    SAME(read_header(sizeof file, &got.header), GOBLIN_OK);
+    over(sizeof file, &got.header);
+    IS(GOBLIN_OK, goblin_segment, 1, &got.segment), IS(GOBLIN_END, goblin_segment, 2, &got.segment);
+    SAME(goblin_names_section(&f, &got.section, &why), GOBLIN_OK);
+    IS(GOBLIN_OK, goblin_section, 1, &got.section), IS(GOBLIN_END, goblin_section, 3, &got.section);
+    count_all(), range_all(), whole_all(), dynamic_all();
+    IS(GOBLIN_OK, goblin_symbol, &symbols, 1, &got.symbol), IS(GOBLIN_END, goblin_symbol, &symbols, 2, &got.symbol);
+    IS(GOBLIN_OK, goblin_reloc, &relocs, true, 1, &got.reloc);
+    IS(GOBLIN_END, goblin_reloc, &relocs, true, 2, &got.reloc);
+    goblin_range_t notes = {NOTES, 28};
     goblin_note_t whole;
-    same("goblin_note_whole", goblin_note_whole(over(sizeof file, h), &notes, 4, 0x900, &whole, why), GOBLIN_OK);
-    same("goblin_note_whole.name", whole.name.offset << 16 | whole.name.size, wanted.note.name.offset << 16 | 7);
-    same("goblin_note_whole.desc", whole.desc.offset << 16 | whole.desc.size, wanted.note.desc.offset << 16 | 5);
-    same("goblin_note_whole.next", whole.next << 32 | whole.n_type, wanted.note.next << 32 | wanted.note.n_type);
+    IS(GOBLIN_OK, goblin_note_utf8, &notes, 4, NOTES, &got.note);
+    IS(GOBLIN_END, goblin_note_utf8, &notes, 4, got.note.next, &got.note);
+    IS(GOBLIN_OK, goblin_note_whole, &notes, 4, NOTES, &whole);
+    SAME(whole.name.offset, wanted.note.name.offset), SAME(whole.name.size, 7), SAME(whole.desc.size, 5);
+    SAME(whole.desc.offset, wanted.note.desc.offset), SAME(whole.next, wanted.note.next);
+    SAME(whole.n_type, wanted.note.n_type);
     /* In a little-endian MIPS64 file the bytes of the type are in the other order. */
-    goblin_header_t mips = *h;
-    mips.e_machine = 8;
     goblin_reloc_t pair;
-    same("goblin_reloc", goblin_reloc(over(sizeof file, &mips), &relocs, true, 1, &pair, why), GOBLIN_OK);
+    f.header.e_machine = 8;
+    IS(GOBLIN_OK, goblin_reloc, &relocs, true, 1, &pair);
     if (wide == 8 && !is_big) {
-        uint32_t type = (uint32_t)wanted.reloc.r_sym;
-        same("r_sym for MIPS", pair.r_sym, wanted.reloc.r_type);
-        same("r_type for MIPS", pair.r_type, type << 24 | (type & 0xff00) << 8 | (type >> 8 & 0xff00) | type >> 24);
+        uint32_t type = wanted.reloc.r_sym;
+        SAME(pair.r_sym, wanted.reloc.r_type);
+        SAME(pair.r_type, type << 24 | (type & 0xff00) << 8 | (type >> 8 & 0xff00) | type >> 24);
     }
     memcpy(first, file, sizeof file);
-    same("goblin_put_reloc for MIPS",
-         goblin_put_reloc(file, sizeof file, &mips, &relocs, true, 1, &pair, why), GOBLIN_OK);
-    same("goblin_put_reloc for MIPS", (uint64_t)memcmp(file, first, sizeof file), 0);
-    write_all(&wanted, &symbols, &relocs, why);
-    refuse_to_write(&wanted, &symbols, &relocs, why);
+    PUTS(GOBLIN_OK, goblin_put_reloc, &f.header, &relocs, true, 1, &pair);
+    SAME(memcmp(file, first, sizeof file), 0);
+    write_all(), write_too_wide(), write_outside();
     /* A refusal with four different numbers: its size, its offset, the file's length and 1. Its table begins at
        the offset. */
-    goblin_range_t past = {0x321, UINT64_MAX};
+    goblin_range_t past = {0x321, UINT64_MAX}, names = {wanted.note.name.offset - 1, 9};
     goblin_refusal_t refusal = {GOBLIN_REFUSED_STRTAB_RANGE, 0, past.size, past.offset, sizeof file, 1, past.offset};
     wanted.refusal = refusal;
-    same("goblin_string_utf8", goblin_string_utf8(over(sizeof file, &none), &past, 0, &got.range, why),
-        GOBLIN_REFUSED_STRTAB_RANGE);
-    goblin_range_t names = {wanted.note.name.offset - 1, 9};
+    IS(GOBLIN_REFUSED_STRTAB_RANGE, goblin_string_utf8, &past, 0, &got.range);
+    got.refusal = why;
     wanted.range.offset = names.offset + 3, wanted.range.size = 5;
-    same("goblin_string_utf8", goblin_string_utf8(over(sizeof file, &none), &names, 3, &got.range, why), GOBLIN_OK);
+    IS(GOBLIN_OK, goblin_string_utf8, &names, 3, &got.range);
 #define STRUCT(name)
-#define FIELD(name, field, number) same(#name "." #field, (uint64_t)got.name.field, (uint64_t)wanted.name.field);
+#define FIELD(name, field, number) SAME(got.name.field, wanted.name.field);
 #include "fields.h"
 #undef FIELD
 #undef STRUCT
 }
 
-/* Tests what a call that is refused returned, and where in the file the thing begins that is refused. */
-static void refused(const char *what, uint32_t is, uint32_t should, const goblin_refusal_t *why, uint64_t offset) {
-    same(what, is, should);
-    same(what, why->offset, offset);
-}
-
 /* Tests each refusal that these calls return, by its name. */
 static void refuse_all(void) {
-    goblin_header_t h, given;
+    goblin_header_t h;
     goblin_section_t s;
     goblin_segment_t p;
     goblin_symbol_t y;
     goblin_note_t n;
-    goblin_range_t text, names = {0xc00, 4}, range = {sizeof file, 0};
-    goblin_refusal_t why;
-    header(&given);
-    same("goblin_header", read_header(sizeof file, &h, &why), GOBLIN_OK);
-    given = h, given.e_shoff = sizeof file;
-    refused("sections outside", goblin_section(over(sizeof file, &given), 0, &s, &why),
-            GOBLIN_REFUSED_BAD_OFFSET, &why, sizeof file);
-    given = h, given.e_shnum = given.e_phnum = 0xffff;
-    refused("many sections", goblin_section(over(sizeof file, &given), 0, &s, &why),
-            GOBLIN_REFUSED_BUFFER_TOO_SHORT, &why, h.e_shoff);
-    same("many sections, item", why.item, GOBLIN_ITEM_SECTION_HEADERS);
-    refused("many segments", goblin_segment(over(sizeof file, &given), 0, &p, &why),
-            GOBLIN_REFUSED_BUFFER_TOO_SHORT, &why, h.e_phoff);
-    same("many segments, item", why.item, GOBLIN_ITEM_PROGRAM_HEADERS);
-    refused("string of 0xee", goblin_string_utf8(over(sizeof file, &none), &names, 0, &text, &why),
-            GOBLIN_REFUSED_BAD_INPUT, &why, names.offset);
-    same("string of 0xee, item", why.item, GOBLIN_ITEM_INVALID_UTF8);
-    refused("alignment 16", goblin_note_utf8(over(sizeof file, &h), &names, 16, names.offset, &n, &why),
-            GOBLIN_REFUSED_NOTE_ALIGN, &why, names.offset);
+    goblin_range_t text, names = {0xc00, 4}, range = {sizeof file, 0}, cut = {NOTES, 0};
+    header(&h);
+    SAME(read_header(sizeof file, &h), GOBLIN_OK);
+    over(sizeof file, &h);
+    f.header.e_shoff = sizeof file;
+    REFUSED(BAD_OFFSET, 0, sizeof file, 0, sizeof file, goblin_section(&f, 0, &s, &why));
+    f.header.e_shoff = SECTIONS, f.header.e_shnum = 0xffff, f.header.e_phnum = 0xfffe;
+    REFUSED(BUFFER_TOO_SHORT, GOBLIN_ITEM_SECTION_HEADERS, 0xffff, 0, SECTIONS, goblin_section(&f, 0, &s, &why));
+    REFUSED(BUFFER_TOO_SHORT, GOBLIN_ITEM_PROGRAM_HEADERS, 0xfffe, 0, SEGMENTS, goblin_segment(&f, 0, &p, &why));
+    f.header.e_phnum = 0xffff; /* (sh_info of section 0 is made of the bytes 0xee) */
+    REFUSED(BUFFER_TOO_SHORT, GOBLIN_ITEM_PROGRAM_HEADERS, 0xeeeeeeee, 0, SEGMENTS, goblin_segment(&f, 0, &p, &why));
+    REFUSED(BAD_INPUT, GOBLIN_ITEM_INVALID_UTF8, 4, 0, 0xc00, goblin_string_utf8(&f, &names, 0, &text, &why));
+    REFUSED(NOTE_ALIGN, 0, 16, 0, 0xc00, goblin_note_utf8(&f, &names, 16, 0xc00, &n, &why));
     note(&n);
-    goblin_range_t cut = {0x900, 0};
-    static const struct { uint64_t size; uint32_t status, item; } cuts[] = {
-        {11, GOBLIN_REFUSED_TOO_BIG, GOBLIN_ITEM_NOTE_HEADER}, {12, GOBLIN_REFUSED_BAD_OFFSET, GOBLIN_ITEM_NOTE_NAME},
-        {19, GOBLIN_REFUSED_TOO_BIG, GOBLIN_ITEM_NOTE_NAME}, {20, GOBLIN_REFUSED_BAD_OFFSET, GOBLIN_ITEM_NOTE_DESC},
-        {24, GOBLIN_REFUSED_TOO_BIG, GOBLIN_ITEM_NOTE_DESC}};
+    static const struct { uint64_t size; uint32_t status, item; uint64_t a, b; } cuts[] = {
+        {11, GOBLIN_REFUSED_TOO_BIG, GOBLIN_ITEM_NOTE_HEADER, 12, 11},
+        {12, GOBLIN_REFUSED_BAD_OFFSET, GOBLIN_ITEM_NOTE_NAME, 12, 0},
+        {19, GOBLIN_REFUSED_TOO_BIG, GOBLIN_ITEM_NOTE_NAME, 8, 7},
+        {20, GOBLIN_REFUSED_BAD_OFFSET, GOBLIN_ITEM_NOTE_DESC, 20, 0},
+        {24, GOBLIN_REFUSED_TOO_BIG, GOBLIN_ITEM_NOTE_DESC, 5, 4}};
     for (size_t i = 0; i < sizeof cuts / sizeof *cuts; i++) {
         cut.size = cuts[i].size;
-        refused("a note past its range", goblin_note_whole(over(sizeof file, &h), &cut, 4, 0x900, &n, &why),
-                cuts[i].status, &why, 0x900);
-        same("a note past its range, item", why.item, cuts[i].item);
+        refused(__LINE__, goblin_note_whole(&f, &cut, 4, NOTES, &n, &why), cuts[i].status, cuts[i].item, cuts[i].a,
+                cuts[i].b, 0, 0, NOTES);
     }
-    cut.size = 25, file[0x900 + 12] = 0xee;
-    same("a name that is not UTF-8", goblin_note_utf8(over(sizeof file, &h), &cut, 4, 0x900, &n, &why),
-        GOBLIN_REFUSED_BAD_INPUT);
-    same("a name that is not UTF-8", goblin_note_whole(over(sizeof file, &h), &cut, 4, 0x900, &n, &why), GOBLIN_OK);
-    refused("alignment 16", goblin_note_whole(over(sizeof file, &h), &cut, 16, 0x900, &n, &why),
-            GOBLIN_REFUSED_NOTE_ALIGN, &why, 0x900);
-    same("alignment 16, item", why.item, 0);
-    refused("symbols at the end", goblin_symbol(over(sizeof file, &h), &range, 0, &y, &why),
-            GOBLIN_REFUSED_SYMTAB_OFFSET, &why, range.offset);
+    cut.size = 25, file[NOTES + 12] = 0xee;
+    REFUSED(BAD_INPUT, GOBLIN_ITEM_INVALID_UTF8, sizeof file - NOTES - 12, 0, NOTES,
+            goblin_note_utf8(&f, &cut, 4, NOTES, &n, &why));
+    IS(GOBLIN_OK, goblin_note_whole, &cut, 4, NOTES, &n);
+    REFUSED(NOTE_ALIGN, 0, 16, 0, NOTES, goblin_note_whole(&f, &cut, 16, NOTES, &n, &why));
+    REFUSED(SYMTAB_OFFSET, 0, sizeof file, sizeof file, sizeof file, goblin_symbol(&f, &range, 0, &y, &why));
     range.offset--, range.size = 24;
-    refused("symbols past the end", goblin_symbol(over(sizeof file, &h), &range, 0, &y, &why),
-            GOBLIN_REFUSED_SYMTAB_PAST, &why, range.offset);
-    refused("strings past the end", goblin_string_utf8(over(sizeof file, &none), &range, 0, &text, &why),
-            GOBLIN_REFUSED_STRTAB_RANGE, &why, range.offset);
+    REFUSED(SYMTAB_PAST, 0, by_class(24, 16), 1, range.offset, goblin_symbol(&f, &range, 0, &y, &why));
+    REFUSED_BY_FOUR(STRTAB_RANGE, 0, 24, range.offset, sizeof file, 0, range.offset,
+                    goblin_string_utf8(&f, &range, 0, &text, &why));
     range.offset += 2;
-    refused("strings outside", goblin_string_utf8(over(sizeof file, &none), &range, 0, &text, &why),
-            GOBLIN_REFUSED_STRTAB_OFFSET, &why, range.offset);
-    refused("15 bytes", read_header(15, &h, &why), GOBLIN_REFUSED_TOO_SMALL, &why, 0);
-    refused("51 bytes", read_header(51, &h, &why), GOBLIN_REFUSED_TOO_BIG, &why, 0);
+    REFUSED(STRTAB_OFFSET, 0, range.offset, sizeof file, range.offset,
+            goblin_string_utf8(&f, &range, 0, &text, &why));
+    REFUSED(TOO_SMALL, 0, 0, 0, 0, read_header(15, &h));
+    REFUSED(TOO_BIG, 0, by_class(64, 52), 51, 0, read_header(51, &h));
     file[5] = 3;
-    refused("order 3", read_header(sizeof file, &h, &why), GOBLIN_REFUSED_DATA_TYPE, &why, 0);
+    REFUSED(DATA_TYPE, 0, 3, 0, 0, read_header(sizeof file, &h));
     file[4] = 3;
-    refused("class 3", read_header(sizeof file, &h, &why), GOBLIN_REFUSED_ELF_CLASS, &why, 0);
-    file[0] = 3;
-    refused("magic number", read_header(sizeof file, &h, &why), GOBLIN_REFUSED_BAD_MAGIC, &why, 0);
+    REFUSED(ELF_CLASS, 0, 3, 0, 0, read_header(sizeof file, &h));
+    memcpy(file, "\3ELF\4\5\6\7", 8);
+    REFUSED(BAD_MAGIC, 0, 0x07060504464c4503, 0, 0, read_header(sizeof file, &h));
 }
 
 /* Tests each call with null pointers for empty files, names and arrays. */
-static void call_with_nulls(goblin_refusal_t *why) {
+static void call_with_nulls(void) {
     goblin_header_t h;
-    goblin_file_t empty_file, whole;
+    goblin_file_t whole;
     goblin_dyn_t d = {0, 0};
     goblin_section_t s;
     goblin_segment_t p;
     goblin_symbol_t y;
     goblin_reloc_t r;
     goblin_note_t n;
-    goblin_range_t text, none = {0, 0}, some = {0, 1};
+    goblin_range_t text, nothing = {0, 0}, some = {0, 1};
     uint64_t number;
     memset(&h, 0, sizeof h), memset(&s, 0, sizeof s), memset(&p, 0, sizeof p), memset(&y, 0, sizeof y),
         memset(&r, 0, sizeof r);
-    memset(&empty_file, 0, sizeof empty_file);
-    same("null: file", goblin_file(NULL, 0, &empty_file, why), GOBLIN_REFUSED_TOO_SMALL);
-    same("null: layout", goblin_layout((goblin_layout_t *)(void *)&empty_file, sizeof empty_file), 0);
-    for (int i = 0; i < 2; i++) {
-        uint32_t end = i ? GOBLIN_REFUSED_BAD_OFFSET : GOBLIN_END;
-        h.e_shoff = empty_file.header.e_shoff = (uint64_t)i;
-        same("null: sections", goblin_section_count(&empty_file, &number, why), i ? GOBLIN_REFUSED_BAD_OFFSET
-            : GOBLIN_OK);
-        same("null: section", goblin_section(&empty_file, 0, &s, why), end);
-        same("null: section names", goblin_names_section(&empty_file, &s, why), end);
-        same("null: table", goblin_linked_section(&empty_file, 1, &s, why), end);
-        same("null: section by name", goblin_section_by_name(&empty_file, &none, NULL, 0, 0, &number, &s, why), end);
-        same("null: section by type", goblin_section_by_type(&empty_file, 3, 0, &number, &s, why), end);
-        same("null: put section", goblin_put_section(NULL, 0, &h, 0, &s, why), end);
-        goblin_whole_header(&empty_file, &whole);
-        same("null: whole header", whole.header.e_shoff + whole.len, 0);
-        same("null: sections", goblin_sections(&empty_file, 0, NULL, 0, &number, why), end);
+    memset(&f, 0, sizeof f);
+    SAME(goblin_file(NULL, 0, &f, &why), GOBLIN_REFUSED_TOO_SMALL);
+    SAME(goblin_layout((goblin_layout_t *)(void *)&f, sizeof f), 0);
+    for (uint64_t i = 0; i < 2; i++) {
+        uint32_t none_or_bad = i ? GOBLIN_REFUSED_BAD_OFFSET : GOBLIN_END;
+        h.e_shoff = f.header.e_shoff = i;
+        SAME(goblin_section_count(&f, &number, &why), i ? GOBLIN_REFUSED_BAD_OFFSET : GOBLIN_OK);
+        IS(none_or_bad, goblin_section, 0, &s);
+        SAME(goblin_names_section(&f, &s, &why), none_or_bad);
+        IS(none_or_bad, goblin_linked_section, 1, &s);
+        IS(none_or_bad, goblin_section_by_name, &nothing, NULL, 0, 0, &number, &s);
+        IS(none_or_bad, goblin_section_by_type, 3, 0, &number, &s);
+        SAME(goblin_put_section(NULL, 0, &h, 0, &s, &why), none_or_bad);
+        goblin_whole_header(&f, &whole);
+        SAME(whole.header.e_shoff + whole.len, 0);
+        IS(none_or_bad, goblin_sections, 0, NULL, 0, &number);
     }
-    same("null: segment", goblin_segment(&empty_file, 0, &p, why), GOBLIN_END);
-    same("null: segments", goblin_segments(&empty_file, 0, NULL, 0, &number, why), GOBLIN_END);
-    same("null: address", goblin_address_to_offset(&empty_file, 0, &number, why), GOBLIN_END);
-    same("null: put header", goblin_put_header(NULL, 0, &h, why), GOBLIN_REFUSED_INVALID_CLASS);
-    same("null: put segment", goblin_put_segment(NULL, 0, &h, 0, &p, why), GOBLIN_END);
-    same("null: put symbol", goblin_put_symbol(NULL, 0, &h, &none, 0, &y, why), GOBLIN_REFUSED_SYMTAB_OFFSET);
-    same("null: put reloc", goblin_put_reloc(NULL, 0, &h, &none, true, 0, &r, why), GOBLIN_END);
-    same("null: put number", goblin_put_number(NULL, 0, &h, 0, 8, 0, why), GOBLIN_REFUSED_BAD_OFFSET);
-    same("null: put number in", goblin_put_number_in(NULL, 0, &h, &some, 0, 1, 0, why), GOBLIN_REFUSED_BAD_OFFSET);
-    same("null: number in", goblin_number_in(&empty_file, &some, 0, 1, &number, why), GOBLIN_REFUSED_BAD_OFFSET);
-    goblin_range_in_file(&empty_file, &some, &text);
-    same("null: range in file", text.size, 0);
-    same("null: symbol", goblin_symbol(&empty_file, &none, 0, &y, why), GOBLIN_REFUSED_SYMTAB_OFFSET);
-    same("null: symbols", goblin_symbols(&empty_file, &none, 0, NULL, 0, &number, why), GOBLIN_REFUSED_SYMTAB_OFFSET);
-    same("null: symbol by name", goblin_symbol_by_name(&empty_file, &none, &none, NULL, 0, 0, &number, &y, why),
-         GOBLIN_REFUSED_SYMTAB_OFFSET);
-    same("null: symbol by address", goblin_symbol_by_address(&empty_file, &none, 0, &number, why),
-         GOBLIN_REFUSED_SYMTAB_OFFSET);
-    same("null: reloc", goblin_reloc(&empty_file, &none, true, 0, &r, why), GOBLIN_END);
-    same("null: reloc", goblin_reloc(&empty_file, &some, true, 0, &r, why), GOBLIN_REFUSED_BAD_OFFSET);
-    same("null: relocs", goblin_relocs(&empty_file, &none, false, 0, NULL, 0, &number, why), GOBLIN_END);
-    same("null: note", goblin_note_utf8(&empty_file, &none, 4, 0, &n, why), GOBLIN_END);
-    same("null: note", goblin_note_utf8(&empty_file, &some, 4, 0, &n, why), GOBLIN_REFUSED_BAD_OFFSET);
-    same("null: note of bytes", goblin_note(&empty_file, &none, 4, 0, &n, why), GOBLIN_END);
-    same("null: note of bytes", goblin_note(&empty_file, &some, 4, 0, &n, why), GOBLIN_REFUSED_BAD_OFFSET);
-    same("null: whole note", goblin_note_whole(&empty_file, &none, 4, 0, &n, why), GOBLIN_END);
-    same("null: whole note", goblin_note_whole(&empty_file, &some, 4, 0, &n, why), GOBLIN_REFUSED_BAD_OFFSET);
-    same("null: dynamic", goblin_dynamic(&empty_file, &text, why), GOBLIN_REFUSED_BAD_OFFSET);
-    same("null: entries", goblin_dynamic_entries(&empty_file, &none, 0, NULL, 0, &number, why), GOBLIN_END);
-    same("null: entries", goblin_dynamic_count(&empty_file, &some, &number, why), GOBLIN_REFUSED_BAD_OFFSET);
-    same("null: value", goblin_dynamic_value(&empty_file, &none, 1, 0, &number, &number, why), GOBLIN_END);
-    same("null: its strings", goblin_dynamic_strings(&empty_file, &none, &text, why), GOBLIN_REFUSED_BAD_OFFSET);
-    same("null: put entry", goblin_put_dynamic_entry(NULL, 0, &h, &none, 0, &d, why), GOBLIN_END);
-    same("null: segment count", goblin_segment_count(&empty_file, &number, why), GOBLIN_OK);
-    same("null: symbol count", goblin_symbol_count(&empty_file, &none, &number, why), GOBLIN_REFUSED_SYMTAB_OFFSET);
-    same("null: reloc count", goblin_reloc_count(&empty_file, &none, true, &number, why), GOBLIN_OK);
-    same("null: string bytes", goblin_string(&empty_file, &none, 0, &text, why), GOBLIN_END);
-    same("null: number", goblin_number(&empty_file, 0, 8, &number, why), GOBLIN_REFUSED_BAD_OFFSET);
-    same("null: string", goblin_string_utf8(&empty_file, &none, 0, &text, why), GOBLIN_END);
-    same("null: string", goblin_string_utf8(&empty_file, &some, 0, &text, why), GOBLIN_REFUSED_STRTAB_RANGE);
-    same("null: strings", goblin_strings(&empty_file, &some, NULL, 0, NULL, 0, &number, why), GOBLIN_OK);
-    same("null: strings, filled", number, 0);
-    same("null: string is", goblin_string_is(&empty_file, &none, 0, NULL, 0), false);
-    same("null: string starts", goblin_string_starts(&empty_file, &some, 0, NULL, 0), false);
-    same("null: closed strings", goblin_closed_strings(&empty_file, &none, &text, why), GOBLIN_OK);
-    same("null: closed strings", goblin_closed_strings(&empty_file, &some, &text, why), GOBLIN_REFUSED_STRTAB_RANGE);
-    same("null: string closed", goblin_string_closed(&empty_file, &none, 0, &text, why), GOBLIN_END);
-    same("null: class", goblin_class_to_str(1, NULL, 0), strlen("ELF32"));
-    same("null: file type", goblin_et_to_str(3, NULL, 0), strlen("DYN"));
-    same("null: machine", goblin_machine_to_str(62, NULL, 0), strlen("X86_64"));
-    same("null: segment type", goblin_pt_to_str(1, NULL, 0), strlen("PT_LOAD"));
-    same("null: section type", goblin_sht_to_str(1, NULL, 0), strlen("SHT_PROGBITS"));
-    same("null: flag", goblin_shf_to_str(1, NULL, 0), strlen("SHF_WRITE"));
-    same("null: binding", goblin_bind_to_str(1, NULL, 0), strlen("GLOBAL"));
-    same("null: type", goblin_type_to_str(2, NULL, 0), strlen("FUNC"));
-    same("null: visibility", goblin_visibility_to_str(0, NULL, 0), strlen("DEFAULT"));
-    same("null: note type", goblin_note_type_to_str(NULL, 0, 3, NULL, 0), strlen("NT_GNU_BUILD_ID"));
-    same("null: strings", goblin_string_utf8(&empty_file, &some, 0, &text, why), GOBLIN_REFUSED_STRTAB_RANGE);
-    same("null: text", goblin_refusal_to_str(why, NULL, 0),
+    IS(GOBLIN_END, goblin_segment, 0, &p);
+    IS(GOBLIN_END, goblin_segments, 0, NULL, 0, &number);
+    IS(GOBLIN_END, goblin_address_to_offset, 0, &number);
+    SAME(goblin_put_header(NULL, 0, &h, &why), GOBLIN_REFUSED_INVALID_CLASS);
+    SAME(goblin_put_segment(NULL, 0, &h, 0, &p, &why), GOBLIN_END);
+    SAME(goblin_put_symbol(NULL, 0, &h, &nothing, 0, &y, &why), GOBLIN_REFUSED_SYMTAB_OFFSET);
+    SAME(goblin_put_reloc(NULL, 0, &h, &nothing, true, 0, &r, &why), GOBLIN_END);
+    SAME(goblin_put_number(NULL, 0, &h, 0, 8, 0, &why), GOBLIN_REFUSED_BAD_OFFSET);
+    SAME(goblin_put_number_in(NULL, 0, &h, &some, 0, 1, 0, &why), GOBLIN_REFUSED_BAD_OFFSET);
+    IS(GOBLIN_REFUSED_BAD_OFFSET, goblin_number_in, &some, 0, 1, &number);
+    goblin_range_in_file(&f, &some, &text);
+    SAME(text.size, 0);
+    IS(GOBLIN_REFUSED_SYMTAB_OFFSET, goblin_symbol, &nothing, 0, &y);
+    IS(GOBLIN_REFUSED_SYMTAB_OFFSET, goblin_symbols, &nothing, 0, NULL, 0, &number);
+    IS(GOBLIN_REFUSED_SYMTAB_OFFSET, goblin_symbol_by_name, &nothing, &nothing, NULL, 0, 0, &number, &y);
+    IS(GOBLIN_REFUSED_SYMTAB_OFFSET, goblin_symbol_by_address, &nothing, 0, &number);
+    IS(GOBLIN_END, goblin_reloc, &nothing, true, 0, &r);
+    IS(GOBLIN_REFUSED_BAD_OFFSET, goblin_reloc, &some, true, 0, &r);
+    IS(GOBLIN_END, goblin_relocs, &nothing, false, 0, NULL, 0, &number);
+    IS(GOBLIN_END, goblin_note_utf8, &nothing, 4, 0, &n);
+    IS(GOBLIN_REFUSED_BAD_OFFSET, goblin_note_utf8, &some, 4, 0, &n);
+    IS(GOBLIN_END, goblin_note, &nothing, 4, 0, &n);
+    IS(GOBLIN_REFUSED_BAD_OFFSET, goblin_note, &some, 4, 0, &n);
+    IS(GOBLIN_END, goblin_note_whole, &nothing, 4, 0, &n);
+    IS(GOBLIN_REFUSED_BAD_OFFSET, goblin_note_whole, &some, 4, 0, &n);
+    SAME(goblin_dynamic(&f, &text, &why), GOBLIN_REFUSED_BAD_OFFSET);
+    IS(GOBLIN_END, goblin_dynamic_entries, &nothing, 0, NULL, 0, &number);
+    IS(GOBLIN_REFUSED_BAD_OFFSET, goblin_dynamic_count, &some, &number);
+    IS(GOBLIN_END, goblin_dynamic_value, &nothing, 1, 0, &number, &number);
+    IS(GOBLIN_REFUSED_BAD_OFFSET, goblin_dynamic_strings, &nothing, &text);
+    SAME(goblin_put_dynamic_entry(NULL, 0, &h, &nothing, 0, &d, &why), GOBLIN_END);
+    SAME(goblin_segment_count(&f, &number, &why), GOBLIN_OK);
+    IS(GOBLIN_REFUSED_SYMTAB_OFFSET, goblin_symbol_count, &nothing, &number);
+    IS(GOBLIN_OK, goblin_reloc_count, &nothing, true, &number);
+    IS(GOBLIN_END, goblin_string, &nothing, 0, &text);
+    IS(GOBLIN_REFUSED_BAD_OFFSET, goblin_number, 0, 8, &number);
+    IS(GOBLIN_END, goblin_string_utf8, &nothing, 0, &text);
+    IS(GOBLIN_OK, goblin_strings, &some, NULL, 0, NULL, 0, &number), SAME(number, 0);
+    SAME(goblin_string_is(&f, &nothing, 0, NULL, 0), false);
+    SAME(goblin_string_starts(&f, &some, 0, NULL, 0), false);
+    IS(GOBLIN_OK, goblin_closed_strings, &nothing, &text);
+    IS(GOBLIN_REFUSED_STRTAB_RANGE, goblin_closed_strings, &some, &text);
+    IS(GOBLIN_END, goblin_string_closed, &nothing, 0, &text);
+    SAME(goblin_class_to_str(1, NULL, 0), strlen("ELF32")), SAME(goblin_et_to_str(3, NULL, 0), strlen("DYN"));
+    SAME(goblin_machine_to_str(62, NULL, 0), strlen("X86_64")), SAME(goblin_pt_to_str(1, NULL, 0), strlen("PT_LOAD"));
+    SAME(goblin_sht_to_str(1, NULL, 0), strlen("SHT_PROGBITS"));
+    SAME(goblin_shf_to_str(1, NULL, 0), strlen("SHF_WRITE")), SAME(goblin_bind_to_str(1, NULL, 0), strlen("GLOBAL"));
+    SAME(goblin_type_to_str(2, NULL, 0), strlen("FUNC"));
+    SAME(goblin_visibility_to_str(0, NULL, 0), strlen("DEFAULT"));
+    SAME(goblin_note_type_to_str(NULL, 0, 3, NULL, 0), strlen("NT_GNU_BUILD_ID"));
+    IS(GOBLIN_REFUSED_STRTAB_RANGE, goblin_string_utf8, &some, 0, &text);
+    SAME(goblin_refusal_to_str(&why, NULL, 0),
          strlen("Malformed entity: Strtable size (1) + offset (0) is out of bounds for 0 #bytes. Overflowed: false"));
-    header(&h), symbol(&y), note(&n);
-    goblin_range_t symbols = {0x700, wide == 8 ? 48U : 32U}, relocs = {0x800, wide * 6}, empty = {n.name.offset + 7, 1};
-    same("header", read_header(sizeof file, &h, why), GOBLIN_OK);
-    same("no sections", goblin_sections(over(sizeof file, &h), 1, NULL, 0, &number, why), GOBLIN_OK);
-    same("no sections, filled", number, 0);
-    same("no segments", goblin_segments(over(sizeof file, &h), 1, NULL, 0, &number, why), GOBLIN_OK);
-    same("no segments, filled", number, 0);
-    same("no symbols", goblin_symbols(over(sizeof file, &h), &symbols, 1, NULL, 0, &number, why), GOBLIN_OK);
-    same("no symbols, filled", number, 0);
-    same("no relocs", goblin_relocs(over(sizeof file, &h), &relocs, true, 1, NULL, 0, &number, why), GOBLIN_OK);
-    same("no relocs, filled", number, 0);
-    /* The offset of the first symbol's name is 0xeeeeeeee, which is past these names. */
-    same("no name", goblin_symbol_by_name(over(sizeof file, &h), &symbols, &empty, NULL, 0, 0, &number, &y, why),
-         GOBLIN_END);
+    header(&h), note(&n);
+    goblin_range_t empty = {n.name.offset + 7, 1};
+    SAME(read_header(sizeof file, &h), GOBLIN_OK);
+    over(sizeof file, &h);
+    IS(GOBLIN_OK, goblin_sections, 1, NULL, 0, &number), SAME(number, 0);
+    IS(GOBLIN_OK, goblin_segments, 1, NULL, 0, &number), SAME(number, 0);
+    IS(GOBLIN_OK, goblin_symbols, &symbols, 1, NULL, 0, &number), SAME(number, 0);
+    IS(GOBLIN_OK, goblin_relocs, &relocs, true, 1, NULL, 0, &number), SAME(number, 0);
+    /* The offset of each symbol's name is 0xeeeeeeee, which is past these names. */
+    IS(GOBLIN_END, goblin_symbol_by_name, &symbols, &empty, NULL, 0, 0, &number, &y);
 }
 
 /* Tests that 160 bytes hold the longest text of each kind of refusal and the zero byte after it, and that a text that
    fills the buffer has none. */
 static void close_texts(void) {
     char text[161];
-    goblin_refusal_t why = {0, 0, UINT64_MAX, UINT64_MAX, UINT64_MAX, 0, 0};
-    for (why.kind = 0; why.kind <= GOBLIN_REFUSED_INTEGER_FIT + 1; why.kind++)
-        for (why.item = 0; why.item <= GOBLIN_ITEM_PROGRAM_HEADERS; why.item++) {
+    goblin_refusal_t longest = {0, 0, UINT64_MAX, UINT64_MAX, UINT64_MAX, 0, 0};
+    for (longest.kind = 0; longest.kind <= GOBLIN_REFUSED_INTEGER_FIT + 1; longest.kind++)
+        for (longest.item = 0; longest.item <= GOBLIN_ITEM_PROGRAM_HEADERS; longest.item++) {
             memset(text, 0xee, sizeof text);
-            uint64_t size = goblin_refusal_to_str(&why, text, 160);
-            same("a text fits", size < 160, true);
-            same("a closed text", strlen(text), size);
+            uint64_t size = goblin_refusal_to_str(&longest, text, 160);
+            SAME(size < 160, true), SAME(strlen(text), size);
             memset(text, 0xee, sizeof text);
-            goblin_refusal_to_str(&why, text, (size_t)size);
-            same("a full buffer", (uint8_t)text[size], 0xee);
+            goblin_refusal_to_str(&longest, text, (size_t)size);
+            SAME((uint8_t)text[size], 0xee);
         }
     memset(text, 0xee, sizeof text);
-    same("a class", goblin_class_to_str(2, text, 6), strlen("ELF64"));
-    same("a closed class", strcmp(text, "ELF64"), 0);
+    SAME(goblin_class_to_str(2, text, 6), strlen("ELF64")), SAME(strcmp(text, "ELF64"), 0);
 }
 
 /* Tests the macros for sizes of records, as both classes have them, and for the parts of a symbol. */
 static void use_macros(void) {
     goblin_header_t h = none;
     for (int i = 0; i < 2; i++, h.ei_class = GOBLIN_ELFCLASS64) {
-        same("SHDR", GOBLIN_SIZEOF_SHDR(&h), i ? 64 : 40), same("PHDR", GOBLIN_SIZEOF_PHDR(&h), i ? 56 : 32);
-        same("SYM", GOBLIN_SIZEOF_SYM(&h), i ? 24 : 16), same("REL", GOBLIN_SIZEOF_REL(&h), i ? 16 : 8);
-        same("RELA", GOBLIN_SIZEOF_RELA(&h), i ? 24 : 12), same("DYN", GOBLIN_SIZEOF_DYN(&h), i ? 16 : 8);
+        SAME(GOBLIN_SIZEOF_SHDR(&h), i ? 64 : 40), SAME(GOBLIN_SIZEOF_PHDR(&h), i ? 56 : 32);
+        SAME(GOBLIN_SIZEOF_SYM(&h), i ? 24 : 16), SAME(GOBLIN_SIZEOF_REL(&h), i ? 16 : 8);
+        SAME(GOBLIN_SIZEOF_RELA(&h), i ? 24 : 12), SAME(GOBLIN_SIZEOF_DYN(&h), i ? 16 : 8);
     }
-    same("ST_INFO", GOBLIN_ST_INFO(GOBLIN_STB_WEAK, GOBLIN_STT_FUNC), 0x22);
-    same("ST_BIND", GOBLIN_ST_BIND(0xa5), 10), same("ST_TYPE", GOBLIN_ST_TYPE(0xa5), 5);
-    same("ST_VISIBILITY", GOBLIN_ST_VISIBILITY(0xea), 2);
+    SAME(GOBLIN_ST_INFO(GOBLIN_STB_WEAK, GOBLIN_STT_FUNC), 0x22);
+    SAME(GOBLIN_ST_BIND(0xa5), 10), SAME(GOBLIN_ST_TYPE(0xa5), 5), SAME(GOBLIN_ST_VISIBILITY(0xea), 2);
 }
 
-/* The strings "", "ab", "abc" and "x", whose end is that of the table. */
-static const uint8_t strings[] = "\0ab\0abc\0x";
-static const goblin_range_t string_table = {0, 9};
-
-/* Returns the length of the C string at an offset, or -1 if no zero byte closes the string. */
-static int closed_size(uint64_t at) {
-    goblin_refusal_t why;
-    goblin_range_t string;
-    const goblin_file_t all = {strings, sizeof strings, none};
-    uint32_t status = goblin_string_closed(&all, &string_table, at, &string, &why);
-    return status == GOBLIN_OK && string.offset == at ? (int)strlen((const char *)strings + at) : -1;
-}
-
+/* Compares strings, and finds those that are closed, over "", "ab", "abc" and "x", whose end is that of the table. */
 static void compare_strings(void) {
-    static const goblin_range_t past = {8, 9}, outside = {12, 0};
-    goblin_refusal_t why = {0, 0, 0, 0, 0, 0, 0};
-    goblin_range_t unread;
+    static const uint8_t strings[] = "\0ab\0abc\0x";
+    static const goblin_range_t table = {0, 9}, past = {8, 9}, outside = {12, 0};
+    goblin_range_t unread = {0, 0};
     const goblin_file_t all = {strings, sizeof strings, none}, short_one = {strings, 10, none};
-#define IS(at, text, size) goblin_string_is(&all, &string_table, at, text, size)
-#define STARTS(at, text, size) goblin_string_starts(&all, &string_table, at, text, size)
-    same("is", IS(1, "ab", 2), true), same("is", IS(1, "abc", 3), false), same("is", IS(4, "ab", 2), false);
-    same("is", IS(5, "bc", 2), true), same("is", IS(0, "", 0), true), same("is", IS(1, "", 0), false);
-    same("is", IS(8, "x", 1), true), same("is", IS(8, "x", 2), false), same("is", IS(1, "ab", 3), false);
-    same("is", IS(9, "", 0), false), same("is", IS(UINT64_MAX, "", 0), false);
-    same("starts", STARTS(4, "ab", 2), true), same("starts", STARTS(4, "abc", 3), true);
-    same("starts", STARTS(4, "ac", 2), false), same("starts", STARTS(1, "abc", 3), false);
-    same("starts", STARTS(1, "ab", 3), false), same("starts", STARTS(8, "x", 2), false);
-    same("starts", STARTS(8, "", 0), true), same("starts", STARTS(9, "", 0), false);
-    same("is", IS(0, NULL, 0), true), same("starts", STARTS(1, NULL, 0), true);
-    same("is", goblin_string_is(&all, &string_table, 1, GOBLIN_LITERAL("ab")), true);
-    same("starts", goblin_string_starts(&all, &string_table, 4, GOBLIN_LITERAL("abc")), true);
-    same("is", goblin_string_is(&short_one, &past, 0, "x", 1), false);
-    same("is", goblin_string_is(&short_one, &string_table, 9, "", 0), false);
-    same("starts", goblin_string_starts(&short_one, &outside, 0, "", 0), false);
-    same("closed", closed_size(1), 2), same("closed", closed_size(4), 3), same("closed", closed_size(7), 0);
-    same("closed", closed_size(8), -1), same("closed", closed_size(9), -1);
-    same("closed", goblin_string_closed(&short_one, &past, 0, &unread, &why), GOBLIN_REFUSED_STRTAB_RANGE);
+    static const struct { uint64_t at; const char *text; size_t size; bool is, starts; } rows[] = {
+        {1, "ab", 2, true, true}, {1, "abc", 3, false, false}, {4, "ab", 2, false, true}, {5, "bc", 2, true, true},
+        {0, "", 0, true, true}, {1, "", 0, false, true}, {8, "x", 1, true, true}, {8, "x", 2, false, false},
+        {1, "ab", 3, false, false}, {9, "", 0, false, false}, {UINT64_MAX, "", 0, false, false},
+        {4, "abc", 3, true, true}, {4, "ac", 2, false, false}, {8, "", 0, false, true}, {0, NULL, 0, true, true},
+        {1, NULL, 0, false, true}};
+    for (size_t i = 0; i < sizeof rows / sizeof *rows; i++) {
+        SAME(goblin_string_is(&all, &table, rows[i].at, rows[i].text, rows[i].size), rows[i].is);
+        SAME(goblin_string_starts(&all, &table, rows[i].at, rows[i].text, rows[i].size), rows[i].starts);
+    }
+    SAME(goblin_string_is(&all, &table, 1, GOBLIN_LITERAL("ab")), true);
+    SAME(goblin_string_starts(&all, &table, 4, GOBLIN_LITERAL("abc")), true);
+    SAME(goblin_string_is(&short_one, &past, 0, "x", 1), false);
+    SAME(goblin_string_is(&short_one, &table, 9, "", 0), false);
+    SAME(goblin_string_starts(&short_one, &outside, 0, "", 0), false);
+    static const struct { uint64_t at; uint32_t status; uint64_t size; } closed[] = {
+        {1, GOBLIN_OK, 2}, {4, GOBLIN_OK, 3}, {7, GOBLIN_OK, 0}, {8, GOBLIN_END, 0}, {9, GOBLIN_END, 0}};
+    for (size_t i = 0; i < sizeof closed / sizeof *closed; i++) {
+        SAME(goblin_string_closed(&all, &table, closed[i].at, &unread, &why), closed[i].status);
+        if (closed[i].status == GOBLIN_OK)
+            SAME(unread.offset, closed[i].at), SAME(unread.size, closed[i].size),
+                SAME(strlen((const char *)strings + unread.offset), closed[i].size);
+    }
+    SAME(goblin_string_closed(&short_one, &past, 0, &unread, &why), GOBLIN_REFUSED_STRTAB_RANGE);
     static const struct { uint64_t offset, size, closed; } parts[] = {{0, 9, 8}, {0, 8, 8}, {4, 3, 0}, {9, 0, 0}};
     for (size_t i = 0; i < sizeof parts / sizeof *parts; i++) {
-        goblin_range_t part = {parts[i].offset, parts[i].size}, closed = {77, 77};
-        same("closed part", goblin_closed_strings(&all, &part, &closed, &why), GOBLIN_OK);
-        same("closed part", closed.offset, part.offset), same("closed part", closed.size, parts[i].closed);
+        goblin_range_t part = {parts[i].offset, parts[i].size}, found = {77, 77};
+        SAME(goblin_closed_strings(&all, &part, &found, &why), GOBLIN_OK);
+        SAME(found.offset, part.offset), SAME(found.size, parts[i].closed);
     }
-    same("closed part", goblin_closed_strings(&short_one, &past, &unread, &why), GOBLIN_REFUSED_STRTAB_RANGE);
-#undef IS
-#undef STARTS
+    SAME(goblin_closed_strings(&short_one, &past, &unread, &why), GOBLIN_REFUSED_STRTAB_RANGE);
 }
 
 /* Tests what goblin_strings returns and writes, over the strings "", "ab", "abc", one that is not UTF-8, and "x". */
@@ -674,29 +629,26 @@ static void find_strings(void) {
     const goblin_file_t all = {named, 12, none};
     goblin_range_t ranges[3];
     uint64_t filled;
-    goblin_refusal_t why;
     for (size_t i = 0; i < sizeof rows / sizeof *rows; i++) {
         for (size_t k = 0; k < 3; k++) ranges[k] = unread;
         memset(&why, 0, sizeof why);
-        same("goblin_strings", goblin_strings(&all, &table, rows[i].offsets, rows[i].asked, ranges,
-                                              rows[i].capacity, &filled, &why), rows[i].status);
-        same("goblin_strings, filled", filled, rows[i].filled);
-        same("goblin_strings, why", why.kind, 0);
+        SAME(goblin_strings(&all, &table, rows[i].offsets, rows[i].asked, ranges, rows[i].capacity, &filled, &why),
+             rows[i].status);
+        SAME(filled, rows[i].filled), SAME(why.kind, 0);
         for (size_t k = 0; k < 3; k++) {
-            same("goblin_strings, a start", ranges[k].offset, k < rows[i].filled ? rows[i].offsets[k] : unread.offset);
-            same("goblin_strings, a size", ranges[k].size, k < rows[i].filled ? rows[i].sizes[k] : unread.size);
+            SAME(ranges[k].offset, k < rows[i].filled ? rows[i].offsets[k] : unread.offset);
+            SAME(ranges[k].size, k < rows[i].filled ? rows[i].sizes[k] : unread.size);
         }
     }
-    same("goblin_strings", goblin_strings(&all, &past, rows[0].offsets, 3, ranges, 3, &filled, &why),
-         GOBLIN_REFUSED_STRTAB_RANGE);
-    same("goblin_strings, where", why.offset, 1);
-    same("goblin_strings, filled", filled, 0);
-    same("goblin_strings", goblin_strings(&all, &past, rows[0].offsets, 3, ranges, 0, &filled, &why), GOBLIN_OK);
+    REFUSED_BY_FOUR(STRTAB_RANGE, 0, 12, 1, 12, 0, 1,
+                    goblin_strings(&all, &past, rows[0].offsets, 3, ranges, 3, &filled, &why));
+    SAME(filled, 0);
+    SAME(goblin_strings(&all, &past, rows[0].offsets, 3, ranges, 0, &filled, &why), GOBLIN_OK);
 }
 
 /* Tests each byte of a field that goblin_layout has filled. */
 static void filled(const char *what, const void *field, size_t size, uint8_t number) {
-    for (size_t i = 0; i < size; i++) same(what, ((const uint8_t *)field)[i], number);
+    for (size_t i = 0; i < size; i++) same(__LINE__, what, ((const uint8_t *)field)[i], number);
 }
 
 /* Prints a static assertion of a field's offset and size in the library. */
@@ -722,19 +674,18 @@ static void assert_all(const goblin_layout_t *layout) {
 
 int main(int argc, char **argv) {
     goblin_layout_t layout;
-    goblin_refusal_t why;
     memset(&layout, 0xee, sizeof layout);
-    same("a short layout", goblin_layout(&layout, sizeof layout - 1), 0);
+    SAME(goblin_layout(&layout, sizeof layout - 1), 0);
     filled("a short layout", &layout, sizeof layout, 0xee);
-    same("the layout", goblin_layout(&layout, sizeof layout), sizeof layout);
+    SAME(goblin_layout(&layout, sizeof layout), sizeof layout);
     if (argc == 2 && !strcmp(argv[1], "assertions")) {
         assert_all(&layout);
         return EXIT_SUCCESS;
     }
     /* (one type for compilers of C++, some of which warn of two) */
-    same("size of file", layout.size_of_file, sizeof(goblin_file_t));
-    same("goblin_version", argc > 9 ? GOBLIN_END : goblin_version(), GOBLIN_VERSION);
-#define STRUCT(name) same("size of " #name, layout.size_of_##name, sizeof layout.name);
+    SAME(layout.size_of_file, sizeof(goblin_file_t));
+    SAME(argc > 9 ? GOBLIN_END : goblin_version(), GOBLIN_VERSION);
+#define STRUCT(name) SAME(layout.size_of_##name, sizeof layout.name);
 #define FIELD(name, field, number) filled(#name "." #field, &layout.name.field, sizeof layout.name.field, number);
 #include "fields.h"
 #undef FIELD
@@ -747,7 +698,7 @@ int main(int argc, char **argv) {
         wide = kind < 2 ? 8 : 4, is_big = kind % 2;
         read_all();
         refuse_all();
-        call_with_nulls(&why);
+        call_with_nulls();
     }
     if (wrong) return EXIT_FAILURE;
     printf("goblin.h and the library agree in %d comparisons\n", compared);
