@@ -450,6 +450,8 @@ static void refuse_all(void) {
 
 /* Tests each call with null pointers for empty files, names and arrays. */
 static void call_with_nulls(void) {
+    const uint32_t OK = GOBLIN_OK, END = GOBLIN_END, BAD = GOBLIN_REFUSED_BAD_OFFSET,
+        SYMTAB = GOBLIN_REFUSED_SYMTAB_OFFSET, STRTAB = GOBLIN_REFUSED_STRTAB_RANGE;
     goblin_header_t h;
     goblin_file_t whole;
     goblin_dyn_t d = {0, 0};
@@ -466,62 +468,45 @@ static void call_with_nulls(void) {
     SAME(goblin_file(NULL, 0, &f, &why), GOBLIN_REFUSED_TOO_SMALL);
     SAME(goblin_layout((goblin_layout_t *)(void *)&f, sizeof f), 0);
     for (uint64_t i = 0; i < 2; i++) {
-        uint32_t none_or_bad = i ? GOBLIN_REFUSED_BAD_OFFSET : GOBLIN_END;
+        uint32_t end_or_bad = i ? BAD : END;
         h.e_shoff = f.header.e_shoff = i;
-        SAME(goblin_section_count(&f, &number, &why), i ? GOBLIN_REFUSED_BAD_OFFSET : GOBLIN_OK);
-        IS(none_or_bad, goblin_section, 0, &s);
-        SAME(goblin_names_section(&f, &s, &why), none_or_bad);
-        IS(none_or_bad, goblin_linked_section, 1, &s);
-        IS(none_or_bad, goblin_section_by_name, &nothing, NULL, 0, 0, &number, &s);
-        IS(none_or_bad, goblin_section_by_type, 3, 0, &number, &s);
-        SAME(goblin_put_section(NULL, 0, &h, 0, &s, &why), none_or_bad);
+        SAME(goblin_section_count(&f, &number, &why), i ? BAD : OK);
+        SAME(goblin_names_section(&f, &s, &why), end_or_bad), IS(end_or_bad, goblin_section, 0, &s);
+        IS(end_or_bad, goblin_linked_section, 1, &s), IS(end_or_bad, goblin_sections, 0, NULL, 0, &number);
+        IS(end_or_bad, goblin_section_by_name, &nothing, NULL, 0, 0, &number, &s);
+        IS(end_or_bad, goblin_section_by_type, 3, 0, &number, &s);
+        SAME(goblin_put_section(NULL, 0, &h, 0, &s, &why), end_or_bad);
         goblin_whole_header(&f, &whole);
         SAME(whole.header.e_shoff + whole.len, 0);
-        IS(none_or_bad, goblin_sections, 0, NULL, 0, &number);
     }
-    IS(GOBLIN_END, goblin_segment, 0, &p);
-    IS(GOBLIN_END, goblin_segments, 0, NULL, 0, &number);
-    IS(GOBLIN_END, goblin_address_to_offset, 0, &number);
-    SAME(goblin_put_header(NULL, 0, &h, &why), GOBLIN_REFUSED_INVALID_CLASS);
-    SAME(goblin_put_segment(NULL, 0, &h, 0, &p, &why), GOBLIN_END);
-    SAME(goblin_put_symbol(NULL, 0, &h, &nothing, 0, &y, &why), GOBLIN_REFUSED_SYMTAB_OFFSET);
-    SAME(goblin_put_reloc(NULL, 0, &h, &nothing, true, 0, &r, &why), GOBLIN_END);
-    SAME(goblin_put_number(NULL, 0, &h, 0, 8, 0, &why), GOBLIN_REFUSED_BAD_OFFSET);
-    SAME(goblin_put_number_in(NULL, 0, &h, &some, 0, 1, 0, &why), GOBLIN_REFUSED_BAD_OFFSET);
-    IS(GOBLIN_REFUSED_BAD_OFFSET, goblin_number_in, &some, 0, 1, &number);
+    SAME(goblin_segment_count(&f, &number, &why), OK), IS(END, goblin_segment, 0, &p);
+    IS(END, goblin_segments, 0, NULL, 0, &number), IS(END, goblin_address_to_offset, 0, &number);
+    SAME(goblin_dynamic(&f, &text, &why), BAD), IS(BAD, goblin_number, 0, 8, &number);
+    /* (a range of no bytes, and one of a byte) */
+#define BOTH(of_none, of_one, call, ...) \
+    (IS(of_none, call, &nothing, __VA_ARGS__), IS(of_one, call, &some, __VA_ARGS__))
+    BOTH(SYMTAB, SYMTAB, goblin_symbol, 0, &y), BOTH(SYMTAB, SYMTAB, goblin_symbols, 0, NULL, 0, &number);
+    BOTH(SYMTAB, SYMTAB, goblin_symbol_count, &number), BOTH(SYMTAB, SYMTAB, goblin_symbol_by_address, 0, &number);
+    BOTH(SYMTAB, SYMTAB, goblin_symbol_by_name, &nothing, NULL, 0, 0, &number, &y);
+    BOTH(END, BAD, goblin_reloc, true, 0, &r), BOTH(END, BAD, goblin_relocs, false, 0, NULL, 0, &number);
+    BOTH(OK, BAD, goblin_reloc_count, true, &number), BOTH(END, BAD, goblin_note, 4, 0, &n);
+    BOTH(END, BAD, goblin_note_utf8, 4, 0, &n), BOTH(END, BAD, goblin_note_whole, 4, 0, &n);
+    BOTH(END, BAD, goblin_dynamic_entries, 0, NULL, 0, &number), BOTH(OK, BAD, goblin_dynamic_count, &number);
+    BOTH(END, BAD, goblin_dynamic_value, 1, 0, &number, &number), BOTH(BAD, BAD, goblin_dynamic_strings, &text);
+    BOTH(BAD, BAD, goblin_number_in, 0, 1, &number), BOTH(END, STRTAB, goblin_string, 0, &text);
+    BOTH(END, STRTAB, goblin_string_closed, 0, &text), BOTH(OK, STRTAB, goblin_closed_strings, &text);
+    BOTH(OK, OK, goblin_strings, NULL, 0, NULL, 0, &number), SAME(number, 0);
+#undef BOTH
+    SAME(goblin_string_is(&f, &nothing, 0, NULL, 0), false), SAME(goblin_string_starts(&f, &some, 0, NULL, 0), false);
     goblin_range_in_file(&f, &some, &text);
     SAME(text.size, 0);
-    IS(GOBLIN_REFUSED_SYMTAB_OFFSET, goblin_symbol, &nothing, 0, &y);
-    IS(GOBLIN_REFUSED_SYMTAB_OFFSET, goblin_symbols, &nothing, 0, NULL, 0, &number);
-    IS(GOBLIN_REFUSED_SYMTAB_OFFSET, goblin_symbol_by_name, &nothing, &nothing, NULL, 0, 0, &number, &y);
-    IS(GOBLIN_REFUSED_SYMTAB_OFFSET, goblin_symbol_by_address, &nothing, 0, &number);
-    IS(GOBLIN_END, goblin_reloc, &nothing, true, 0, &r);
-    IS(GOBLIN_REFUSED_BAD_OFFSET, goblin_reloc, &some, true, 0, &r);
-    IS(GOBLIN_END, goblin_relocs, &nothing, false, 0, NULL, 0, &number);
-    IS(GOBLIN_END, goblin_note_utf8, &nothing, 4, 0, &n);
-    IS(GOBLIN_REFUSED_BAD_OFFSET, goblin_note_utf8, &some, 4, 0, &n);
-    IS(GOBLIN_END, goblin_note, &nothing, 4, 0, &n);
-    IS(GOBLIN_REFUSED_BAD_OFFSET, goblin_note, &some, 4, 0, &n);
-    IS(GOBLIN_END, goblin_note_whole, &nothing, 4, 0, &n);
-    IS(GOBLIN_REFUSED_BAD_OFFSET, goblin_note_whole, &some, 4, 0, &n);
-    SAME(goblin_dynamic(&f, &text, &why), GOBLIN_REFUSED_BAD_OFFSET);
-    IS(GOBLIN_END, goblin_dynamic_entries, &nothing, 0, NULL, 0, &number);
-    IS(GOBLIN_REFUSED_BAD_OFFSET, goblin_dynamic_count, &some, &number);
-    IS(GOBLIN_END, goblin_dynamic_value, &nothing, 1, 0, &number, &number);
-    IS(GOBLIN_REFUSED_BAD_OFFSET, goblin_dynamic_strings, &nothing, &text);
-    SAME(goblin_put_dynamic_entry(NULL, 0, &h, &nothing, 0, &d, &why), GOBLIN_END);
-    SAME(goblin_segment_count(&f, &number, &why), GOBLIN_OK);
-    IS(GOBLIN_REFUSED_SYMTAB_OFFSET, goblin_symbol_count, &nothing, &number);
-    IS(GOBLIN_OK, goblin_reloc_count, &nothing, true, &number);
-    IS(GOBLIN_END, goblin_string, &nothing, 0, &text);
-    IS(GOBLIN_REFUSED_BAD_OFFSET, goblin_number, 0, 8, &number);
-    IS(GOBLIN_END, goblin_string_utf8, &nothing, 0, &text);
-    IS(GOBLIN_OK, goblin_strings, &some, NULL, 0, NULL, 0, &number), SAME(number, 0);
-    SAME(goblin_string_is(&f, &nothing, 0, NULL, 0), false);
-    SAME(goblin_string_starts(&f, &some, 0, NULL, 0), false);
-    IS(GOBLIN_OK, goblin_closed_strings, &nothing, &text);
-    IS(GOBLIN_REFUSED_STRTAB_RANGE, goblin_closed_strings, &some, &text);
-    IS(GOBLIN_END, goblin_string_closed, &nothing, 0, &text);
+    SAME(goblin_put_header(NULL, 0, &h, &why), GOBLIN_REFUSED_INVALID_CLASS);
+    SAME(goblin_put_segment(NULL, 0, &h, 0, &p, &why), END);
+    SAME(goblin_put_symbol(NULL, 0, &h, &nothing, 0, &y, &why), SYMTAB);
+    SAME(goblin_put_reloc(NULL, 0, &h, &nothing, true, 0, &r, &why), END);
+    SAME(goblin_put_dynamic_entry(NULL, 0, &h, &nothing, 0, &d, &why), END);
+    SAME(goblin_put_number(NULL, 0, &h, 0, 8, 0, &why), BAD);
+    SAME(goblin_put_number_in(NULL, 0, &h, &some, 0, 1, 0, &why), BAD);
     SAME(goblin_class_to_str(1, NULL, 0), strlen("ELF32")), SAME(goblin_et_to_str(3, NULL, 0), strlen("DYN"));
     SAME(goblin_machine_to_str(62, NULL, 0), strlen("X86_64")), SAME(goblin_pt_to_str(1, NULL, 0), strlen("PT_LOAD"));
     SAME(goblin_sht_to_str(1, NULL, 0), strlen("SHT_PROGBITS"));
@@ -529,7 +514,7 @@ static void call_with_nulls(void) {
     SAME(goblin_type_to_str(2, NULL, 0), strlen("FUNC"));
     SAME(goblin_visibility_to_str(0, NULL, 0), strlen("DEFAULT"));
     SAME(goblin_note_type_to_str(NULL, 0, 3, NULL, 0), strlen("NT_GNU_BUILD_ID"));
-    IS(GOBLIN_REFUSED_STRTAB_RANGE, goblin_string_utf8, &some, 0, &text);
+    IS(END, goblin_string_utf8, &nothing, 0, &text), IS(STRTAB, goblin_string_utf8, &some, 0, &text);
     SAME(goblin_refusal_to_str(&why, NULL, 0),
          strlen("Malformed entity: Strtable size (1) + offset (0) is out of bounds for 0 #bytes. Overflowed: false"));
     header(&h), note(&n);
