@@ -3,6 +3,7 @@
    It makes a file with a header and zero bytes, in which each range can be read as sections, symbols, relocations,
    segments, notes or empty strings, and with long strings after them. Each call of goblin.h that is passed a file is
    made here; checks/faces/c.sh compares the two.
+   A search by a name takes no longer than its comparisons.
    A library that was changed to walk from the first symbol to each other one took more than ten times the limit. */
 #include "goblin.h"
 #include <elf.h>
@@ -201,6 +202,39 @@ static void strings(void) {
 #undef AT
 }
 
+/* Searches for a name that no section and no symbol has. Their names begin at different offsets of one string. */
+enum { NAMED_SECTIONS = 30000, NAMED_SYMBOLS = 20000 };
+static void search(const char *what, const void *name, size_t size) {
+    ONCE(what, goblin_section_by_name(&other, &range, name, size, 0, &number, &section, &why) == GOBLIN_END
+         && goblin_symbol_by_name(&other, &table, &range, name, size, 0, &number, &symbol, &why) == GOBLIN_END);
+}
+
+static void searches(void) {
+    uint8_t *text = bytes + LONG_AT, *name = (uint8_t *)malloc(LONG_SIZE);
+    if (!name) exit(2);
+    other = file, other.header.e_shnum = NAMED_SECTIONS, range.offset = LONG_AT, range.size = LONG_SIZE;
+    table.offset = 64 + NAMED_SECTIONS * sizeof(Elf64_Shdr), table.size = NAMED_SYMBOLS * sizeof(Elf64_Sym);
+    for (uint32_t i = 0; i < NAMED_SECTIONS; i++) memcpy(bytes + 64 + i * sizeof(Elf64_Shdr), &i, sizeof i);
+    for (uint32_t i = 0; i < NAMED_SYMBOLS; i++) memcpy(bytes + table.offset + i * sizeof(Elf64_Sym), &i, sizeof i);
+    memset(text, 'a', LONG_SIZE - 1), text[LONG_SIZE - 1] = 0;
+    search("a search for a short name", "aaab", 4);
+    /* (each string begins with it and goes on, which one byte after it shows) */
+    memset(name, 'a', LONG_SIZE / 2);
+    search("one for a long name that each string begins with", name, LONG_SIZE / 2);
+    memset(name, 'b', LONG_SIZE);
+    search("one for a name as long", name, LONG_SIZE);
+    name[LONG_SIZE - 1] = 0xff;
+    search("one for a name that is not UTF-8", name, LONG_SIZE);
+    name[LONG_SIZE - 1] = 0;
+    search("one for a name with a zero byte", name, LONG_SIZE);
+    /* Characters of two bytes, and half of one at the end. */
+    for (size_t i = 0; i < LONG_SIZE - 1; i++) text[i] = i % 2 ? 0xa9 : 0xc3;
+    search("one for a short name of two bytes a character", "\303\251\303\251b", 5);
+    for (size_t i = 0; i < LONG_SIZE; i++) name[i] = i % 2 ? 0xaa : 0xc3;
+    search("one for a name as long of two bytes a character", name, LONG_SIZE);
+    free(name);
+}
+
 /* The section of the symbols, which begins at the address 0. Its header is after the symbols. */
 enum { SYMBOLS_SECTION = SHN_LORESERVE - 1 };
 
@@ -269,7 +303,10 @@ int main(void) {
     find("the last of symbols in no order", SCATTERED, start_of(SCATTERED, ITEMS - 1));
     find("the last of symbols at one address", ONE, ITEMS);
     find("the last of labels", RISING, 2 * ITEMS - 1);
+    memset(bytes + 128, 0, LONG_AT - 128);
     writing();
+    memset(bytes + 128, 0, LONG_AT - 128);
+    searches();
     free(array);
     free(bytes);
     return is_right ? 0 : 1;
