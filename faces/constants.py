@@ -7,7 +7,7 @@
     python3 faces/constants.py --check    writes nothing, and fails if goblin.h or a file for Rust is not what it would write, or if a
                                           constant is not in the table that the library's are compared with, crates/goblin_names/stdout
     python3 faces/constants.py --fields   prints STRUCT(name) for each struct of goblin.h, and FIELD(name, field, number) for each of its fields
-                                          in order, for the tests in faces/c
+                                          in order, for faces/c/tests
     python3 faces/constants.py --nulls    prints a program whose lines pass a null pointer for each argument that may not be null, and read no
                                           status, for a test of what compilers warn of
 

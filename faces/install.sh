@@ -199,10 +199,7 @@ stage_library() {
     done
     put LICENSE share/goblin_c/LICENSE
     put CHANGELOG.md share/goblin_c/CHANGELOG.md
-    for example in execstack flag needed nm pread size strings symbolize truncated values; do
-        put "faces/c/$example.c" "share/goblin_c/examples/$example.c"
-    done
-    put faces/c/example.h share/goblin_c/examples/example.h
+    put_all faces/c/examples share/goblin_c/examples -name '*.[ch]'
     put LICENSE share/goblin_c/rust/LICENSE
     put_edited "s|join(\"lib\")|join(\"$libdir\")|" faces/rust/build.rs share/goblin_c/rust/build.rs
     put_all faces/rust/src share/goblin_c/rust/src -name '*.rs'

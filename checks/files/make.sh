@@ -16,7 +16,7 @@ root=$PWD
 folder=$(mktemp -d)
 trap 'rm -rf "$folder"' EXIT
 trap 'exit 1' HUP INT TERM
-cp checks/files/library.c checks/files/program.c faces/c/goblin.h faces/c/damaged.c faces/c/plain.c "$folder"
+cp checks/files/library.c checks/files/program.c faces/c/goblin.h faces/c/tests/damaged.c faces/c/tests/plain.c "$folder"
 cd "$folder"
 printf '%s\n' 'MADE_1 { };' 'MADE_2 { } MADE_1;' > versions
 

@@ -1,5 +1,5 @@
 // Tests the page in a browser, beside readelf and C: browser.mjs NAME BROWSER PAGE DUMP MADE STORED
-// NAME is chromium or firefox, DUMP the program of faces/c/dump.c, MADE the folder of the files that faces/c/made.c
+// NAME is chromium or firefox, DUMP the program of faces/c/tests/dump.c, MADE the folder of the files that made.c
 // makes, and STORED checks/files, with what readelf printed of files, and what it and c++filt call relocations and
 // symbols. Files are picked as by a person. The page may send no request, no script may fail, and no name be markup.
 import assert from 'node:assert/strict';

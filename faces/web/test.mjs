@@ -1,5 +1,6 @@
 // Tests goblin.js against C: test.mjs FOLDER DUMP FILE.. What goblin.js in FOLDER reads of the files and of damaged
-// copies must be what DUMP (faces/c/dump.c) prints. The module must have no imports, and goblin.h's structs and kinds.
+// copies must be what DUMP (faces/c/tests/dump.c) prints. The module must have no imports, and the structs and kinds
+// of goblin.h.
 import assert from 'node:assert/strict';
 import { spawnSync } from 'node:child_process';
 import { mkdtempSync, readFileSync, rmSync, writeFileSync } from 'node:fs';

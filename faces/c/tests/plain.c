@@ -1,8 +1,9 @@
 /* The calls of goblin.h in plain C, written from its comments alone and not proved: checks/faces/c.sh compares what
-   damaged.c finds with it and with the library. Names of numbers are left out: each is "?". It needs no C library. */
+   damaged.c finds with it and with the library. Those for the library itself are left out, and names of numbers: each
+   is "?". It needs no C library. */
 #include "goblin.h"
 
-enum { HEADER_64 = 64, HEADER_32 = 52, NOTE_SIZE = 12 };
+enum { NOTE_SIZE = 12 };
 
 /* ---- bytes ---- */
 
@@ -127,10 +128,14 @@ static void each_of_reloc(cursor_t *c, const goblin_header_t *h, bool is_rela, g
     r->r_addend = c->is_64 ? (int64_t)addend : (int32_t)addend;
 }
 
-/* Writes a record at an offset by one of these functions, if it fits. `own` is a copy of the caller's. */
-#define WRITE(each, bytes, h, offset, own, why, ...) \
+static void each_of_entry(cursor_t *c, goblin_dyn_t *d) { d->d_tag = wide(c, d->d_tag), d->d_val = wide(c, d->d_val); }
+
+/* Writes a record at an offset by one of these functions, if it fits and the call that reads it returned GOBLIN_OK.
+   `own` is a copy of the caller's. */
+#define WRITE(status, each, bytes, h, offset, own, why, ...) \
     do { \
         cursor_t c = cursor(NULL, h); \
+        if (status) return status; \
         each(&c, __VA_ARGS__ &(own)); \
         if (!c.fits) refuse(why, GOBLIN_REFUSED_INTEGER_FIT, c.misfit, 0, (offset) + c.misfit_at); \
         if (!c.fits) return (why)->item = c.what, (why)->kind; \
@@ -140,22 +145,18 @@ static void each_of_reloc(cursor_t *c, const goblin_header_t *h, bool is_rela, g
     } while (0)
 #define NOTHING
 
+/* The body of a call that fills an array by the call for one item. */
+#define PLURAL(type, one, ...) \
+    { \
+        type unread; \
+        uint64_t number = 0; \
+        uint32_t status = one(__VA_ARGS__, first, &unread, why); \
+        while (!status && number < capacity && !one(__VA_ARGS__, first + number, items + number, why)) number++; \
+        if (!status) *filled = number; \
+        return status; \
+    }
+
 /* ---- the header ---- */
-
-uint32_t goblin_version(void) { return GOBLIN_VERSION; }
-
-#define FILL(kind, name) \
-    fill((uint8_t *)&layout->name, sizeof(goblin_##kind##_t)), layout->size_of_##name = sizeof(goblin_##kind##_t)
-static void fill(uint8_t *bytes, size_t size) {
-    for (size_t i = 0; i < size; i++) bytes[i] = 0xee;
-}
-/* (what is tested by this call is the library's layout alone) */
-size_t goblin_layout(goblin_layout_t *layout, size_t size) {
-    if (size < sizeof *layout) return 0;
-    FILL(refusal, refusal), FILL(range, range), FILL(header, header), FILL(section, section), FILL(segment, segment);
-    FILL(symbol, symbol), FILL(reloc, reloc), FILL(note, note), FILL(dyn, dyn);
-    return layout->size_of_file = sizeof(goblin_file_t), sizeof *layout;
-}
 
 uint32_t goblin_file(const uint8_t *bytes, size_t len, goblin_file_t *file, goblin_refusal_t *why) {
     goblin_header_t h;
@@ -163,7 +164,7 @@ uint32_t goblin_file(const uint8_t *bytes, size_t len, goblin_file_t *file, gobl
     if (get(bytes, 4, true) != 0x7f454c46) return refuse(why, GOBLIN_REFUSED_BAD_MAGIC, get(bytes, 8, false), 0, 0);
     if (bytes[4] != 1 && bytes[4] != 2) return refuse(why, GOBLIN_REFUSED_ELF_CLASS, bytes[4], 0, 0);
     if (bytes[5] != 1 && bytes[5] != 2) return refuse(why, GOBLIN_REFUSED_DATA_TYPE, bytes[5], 0, 0);
-    uint32_t status = inside(len, 0, bytes[4] == 2 ? HEADER_64 : HEADER_32, 0, why);
+    uint32_t status = inside(len, 0, bytes[4] == 2 ? GOBLIN_SIZEOF_EHDR64 : GOBLIN_SIZEOF_EHDR32, 0, why);
     if (status) return status;
     h.ei_class = bytes[4], h.ei_data = bytes[5], h.ei_version = bytes[6], h.ei_osabi = bytes[7],
         h.ei_abiversion = bytes[8];
@@ -177,7 +178,7 @@ uint32_t goblin_put_header(uint8_t *bytes, size_t len, const goblin_header_t *he
     goblin_header_t h = *header;
     if (h.ei_class != 1 && h.ei_class != 2) return refuse(why, GOBLIN_REFUSED_INVALID_CLASS, h.ei_class, 0, 0);
     if (h.ei_data != 1 && h.ei_data != 2) return refuse(why, GOBLIN_REFUSED_DATA, h.ei_data, 0, 0);
-    uint32_t status = inside(len, 0, is_64(&h) ? HEADER_64 : HEADER_32, 0, why);
+    uint32_t status = inside(len, 0, GOBLIN_SIZEOF(&h, EHDR), 0, why);
     if (status) return status;
     cursor_t c = cursor(NULL, &h);
     each_of_header(&c, &h);
@@ -192,12 +193,8 @@ uint32_t goblin_put_header(uint8_t *bytes, size_t len, const goblin_header_t *he
 
 /* ---- lists of headers ---- */
 
-static uint64_t section_size(const goblin_header_t *h) {
-    return is_64(h) ? GOBLIN_SIZEOF_SHDR64 : GOBLIN_SIZEOF_SHDR32;
-}
-static uint64_t segment_size(const goblin_header_t *h) {
-    return is_64(h) ? GOBLIN_SIZEOF_PHDR64 : GOBLIN_SIZEOF_PHDR32;
-}
+static uint64_t section_size(const goblin_header_t *h) { return GOBLIN_SIZEOF_SHDR(h); }
+static uint64_t segment_size(const goblin_header_t *h) { return GOBLIN_SIZEOF_PHDR(h); }
 
 static goblin_section_t section_at(const uint8_t *bytes, const goblin_header_t *h, uint64_t index) {
     goblin_section_t s;
@@ -279,25 +276,11 @@ uint32_t goblin_put_section(uint8_t *bytes, size_t len, const goblin_header_t *h
     goblin_file_t file = {bytes, len, *h};
     goblin_section_t unread, s = *section;
     uint32_t status = goblin_section(&file, index, &unread, why);
-    if (status) return status;
-    WRITE(each_of_section, bytes, h, h->e_shoff + index * section_size(h), s, why, NOTHING);
+    WRITE(status, each_of_section, bytes, h, h->e_shoff + index * section_size(h), s, why, NOTHING);
 }
-
-/* Fills an array by the call for one item. */
-#define SEVERAL(one, ...) \
-    uint64_t number = 0; \
-    for (; status == GOBLIN_OK && number < capacity \
-         && one(__VA_ARGS__, first + number, items + number, why) == GOBLIN_OK;) \
-        number++; \
-    if (status == GOBLIN_OK) *filled = number; \
-    return status;
 
 uint32_t goblin_sections(const goblin_file_t *file, uint64_t first, goblin_section_t *items, size_t capacity,
-                         uint64_t *filled, goblin_refusal_t *why) {
-    goblin_section_t unread;
-    uint32_t status = goblin_section(file, first, &unread, why);
-    SEVERAL(goblin_section, file)
-}
+                         uint64_t *filled, goblin_refusal_t *why) PLURAL(goblin_section_t, goblin_section, file)
 
 uint32_t goblin_linked_section(const goblin_file_t *file, uint64_t index, goblin_section_t *section,
                                goblin_refusal_t *why) {
@@ -474,38 +457,41 @@ uint32_t goblin_segment(const goblin_file_t *file, uint64_t index, goblin_segmen
 }
 
 uint32_t goblin_segments(const goblin_file_t *file, uint64_t first, goblin_segment_t *items, size_t capacity,
-                         uint64_t *filled, goblin_refusal_t *why) {
-    goblin_segment_t unread;
-    uint32_t status = goblin_segment(file, first, &unread, why);
-    SEVERAL(goblin_segment, file)
-}
+                         uint64_t *filled, goblin_refusal_t *why) PLURAL(goblin_segment_t, goblin_segment, file)
 
 uint32_t goblin_put_segment(uint8_t *bytes, size_t len, const goblin_header_t *h, uint64_t index,
                             const goblin_segment_t *segment, goblin_refusal_t *why) {
     goblin_file_t file = {bytes, len, *h};
     goblin_segment_t unread, p = *segment;
     uint32_t status = goblin_segment(&file, index, &unread, why);
-    if (status) return status;
-    WRITE(each_of_segment, bytes, h, h->e_phoff + index * segment_size(h), p, why, NOTHING);
+    WRITE(status, each_of_segment, bytes, h, h->e_phoff + index * segment_size(h), p, why, NOTHING);
 }
 
-uint32_t goblin_address_to_offset(const goblin_file_t *file, uint64_t address, uint64_t *offset,
-                                  goblin_refusal_t *why) {
+/* Finds the offset of the byte that is loaded at an address, in the file or not. */
+static uint32_t loaded(const goblin_file_t *file, uint64_t address, uint64_t *offset, goblin_refusal_t *why) {
     goblin_segment_t p;
     uint32_t status;
     for (uint64_t i = 0; (status = goblin_segment(file, i, &p, why)) == GOBLIN_OK; i++) {
         if (p.p_type != GOBLIN_PT_LOAD || p.p_vaddr > address || address - p.p_vaddr >= p.file.size) continue;
-        uint64_t past = address - p.p_vaddr,
-            found = past > UINT64_MAX - p.file.offset ? UINT64_MAX : p.file.offset + past;
-        if ((status = inside(file->len, found, 1, found, why)) == GOBLIN_OK) *offset = found;
-        return status;
+        uint64_t past = address - p.p_vaddr;
+        *offset = past > UINT64_MAX - p.file.offset ? UINT64_MAX : p.file.offset + past;
+        break;
     }
+    return status;
+}
+
+uint32_t goblin_address_to_offset(const goblin_file_t *file, uint64_t address, uint64_t *offset,
+                                  goblin_refusal_t *why) {
+    uint64_t found;
+    uint32_t status = loaded(file, address, &found, why);
+    if (!status) status = inside(file->len, found, 1, found, why);
+    if (!status) *offset = found;
     return status;
 }
 
 /* ---- symbols ---- */
 
-static uint64_t symbol_size(const goblin_header_t *h) { return is_64(h) ? GOBLIN_SIZEOF_SYM64 : GOBLIN_SIZEOF_SYM32; }
+static uint64_t symbol_size(const goblin_header_t *h) { return GOBLIN_SIZEOF_SYM(h); }
 
 uint32_t goblin_symbol_count(const goblin_file_t *file, const goblin_range_t *table, uint64_t *count,
                              goblin_refusal_t *why) {
@@ -533,16 +519,12 @@ uint32_t goblin_put_symbol(uint8_t *bytes, size_t len, const goblin_header_t *h,
     goblin_file_t file = {bytes, len, *h};
     goblin_symbol_t unread, s = *symbol;
     uint32_t status = goblin_symbol(&file, table, index, &unread, why);
-    if (status) return status;
-    WRITE(each_of_symbol, bytes, h, table->offset + index * symbol_size(h), s, why, NOTHING);
+    WRITE(status, each_of_symbol, bytes, h, table->offset + index * symbol_size(h), s, why, NOTHING);
 }
 
 uint32_t goblin_symbols(const goblin_file_t *file, const goblin_range_t *table, uint64_t first, goblin_symbol_t *items,
-                        size_t capacity, uint64_t *filled, goblin_refusal_t *why) {
-    goblin_symbol_t unread;
-    uint32_t status = goblin_symbol(file, table, first, &unread, why);
-    SEVERAL(goblin_symbol, file, table)
-}
+                        size_t capacity, uint64_t *filled, goblin_refusal_t *why)
+    PLURAL(goblin_symbol_t, goblin_symbol, file, table)
 
 uint32_t goblin_symbol_by_name(const goblin_file_t *file, const goblin_range_t *table, const goblin_range_t *names,
                                const void *name, size_t name_len, uint64_t first, uint64_t *index,
@@ -594,7 +576,7 @@ uint32_t goblin_symbol_by_address(const goblin_file_t *file, const goblin_range_
 /* ---- relocations ---- */
 
 static uint64_t reloc_size(const goblin_header_t *h, bool is_rela) {
-    return (is_rela ? 3U : 2U) * (is_64(h) ? 8U : 4U);
+    return is_rela ? GOBLIN_SIZEOF_RELA(h) : GOBLIN_SIZEOF_REL(h);
 }
 
 uint32_t goblin_reloc_count(const goblin_file_t *file, const goblin_range_t *table, bool is_rela, uint64_t *count,
@@ -622,16 +604,12 @@ uint32_t goblin_put_reloc(uint8_t *bytes, size_t len, const goblin_header_t *h, 
     goblin_file_t file = {bytes, len, *h};
     goblin_reloc_t unread, r = *reloc;
     uint32_t status = goblin_reloc(&file, table, is_rela, index, &unread, why);
-    if (status) return status;
-    WRITE(each_of_reloc, bytes, h, table->offset + index * reloc_size(h, is_rela), r, why, h, is_rela,);
+    WRITE(status, each_of_reloc, bytes, h, table->offset + index * reloc_size(h, is_rela), r, why, h, is_rela,);
 }
 
 uint32_t goblin_relocs(const goblin_file_t *file, const goblin_range_t *table, bool is_rela, uint64_t first,
-                       goblin_reloc_t *items, size_t capacity, uint64_t *filled, goblin_refusal_t *why) {
-    goblin_reloc_t unread;
-    uint32_t status = goblin_reloc(file, table, is_rela, first, &unread, why);
-    SEVERAL(goblin_reloc, file, table, is_rela)
-}
+                       goblin_reloc_t *items, size_t capacity, uint64_t *filled, goblin_refusal_t *why)
+    PLURAL(goblin_reloc_t, goblin_reloc, file, table, is_rela)
 
 /* ---- notes ---- */
 
@@ -725,10 +703,11 @@ uint32_t goblin_dynamic(const goblin_file_t *file, goblin_range_t *dynamic, gobl
 /* Reads the entry at an index, and returns whether there is one that doesn't end the entries. */
 static bool has_entry(const uint8_t *bytes, const goblin_header_t *h, const goblin_range_t *dynamic, uint64_t index,
                       goblin_dyn_t *entry) {
-    uint64_t width = is_64(h) ? 8 : 4;
-    if (index >= dynamic->size / (2 * width)) return false;
-    cursor_t c = cursor(bytes + dynamic->offset + index * 2 * width, h);
-    entry->d_tag = wide(&c, 0), entry->d_val = wide(&c, 0);
+    uint64_t size = GOBLIN_SIZEOF_DYN(h);
+    if (index >= dynamic->size / size) return false;
+    cursor_t c = cursor(bytes + dynamic->offset + index * size, h);
+    entry->d_tag = entry->d_val = 0;
+    each_of_entry(&c, entry);
     return entry->d_tag != GOBLIN_DT_NULL;
 }
 
@@ -768,23 +747,18 @@ uint32_t goblin_dynamic_value(const goblin_file_t *file, const goblin_range_t *d
 
 uint32_t goblin_put_dynamic_entry(uint8_t *bytes, size_t len, const goblin_header_t *h, const goblin_range_t *dynamic,
                                   uint64_t index, const goblin_dyn_t *entry, goblin_refusal_t *why) {
-    uint64_t width = is_64(h) ? 8 : 4, place = dynamic->offset + index * 2 * width;
+    goblin_dyn_t d = *entry;
+    uint64_t size = GOBLIN_SIZEOF_DYN(h);
     uint32_t status = inside(len, dynamic->offset, dynamic->size, dynamic->offset, why);
-    if (status) return status;
-    if (index >= dynamic->size / (2 * width)) return GOBLIN_END;
-    if (!is_64(h) && entry->d_tag >> 32) return refuse(why, GOBLIN_REFUSED_INTEGER_FIT, entry->d_tag, 0, place);
-    if (!is_64(h) && entry->d_val >> 32) return refuse(why, GOBLIN_REFUSED_INTEGER_FIT, entry->d_val, 0, place + 4);
-    put(bytes + place, (unsigned)width, is_big(h), entry->d_tag);
-    put(bytes + place + width, (unsigned)width, is_big(h), entry->d_val);
-    return GOBLIN_OK;
+    if (!status && index >= dynamic->size / size) status = GOBLIN_END;
+    WRITE(status, each_of_entry, bytes, h, dynamic->offset + index * size, d, why, NOTHING);
 }
 
 uint32_t goblin_dynamic_strings(const goblin_file_t *file, const goblin_range_t *dynamic, goblin_range_t *strings,
                                 goblin_refusal_t *why) {
-    uint64_t address, index, count;
+    uint64_t address, index;
     bool is_by_sections;
     goblin_range_t found;
-    goblin_segment_t p;
     goblin_section_t s, linked;
     uint32_t no_address = goblin_dynamic_value(file, dynamic, GOBLIN_DT_STRTAB, 0, &index, &address, why);
     uint32_t no_size = goblin_dynamic_value(file, dynamic, GOBLIN_DT_STRSZ, 0, &index, &found.size, why);
@@ -796,17 +770,11 @@ uint32_t goblin_dynamic_strings(const goblin_file_t *file, const goblin_range_t 
         if (!status) *strings = linked.file;
         return status;
     }
-    if (!status) status = goblin_segment_count(file, &count, why);
-    for (uint64_t i = 0; !status && !no_address && !no_size && i < count; i++) {
-        if (goblin_segment(file, i, &p, why)) break;
-        if (p.p_type != GOBLIN_PT_LOAD || p.p_vaddr > address || address - p.p_vaddr >= p.file.size) continue;
-        uint64_t more = address - p.p_vaddr;
-        found.offset = more > UINT64_MAX - p.file.offset ? UINT64_MAX : p.file.offset + more;
-        status = inside(file->len, found.offset, found.size, found.offset, why);
-        if (!status) *strings = found;
-        return status;
-    }
-    return status ? status : (uint32_t)GOBLIN_END;
+    if (!status && (no_address || no_size)) status = GOBLIN_END;
+    if (!status) status = loaded(file, address, &found.offset, why);
+    if (!status) status = inside(file->len, found.offset, found.size, found.offset, why);
+    if (!status) *strings = found;
+    return status;
 }
 
 /* ---- numbers and ranges ---- */

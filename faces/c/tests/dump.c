@@ -1,20 +1,14 @@
 /* Prints all that the library reads of files, for faces/web/test.mjs: dump FILE..
    Each line is a result, with all fields of its struct. faces/constants.py makes fields.h from goblin.h. */
 #include "goblin.h"
+#include "examples/example.h"
 #include <elf.h>
-#include <inttypes.h>
-#include <stdio.h>
-#include <stdlib.h>
-#include <string.h>
 
 /* How many items are read of sections of another type and written of each list, how many headers are read of what is
    whole, and how many bytes are printed of a section. */
 enum { FEW = 3, WHOLE = 20, FIRST = 16 };
 
-static uint8_t bytes[0x1000000], saved[sizeof bytes];
-static size_t len;
-static goblin_file_t f;
-static goblin_refusal_t why;
+static uint8_t *saved;
 
 /* Defines put_NAME(item) for each struct, which prints its fields. */
 #define STRUCT(name) } static void put_##name(const goblin_##name##_t *item) {
@@ -96,35 +90,17 @@ static bool put_strings(const char *what, uint32_t status, const goblin_section_
     return true;
 }
 
-/* Prints the part that is inside the file of the bytes of a section or a segment, for which the call for all of them
-   returned a status and perhaps their range. */
-static void part(uint32_t status, goblin_range_t found, goblin_range_t range) {
-    goblin_range_t cut = found;
-    if (status > GOBLIN_END) goblin_range_in_file(&f, &range, &cut);
-    printf("goblin_range_in_file");
-    if (status == GOBLIN_END) puts(" none");
-    else put_data(cut);
-}
-
-/* Prints some numbers of a range. */
-static void numbers_in(goblin_range_t range) {
-    uint64_t number;
-    SHOW(goblin_number_in, number, number, &f, &range, 0, 8);
-    SHOW(goblin_number_in, number, number, &f, &range, range.size / 2, 2);
-    SHOW(goblin_number_in, number, number, &f, &range, range.size - 1, 1);
-}
-
 /* Writes numbers in a range, one of which doesn't fit. */
 static void write_numbers_in(goblin_range_t range) {
-    WRITE(goblin_put_number_in, &f.header, &range, 0, 8, 0x7f);
-    WRITE(goblin_put_number_in, &f.header, &range, range.size / 2, 2, 0x7f000);
-    WRITE(goblin_put_number_in, &f.header, &range, range.size - 1, 1, 0x7f);
+    WRITE(goblin_put_number_in, &file.header, &range, 0, 8, 0x7f);
+    WRITE(goblin_put_number_in, &file.header, &range, range.size / 2, 2, 0x7f000);
+    WRITE(goblin_put_number_in, &file.header, &range, range.size - 1, 1, 0x7f);
 }
 
 /* Prints whether a string of a table matches, or why the table is refused. */
 static void put_match(const char *what, bool matches, goblin_range_t strings) {
     goblin_range_t none;
-    uint32_t status = matches ? GOBLIN_OK : goblin_string(&f, &strings, strings.size, &none, &why);
+    uint32_t status = matches ? GOBLIN_OK : goblin_string(&file, &strings, strings.size, &none, &why);
     if (put_status(what, status)) putchar('\n');
 }
 
@@ -132,16 +108,16 @@ static void put_match(const char *what, bool matches, goblin_range_t strings) {
    them. */
 static void compare(goblin_range_t strings, uint64_t offset, goblin_range_t found, uint64_t size) {
     const uint8_t *name = bytes + found.offset;
-    put_match("goblin_string_is", goblin_string_is(&f, &strings, offset, name, (size_t)size), strings);
-    put_match("goblin_string_starts", goblin_string_starts(&f, &strings, offset, name, (size_t)size), strings);
+    put_match("goblin_string_is", goblin_string_is(&file, &strings, offset, name, (size_t)size), strings);
+    put_match("goblin_string_starts", goblin_string_starts(&file, &strings, offset, name, (size_t)size), strings);
 }
 
 /* Prints the string at an offset, as UTF-8, as bytes, and if it is closed. */
 static void string(goblin_range_t strings, uint64_t offset) {
     goblin_range_t found = {0, 0};
-    if (ASK(goblin_string_utf8, found, &f, &strings, offset)) put_bytes(found), putchar('\n');
-    if (ASK(goblin_string_closed, found, &f, &strings, offset)) put_bytes(found), putchar('\n');
-    if (ASK(goblin_string, found, &f, &strings, offset)) put_bytes(found), putchar('\n');
+    if (ASK(goblin_string_utf8, found, &file, &strings, offset)) put_bytes(found), putchar('\n');
+    if (ASK(goblin_string_closed, found, &file, &strings, offset)) put_bytes(found), putchar('\n');
+    if (ASK(goblin_string, found, &file, &strings, offset)) put_bytes(found), putchar('\n');
     compare(strings, offset, found, found.size);
     compare(strings, offset, found, found.size / 2);
 }
@@ -153,31 +129,31 @@ static void one_symbol(goblin_range_t table, goblin_range_t names, uint64_t at) 
     goblin_symbol_t symbol;
     goblin_range_t name;
     uint64_t index;
-    if (!ASK(goblin_symbol, symbol, &f, &table, at)) return;
+    if (!ASK(goblin_symbol, symbol, &file, &table, at)) return;
     put_symbol(&symbol);
     TEXT(goblin_bind_to_str, symbol.st_info >> 4);
     TEXT(goblin_type_to_str, symbol.st_info & 15);
     TEXT(goblin_visibility_to_str, symbol.st_other & 7);
     putchar('\n');
     string(names, symbol.st_name);
-    if (goblin_string_utf8(&f, &names, symbol.st_name, &name, &why) == GOBLIN_OK)
+    if (goblin_string_utf8(&file, &names, symbol.st_name, &name, &why) == GOBLIN_OK)
         for (uint64_t first = 0; first < 2; first++)
-            SEARCH(goblin_symbol_by_name, symbol, &f, &table, &names, bytes + name.offset, (size_t)name.size,
+            SEARCH(goblin_symbol_by_name, symbol, &file, &table, &names, bytes + name.offset, (size_t)name.size,
                    first * (at + 1));
-    SHOW(goblin_symbol_by_address, number, index, &f, &table, symbol.st_value);
-    SHOW(goblin_symbol_by_address, number, index, &f, &table, symbol.st_value + symbol.st_size);
+    SHOW(goblin_symbol_by_address, number, index, &file, &table, symbol.st_value);
+    SHOW(goblin_symbol_by_address, number, index, &file, &table, symbol.st_value + symbol.st_size);
     if (at >= FEW) return;
     symbol.st_value ^= 1, symbol.st_size ^= any_high(at);
-    WRITE(goblin_put_symbol, &f.header, &table, at, &symbol);
+    WRITE(goblin_put_symbol, &file.header, &table, at, &symbol);
 }
 
 static void symbols(const goblin_section_t *section) {
     goblin_section_t strings;
     goblin_range_t table = range_of(section), names;
     uint64_t count;
-    uint32_t status = goblin_linked_section(&f, section->sh_link, &strings, &why);
+    uint32_t status = goblin_linked_section(&file, section->sh_link, &strings, &why);
     if (!put_strings("goblin_linked_section", status, &strings, &names)) return;
-    if (!SHOW(goblin_symbol_count, number, count, &f, &table)) return;
+    if (!SHOW(goblin_symbol_count, number, count, &file, &table)) return;
     bool is_table = section->sh_type == SHT_SYMTAB || section->sh_type == SHT_DYNSYM;
     for (uint64_t i = 0; i < count && (is_table || i < FEW); i++) one_symbol(table, names, i);
     one_symbol(table, names, count - (count > 0)), one_symbol(table, names, count);
@@ -185,61 +161,69 @@ static void symbols(const goblin_section_t *section) {
 
 static void one_reloc(goblin_range_t range, bool is_rela, uint64_t at) {
     goblin_reloc_t reloc;
-    if (!ASK(goblin_reloc, reloc, &f, &range, is_rela, at)) return;
+    if (!ASK(goblin_reloc, reloc, &file, &range, is_rela, at)) return;
     put_reloc(&reloc);
     printf(" %" PRId64 "\n", reloc.r_addend);
     if (at >= FEW) return;
     reloc.r_offset ^= 1, reloc.r_sym ^= (uint32_t)(any_high(at) >> 8); /* (3 bytes hold it in a 32-bit file) */
-    WRITE(goblin_put_reloc, &f.header, &range, is_rela, at, &reloc);
+    WRITE(goblin_put_reloc, &file.header, &range, is_rela, at, &reloc);
 }
 
 static void relocs(const goblin_section_t *section) {
     goblin_range_t range = range_of(section);
     bool is_rela = section->sh_type == SHT_RELA, is_list = is_rela || section->sh_type == SHT_REL;
     uint64_t count;
-    if (!SHOW(goblin_reloc_count, number, count, &f, &range, is_rela)) return;
+    if (!SHOW(goblin_reloc_count, number, count, &file, &range, is_rela)) return;
     for (uint64_t i = 0; i < count && (is_list || i < FEW); i++) one_reloc(range, is_rela, i);
     one_reloc(range, is_rela, count);
 }
 
+/* Prints the notes of a range by two calls, of which the first reads names that are UTF-8. */
 static void notes(goblin_range_t range, uint64_t alignment) {
     goblin_note_t note;
-    for (uint64_t next = range.offset; ASK(goblin_note_utf8, note, &f, &range, alignment, next); next = note.next) {
+    uint64_t next = range.offset;
+    for (; ASK(goblin_note_utf8, note, &file, &range, alignment, next); next = note.next) {
         put_note(&note);
         TEXT(goblin_note_type_to_str, bytes + note.name.offset, (size_t)note.name.size, note.n_type);
         put_bytes(note.name), put_bytes(note.desc), putchar('\n');
     }
+    for (next = range.offset; ASK(goblin_note_whole, note, &file, &range, alignment, next); next = note.next)
+        put_note(&note), put_bytes(note.name), put_bytes(note.desc), putchar('\n');
 }
 
-static void notes_as_bytes(goblin_range_t range, uint64_t alignment) {
-    goblin_note_t note;
-    for (uint64_t next = range.offset; ASK(goblin_note_whole, note, &f, &range, alignment, next); next = note.next) {
-        put_note(&note);
-        put_bytes(note.name), put_bytes(note.desc), putchar('\n');
-    }
+/* Prints the part that is inside the file of the bytes of a section or a segment, for which the call for all of them
+   returned a status and perhaps their range, and some numbers of it. */
+static void part(uint32_t status, goblin_range_t found, goblin_range_t range) {
+    goblin_range_t cut = found;
+    uint64_t number;
+    if (status > GOBLIN_END) goblin_range_in_file(&file, &range, &cut);
+    printf("goblin_range_in_file");
+    if (status == GOBLIN_END) puts(" none");
+    else put_data(cut);
+    SHOW(goblin_number_in, number, number, &file, &range, 0, 8);
+    SHOW(goblin_number_in, number, number, &file, &range, range.size / 2, 2);
+    SHOW(goblin_number_in, number, number, &file, &range, range.size - 1, 1);
 }
 
 static void segments(void) {
     uint64_t count, offset;
-    if (!SHOW(goblin_segment_count, number, count, &f)) return;
+    if (!SHOW(goblin_segment_count, number, count, &file)) return;
     for (uint64_t i = 0; i <= count; i++) {
         goblin_segment_t segment;
         goblin_range_t range;
-        if (!ASK(goblin_segment, segment, &f, i)) return;
+        if (!ASK(goblin_segment, segment, &file, i)) return;
         put_segment(&segment);
         TEXT(goblin_pt_to_str, segment.p_type);
         putchar('\n');
-        SHOW(goblin_segment_range, range, range, &f, &segment);
-        uint32_t status = goblin_segment_range(&f, &segment, &range, &why);
+        SHOW(goblin_segment_range, range, range, &file, &segment);
+        uint32_t status = goblin_segment_range(&file, &segment, &range, &why);
         part(status, range, segment.file);
-        numbers_in(segment.file);
         for (uint64_t k = 0; k < 3; k++)
-            SHOW(goblin_address_to_offset, number, offset, &f, segment.p_vaddr + k * (segment.file.size / 2));
+            SHOW(goblin_address_to_offset, number, offset, &file, segment.p_vaddr + k * (segment.file.size / 2));
         notes(segment.file, segment.p_align);
-        notes_as_bytes(segment.file, segment.p_align);
         if (i >= FEW) continue;
         segment.p_flags ^= GOBLIN_PF_X, segment.p_memsz += any_high(i);
-        WRITE(goblin_put_segment, &f.header, i, &segment);
+        WRITE(goblin_put_segment, &file.header, i, &segment);
         write_numbers_in(segment.file);
     }
 }
@@ -248,32 +232,30 @@ static void sections(void) {
     uint64_t count;
     goblin_section_t names, section;
     goblin_range_t strings, range, name;
-    if (!SHOW(goblin_section_count, number, count, &f)) return;
-    uint32_t status = goblin_names_section(&f, &names, &why);
+    if (!SHOW(goblin_section_count, number, count, &file)) return;
+    uint32_t status = goblin_names_section(&file, &names, &why);
     if (!put_strings("goblin_names_section", status, &names, &strings)) return;
     for (uint64_t i = 0; i <= count; i++) {
-        if (!ASK(goblin_section, section, &f, i)) return;
+        if (!ASK(goblin_section, section, &file, i)) return;
         put_section(&section);
         TEXT(goblin_sht_to_str, section.sh_type);
         for (int bit = 0; bit < 32; bit++)
             if (section.sh_flags >> bit & 1) TEXT(goblin_shf_to_str, UINT64_C(1) << bit);
         putchar('\n');
         string(strings, section.sh_name);
-        if (goblin_string_utf8(&f, &strings, section.sh_name, &name, &why) == GOBLIN_OK)
+        if (goblin_string_utf8(&file, &strings, section.sh_name, &name, &why) == GOBLIN_OK)
             for (uint64_t first = 0; first < 3; first++)
-                SEARCH(goblin_section_by_name, section, &f, &strings, bytes + name.offset, (size_t)name.size,
+                SEARCH(goblin_section_by_name, section, &file, &strings, bytes + name.offset, (size_t)name.size,
                        first * i);
-        SEARCH(goblin_section_by_type, section, &f, section.sh_type, i / 2);
-        SEARCH(goblin_section_by_type, section, &f, section.sh_type, i + 1);
-        SHOW(goblin_section_range, range, range, &f, &section);
-        status = goblin_section_range(&f, &section, &range, &why);
+        SEARCH(goblin_section_by_type, section, &file, section.sh_type, i / 2);
+        SEARCH(goblin_section_by_type, section, &file, section.sh_type, i + 1);
+        SHOW(goblin_section_range, range, range, &file, &section);
+        status = goblin_section_range(&file, &section, &range, &why);
         part(status, range, range_of(&section));
-        numbers_in(range_of(&section));
         symbols(&section), relocs(&section), notes(range_of(&section), section.sh_addralign);
-        notes_as_bytes(range_of(&section), section.sh_addralign);
         if (i >= FEW) continue;
         section.sh_flags ^= GOBLIN_SHF_WRITE, section.file.size ^= any_high(i);
-        WRITE(goblin_put_section, &f.header, i, &section);
+        WRITE(goblin_put_section, &file.header, i, &section);
     }
 }
 
@@ -283,19 +265,19 @@ static void dynamic(void) {
     goblin_range_t range, strings = {0, 0};
     goblin_dyn_t entry;
     uint64_t filled, index, value;
-    uint32_t found = goblin_dynamic(&f, &range, &why), status = found;
+    uint32_t found = goblin_dynamic(&file, &range, &why), status = found;
     if (found > GOBLIN_END) { put_status("goblin_dynamic_entries", found); return; }
     printf("goblin_dynamic_entries");
     for (uint64_t i = 0; status == GOBLIN_OK; i++) {
-        status = goblin_dynamic_entries(&f, &range, i, &entry, 1, &filled, &why);
+        status = goblin_dynamic_entries(&file, &range, i, &entry, 1, &filled, &why);
         if (status == GOBLIN_OK) put_dyn(&entry);
     }
     putchar('\n');
-    status = found == GOBLIN_OK ? goblin_dynamic_strings(&f, &range, &strings, &why) : found;
+    status = found == GOBLIN_OK ? goblin_dynamic_strings(&file, &range, &strings, &why) : found;
     if (status > GOBLIN_END) { put_status("goblin_dynamic_strings", status); return; }
     printf("goblin_dynamic_strings"), PUT(range, strings);
     for (size_t i = 0; i < sizeof tags / sizeof *tags; i++) {
-        status = found == GOBLIN_OK ? goblin_dynamic_value(&f, &range, tags[i], 0, &index, &value, &why) : found;
+        status = found == GOBLIN_OK ? goblin_dynamic_value(&file, &range, tags[i], 0, &index, &value, &why) : found;
         if (put_status("goblin_dynamic_value", status)) PUT(number, value), string(strings, value);
     }
 }
@@ -308,7 +290,7 @@ static void whole(void) {
     goblin_section_t section;
     goblin_segment_t segment;
     goblin_range_t strings;
-    goblin_whole_header(&f, &w);
+    goblin_whole_header(&file, &w);
     printf("goblin_whole_header");
     PUT(header, w.header);
     if (!SHOW(goblin_section_count, number, count, &w)) return;
@@ -324,7 +306,7 @@ static void whole(void) {
 
 /* Writes the header and numbers. */
 static void writing(void) {
-    goblin_header_t changed = f.header;
+    goblin_header_t changed = file.header;
     changed.e_type ^= 1, changed.e_entry ^= 1;
     WRITE(goblin_put_header, &changed);
     changed.e_entry += any_high(1);
@@ -332,34 +314,28 @@ static void writing(void) {
     changed.ei_data = 3;
     WRITE(goblin_put_header, &changed);
     for (uint64_t width = 1; width <= 8; width *= 2) {
-        WRITE(goblin_put_number, &f.header, len / 2, width, 0x7f);
-        WRITE(goblin_put_number, &f.header, len - 4, width, 0x7f00);
+        WRITE(goblin_put_number, &file.header, len / 2, width, 0x7f);
+        WRITE(goblin_put_number, &file.header, len - 4, width, 0x7f00);
     }
 }
 
 static void numbers(void) {
     uint64_t number;
     for (uint64_t width = 0; width <= 9; width++)
-        for (uint64_t i = 0; i < 3; i++) SHOW(goblin_number, number, number, &f, i * (len / 2) - (i == 2) * 4, width);
-}
-
-static bool load(const char *path) {
-    FILE *file = fopen(path, "rb");
-    if (!file) return false;
-    len = fread(bytes, 1, sizeof bytes, file);
-    return fclose(file) == 0;
+        for (uint64_t i = 0; i < 3; i++)
+            SHOW(goblin_number, number, number, &file, i * (len / 2) - (i == 2) * 4, width);
 }
 
 int main(int argc, char **argv) {
     put_nothing();
-    for (int i = 1; i < argc; i++) {
-        if (!load(argv[i])) return EXIT_FAILURE;
+    for (int i = 1; i < argc; free(bytes), free(saved), i++) {
+        if (!load(argv[i]) || !(saved = (uint8_t *)malloc(len + 1))) return EXIT_FAILURE;
         printf("file %d\n", i);
-        if (!put_status("goblin_file", goblin_file(bytes, len, &f, &why))) continue;
-        put_header(&f.header);
-        TEXT(goblin_class_to_str, f.header.ei_class);
-        TEXT(goblin_et_to_str, f.header.e_type);
-        TEXT(goblin_machine_to_str, f.header.e_machine);
+        if (!put_status("goblin_file", goblin_file(bytes, len, &file, &why))) continue;
+        put_header(&file.header);
+        TEXT(goblin_class_to_str, file.header.ei_class);
+        TEXT(goblin_et_to_str, file.header.e_type);
+        TEXT(goblin_machine_to_str, file.header.e_machine);
         putchar('\n');
         memcpy(saved, bytes, len);
         segments(), sections(), dynamic(), whole(), writing(), numbers();

@@ -26,29 +26,28 @@ static uint8_t *read_range(goblin_range_t range, size_t before) {
     return read_bytes;
 }
 
-/* Makes a file of the program headers alone. If they are so many that section header 0 has their number, it is before
-   them. */
+/* Reads section header 0. */
+static bool read_first_section(goblin_section_t *first) {
+    goblin_range_t range = {file.header.e_shoff, GOBLIN_SIZEOF_SHDR(&file.header)};
+    goblin_file_t part = file;
+    uint8_t *own = read_range(range, AT);
+    part.bytes = own, part.len = AT + (size_t)range.size, part.header.e_shoff = AT, part.header.e_shnum = 1;
+    bool is_read = own && goblin_section(&part, 0, first, &why) == GOBLIN_OK;
+    return free(own), is_read;
+}
+
+/* Makes a file of the program headers. If section header 0 has their number, it is before them. */
 static bool read_segments(goblin_file_t *part) {
-    bool is_more = file.header.e_phnum == GOBLIN_PN_XNUM;
-    goblin_range_t first = {file.header.e_shoff, GOBLIN_SIZEOF_SHDR(&file.header)}, all = {file.header.e_phoff, 0};
-    uint64_t count = file.header.e_phnum;
-    goblin_file_t sections = file;
-    *part = file, part->header.e_phoff = BEFORE, part->header.e_shoff = is_more ? AT : 0;
-    uint8_t *section = NULL;
-    if (is_more) {
-        section = read_range(first, AT);
-        sections.bytes = section, sections.len = AT + (size_t)first.size;
-        sections.header.e_shoff = AT, sections.header.e_shnum = 1;
-        goblin_section_t zero;
-        if (!section || goblin_section(&sections, 0, &zero, &why)) return free(section), false;
-        count = zero.sh_info;
-    }
-    all.size = count * GOBLIN_SIZEOF_PHDR(&file.header);
-    uint8_t *segments = read_range(all, BEFORE);
-    if (segments && section) memcpy(segments + AT, section + AT, (size_t)first.size);
-    free(section);
-    part->bytes = segments, part->len = BEFORE + (size_t)all.size;
-    return segments != NULL;
+    bool has_first = file.header.e_phnum == GOBLIN_PN_XNUM && file.header.e_shoff > 0;
+    goblin_section_t first;
+    if (has_first && !read_first_section(&first)) return false;
+    uint64_t count = has_first ? first.sh_info : file.header.e_phnum;
+    goblin_range_t range = {file.header.e_phoff, count * GOBLIN_SIZEOF_PHDR(&file.header)};
+    uint8_t *own = read_range(range, BEFORE);
+    if (!own) return false;
+    *part = file, part->bytes = own, part->len = BEFORE + (size_t)range.size, part->header.e_phoff = BEFORE;
+    part->header.e_shoff = has_first ? AT : 0, part->header.e_shnum = 1;
+    return !has_first || goblin_put_section(own, part->len, &part->header, 0, &first, &why) == GOBLIN_OK;
 }
 
 /* Prints the notes of a range: the owner, the size of the descriptor, and the type. */
