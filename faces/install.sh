@@ -306,7 +306,7 @@ stage_web() {
     put "$folder/types" share/goblin_c/web/goblin.d.ts
     put_all faces/web/examples share/goblin_c/web/examples -name '*.mjs'
     put_edited '' faces/web/package.json.in share/goblin_c/web/package.json
-    python3 faces/web/pack.py "$library" > "$folder/page"
+    python3 faces/page/pack.py "$library" > "$folder/page"
     put "$folder/page" share/goblin_c/web/index.html
 }
 

@@ -7,8 +7,8 @@ import { tmpdir } from 'node:os';
 import { join } from 'node:path';
 import { setFlagsFromString } from 'node:v8';
 import { runInNewContext } from 'node:vm';
-import { csv_line } from './csv.js';
-import { demangled, may_hold } from './demangle.js';
+import { csv_line } from '../page/csv.js';
+import { demangled, may_hold } from '../page/demangle.js';
 import {
     dynamic_file, elf_file, longs, note, noted_file, packed, patched, relocations, symbol, symbols_file,
 } from './elves.mjs';

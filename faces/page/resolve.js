@@ -1,5 +1,5 @@
 // Resolves symbols, relocations and addresses: to sections, segments, symbols and bytes of the file.
-import * as goblin from './goblin.js';
+import * as goblin from '../web/goblin.js';
 import { demangled } from './demangle.js';
 import { number_at } from './dynamic.js';
 import { called, file, is_wide, name_at, own_segments, read_or, section_at, sections, segment_of, segments,

@@ -13,7 +13,7 @@ import { pathToFileURL } from 'node:url';
 import { inflateSync } from 'node:zlib';
 import { Chromium, Firefox, PATIENCE, waited } from './browsers.mjs';
 import { code, dynamic_file, elf_file, longs, note, noted_file, packed, patched, relocations, symbol,
-    symbols_file } from './elves.mjs';
+    symbols_file } from '../web/elves.mjs';
 
 const [, , kind, program, page, dump, made_files, stored_folder] = process.argv, stored = resolve(stored_folder);
 const made = join(made_files, 'little64'), content = readFileSync(made),
@@ -1893,7 +1893,7 @@ check('If the engine lacks what the library needs, the page says so, and reads n
 });
 
 check('A page has memories for as many files at once as goblin.js says', async () => {
-    const comments = readFileSync(new URL('goblin.js', import.meta.url), 'utf8');
+    const comments = readFileSync(new URL('../web/goblin.js', import.meta.url), 'utf8');
     const [, number] = /can hold at least (\d+) files at once/.exec(comments);
     await evaluate(`void (globalThis.held = Array.from({ length: ${number} }, () => new WebAssembly.Instance(
         new WebAssembly.Module(new Uint8Array([0, 97, 115, 109, 1, 0, 0, 0, 5, 3, 1, 4, 0])))))`);

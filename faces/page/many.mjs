@@ -3,8 +3,8 @@
 import assert from 'node:assert/strict';
 import { readFileSync } from 'node:fs';
 import { join } from 'node:path';
-import { code, elf_file } from './elves.mjs';
-import * as goblin from './goblin.js';
+import { code, elf_file } from '../web/elves.mjs';
+import * as goblin from '../web/goblin.js';
 import { file, sections } from './file.js';
 import { parts } from './pieces.js';
 import { all_facts, summary } from './summary.js';

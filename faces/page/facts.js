@@ -1,7 +1,7 @@
 // What a person asks first of a file, as plain data. The rules are those of checks/files/facts.py, whose table it is
 // tested against, as the Python package is. The fields, entries and strings are those of proved calls. What they mean,
 // and what the bytes of a note say, is not proved.
-import * as goblin from './goblin.js';
+import * as goblin from '../web/goblin.js';
 import { read_or } from './file.js';
 import { once, text_of, two_digits } from './text.js';
 

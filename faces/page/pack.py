@@ -13,14 +13,17 @@ import sys
 import zlib
 
 HERE = os.path.dirname(os.path.abspath(__file__))
-IMPORT = re.compile(r"^import (?P<what>[^;]+?) from '\./(?P<name>\w+)\.js';\n", re.M)
+# Where the page's files are, and goblin.js, which they import.
+FOLDERS = [HERE, f'{HERE}/../web']
+IMPORT = re.compile(r"^import (?P<what>[^;]+?) from '\.(?:\./web)?/(?P<name>\w+)\.js';\n", re.M)
 EXPORT = re.compile(r'^export (?:const|class|function|function\*|async function) (\w+)', re.M)
 REEXPORT = re.compile(r"^export \* from '\./(?P<name>\w+)\.js';\n", re.M)
 DOC = re.compile(r'^ */\*\*(?:(?!\*/).)*\*/\n', re.M | re.S)
 
 
 def read(name):
-    with open(f'{HERE}/{name}', encoding='utf-8') as file:
+    path = next(filter(os.path.exists, (f'{folder}/{name}' for folder in FOLDERS)))
+    with open(path, encoding='utf-8') as file:
         return file.read()
 
 
