@@ -429,20 +429,6 @@ check('A section past the end is refused, with each list that includes it, and o
     return `${moved} sections that pass the end`;
 });
 
-check('A section links to the one at sh_link, unless that is 0, past the end or without bytes', () => {
-    const linked = sum_over(files, files.length + 1, (elf) => {
-        const sections = [...elf.section_headers()], found = sections.map((section) => elf.linked_section(section));
-        const wanted = sections.map(({ sh_link }) => (sh_link ? sections[sh_link] : undefined));
-        assert.deepEqual(found, wanted.map((of) => (of?.sh_type === goblin.SHT_NOBITS ? undefined : of)));
-        const without_bytes = sections.findIndex(({ sh_type }) => sh_type === goblin.SHT_NOBITS);
-        for (const sh_link of [0, sections.length, Math.max(without_bytes, 0)])
-            assert.equal(elf.linked_section({ ...sections[0], sh_link }), undefined);
-        assert.equal(elf.strtab(elf.linked_section(sections[0])).get(0), undefined);
-        return found.filter(Boolean).length;
-    });
-    return `${linked} linked sections`;
-});
-
 check('Sections of other types hold no symbols or relocations', () => {
     const found = sum_over(files, 1, (elf) => {
         const sections = elf.section_headers();
@@ -667,45 +653,6 @@ check('Arguments of other types and ranges are refused', () => {
     assert.deepEqual([elf.section_name(text), elf.section('.none')], ['.text', undefined]);
     const { st_value } = symbols.symbol_by_name('main').symbol;
     assert.equal(symbols.name(symbols.symbol_by_address(st_value).symbol), 'main');
-});
-
-check('Readable data ends with the file', () => {
-    const elf = Elf.parse(own), length = BigInt(own.length), text = elf.section('.text'), code = elf.program_header(0);
-    for (const [call, parts] of [['section_data', elf.section_headers()], ['segment_data', elf.program_headers()]])
-        for (const part of parts) assert.deepEqual(elf.readable_data(part), elf[call](part));
-    for (const [offset, size, left] of [[length - 3n, 4n, 3], [length, 1n, 0], [length + 1n, 5n, 0], [END, 1n, 0]]) {
-        const section = { ...text, sh_offset: offset, sh_size: size },
-            segment = { ...code, p_offset: offset, p_filesz: size };
-        const wanted = new Uint8Array(own.subarray(own.length - left));
-        throw_all(is_refusal(), () => elf.section_data(section));
-        assert.deepEqual([section, segment, { ...section, sh_type: goblin.SHT_NOBITS }, { ...segment, p_filesz: 0n }]
-            .map((part) => elf.readable_data(part)), [wanted, wanted, undefined, undefined]);
-    }
-});
-
-check('Numbers in a section or a segment are inside it', () => {
-    const elf = Elf.parse(own), text = elf.section('.text'),
-        code = elf.program_headers().find(({ p_offset }) => p_offset > 0n);
-    const little = (at, size) => BigInt(own.readUIntLE(Number(at), size));
-    for (const [holder, start, size] of [[text, text.sh_offset, text.sh_size], [code, code.p_offset, code.p_filesz]]) {
-        assert.deepEqual([elf.number_in(holder, 3, 4), elf.number_in(holder, 2, 2)],
-            [little(start + 3n, 4), little(start + 2n, 2)]);
-        throw_all(is_refusal(Kind.BAD_OFFSET), () => elf.number_in(holder, size, 1),
-            () => elf.number_in({ ...text, sh_type: goblin.SHT_NOBITS }, 0, 1));
-        throw_all(is_refusal(Kind.TOO_BIG), () => elf.number_in(holder, size - 3n, 4));
-    }
-});
-
-check('Addresses have offsets in the file', () => {
-    const elf = Elf.parse(own), text = elf.section('.text');
-    for (const { p_offset, p_vaddr, p_filesz } of elf.program_headers()
-        .filter(({ p_type }) => p_type === goblin.PT_LOAD)) {
-        for (const before of [0n, p_filesz - 1n])
-            assert.equal(elf.address_to_offset(p_vaddr + before), p_offset + before);
-    }
-    assert.deepEqual([elf.header.e_entry, END].map((address) => elf.address_to_offset(address)),
-        [elf.header.e_entry - text.sh_addr + text.sh_offset, undefined]);
-    throw_all(is_refusal(Kind.BUFFER_TOO_SHORT), () => Elf.parse(own.subarray(0, 64)).address_to_offset(0));
 });
 
 // (The rules of these lines are those of checks/files/goblin.py.)

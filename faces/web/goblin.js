@@ -1,5 +1,4 @@
-/**
- * ELF files in JavaScript, read by `goblin_c.wasm`: the library of a verified port of goblin's ELF layer, as one
+/** ELF files in JavaScript, read by `goblin_c.wasm`: the library of a verified port of goblin's ELF layer, as one
  * WebAssembly module with a 64-bit memory and no imports.
  *
  * `Elf.parse` copies a file's bytes into a memory of its own and reads its header. Everything else is read on demand.
@@ -32,8 +31,7 @@
  * await init();
  * const elf = Elf.parse(bytes);
  * for (const section of elf.section_headers()) console.log(elf.section_name(section), section.sh_size);
- * ```
- */
+ * ``` */
 import {
     DF_1_PIE, DT_FLAGS_1, DT_NEEDED, DT_RPATH, DT_RUNPATH, DT_SONAME, DT_SYMTAB, ET_DYN, ET_REL, NT_GNU_BUILD_ID,
     PT_DYNAMIC, PT_GNU_EH_FRAME, PT_GNU_RELRO, PT_GNU_STACK, PT_INTERP, PT_LOAD, PT_NOTE, PT_PHDR, PT_TLS, SHF_ALLOC,
@@ -49,33 +47,28 @@ export { Item, Kind };
 /** A number of bytes. @typedef {1 | 2 | 4 | 8} Width */
 /** A text, of which the UTF-8 is compared, or bytes. @typedef {string | Uint8Array} Name */
 /** A header of a section or a segment. @typedef {SectionHeader | ProgramHeader} Part */
+/** A function of an item and its index. @typedef {(item: T, index: number) => R} Each<T, R> */
 
-/**
- * A note.
+/** A note.
  * @typedef {object} Note
  * @property {number} n_type its type, whose meaning depends on the name: see `note_type_to_str`
  * @property {Range} name_range the range of its name, without its last byte, zero in most files
  * @property {Range} desc_range the range of its descriptor
  * @property {bigint} next the offset to read the next note at
  * @property {string} name its name, decoded at each access
- * @property {Uint8Array} desc its descriptor, copied at each access
- */
+ * @property {Uint8Array} desc its descriptor, copied at each access */
 
-/**
- * A note as bytes. Its name need not be UTF-8. `name_range` is that of the whole name.
+/** A note as bytes. Its name need not be UTF-8. `name_range` is that of the whole name.
  * @typedef {object} NoteBytes
  * @extends {Omit<Note, 'name'>}
- * @property {Uint8Array} name its whole name, which ends with a zero byte in most files, copied at each access
- */
+ * @property {Uint8Array} name its whole name, which ends with a zero byte in most files, copied at each access */
 
-/**
- * A note of all sections or segments. Its name need not be UTF-8. `name_range` is that of the whole name.
+/** A note of all sections or segments. Its name need not be UTF-8. `name_range` is that of the whole name.
  * @typedef {object} AnyNote
  * @extends {Omit<Note, 'name'>}
  * @property {string | undefined} name its name without the zero bytes at its end, decoded at each access, or
  *   `undefined` if it is not UTF-8
- * @property {Uint8Array} name_bytes its whole name, copied at each access
- */
+ * @property {Uint8Array} name_bytes its whole name, copied at each access */
 
 // ---- the structs of the library ----
 
@@ -147,11 +140,9 @@ function json_value(value) {
     return value;
 }
 
-/**
- * Writes BigInts and bytes as strings of digits. It is for `JSON.stringify`, as the second argument, for objects that
+/** Writes BigInts and bytes as strings of digits. It is for `JSON.stringify`, as the second argument, for objects that
  * are made from items.
- * @type {(key: string, value: unknown) => unknown}
- */
+ * @type {(key: string, value: unknown) => unknown} */
 export const json = (key, value) => json_value(value);
 
 // The toJSON of an item, which JSON.stringify calls. It is not enumerable, so that loops over the fields and copies
@@ -208,13 +199,11 @@ function check(module) {
     if (missing.length > 0) throw new Error(`the module has no ${missing.join(', ')}: ${both}`);
 }
 
-/**
- * Loads the library, which all calls of this file need. Rejects if the engine has no 64-bit memories, if the module
+/** Loads the library, which all calls of this file need. Rejects if the engine has no 64-bit memories, if the module
  * can't be loaded, or if it has another interface than this file or lacks a call. If it rejects, a module that was
  * loaded before stays in use.
  * The source is the module (a `WebAssembly.Module`), its bytes or its `URL`, by default in the folder of this file.
- * @type {(source?: object) => Promise<void>}
- */
+ * @type {(source?: object) => Promise<void>} */
 export default async function init(source = new URL('goblin_c.wasm', import.meta.url)) {
     if (!globalThis.WebAssembly?.validate(WITH_MEMORY)) throw new Error(WITHOUT_MEMORY);
     if (source === null || typeof source !== 'object') refuse('a module, its bytes or its URL', source);
@@ -406,25 +395,19 @@ export class GoblinError extends Error {
         this.kind = kind;
         /** @type {number} what it is about, a number of `Item`, or 0 if its kind alone says it */
         this.item = item;
-        /**
-         * @type {bigint[]} the four numbers that belong to it, in the order that `Kind` lists; those that it does not
+        /** @type {bigint[]} the four numbers that belong to it, in the order that `Kind` lists; those that it does not
          *   have are 0. Of a number in a section or a segment, and of a part of a note that is read as bytes, `TOO_BIG`
          *   and `BAD_OFFSET` may be about the end of these instead. Then the offset of `BAD_OFFSET` counts from their
-         *   start, that of a part from the note's. Of a list of headers `TOO_BIG` is about one header.
-         */
+         *   start, that of a part from the note's. Of a list of headers `TOO_BIG` is about one header. */
         this.numbers = [first, second, third, fourth];
-        /**
-         * @type {bigint} where in the file the thing begins that is refused: 0 for the header; the offset of a list of
+        /** @type {bigint} where in the file the thing begins that is refused: 0 for the header; the offset of a list of
          *   headers, even if one header in it is refused; the offset of a table, of a string table, or of the string,
-         *   the note or the bytes; or of the field of a number that does not fit
-         */
+         *   the note or the bytes; or of the field of a number that does not fit */
         this.offset = offset;
     }
 
-    /**
-     * Returns the object that `JSON.stringify` writes.
-     * @type {() => { name: string, message: string, kind: number, item: number, numbers: string[], offset: string }}
-     */
+    /** Returns the object that `JSON.stringify` writes.
+     * @type {() => { name: string, message: string, kind: number, item: number, numbers: string[], offset: string }} */
     toJSON() {
         const { name, message, kind, item, numbers, offset } = this;
         return { name, message, kind, item, numbers: numbers.map(String), offset: String(offset) };
@@ -461,8 +444,7 @@ export class GoblinError extends Error {
 /** @type {WeakMap<Uint8Array, Memory>} */
 const made = new WeakMap();
 
-/**
- * Returns an array for a file that is read part by part. It is in the library's memory, so `Elf.parse` copies nothing
+/** Returns an array for a file that is read part by part. It is in the library's memory, so `Elf.parse` copies nothing
  * of it, and a large file takes its size in memory once. Use it for one file.
  *
  * ```js
@@ -471,40 +453,33 @@ const made = new WeakMap();
  *     bytes.set(new Uint8Array(await file.slice(at, at + (1 << 24)).arrayBuffer()), at);
  * const elf = Elf.parse(bytes);
  * ```
- * @type {(size: number) => Uint8Array}
- */
+ * @type {(size: number) => Uint8Array} */
 export function array_for(size) {
     const memory = new Memory(unsigned(size, 53)), bytes = memory.part(FILE, memory.end - FILE);
     made.set(bytes, memory);
     return bytes;
 }
 
-/**
- * A file, with its header. Everything else is read on demand. A call throws a `GoblinError` if it reads a
- * damaged part.
- */
+/** A file, with its header. Everything else is read on demand. A call throws a `GoblinError` if it reads a
+ * damaged part. */
 export class Elf {
     #memory;
 
-    /**
-     * Reads the header of a file. Of a view it takes the bytes, whatever the type of its items. Throws a `TypeError`
+    /** Reads the header of a file. Of a view it takes the bytes, whatever the type of its items. Throws a `TypeError`
      * for anything but a buffer or a view.
      *
      * A file has a memory of its own until nothing refers to it, of which a browser may have few: a page in Chromium
      * can hold at least 50 files at once. Throws a `RangeError` if there is no memory for another one.
-     * @type {(bytes: ArrayBufferLike | ArrayBufferView) => Elf}
-     */
+     * @type {(bytes: ArrayBufferLike | ArrayBufferView) => Elf} */
     static parse(bytes) {
         const memory = made.get(bytes) ?? Memory.of(bytes_of(bytes));
         memory.status('goblin_file', ...memory.file, memory.struct);
         return new Elf(memory, memory.header);
     }
 
-    /**
-     * The file's bytes, in the memory of the library, so they may be read and not changed. A call with a long name may
+    /** The file's bytes, in the memory of the library, so they may be read and not changed. A call with a long name may
      * enlarge that memory. Then the array is empty, and this is another one.
-     * @type {Uint8Array}
-     */
+     * @type {Uint8Array} */
     get bytes() { return this.#memory.whole; }
 
     constructor(memory, header) {
@@ -515,8 +490,7 @@ export class Elf {
         Object.defineProperty(this, 'header', { writable: false });
     }
 
-    /**
-     * Returns the same file with a header that counts only the headers that are whole inside it. With it no list of
+    /** Returns the same file with a header that counts only the headers that are whole inside it. With it no list of
      * headers is refused, of a file that is cut or damaged, and lists that were not refused are the same. In most files
      * the header of the section names is one of the last: if it is cut off, sections have no names.
      *
@@ -524,8 +498,7 @@ export class Elf {
      * const left = Elf.parse(cut).whole();
      * console.log(`${left.section_headers().length} section headers are left`);
      * ```
-     * @type {() => Elf}
-     */
+     * @type {() => Elf} */
     whole() {
         const memory = this.#memory.with_struct(WHOLE);
         if (this.#memory.struct !== memory.struct)
@@ -533,10 +506,8 @@ export class Elf {
         return new Elf(memory, memory.header);
     }
 
-    /**
-     * Returns a writer of records of this file into its bytes. It reads the bytes once.
-     * @type {(bytes: Uint8Array) => Writer}
-     */
+    /** Returns a writer of records of this file into its bytes. It reads the bytes once.
+     * @type {(bytes: Uint8Array) => Writer} */
     writer(bytes) { return new Writer(this.header, bytes); }
 
     #call(name, kind, ...args) { return this.#memory.call(name, kind, ...args); }
@@ -550,110 +521,85 @@ export class Elf {
     /** Returns the address at which the program starts, or 0. @type {() => bigint} */
     entry() { return this.header.e_entry; }
 
-    /**
-     * Reports whether the file is a shared library: its type is ET_DYN, and it is no position-independent program,
+    /** Reports whether the file is a shared library: its type is ET_DYN, and it is no position-independent program,
      * which linkers mark by DF_1_PIE in the value of DT_FLAGS_1. Throws if the type is ET_DYN, and the program headers
      * or the dynamic section are not inside the file.
-     * @type {() => boolean}
-     */
+     * @type {() => boolean} */
     is_lib() { return this.header.e_type === ET_DYN && !((this.#values(DT_FLAGS_1).at(-1) ?? 0n) & DF_1_PIE); }
 
-    /**
-     * Returns the program header at an index, or `undefined` past the end. Throws if the program headers are not
+    /** Returns the program header at an index, or `undefined` past the end. Throws if the program headers are not
      * inside the file.
-     * @type {(index: Unsigned) => ProgramHeader | undefined}
-     */
+     * @type {(index: Unsigned) => ProgramHeader | undefined} */
     program_header(index) { return this.#call('goblin_segment', 'segment', unsigned(index, 64)); }
 
-    /**
-     * Returns all program headers. Throws if they are not inside the file, or if `e_phnum` is 0xffff and the first
+    /** Returns all program headers. Throws if they are not inside the file, or if `e_phnum` is 0xffff and the first
      * section header, which has their number, is not. Those of `whole()` are inside it.
-     * @type {() => List<ProgramHeader>}
-     */
+     * @type {() => List<ProgramHeader>} */
     program_headers() { return new List(this.#memory, 'segment', []); }
 
-    /**
-     * Returns the section header at an index, or `undefined` past the end. Throws if the section headers are not
+    /** Returns the section header at an index, or `undefined` past the end. Throws if the section headers are not
      * inside the file.
-     * @type {(index: Unsigned) => SectionHeader | undefined}
-     */
+     * @type {(index: Unsigned) => SectionHeader | undefined} */
     section_header(index) { return this.#call('goblin_section', 'section', unsigned(index, 64)); }
 
-    /**
-     * Returns all section headers. Throws if they are not inside the file. Those of `whole()` are inside it.
-     * @type {() => List<SectionHeader>}
-     */
+    /** Returns all section headers. Throws if they are not inside the file. Those of `whole()` are inside it.
+     * @type {() => List<SectionHeader>} */
     section_headers() { return new List(this.#memory, 'section', []); }
 
-    /**
-     * Returns the first section with a name, if there is one. The section header at index 0, which means no section, is
-     * left out. Throws if the section headers or their names are not inside the file.
-     * @type {(name: Name) => SectionHeader | undefined}
-     */
+    /** Returns the first section with a name, if there is one. The section header at index 0, which means no section,
+     * is left out. Throws if the section headers or their names are not inside the file.
+     * @type {(name: Name) => SectionHeader | undefined} */
     section(name) { return this.section_by_name(name, 1)?.section; }
 
-    /**
-     * Returns the index and the header of the first section with a name, from an index on, if there is one. Throws as
+    /** Returns the index and the header of the first section with a name, from an index on, if there is one. Throws as
      * `section` does.
      *
      * ```js
      * for (let at = elf.section_by_name('.group'); at; at = elf.section_by_name('.group', at.index + 1))
      *     console.log(at.section.sh_size);
      * ```
-     * @type {(name: Name, first?: Unsigned) => { index: number, section: SectionHeader } | undefined}
-     */
+     * @type {(name: Name, first?: Unsigned) => { index: number, section: SectionHeader } | undefined} */
     section_by_name(name, first = 0) {
         const bytes = this.#memory.pass_bytes(name_bytes(name)),
             names = this.#memory.pass(NAMES, 'range', this.shdr_strtab().range);
         return this.#memory.find('goblin_section_by_name', 'section', names, ...bytes, unsigned(first, 64));
     }
 
-    /**
-     * Returns the index and the header of the first section of a type, an SHT_ number, from an index on, if there is
+    /** Returns the index and the header of the first section of a type, an SHT_ number, from an index on, if there is
      * one. Throws if the section headers are not inside the file.
-     * @type {(sh_type: number, first?: Unsigned) => { index: number, section: SectionHeader } | undefined}
-     */
+     * @type {(sh_type: number, first?: Unsigned) => { index: number, section: SectionHeader } | undefined} */
     section_by_type(sh_type, first = 0) {
         return this.#memory.find('goblin_section_by_type', 'section', unsigned(sh_type, 32), unsigned(first, 64));
     }
 
-    /**
-     * Returns the name of a section, or `undefined` if its offset is past the end of the section names. Throws if the
+    /** Returns the name of a section, or `undefined` if its offset is past the end of the section names. Throws if the
      * section headers or their names are not inside the file, or the name is not UTF-8.
-     * @type {(section: SectionHeader) => string | undefined}
-     */
+     * @type {(section: SectionHeader) => string | undefined} */
     section_name(section) { return this.shdr_strtab().get(field_of(section, 'sh_name', 'a section header')); }
 
-    /**
-     * Returns the range of the bytes of a section or a segment, or `undefined` if it has none in the file: its type is
+    /** Returns the range of the bytes of a section or a segment, or `undefined` if it has none in the file: its type is
      * SHT_NULL, SHT_NOBITS or PT_NULL, or its size is 0. Throws if the bytes are not inside the file. It needs all
      * fields of a header that a program makes.
-     * @type {(part: Part) => Range | undefined}
-     */
+     * @type {(part: Part) => Range | undefined} */
     range(part) {
         const kind = is_segment(part) ? 'segment' : 'section';
         return this.#memory.call(`goblin_${kind}_range`, 'range', this.#memory.pass(ARGUMENT, kind, part));
     }
 
-    /**
-     * Returns the bytes of a section, or `undefined` if it has none in the file: its type is SHT_NULL or SHT_NOBITS, or
-     * its size is 0. Throws if they are not inside the file. It needs all fields of a header that a program makes.
-     * @type {(section: SectionHeader) => Uint8Array | undefined}
-     */
+    /** Returns the bytes of a section, or `undefined` if it has none in the file: its type is SHT_NULL or SHT_NOBITS,
+     * or its size is 0. Throws if they are not inside the file. It needs all fields of a header that a program makes.
+     * @type {(section: SectionHeader) => Uint8Array | undefined} */
     section_data(section) {
         const range = this.range(section);
         return range && this.#memory.bytes(range);
     }
 
-    /**
-     * Returns the bytes of a segment, or `undefined` if it has none in the file: its type is PT_NULL, or `p_filesz`
+    /** Returns the bytes of a segment, or `undefined` if it has none in the file: its type is PT_NULL, or `p_filesz`
      * is 0. Throws if they are not inside the file. It needs all fields of a header that a program makes.
-     * @type {(segment: ProgramHeader) => Uint8Array | undefined}
-     */
+     * @type {(segment: ProgramHeader) => Uint8Array | undefined} */
     segment_data(segment) { return this.section_data(segment); }
 
-    /**
-     * Returns those bytes of a section or a segment that are inside the file. Their number is 0 if they start at the
+    /** Returns those bytes of a section or a segment that are inside the file. Their number is 0 if they start at the
      * end of the file or past it. Returns `undefined` only where `range` does. If `range` throws a `GoblinError`, there
      * are fewer bytes than `sh_size` or `p_filesz`:
      *
@@ -661,32 +607,26 @@ export class Elf {
      * const left = elf.readable_data(section);
      * if (left && BigInt(left.length) < section.sh_size) console.log(`only ${left.length} bytes are left`);
      * ```
-     * @type {(part: Part) => Uint8Array | undefined}
-     */
+     * @type {(part: Part) => Uint8Array | undefined} */
     readable_data(part) {
         const { item, refusal } = attempt(() => this.range(part)),
             range = refusal ? this.#memory.in_file(range_of(part)) : item;
         return range && this.#memory.bytes(range);
     }
 
-    /**
-     * Returns the sections of a segment, in the sense of `segment_holds`. The section header at index 0, which means no
-     * section, is left out. Throws if the section headers are not inside the file.
-     * @type {(segment: ProgramHeader) => SectionHeader[]}
-     */
+    /** Returns the sections of a segment, in the sense of `segment_holds`. The section header at index 0, which means
+     * no section, is left out. Throws if the section headers are not inside the file.
+     * @type {(segment: ProgramHeader) => SectionHeader[]} */
     segment_sections(segment) {
         return [...this.section_headers().from(1)].filter((section) => segment_holds(segment, section));
     }
 
-    /**
-     * Returns the number in `width` bytes at an offset of the file, in the file's byte order. Throws if the bytes are
+    /** Returns the number in `width` bytes at an offset of the file, in the file's byte order. Throws if the bytes are
      * not inside the file, and a `RangeError` if the width is not 1, 2, 4 or 8.
-     * @type {(offset: Unsigned, width: Width) => bigint}
-     */
+     * @type {(offset: Unsigned, width: Width) => bigint} */
     number(offset, width) { return this.#call('goblin_number', 'number', unsigned(offset, 64), as_width(width)).value; }
 
-    /**
-     * Returns the number in `width` bytes at an offset of a section or of a segment's bytes in the file, in the file's
+    /** Returns the number in `width` bytes at an offset of a section or of a segment's bytes in the file, in the file's
      * byte order. The offset counts from their start. Throws if they are not inside the file, or the number is not
      * inside them. A section of type SHT_NOBITS has no bytes in the file, so no number is inside it. Throws a
      * `RangeError` if the width is not 1, 2, 4 or 8. Of a section header only `sh_type`, `sh_offset` and `sh_size` are
@@ -695,81 +635,66 @@ export class Elf {
      * ```js
      * const first_word = elf.number_in(section, 0, 4);
      * ```
-     * @type {(part: Part, offset: Unsigned, width: Width) => bigint}
-     */
+     * @type {(part: Part, offset: Unsigned, width: Width) => bigint} */
     number_in(part, offset, width) {
         const argument = this.#memory.pass(ARGUMENT, 'range', range_of(part));
         return this.#call('goblin_number_in', 'number', argument, unsigned(offset, 64), as_width(width)).value;
     }
 
-    /**
-     * Returns the offset in the file of the byte that is loaded at an address, or `undefined` if no byte of the file is
-     * loaded there. It is that of the first segment of type PT_LOAD for which
+    /** Returns the offset in the file of the byte that is loaded at an address, or `undefined` if no byte of the file
+     * is loaded there. It is that of the first segment of type PT_LOAD for which
      * `p_vaddr <= address < p_vaddr + p_filesz`. Throws if the program headers are not inside the file, or the file has
      * no byte at that offset.
      *
      * ```js
      * const start = elf.address_to_offset(elf.header.e_entry);
      * ```
-     * @type {(address: Unsigned) => bigint | undefined}
-     */
+     * @type {(address: Unsigned) => bigint | undefined} */
     address_to_offset(address) {
         return this.#call('goblin_address_to_offset', 'number', unsigned(address, 64))?.value;
     }
 
-    /**
-     * Returns the string table of the section names. It is empty if the file has none: the index of its section is 0 or
-     * past the end, or that section has no bytes in the file. Throws if the section headers are not inside the file.
-     * @type {() => Strtab}
-     */
+    /** Returns the string table of the section names. It is empty if the file has none: the index of its section is 0
+     * or past the end, or that section has no bytes in the file. Throws if the section headers are not inside the file.
+     * @type {() => Strtab} */
     shdr_strtab() { return new Strtab(this.#memory, range_of(this.#call('goblin_names_section', 'section') ?? NONE)); }
 
-    /**
-     * Returns a section, or a segment's bytes in the file, as a string table. It is empty if there is none, if the
+    /** Returns a section, or a segment's bytes in the file, as a string table. It is empty if there is none, if the
      * section's type is SHT_NOBITS, or if the size is 0. Of a section header only `sh_type`, `sh_offset` and `sh_size`
      * are read, and of a program header only `p_offset` and `p_filesz`.
-     * @type {(part: Part | undefined) => Strtab}
-     */
+     * @type {(part: Part | undefined) => Strtab} */
     strtab(part) { return new Strtab(this.#memory, range_of(part ?? NONE)); }
 
-    /**
-     * Returns the section that a section links to by its `sh_link`, such as the string table of a symbol table. Returns
-     * `undefined` if `sh_link` is 0 or past the end, or that section has no bytes in the file (SHT_NOBITS). Throws if
-     * the section headers are not inside the file.
-     * @type {(section: SectionHeader) => SectionHeader | undefined}
-     */
+    /** Returns the section that a section links to by its `sh_link`, such as the string table of a symbol table.
+     * Returns `undefined` if `sh_link` is 0 or past the end, or that section has no bytes in the file (SHT_NOBITS).
+     * Throws if the section headers are not inside the file.
+     * @type {(section: SectionHeader) => SectionHeader | undefined} */
     linked_section(section) {
         const index = unsigned(field_of(section, 'sh_link', 'a section header'), 64);
         return this.#call('goblin_linked_section', 'section', index);
     }
 
-    /**
-     * Returns the symbols of a section of type SHT_SYMTAB or SHT_DYNSYM. Their names are in the linked section
+    /** Returns the symbols of a section of type SHT_SYMTAB or SHT_DYNSYM. Their names are in the linked section
      * (`linked_section`). If there is none, the string table is empty. Throws if the section has another type, or the
      * section headers or the symbols are not inside the file.
-     * @type {(section: SectionHeader) => Symtab}
-     */
+     * @type {(section: SectionHeader) => Symtab} */
     symtab(section) {
         if (!holds_symbols(section)) throw GoblinError.of_type(section, 'symbols');
         return new Symtab(this.#memory, range_of(section), this.strtab(this.linked_section(section)));
     }
 
-    /**
-     * Returns the last symbol table (SHT_SYMTAB), if there is one. Few files have several. Throws if the section
+    /** Returns the last symbol table (SHT_SYMTAB), if there is one. Few files have several. Throws if the section
      * headers or the symbols are not inside the file.
-     * @type {() => Symtab | undefined}
-     */
+     * @type {() => Symtab | undefined} */
     syms() {
         const section = this.section_headers().filter(({ sh_type }) => sh_type === SHT_SYMTAB).at(-1);
         return section && this.symtab(section);
     }
 
-    /**
-     * Returns the first symbol table for dynamic linking (SHT_DYNSYM), if there is one. Throws if `syms` does, and if
+    /** Returns the first symbol table for dynamic linking (SHT_DYNSYM), if there is one. Throws if `syms` does, and if
      * there is none, but the dynamic section has the address of symbols (DT_SYMTAB) or is not inside the file: only
      * section headers have their number, and many stripped files have none.
-     * @type {() => Symtab | undefined}
-     */
+     * @type {() => Symtab | undefined} */
     dynsyms() {
         const found = this.section_by_type(SHT_DYNSYM), address = found ? undefined : this.#values(DT_SYMTAB).at(-1);
         if (address === undefined) return found && this.symtab(found.section);
@@ -777,11 +702,9 @@ export class Elf {
             this.#dynamic_range().offset, address);
     }
 
-    /**
-     * Returns the relocations of a section of type SHT_RELA or SHT_REL. Throws if the section has another type, or the
+    /** Returns the relocations of a section of type SHT_RELA or SHT_REL. Throws if the section has another type, or the
      * relocations are not inside the file.
-     * @type {(section: SectionHeader) => List<Reloc>}
-     */
+     * @type {(section: SectionHeader) => List<Reloc>} */
     relocs(section) {
         if (!holds_relocs(section)) throw GoblinError.of_type(section, 'relocations');
         const is_rela = section.sh_type === SHT_RELA;
@@ -789,18 +712,15 @@ export class Elf {
             convert: is_rela ? (item) => item : (item) => Object.assign(item, { r_addend: undefined }) });
     }
 
-    /**
-     * Returns all relocation sections, each with the index of its section. Throws if the section headers or the
+    /** Returns all relocation sections, each with the index of its section. Throws if the section headers or the
      * relocations of any section are not inside the file. If one section is damaged, `relocs` reads the others.
-     * @type {() => [number, List<Reloc>][]}
-     */
+     * @type {() => [number, List<Reloc>][]} */
     shdr_relocs() {
         const sections = [...this.section_headers().entries()].filter(([, section]) => holds_relocs(section));
         return sections.map(([index, section]) => [index, this.relocs(section)]);
     }
 
-    /**
-     * Returns the entries of the dynamic section up to the first DT_NULL or the section's end, at most `most`. There
+    /** Returns the entries of the dynamic section up to the first DT_NULL or the section's end, at most `most`. There
      * are none if the file has no dynamic section. The section is the first segment of type PT_DYNAMIC. In a file
      * without program headers it is the first section of type SHT_DYNAMIC. Throws if it is not inside the file.
      *
@@ -808,8 +728,7 @@ export class Elf {
      * for (const { d_tag, d_val } of elf.dynamic_section())
      *     if (d_tag === DT_NEEDED) console.log(elf.dynamic_strings().get(d_val));
      * ```
-     * @type {(most?: number) => Dyn[]}
-     */
+     * @type {(most?: number) => Dyn[]} */
     dynamic_section(most = Infinity) {
         const range = this.#dynamic_range(), all = [];
         while (range && all.length < most) {
@@ -821,24 +740,20 @@ export class Elf {
         return all;
     }
 
-    /**
-     * Returns the value of the first entry of the dynamic section with a tag, a DT_ number, or `undefined` if no entry
+    /** Returns the value of the first entry of the dynamic section with a tag, a DT_ number, or `undefined` if no entry
      * before the first DT_NULL has it. Throws if `dynamic_section` does.
-     * @type {(tag: Unsigned) => bigint | undefined}
-     */
+     * @type {(tag: Unsigned) => bigint | undefined} */
     dynamic_value(tag) {
         const wanted = unsigned(tag, 64), range = this.#dynamic_range();
         const argument = range && this.#memory.pass(ARGUMENT, 'range', range);
         return range && this.#memory.find('goblin_dynamic_value', 'number', argument, wanted, 0n)?.number.value;
     }
 
-    /**
-     * Returns the strings of the dynamic section: DT_STRTAB is their address, and DT_STRSZ their size. In a file
+    /** Returns the strings of the dynamic section: DT_STRTAB is their address, and DT_STRSZ their size. In a file
      * without program headers they are the section that the dynamic section links to. The string table is empty if
      * there is no dynamic section, one of these entries or the linked section is missing, or no segment loads the
      * address. Throws if `dynamic_section` does, or if the strings are not inside the file.
-     * @type {() => Strtab}
-     */
+     * @type {() => Strtab} */
     dynamic_strings() {
         const range = this.#dynamic_range();
         const strings = range
@@ -871,75 +786,59 @@ export class Elf {
         return texts;
     }
 
-    /**
-     * Returns the names of the libraries that are needed (DT_NEEDED), in order. Throws if the program headers, the
+    /** Returns the names of the libraries that are needed (DT_NEEDED), in order. Throws if the program headers, the
      * dynamic section or its strings are not inside the file, or a name is not in the strings or is not UTF-8. (goblin
      * leaves such a name out.) These and the following calls go by the segment of type PT_DYNAMIC.
-     * @type {() => string[]}
-     */
+     * @type {() => string[]} */
     libraries() { return this.#dynamic_texts(DT_NEEDED, this.#values(DT_NEEDED)); }
 
-    /**
-     * Returns the search paths of the libraries in older files (DT_RPATH). Each may hold several folders, with colons
+    /** Returns the search paths of the libraries in older files (DT_RPATH). Each may hold several folders, with colons
      * between them. Throws if `libraries` does.
-     * @type {() => string[]}
-     */
+     * @type {() => string[]} */
     rpaths() { return this.#dynamic_texts(DT_RPATH, this.#values(DT_RPATH)); }
 
     /** Returns the search paths of the libraries (DT_RUNPATH), as `rpaths`. @type {() => string[]} */
     runpaths() { return this.#dynamic_texts(DT_RUNPATH, this.#values(DT_RUNPATH)); }
 
-    /**
-     * Returns the name by which other files need this library (DT_SONAME), if it has one. As in goblin, a value of 0 is
-     * no name. Throws if `libraries` does.
-     * @type {() => string | undefined}
-     */
+    /** Returns the name by which other files need this library (DT_SONAME), if it has one. As in goblin, a value of 0
+     * is no name. Throws if `libraries` does.
+     * @type {() => string | undefined} */
     soname() { return this.#dynamic_texts(DT_SONAME, this.#values(DT_SONAME).slice(-1).filter(Boolean))[0]; }
 
-    /**
-     * Returns the path of the program interpreter, if there is one: the text of the last segment of type PT_INTERP that
-     * has bytes. Throws if the program headers or the text are not inside the file, or it is not UTF-8.
-     * @type {() => string | undefined}
-     */
+    /** Returns the path of the program interpreter, if there is one: the text of the last segment of type PT_INTERP
+     * that has bytes. Throws if the program headers or the text are not inside the file, or it is not UTF-8.
+     * @type {() => string | undefined} */
     interpreter() {
         const all = this.program_headers().filter(({ p_type, p_filesz }) => p_type === PT_INTERP && p_filesz > 0n);
         return all.length > 0 ? this.strtab(all.at(-1)).get(0) : undefined;
     }
 
-    /**
-     * Returns the notes of a section or a segment. Throws if the alignment is neither 4 nor 8, a note is not inside the
-     * file, or a name is not UTF-8, which `notes_bytes` reads. An alignment below 4 counts as 4. If a note is damaged,
-     * `readable_notes` returns those before it.
-     * @type {(part: Part) => Note[]}
-     */
+    /** Returns the notes of a section or a segment. Throws if the alignment is neither 4 nor 8, a note is not inside
+     * the file, or a name is not UTF-8, which `notes_bytes` reads. An alignment below 4 counts as 4. If a note is
+     * damaged, `readable_notes` returns those before it.
+     * @type {(part: Part) => Note[]} */
     notes(part) { return all_notes(this.readable_notes(part)); }
 
-    /**
-     * Returns the notes of a section or a segment up to the first damaged one, at most `most`, and the error
+    /** Returns the notes of a section or a segment up to the first damaged one, at most `most`, and the error
      * of that one.
-     * @type {(part: Part, most?: number) => { notes: Note[], refusal: GoblinError | undefined }}
-     */
+     * @type {(part: Part, most?: number) => { notes: Note[], refusal: GoblinError | undefined }} */
     readable_notes(part, most = Infinity) { return this.#read_notes(part, most, 'goblin_note_utf8', note); }
 
-    /**
-     * Returns the notes of a section or a segment as bytes, so that names need not be UTF-8. Throws if the alignment is
-     * neither 4 nor 8, or a note is not inside the section or the segment and the file: `item` of the error is the part
-     * of it that is not. An alignment below 4 counts as 4. If a note is damaged, `readable_notes_bytes` returns those
-     * before it:
+    /** Returns the notes of a section or a segment as bytes, so that names need not be UTF-8. Throws if the alignment
+     * is neither 4 nor 8, or a note is not inside the section or the segment and the file: `item` of the error is the
+     * part of it that is not. An alignment below 4 counts as 4. If a note is damaged, `readable_notes_bytes` returns
+     * those before it:
      *
      * ```js
      * const decoder = new TextDecoder('latin1');
      * for (const { name, desc } of elf.notes_bytes(section)) console.log(decoder.decode(name), desc.length);
      * ```
-     * @type {(part: Part) => NoteBytes[]}
-     */
+     * @type {(part: Part) => NoteBytes[]} */
     notes_bytes(part) { return all_notes(this.readable_notes_bytes(part)); }
 
-    /**
-     * Returns the notes of a section or a segment as bytes up to the first damaged one, at most `most`, and the error
+    /** Returns the notes of a section or a segment as bytes up to the first damaged one, at most `most`, and the error
      * of that one.
-     * @type {(part: Part, most?: number) => { notes: NoteBytes[], refusal: GoblinError | undefined }}
-     */
+     * @type {(part: Part, most?: number) => { notes: NoteBytes[], refusal: GoblinError | undefined }} */
     readable_notes_bytes(part, most = Infinity) {
         return this.#read_notes(part, most, 'goblin_note_whole', note_bytes);
     }
@@ -962,20 +861,16 @@ export class Elf {
     // library returns is without the last byte of the name, if it has one.)
     #whole_size(offset, { name_size }) { return name_size > 0n ? name_size + 1n : this.number(offset, 4); }
 
-    /**
-     * Returns the notes of all segments of type PT_NOTE: those that are loaded, and all of a core file. Others are in
+    /** Returns the notes of all segments of type PT_NOTE: those that are loaded, and all of a core file. Others are in
      * sections alone, as the GNU build ID of a program in Go may be. Throws if the program headers are not inside the
      * file, or a note of any of these segments is damaged.
-     * @type {() => AnyNote[]}
-     */
+     * @type {() => AnyNote[]} */
     iter_note_headers() { return this.#segments_of_notes().flatMap((segment) => this.#any_notes(segment)); }
 
-    /**
-     * Returns the notes of all sections of type SHT_NOTE. A file whose section headers are stripped, and a core file,
+    /** Returns the notes of all sections of type SHT_NOTE. A file whose section headers are stripped, and a core file,
      * has none of these. Throws if the section headers are not inside the file, or a note of any of these sections is
      * damaged.
-     * @type {() => AnyNote[]}
-     */
+     * @type {() => AnyNote[]} */
     iter_note_sections() { return this.#sections_of_notes().flatMap((section) => this.#any_notes(section)); }
 
     #any_notes(part) { return all_notes(this.#read_notes(part, Infinity, 'goblin_note_whole', any_note)); }
@@ -984,17 +879,15 @@ export class Elf {
 
     #sections_of_notes() { return this.section_headers().filter(({ sh_type }) => sh_type === SHT_NOTE); }
 
-    /**
-     * Returns the build ID: the descriptor of the first note `GNU` of type NT_GNU_BUILD_ID of the segments of notes or,
-     * if they have none, of the sections of notes. Returns `undefined` if there is none. Throws if the headers are not
-     * inside the file, and then at the first damaged note. It is looked for in at most 131,072 segments, and in the
+    /** Returns the build ID: the descriptor of the first note `GNU` of type NT_GNU_BUILD_ID of the segments of notes
+     * or, if they have none, of the sections of notes. Returns `undefined` if there is none. Throws if the headers are
+     * not inside the file, and then at the first damaged note. It is looked for in at most 131,072 segments, and in the
      * first 65,536 of their notes, these sections and their notes.
      *
      * ```js
      * console.log(Buffer.from(elf.build_id() ?? []).toString('hex'));
      * ```
-     * @type {() => Uint8Array | undefined}
-     */
+     * @type {() => Uint8Array | undefined} */
     build_id() {
         if (this.program_headers().length > MOST_SEGMENTS) return undefined;
         let left = MOST_NOTES;
@@ -1102,8 +995,7 @@ const SIZES = { header: [52, 64], section: [40, 64], segment: [32, 56], symbol: 
 // Where a field that is a BigInt and has fewer than 8 bytes is in a record of them.
 const PLACES = { sh_name: [0n, 0n], st_name: [0n, 0n], st_shndx: [14n, 6n], r_sym: [4n, 8n] };
 
-/**
- * Writes records of a file into its bytes, in the class and byte order of its header. Each call changes the bytes of
+/** Writes records of a file into its bytes, in the class and byte order of its header. Each call changes the bytes of
  * one record, and no others. What it writes is read as the same record, unless section 0 has the number of headers and
  * the call changes it. Each call throws if there is no such record, it is not inside the bytes, or it does not fit the
  * class (a `RangeError` where it fits no class), and then writes nothing.
@@ -1111,8 +1003,7 @@ const PLACES = { sh_name: [0n, 0n], st_name: [0n, 0n], st_shndx: [14n, 6n], r_sy
  * ```js
  * const elf = Elf.parse(bytes), { index, section } = elf.section_by_name('.text');
  * elf.writer(bytes).put_section_header(index, { ...section, sh_flags: section.sh_flags | SHF_WRITE });
- * ```
- */
+ * ``` */
 export class Writer {
     #memory; #bytes; #header;
 
@@ -1160,11 +1051,9 @@ export class Writer {
             `A number has 1, 2, 4 or 8 bytes, and not ${width}`, BigInt.asUintN(64, start + at), bytes);
     }
 
-    /**
-     * Writes a header at the start of the bytes, in the class and byte order that it names. Writes the magic number,
+    /** Writes a header at the start of the bytes, in the class and byte order that it names. Writes the magic number,
      * too, and leaves the padding, the bytes 9 to 15. The writer uses the header that it was made with as before.
-     * @type {(header: Readonly<Header>) => void}
-     */
+     * @type {(header: Readonly<Header>) => void} */
     put_header(header) {
         const item = this.#memory.pass(ITEM, 'header', header);
         this.#put('goblin_put_header', 0, SIZES.header[Number(header.ei_class === 2)], item);
@@ -1180,22 +1069,18 @@ export class Writer {
         this.#put_item('segment', 'segment', this.#header.e_phoff, index, segment);
     }
 
-    /**
-     * Writes the symbol at an index of a section of type SHT_SYMTAB or SHT_DYNSYM. Throws if the section has another
+    /** Writes the symbol at an index of a section of type SHT_SYMTAB or SHT_DYNSYM. Throws if the section has another
      * type.
-     * @type {(section: SectionHeader, index: Unsigned, symbol: Sym) => void}
-     */
+     * @type {(section: SectionHeader, index: Unsigned, symbol: Sym) => void} */
     put_symbol(section, index, symbol) {
         if (!holds_symbols(section)) throw GoblinError.of_type(section, 'symbols');
         const table = this.#memory.pass(ARGUMENT, 'range', range_of(section));
         this.#put_item('symbol', 'symbol', section.sh_offset, index, symbol, [table]);
     }
 
-    /**
-     * Writes the relocation at an index of a section of type SHT_RELA or SHT_REL. Throws if the section has another
+    /** Writes the relocation at an index of a section of type SHT_RELA or SHT_REL. Throws if the section has another
      * type, or if the relocation has an addend and those of the section have none, or the reverse.
-     * @type {(section: SectionHeader, index: Unsigned, reloc: Reloc) => void}
-     */
+     * @type {(section: SectionHeader, index: Unsigned, reloc: Reloc) => void} */
     put_reloc(section, index, reloc) {
         if (!holds_relocs(section)) throw GoblinError.of_type(section, 'relocations');
         const is_rela = section.sh_type === SHT_RELA, { r_addend } = Object(reloc),
@@ -1206,26 +1091,21 @@ export class Writer {
             (r_addend === undefined) === is_rela && !r_addend);
     }
 
-    /**
-     * Writes a number of `width` bytes at an offset. Throws if the width is not 1, 2, 4 or 8.
-     * @type {(offset: Unsigned, width: Width, value: Unsigned) => void}
-     */
+    /** Writes a number of `width` bytes at an offset. Throws if the width is not 1, 2, 4 or 8.
+     * @type {(offset: Unsigned, width: Width, value: Unsigned) => void} */
     put_number(offset, width, value) { this.#put_number('goblin_put_number', 0n, offset, width, value); }
 
-    /**
-     * Writes a number of `width` bytes at an offset of a section or of a segment's bytes in the file. The offset counts
-     * from their start. Throws if they are not inside the bytes, the number is not
-     * inside them, or the width is not 1, 2, 4 or 8.
-     * @type {(part: Part, offset: Unsigned, width: Width, value: Unsigned) => void}
-     */
+    /** Writes a number of `width` bytes at an offset of a section or of a segment's bytes in the file. The offset
+     * counts from their start. Throws if they are not inside the bytes, the number is not inside them, or the width is
+     * not 1, 2, 4 or 8.
+     * @type {(part: Part, offset: Unsigned, width: Width, value: Unsigned) => void} */
     put_number_in(part, offset, width, value) {
         const range = range_of(part), argument = this.#memory.pass(ARGUMENT, 'range', range);
         this.#put_number('goblin_put_number_in', range.offset, offset, width, value, argument);
     }
 }
 
-/**
- * Reports whether a segment holds a section, as `readelf -l` maps sections to segments.
+/** Reports whether a segment holds a section, as `readelf -l` maps sections to segments.
  *
  * The section's range in the file, if it has one, must be inside the segment's. If it is loaded (SHF_ALLOC), its
  * addresses must be inside the segment's, too. Some segments hold only some sections:
@@ -1238,8 +1118,7 @@ export class Writer {
  *   empty, too.
  *
  * This rule is not part of the library. It is compared with `readelf`, but not proved.
- * @type {(segment: ProgramHeader, section: SectionHeader) => boolean}
- */
+ * @type {(segment: ProgramHeader, section: SectionHeader) => boolean} */
 export function segment_holds(segment, section) {
     field_of(segment, 'p_type', 'a program header');
     type_of(section);
@@ -1266,13 +1145,11 @@ function may_hold({ p_type }, section) {
     }
 }
 
-/**
- * A list in a file. The call that makes it reads the number of items, and throws if the list can't be read. An
+/** A list in a file. The call that makes it reads the number of items, and throws if the list can't be read. An
  * iteration reads several items at a time. An item is read by `list[index]`, as from an array. Other methods of arrays,
  * `structuredClone`, `postMessage` and `deepEqual` of Node.js find no items in it: give them `[...list]`.
  * @template T
- * @index {T | undefined}
- */
+ * @index {T | undefined} */
 export class List {
     #memory; #kind; #args; #range; #convert; #length;
 
@@ -1299,19 +1176,15 @@ export class List {
         return item && this.#convert(item);
     }
 
-    /**
-     * Returns the item at an index, like `at` of an array: a negative index counts from the end.
-     * @type {(index: number) => T | undefined}
-     */
+    /** Returns the item at an index, like `at` of an array: a negative index counts from the end.
+     * @type {(index: number) => T | undefined} */
     at(index) {
         const whole = Math.trunc(index) || 0, from_start = whole < 0 ? whole + this.#length : whole;
         return from_start >= 0 && from_start < this.#length ? this.get(from_start) : undefined;
     }
 
-    /**
-     * Iterates over the items from an index on, at most `most`.
-     * @type {(first?: Unsigned, most?: number) => Generator<T, void, undefined>}
-     */
+    /** Iterates over the items from an index on, at most `most`.
+     * @type {(first?: Unsigned, most?: number) => Generator<T, void, undefined>} */
     *from(first = 0, most = Infinity) {
         for (let next = unsigned(first, 64), left = most; left > 0;) {
             const items =
@@ -1332,56 +1205,40 @@ export class List {
         for (const item of this) yield [index++, item];
     }
 
-    /** Calls a function with each item and its index. @type {(callback: (item: T, index: number) => void) => void} */
+    /** Calls a function with each item and its index. @type {(callback: Each<T, void>) => void} */
     forEach(callback) { for (const [index, item] of this.entries()) callback(item, index); }
 
-    /**
-     * Returns the results of a function for each item and its index.
-     * @type {<U>(callback: (item: T, index: number) => U) => U[]}
-     */
+    /** Returns the results of a function for each item and its index. @type {<U>(callback: Each<T, U>) => U[]} */
     map(callback) { return Array.from(this, (item, index) => callback(item, index)); }
 
-    /**
-     * Returns the items for which a function returns true. It is called with each item and its index.
-     * @type {(callback: (item: T, index: number) => unknown) => T[]}
-     */
+    /** Returns the items for which a function returns true. @type {(callback: Each<T, unknown>) => T[]} */
     filter(callback) { return Array.from(this).filter((item, index) => callback(item, index)); }
 
-    /**
-     * Returns the first item for which a function returns true, if there is one. It is called with each item and its
-     * index up to there.
-     * @type {(callback: (item: T, index: number) => unknown) => T | undefined}
-     */
-    find(callback) {
-        for (const [index, item] of this.entries()) if (callback(item, index)) return item;
+    // Returns the index and the first item for which a function returns true, which is called up to there.
+    #found(callback) {
+        for (const [index, item] of this.entries()) if (callback(item, index)) return { index, item };
         return undefined;
     }
 
-    /**
-     * Returns whether a function returns true for an item. It is called with each item and its index up to there.
-     * @type {(callback: (item: T, index: number) => unknown) => boolean}
-     */
-    some(callback) {
-        for (const [index, item] of this.entries()) if (callback(item, index)) return true;
-        return false;
-    }
+    /** Returns the first item for which a function returns true, which is called with each item and its index up to it.
+     * @type {(callback: Each<T, unknown>) => T | undefined} */
+    find(callback) { return this.#found(callback)?.item; }
 
-    /**
-     * Returns what a function makes of all items, like `reduce` of an array: it is called with what it made of the
+    /** Reports whether a function returns true for an item, as `find`. @type {(callback: Each<T, unknown>) => boolean} */
+    some(callback) { return this.#found(callback) !== undefined; }
+
+    /** Returns what a function makes of all items, like `reduce` of an array: it is called with what it made of the
      * items before, with an item and its index. Without an initial value it begins with the first item, and throws a
      * `TypeError` if there is none.
      * @type {(callback: (made: T, item: T, index: number) => T) => T}
-     * @type {<U>(callback: (made: U, item: T, index: number) => U, ...initial: [U]) => U}
-     */
+     * @type {<U>(callback: (made: U, item: T, index: number) => U, ...initial: [U]) => U} */
     reduce(callback, ...initial) {
         return Array.from(this).reduce((made, item, index) => callback(made, item, index), ...initial);
     }
 
-    /**
-     * Returns the items from an index up to another one, like `slice` of an array: a negative index counts
+    /** Returns the items from an index up to another one, like `slice` of an array: a negative index counts
      * from the end.
-     * @type {(start?: number, end?: number) => T[]}
-     */
+     * @type {(start?: number, end?: number) => T[]} */
     slice(start = 0, end = this.#length) {
         const inside = (index) => (index < 0 ? Math.max(index + this.#length, 0) : Math.min(index, this.#length));
         const [first, last] = [start, end].map((index) => inside(Math.trunc(index) || 0));
@@ -1409,10 +1266,8 @@ Object.setPrototypeOf(List.prototype, new Proxy(Object.create(Object.prototype),
     set: (target, name, value, list) => !is_index(name) && Reflect.set(target, name, value, list),
 }));
 
-/**
- * A symbol table, with the string table of its names.
- * @extends {List<Sym>}
- */
+/** A symbol table, with the string table of its names.
+ * @extends {List<Sym>} */
 export class Symtab extends List {
     #memory; #range;
 
@@ -1424,22 +1279,17 @@ export class Symtab extends List {
         this.strtab = strtab;
     }
 
-    /**
-     * Returns the name of a symbol, or `undefined` if its offset is past the end of the string table. Throws if that
+    /** Returns the name of a symbol, or `undefined` if its offset is past the end of the string table. Throws if that
      * table is not inside the file, or the name is not UTF-8.
-     * @type {(symbol: Sym) => string | undefined}
-     */
+     * @type {(symbol: Sym) => string | undefined} */
     name(symbol) { return this.strtab.get(field_of(symbol, 'st_name', 'a symbol')); }
 
-    /**
-     * Returns the bytes of a symbol's name, which need not be UTF-8, or `undefined` if its offset is past the end of
+    /** Returns the bytes of a symbol's name, which need not be UTF-8, or `undefined` if its offset is past the end of
      * the string table. Throws if that table is not inside the file.
-     * @type {(symbol: Sym) => Uint8Array | undefined}
-     */
+     * @type {(symbol: Sym) => Uint8Array | undefined} */
     name_bytes(symbol) { return this.strtab.get_bytes(field_of(symbol, 'st_name', 'a symbol')); }
 
-    /**
-     * Returns the symbol of an address with its index, if there is one. It contains the address: of those with
+    /** Returns the symbol of an address with its index, if there is one. It contains the address: of those with
      * `st_value <= address < st_value + st_size` it is the one with the highest `st_value`, the first of several. If
      * there is none, a label of size 0 may be there, as assembly has. It counts only in its own section: of the symbols
      * with `st_value <= address` whose section holds the address, it is the first of size 0 among those with the
@@ -1452,35 +1302,30 @@ export class Symtab extends List {
      * and symbols of different sections mix.
      *
      * Each call reads all symbols: for many addresses use `address_map`.
-     * @type {(address: Unsigned) => { index: number, symbol: Sym } | undefined}
-     */
+     * @type {(address: Unsigned) => { index: number, symbol: Sym } | undefined} */
     symbol_by_address(address) {
         const memory = this.#memory, table = memory.pass(ARGUMENT, 'range', this.#range);
         const found = memory.call('goblin_symbol_by_address', 'number', table, unsigned(address, 64));
         return found && { index: Number(found.value), symbol: this.get(found.value) };
     }
 
-    /**
-     * Returns a sorted map of the addresses, for many searches. It is not proved.
+    /** Returns a sorted map of the addresses, for many searches. It is not proved.
      *
      * ```js
      * const map = elf.syms().address_map();
      * for (const address of addresses) console.log(map.symbol_by_address(address)?.symbol.st_value);
      * ```
-     * @type {() => AddressMap}
-     */
+     * @type {() => AddressMap} */
     address_map() { return new AddressMap(this, this.#held_by()); }
 
-    /**
-     * Returns the index and the first symbol with a name, from an index on, if there is one. Throws if the string
+    /** Returns the index and the first symbol with a name, from an index on, if there is one. Throws if the string
      * table is not inside the file.
      *
      * ```js
      * for (let at = symbols.symbol_by_name('main'); at; at = symbols.symbol_by_name('main', at.index + 1))
      *     console.log(at.symbol.st_value);
      * ```
-     * @type {(name: Name, first?: Unsigned) => { index: number, symbol: Sym } | undefined}
-     */
+     * @type {(name: Name, first?: Unsigned) => { index: number, symbol: Sym } | undefined} */
     symbol_by_name(name, first = 0) {
         const memory = this.#memory;
         const bytes = memory.pass_bytes(name_bytes(name));
@@ -1518,11 +1363,9 @@ const by_rank = (a, b) => Number(b.is_inside) - Number(a.is_inside)
     || (a.start > b.start ? -1 : a.start < b.start ? 1 : Number(b.size === 0n) - Number(a.size === 0n))
     || a.index - b.index;
 
-/**
- * A sorted map of the addresses of a symbol table, for many searches. It finds what `symbol_by_address` of the table
+/** A sorted map of the addresses of a symbol table, for many searches. It finds what `symbol_by_address` of the table
  * finds in a time that grows with the logarithm of the number of symbols. It is not part of the library: it is compared
- * with that call, but not proved.
- */
+ * with that call, but not proved. */
 export class AddressMap {
     #symtab; #starts; #indices;
 
@@ -1557,10 +1400,8 @@ export class AddressMap {
         this.#indices = indices;
     }
 
-    /**
-     * Returns the symbol of an address with its index, if there is one, as `symbol_by_address` of the table does.
-     * @type {(address: Unsigned) => { index: number, symbol: Sym } | undefined}
-     */
+    /** Returns the symbol of an address with its index, if there is one, as `symbol_by_address` of the table does.
+     * @type {(address: Unsigned) => { index: number, symbol: Sym } | undefined} */
     symbol_by_address(address) {
         const wanted = unsigned(address, 64);
         let low = 0, high = this.#starts.length;
@@ -1589,42 +1430,34 @@ export class Strtab {
         return this.#memory.call(name, 'range', this.#memory.pass(NAMES, 'range', range), unsigned(offset, 64));
     }
 
-    /**
-     * Returns the string at an offset from the table's start, or `undefined` past its end. Throws if the table is not
+    /** Returns the string at an offset from the table's start, or `undefined` past its end. Throws if the table is not
      * inside the file, or the string is not UTF-8.
-     * @type {(offset: Unsigned) => string | undefined}
-     */
+     * @type {(offset: Unsigned) => string | undefined} */
     get(offset) {
         const range = this.#read('goblin_string_utf8', this.range, offset);
         return range && this.#memory.string(range);
     }
 
-    /**
-     * Returns the bytes of the string at an offset, which need not be UTF-8, or `undefined` past the end of the table.
+    /** Returns the bytes of the string at an offset, which need not be UTF-8, or `undefined` past the end of the table.
      * Throws if the table is not inside the file.
-     * @type {(offset: Unsigned) => Uint8Array | undefined}
-     */
+     * @type {(offset: Unsigned) => Uint8Array | undefined} */
     get_bytes(offset) {
         const range = this.#read('goblin_string', this.range, offset);
         return range && this.#memory.bytes(range);
     }
 
-    /**
-     * Returns the bytes of the string at an offset if a zero byte of the table closes it, or `undefined` if it ends
+    /** Returns the bytes of the string at an offset if a zero byte of the table closes it, or `undefined` if it ends
      * with the table or past the table's end. Throws if `get_bytes` does.
-     * @type {(offset: Unsigned) => Uint8Array | undefined}
-     */
+     * @type {(offset: Unsigned) => Uint8Array | undefined} */
     get_closed_bytes(offset) {
         const range = this.#read('goblin_string_closed', this.range, offset);
         return range && this.#memory.bytes(range);
     }
 
-    /**
-     * Returns the bytes of the strings at many offsets, each as `get_bytes` does. The table is checked once for up to
+    /** Returns the bytes of the strings at many offsets, each as `get_bytes` does. The table is checked once for up to
      * 64 strings, and again after an offset past its end. Throws if there are offsets, and the table is not inside the
      * file, or no zero byte of it closes one of the strings: each of these would be read up to the table's end.
-     * @type {(offsets: Iterable<Unsigned>) => (Uint8Array | undefined)[]}
-     */
+     * @type {(offsets: Iterable<Unsigned>) => (Uint8Array | undefined)[]} */
     get_all_bytes(offsets) {
         const all = Array.from(offsets, (offset) => unsigned(offset, 64)), found = [];
         while (found.length < all.length) {
@@ -1653,34 +1486,26 @@ export class Strtab {
             || this.#read('goblin_string', this.range, this.range.size) !== undefined;
     }
 
-    /**
-     * Reports whether the string at an offset is a name. There is no
+    /** Reports whether the string at an offset is a name. There is no
      * string past the end of the table. Throws if the table is not inside the file.
-     * @type {(offset: Unsigned, name: Name) => boolean}
-     */
+     * @type {(offset: Unsigned, name: Name) => boolean} */
     is_at(offset, name) { return this.#compare('goblin_string_is', offset, name); }
 
-    /**
-     * Reports whether the string at an offset starts with a text or bytes, as `is_at` does.
-     * @type {(offset: Unsigned, start: Name) => boolean}
-     */
+    /** Reports whether the string at an offset starts with a text or bytes, as `is_at` does.
+     * @type {(offset: Unsigned, start: Name) => boolean} */
     starts_at(offset, start) { return this.#compare('goblin_string_starts', offset, start); }
 
-    /**
-     * Returns the part of the table up to its last zero byte. At each offset in it begins a string that a zero byte
+    /** Returns the part of the table up to its last zero byte. At each offset in it begins a string that a zero byte
      * closes. Throws if the table is not inside the file.
-     * @type {() => Strtab}
-     */
+     * @type {() => Strtab} */
     closed() {
         const table = this.#memory.pass(NAMES, 'range', this.range);
         return new Strtab(this.#memory, this.#memory.call('goblin_closed_strings', 'range', table));
     }
 
-    /**
-     * Returns the first bytes of the string at an offset, at most `most`, and reads no more of them. Throws if
+    /** Returns the first bytes of the string at an offset, at most `most`, and reads no more of them. Throws if
      * `get_bytes` does.
-     * @type {(offset: Unsigned, most: number) => Uint8Array | undefined}
-     */
+     * @type {(offset: Unsigned, most: number) => Uint8Array | undefined} */
     get_start(offset, most) {
         const { offset: start, size } = this.range;
         if (!this.#is_accepted) this.#read('goblin_string', this.range, size);
@@ -1705,16 +1530,12 @@ export const et_to_str = (e_type) => name_of('goblin_et_to_str', e_type, 16);
 export const machine_to_str = (e_machine) => name_of('goblin_machine_to_str', e_machine, 16);
 /** Returns the name of a segment's type, such as PT_LOAD, or UNKNOWN_PT. @type {(p_type: number) => string} */
 export const pt_to_str = (p_type) => name_of('goblin_pt_to_str', p_type, 32);
-/**
- * Returns the name of a section's type, such as SHT_PROGBITS, or UNKNOWN_SHT. As in goblin, 19 is SHT_NUM, which newer
+/** Returns the name of a section's type, such as SHT_PROGBITS, or UNKNOWN_SHT. As in goblin, 19 is SHT_NUM, which newer
  * tools print as RELR, and 0x70000001 is SHT_X86_64_UNWIND for every machine.
- * @type {(sh_type: number) => string}
- */
+ * @type {(sh_type: number) => string} */
 export const sht_to_str = (sh_type) => name_of('goblin_sht_to_str', sh_type, 32);
-/**
- * Returns the name of one flag of a section, such as SHF_WRITE, or SHF_UNKNOWN. No flag above 32 bits has a name.
- * @type {(flag: Unsigned) => string}
- */
+/** Returns the name of one flag of a section, such as SHF_WRITE, or SHF_UNKNOWN. No flag above 32 bits has a name.
+ * @type {(flag: Unsigned) => string} */
 export const shf_to_str = (flag) => name_of('goblin_shf_to_str', flag, 64);
 /** Returns the name of a symbol's binding, such as GLOBAL, or UNKNOWN_STB. @type {(binding: number) => string} */
 export const bind_to_str = (binding) => name_of('goblin_bind_to_str', binding, 8);
@@ -1722,11 +1543,9 @@ export const bind_to_str = (binding) => name_of('goblin_bind_to_str', binding, 8
 export const type_to_str = (type) => name_of('goblin_type_to_str', type, 8);
 /** Returns the name of a symbol's visibility, such as HIDDEN, or UNKNOWN_STV. @type {(visibility: number) => string} */
 export const visibility_to_str = (visibility) => name_of('goblin_visibility_to_str', visibility, 8);
-/**
- * Returns the name of a note's type, such as NT_GNU_BUILD_ID, or NT_UNKNOWN. As in goblin, type 3 is NT_GNU_BUILD_ID
+/** Returns the name of a note's type, such as NT_GNU_BUILD_ID, or NT_UNKNOWN. As in goblin, type 3 is NT_GNU_BUILD_ID
  * for every name but CORE.
- * @type {(note: Pick<Note, 'name' | 'n_type'> | AnyNote) => string}
- */
+ * @type {(note: Pick<Note, 'name' | 'n_type'> | AnyNote) => string} */
 export function note_type_to_str({ name, name_bytes, n_type }) {
     const memory = ready(shared), bytes = (name === undefined && name_bytes) || utf8(name);
     return memory.text('goblin_note_type_to_str', ...memory.pass_bytes(bytes), unsigned(n_type, 32));
