@@ -6,19 +6,22 @@ import { join } from 'node:path';
 import { setFlagsFromString } from 'node:v8';
 import { runInNewContext } from 'node:vm';
 import {
-    code, dynamic_file, elf_file, longs, note, noted_file, packed, patched, relocations, symbol, symbols_file,
+    code, data, dynamic_file, elf_file, longs, note, noted_file, packed, patched, relocations, symbol, symbols_file,
+    times,
 } from '../web/elves.mjs';
-import init, { Elf } from '../web/goblin.js';
+import * as goblin from '../web/goblin.js';
 import { registers_of } from './core.js';
 import { csv_line } from './csv.js';
 import { demangled, may_hold } from './demangle.js';
 import { versions } from './dynamic.js';
 import { facts } from './facts.js';
 import { file, sections } from './file.js';
+import { relocation_type } from './names.js';
 import { parts } from './pieces.js';
 import { name_of_symbol, named_symbols } from './resolve.js';
 import { all_facts, summary } from './summary.js';
 
+const { Elf } = goblin;
 globalThis.postMessage ??= () => {};
 // (Node.js has it from 21 on)
 Map.groupBy ??= (items, key_of) => items.reduce((all, item) =>
@@ -44,7 +47,7 @@ function check_facts() {
 function check_bounds() {
     const of_segments = (...segments) => of(elf_file({ type: 3, segments })),
         of_notes = (...notes) => of(noted_file(notes, { type: 3 }));
-    const repeat = (count, part) => Buffer.concat(Array.from({ length: count }, () => part));
+    const repeat = (count, part) => Buffer.concat(times(count, () => part));
     const id = note('GNU', 3, Buffer.from('id..')), other = note('ABC', 1, Buffer.alloc(0));
     const marks = (size) => note('GNU', 5, Buffer.concat([packed([0xc0000002, 4], [4, 4], [1, 4]),
         Buffer.alloc(size - 12)]));
@@ -76,7 +79,7 @@ function check_bounds() {
 function check_versions() {
     const libraries = Array.from({ length: 100 }, (_, i) =>
         packed([1, 2], [0xffff, 2], [1, 4], [1600 - 16 * i, 4], [16, 4]));
-    const names = Array.from({ length: 5000 }, () => packed([0, 8], [1, 4], [16, 4])),
+    const names = times(5000, () => packed([0, 8], [1, 4], [16, 4])),
         bytes = Buffer.concat([...libraries, ...names, Buffer.from('\0a\0')]);
     file.elf = Elf.parse(dynamic_file(bytes, [[0x6ffffffe, 0x400000], [0x6fffffff, 100],
         [5, 0x400000 + bytes.length - 3], [10, 3], [0, 0]]));
@@ -196,23 +199,45 @@ function check_csv() {
     }
 }
 
-// What a search skips, without reading it, holds no word of the text that c++filt makes of it.
-function check_may_hold() {
-    const rows = `${stored('mangled')}`.trim().split('\n')
-        .filter((row) => demangled(row.split('\t')[0]));
-    assert.ok(rows.length > 100, `${rows.length} names`);
-    for (const [name, text] of rows.map((row) => row.split('\t'))) assert.equal(demangled(name), text);
-    for (const [name, text] of rows.map((row) => row.toLowerCase().split('\t')))
-        for (const [word] of text.matchAll(/[\w:]+/g)) assert.ok(may_hold(word)(name), `${word} in ${name}`);
+// Names that are left alone: long ones, of which the first has 1.3 million signs, those of an old Rust, and some that
+// no compiler makes (c++filt leaves some of them alone, too, and has its own ways to write others).
+const VERY_LONG = `_Z1f1aIiiE${times(8, (i) => `S_IS${i}_S${i}_E`).join('')}${'S8_'.repeat(250)}`;
+const LEFT_ALONE = [VERY_LONG, `_Z1fv${'.1'.repeat(60)}!`, `_Z1f${'F'.repeat(1019)}`, '_Z1fILi1EEvRAT__c',
+    '_ZZ1fvENKUlvE_clEv', '_ZN4core3fmt17h0123456789abcdefE', '_Z', '_ZN', 'main', '_Z1fS9_', '_Z1fIiiEvT0A_',
+    '_ZTVTh8_i', '_Z1fNK1bE', '_ZTSNKclE', '_ZTVNV1a1bE', '_ZNSsE', '_ZN1a1bENS_E', '_Z1fIiEvNT_E',
+    '_Z1fFvvENS_1bE', '_ZN1a1bENS_D2E', '_ZN1aC1IiEIjEERKT_', '_ZNKrS1a1bEv', '_ZGVi', '_ZplKK1aS1_', '_Z1fROOi',
+    '_Z1fPFFivEivE', '_Z1fv.a.01_'];
+
+// What is demangled is what c++filt makes of it, and what a search skips, without reading it, holds no word of that.
+function check_demangled() {
+    const all = `${stored('mangled')}`.trim().split('\n').map((row) => row.split('\t')),
+        rows = all.filter(([name]) => demangled(name));
+    assert.ok(rows.length > 100 && rows.length > 0.95 * all.length, `${rows.length} of ${all.length} names`);
+    for (const [name, text] of rows) {
+        assert.equal(demangled(name), text);
+        for (const [word] of text.toLowerCase().matchAll(/[\w:]+/g))
+            assert.ok(may_hold(word)(name.toLowerCase()), `${word} in ${name}`);
+    }
     assert.deepEqual([may_hold('std::vector')('_z3foov'), may_hold('foo(')('_z3foov')], [false, true]);
-    // (no compiler makes such names: c++filt leaves some of them alone, too, and has its own ways to write others)
-    for (const name of ['_Z1fNK1bE', '_ZTSNKclE', '_ZTVNV1a1bE', '_ZNSsE', '_ZN1a1bENS_E', '_Z1fIiEvNT_E',
-        '_Z1fFvvENS_1bE', '_ZN1a1bENS_D2E', '_ZN1aC1IiEIjEERKT_', '_ZNKrS1a1bEv', '_ZGVi', '_ZplKK1aS1_', '_Z1fROOi',
-        '_Z1fPFFivEivE', '_Z1fv.a.01_'])
-        assert.equal(demangled(name), undefined, name);
+    for (const name of LEFT_ALONE) assert.equal(demangled(name), undefined, name);
     const { user } = process.cpuUsage(), long = `_Z1fv${'.a'.repeat(508)}!`; // (which is left alone)
     for (let i = 0; i < 500; i++) assert.equal(demangled(long), undefined);
     assert.ok(process.cpuUsage().user - user < 5e5, `${process.cpuUsage().user - user} microseconds`);
+}
+
+// The types of relocations of several machines have the names that readelf prints, but for some of another name there
+// than in the ABI.
+function check_relocation_names() {
+    const others = { 40: [32, 33, 34, 35, 36, 37, 129, 135], 183: [1028, 1029, 1030] },
+        rows = `${stored('relocation_names')}`.trim().split('\n').map((line) => line.split(' '));
+    for (const [machine, least] of [[62, 43], [3, 42], [183, 117], [40, 117], [243, 53], [22, 66], [21, 130]]) {
+        const own = rows.filter(([of, type]) => Number(of) === machine && !others[machine]?.includes(Number(type)))
+            .map(([, type, name]) => [relocation_type(Number(type), machine, true), name]).filter(([name]) => name);
+        for (const [name, wanted] of own) assert.equal(name, wanted, `machine ${machine}`);
+        assert.ok(own.length >= least, `${own.length} names of machine ${machine}`);
+    }
+    // (in 64-bit files for MIPS a relocation has three types, one a byte)
+    assert.equal(relocation_type(0x180507, goblin.EM_MIPS, true), 'R_MIPS_GPREL16 R_MIPS_HI16 R_MIPS_SUB');
 }
 
 // How long the page takes for a file of 60,000 sections that overlap: their pieces, and the summary but for the facts,
@@ -239,9 +264,9 @@ async function check_times() {
         + ' sections as for their headers');
 }
 
-await init(readFileSync(join(process.argv[2], 'goblin_c.wasm')));
+await goblin.default(readFileSync(join(process.argv[2], 'goblin_c.wasm')));
 // (the modules keep what they read of a file, of which the page has one in each worker)
 const PARTS = { times: [check_times], facts: [check_facts, check_bounds, check_versions, check_registers, check_names,
-    check_slots, check_made_facts, check_csv, check_may_hold] };
+    check_slots, check_made_facts, check_csv, check_demangled, check_relocation_names] };
 for (const check of PARTS[process.argv[3]]) await check();
 process.exit(); // (a channel to the page is still open)

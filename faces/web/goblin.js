@@ -514,10 +514,8 @@ export class Elf {
 
     /** Reports whether the file is of the 64-bit class. @type {() => boolean} */
     is_64() { return this.header.ei_class === 2; }
-
     /** Reports whether the file is little endian. @type {() => boolean} */
     little_endian() { return this.header.ei_data !== 2; }
-
     /** Returns the address at which the program starts, or 0. @type {() => bigint} */
     entry() { return this.header.e_entry; }
 
@@ -1207,10 +1205,8 @@ export class List {
 
     /** Calls a function with each item and its index. @type {(callback: Each<T, void>) => void} */
     forEach(callback) { for (const [index, item] of this.entries()) callback(item, index); }
-
     /** Returns the results of a function for each item and its index. @type {<U>(callback: Each<T, U>) => U[]} */
     map(callback) { return Array.from(this, (item, index) => callback(item, index)); }
-
     /** Returns the items for which a function returns true. @type {(callback: Each<T, unknown>) => T[]} */
     filter(callback) { return Array.from(this).filter((item, index) => callback(item, index)); }
 
@@ -1224,7 +1220,7 @@ export class List {
      * @type {(callback: Each<T, unknown>) => T | undefined} */
     find(callback) { return this.#found(callback)?.item; }
 
-    /** Reports whether a function returns true for an item, as `find`. @type {(callback: Each<T, unknown>) => boolean} */
+    /** Reports whether a function returns true for an item. @type {(callback: Each<T, unknown>) => boolean} */
     some(callback) { return this.#found(callback) !== undefined; }
 
     /** Returns what a function makes of all items, like `reduce` of an array: it is called with what it made of the
