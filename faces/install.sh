@@ -298,12 +298,12 @@ stage_web() {
     put LICENSE share/goblin_c/web/LICENSE
     put CHANGELOG.md share/goblin_c/web/CHANGELOG.md
     put faces/web/goblin.js share/goblin_c/web/goblin.js
-    put faces/web/constants.js share/goblin_c/web/constants.js
+    for made in constants interface; do put "faces/web/$made.js" "share/goblin_c/web/$made.js"; done
     python3 faces/web/declarations.py > "$folder/types"
     put "$folder/types" share/goblin_c/web/goblin.d.ts
     put_all faces/web/examples share/goblin_c/web/examples -name '*.mjs'
     put_edited '' faces/web/package.json.in share/goblin_c/web/package.json
-    python3 faces/web/pack.py "$library" > "$folder/page"
+    python3 faces/page/pack.py "$library" > "$folder/page"
     put "$folder/page" share/goblin_c/web/index.html
 }
 

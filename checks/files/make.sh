@@ -100,7 +100,7 @@ for file in types.*; do
 done > "$above/relocation_names"
 
 # The names that the page's test reads in any case, and some of libstdc++.
-{ sed -n "/^const READ = /,/;/p" "$root/faces/web/browser.mjs" | grep -o "_Z[^']*"
+{ sed -n "/^const READ = /,/;/p" "$root/faces/page/browser.mjs" | grep -o "_Z[^']*"
     readelf -W --dyn-syms /usr/lib/x86_64-linux-gnu/libstdc++.so.6 | grep -o '_Z[^ @]*' | sort -u | awk 'NR % 32 == 0'; } > names
 c++filt -n < names > filtered
 paste names filtered > "$above/mangled"

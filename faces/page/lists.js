@@ -1,5 +1,5 @@
 // The lists of the page. Each is a source: its items, its columns, and whether an item holds an offset or address.
-import * as goblin from './goblin.js';
+import * as goblin from '../web/goblin.js';
 import { called, digits_of, file, name_of_section, part, read_or, refusal, RELOCATION_TYPES, RELR, section_at,
     section_refusal, sections, segments, SYMBOL_TYPES } from './file.js';
 import { demangled, may_hold } from './demangle.js';

@@ -1,5 +1,5 @@
 // What lies inside the file's pieces: functions and variables, by symbols with a size, and classes of bytes, by values.
-import * as goblin from './goblin.js';
+import * as goblin from '../web/goblin.js';
 import { demangled } from './demangle.js';
 import { file, read_or, section_at, symbol_tables } from './file.js';
 import { go_over } from './lists.js';

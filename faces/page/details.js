@@ -1,5 +1,5 @@
 // What the side of the page shows of an item or a location: a title, fields with links, and blocks of the file's bytes.
-import * as goblin from './goblin.js';
+import * as goblin from '../web/goblin.js';
 import { registers_of } from './core.js';
 import { demangled } from './demangle.js';
 import { called, fields_at, file, header_at, name_of_section, part, RELOCATION_TYPES, RELR, section_at, section_refusal,

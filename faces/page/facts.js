@@ -1,7 +1,7 @@
 // What a person asks first of a file, as plain data. The rules are those of checks/files/facts.py, whose table it is
 // tested against, as the Python package is. The fields, entries and strings are those of proved calls. What they mean,
 // and what the bytes of a note say, is not proved.
-import * as goblin from './goblin.js';
+import * as goblin from '../web/goblin.js';
 import { read_or } from './file.js';
 import { once, text_of, two_digits } from './text.js';
 
@@ -51,7 +51,7 @@ const bytes_of = ({ elf: { bytes } }, { offset, size }) => bytes.subarray(Number
 // Returns the entries of the dynamic section, unless its bytes are in another file.
 function entries_of({ elf }) {
     const segment = elf.program_headers().find(({ p_type }) => p_type === goblin.PT_DYNAMIC);
-    return segment?.p_filesz === 0n ? undefined : within(MOST_ENTRIES, elf.dynamic(MOST_ENTRIES + 1));
+    return segment?.p_filesz === 0n ? undefined : within(MOST_ENTRIES, elf.dynamic_section(MOST_ENTRIES + 1));
 }
 const values_of = (entries, tag) => entries.filter(({ d_tag }) => d_tag === tag).map(({ d_val }) => d_val);
 const has_flag = (entries, tag, flag) => ((values_of(entries, tag)[0] ?? 0n) & flag) !== 0n;
@@ -178,6 +178,12 @@ function relro(file) {
     return is_held === undefined ? undefined : is_held ? 'full' : 'partial';
 }
 
+// Returns the first symbol table of a type, if there is one.
+function symtab_of({ elf }, type) {
+    const found = elf.section_by_type(type);
+    return found && elf.symtab(found.section);
+}
+
 // Reports whether a symbol of a table is one of a canary, with or without a version, or null if there is no table.
 function has_canary(file, symtab) {
     if (!symtab) return null;
@@ -186,13 +192,14 @@ function has_canary(file, symtab) {
     for (const [name] of new TextDecoder('latin1').decode(strings).matchAll(CANARY)) {
         if (names.has(name)) continue;
         within(MOST_NAMES, { length: names.add(name).size });
-        if (symtab.by_name(name) !== undefined) return true;
+        if (symtab.symbol_by_name(name)) return true;
     }
     return false;
 }
 
 function canary(file) {
-    const found = ['syms', 'dynsyms'].map((table) => known(() => has_canary(file, file.elf[table]())));
+    const found = [SHT_SYMTAB, goblin.SHT_DYNSYM]
+        .map((type) => known(() => has_canary(file, symtab_of(file, type))));
     if (found.includes(true)) return true;
     if (found.includes(undefined)) return undefined;
     return found[0] === false || (found[1] === false && !is_static(file)) ? false : undefined;
@@ -226,14 +233,16 @@ const RULES = {
     kind: (file) => file.kind, build_id, interpreter, soname: (file) => text(file, goblin.DT_SONAME),
     rpath: (file) => text(file, goblin.DT_RPATH), runpath: (file) => text(file, goblin.DT_RUNPATH),
     needed: (file) => texts(file, goblin.DT_NEEDED),
-    pie: (file) => (file.kind === 'program or library' ? undefined : file.kind === 'program' && file.elf.is_lib()),
+    pie: ({ kind, elf: { header } }) => (kind === 'program or library' ? undefined
+        : kind === 'program' && header.e_type === goblin.ET_DYN),
     nx: (file) => of_type(file, goblin.PT_GNU_STACK).length > 0
         && of_type(file, goblin.PT_GNU_STACK).every(({ p_flags }) => !(p_flags & PF_X)),
     relro, bind_now,
     writable_code: (file) => of_type(file, goblin.PT_LOAD).some(({ p_flags }) => p_flags & PF_W && p_flags & PF_X),
     canary, control_flow, compilers, stripped: ({ elf }) => !elf.section_by_type(SHT_SYMTAB), cut: is_cut,
     sections: ({ elf }) => elf.section_headers().length, segments: ({ elf }) => elf.program_headers().length,
-    symbols: ({ elf }) => elf.syms()?.length ?? 0, dynamic_symbols: ({ elf }) => elf.dynsyms()?.length ?? 0, sizes,
+    symbols: (file) => symtab_of(file, SHT_SYMTAB)?.length ?? 0,
+    dynamic_symbols: (file) => symtab_of(file, goblin.SHT_DYNSYM)?.length ?? 0, sizes,
 };
 
 /** Returns the facts of a file. Those in `unknown` can't be read, since the file does not hold what says

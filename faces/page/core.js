@@ -1,5 +1,5 @@
 // What the notes of a core of Linux hold, read by numbers. The library reads the notes; what they mean is not proved.
-import * as goblin from './goblin.js';
+import * as goblin from '../web/goblin.js';
 import { number_at } from './dynamic.js';
 import { ALPHA, file, is_wide, name_at } from './file.js';
 

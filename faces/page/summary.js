@@ -2,7 +2,7 @@
 // mark and rows: { name, value, links, also }, where `also` are further lines. Rows without a mark rest on fields,
 // entries and strings that proved calls return. Those with a mark rest on what the page reads itself, by numbers, such
 // as versions and the contents of notes, and are not proved.
-import * as goblin from './goblin.js';
+import * as goblin from '../web/goblin.js';
 import { mapped_files, process_of, registers_of, signal_of } from './core.js';
 import { is_address } from './details.js';
 import { value_of, versions } from './dynamic.js';

@@ -13,14 +13,18 @@ import sys
 import zlib
 
 HERE = os.path.dirname(os.path.abspath(__file__))
-IMPORT = re.compile(r"^import (?P<what>[^;]+?) from '\./(?P<name>\w+)\.js';\n", re.M)
+# Where the page's files are, and goblin.js, which they import.
+FOLDERS = [HERE, f'{HERE}/../web']
+IMPORT = re.compile(r"^import (?P<what>[^;]+?) from '\.(?:\./web)?/(?P<name>\w+)\.js';\n", re.M)
 EXPORT = re.compile(r'^export (?:const|class|function|function\*|async function) (\w+)', re.M)
 REEXPORT = re.compile(r"^export \* from '\./(?P<name>\w+)\.js';\n", re.M)
+LISTED = re.compile(r'^export { (.+) };\n', re.M)
 DOC = re.compile(r'^ */\*\*(?:(?!\*/).)*\*/\n', re.M | re.S)
 
 
 def read(name):
-    with open(f'{HERE}/{name}', encoding='utf-8') as file:
+    path = next(filter(os.path.exists, (f'{folder}/{name}' for folder in FOLDERS)))
+    with open(path, encoding='utf-8') as file:
         return file.read()
 
 
@@ -69,9 +73,10 @@ def script_of(name):
         text = source_of(name)
         before = ''.join(add(match['name']) for match in [*IMPORT.finditer(text), *REEXPORT.finditer(text)])
         reexported = REEXPORT.findall(text)
-        text = REEXPORT.sub('', text)
-        names = EXPORT.findall(text)
-        if len(names) != len(re.findall(r'^export ', text, re.M)) or len(IMPORT.findall(text)) != len(re.findall(r'^import ', text, re.M)):
+        names = EXPORT.findall(text) + [name for names in LISTED.findall(text) for name in names.split(', ')]
+        text = LISTED.sub('', REEXPORT.sub('', text))
+        known = [len(form.findall(text)) for form in (EXPORT, IMPORT)]
+        if known != [len(re.findall(f'^{word} ', text, re.M)) for word in ('export', 'import')]:
             sys.exit(f'pack.py: {name}.js has an export or an import of an unknown form')
         text = re.sub('^export ', '', IMPORT.sub(lambda match: constants_for(match, exported), text), flags=re.M)
         exported[name] = [*names, *(other_name for other in reexported for other_name in exported[other])]

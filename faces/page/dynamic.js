@@ -1,6 +1,6 @@
 // What the entries of the dynamic section lead to: versions, tables of symbols and relocations, and packed relocations.
 // The library reads the entries and their strings. The rest is read here by numbers, and what it means is not proved.
-import * as goblin from './goblin.js';
+import * as goblin from '../web/goblin.js';
 import { ALPHA, file, is_wide, name_at, own_sections, read_or, RELR, sections, size_of,
     SYMBOL_TYPES } from './file.js';
 import { once } from './text.js';

@@ -205,23 +205,19 @@ export class Chromium extends Browser {
         }
     }
 
-    async point(x, y) { await this.#ask('Input.dispatchMouseEvent', { type: 'mouseMoved', x, y }); }
-    async wheel(x, y, deltaY) {
-        await this.#ask('Input.dispatchMouseEvent', { type: 'mouseWheel', x, y, deltaX: 0, deltaY });
+    #mouse(type, [x, y], given) { return this.#ask('Input.dispatchMouseEvent', { type, x, y, ...given }); }
+    point(...place) { return this.#mouse('mouseMoved', place); }
+    wheel(x, y, deltaY) { return this.#mouse('mouseWheel', [x, y], { deltaX: 0, deltaY }); }
+    drag(from, to) {
+        const act = (type, place) => this.#mouse(type, place, { button: 'left', buttons: 1, clickCount: 1 });
+        return Promise.all([act('mousePressed', from), act('mouseMoved', to), act('mouseReleased', to)]);
     }
 
-    async drag(from, to) {
-        const act = (type, [x, y]) =>
-            this.#ask('Input.dispatchMouseEvent', { type, x, y, button: 'left', buttons: 1, clickCount: 1 });
-        await Promise.all([act('mousePressed', from), act('mouseMoved', to), act('mouseReleased', to)]);
+    resize(width, height) {
+        return this.#ask('Emulation.setDeviceMetricsOverride', { width, height, deviceScaleFactor: 1, mobile: false });
     }
-
-    async resize(width, height) {
-        await this.#ask('Emulation.setDeviceMetricsOverride', { width, height, deviceScaleFactor: 1, mobile: false });
-    }
-
-    async theme(value) {
-        await this.#ask('Emulation.setEmulatedMedia', { features: [{ name: 'prefers-color-scheme', value }] });
+    theme(value) {
+        return this.#ask('Emulation.setEmulatedMedia', { features: [{ name: 'prefers-color-scheme', value }] });
     }
     async print() { return Buffer.from((await this.#ask('Page.printToPDF')).data, 'base64'); }
 
@@ -274,6 +270,7 @@ export class Firefox extends Browser {
     }
 
     #ask(method, params = {}) { return this.call({ method, params }); }
+    #in_tab(method, params) { return this.#ask(method, { context: this.tab, ...params }); }
 
     heard(method, params) {
         if (method === 'network.beforeRequestSent') this.requests.push(params.request.url);
@@ -288,50 +285,37 @@ export class Firefox extends Browser {
     }
 
     async open(url) {
-        await this.#ask('browsingContext.navigate', { context: this.tab, url: 'about:blank', wait: 'complete' });
-        await this.#ask('browsingContext.navigate', { context: this.tab, url, wait: 'complete' });
+        for (const to of ['about:blank', url])
+            await this.#in_tab('browsingContext.navigate', { url: to, wait: 'complete' });
     }
 
     async run(expression) {
-        const target = { context: this.tab };
         const answer = await this.#ask('script.evaluate',
-            { expression, target, awaitPromise: true, userActivation: true });
+            { expression, target: { context: this.tab }, awaitPromise: true, userActivation: true });
         if (answer.type === 'exception') throw new Error(answer.exceptionDetails.text);
         return answer.result.value;
     }
 
     async pick(selector, path) {
-        const { nodes } = await this.#ask('browsingContext.locateNodes',
-            { context: this.tab, locator: { type: 'css', value: selector } });
-        await this.#ask('input.setFiles',
-            { context: this.tab, element: { sharedId: nodes[0].sharedId }, files: [path] });
+        const { nodes: [{ sharedId }] } =
+            await this.#in_tab('browsingContext.locateNodes', { locator: { type: 'css', value: selector } });
+        await this.#in_tab('input.setFiles', { element: { sharedId }, files: [path] });
     }
 
-    async press(...keys) {
-        const actions = keys.flatMap((key) => ['keyDown', 'keyUp']
-            .map((type) => ({ type, value: NAMED_KEYS[key] ?? key })));
-        await this.#act('key', ...actions);
+    #act(type, ...actions) { return this.#in_tab('input.performActions', { actions: [{ type, id: type, actions }] }); }
+    #at(type, [x, y], given) { return { type, x: Math.round(x), y: Math.round(y), ...given }; }
+    press(...keys) {
+        return this.#act('key', ...keys.flatMap((key) => ['keyDown', 'keyUp']
+            .map((type) => ({ type, value: NAMED_KEYS[key] ?? key }))));
     }
-
-    async #act(type, ...actions) {
-        await this.#ask('input.performActions', { context: this.tab, actions: [{ type, id: type, actions }] });
+    point(...place) { return this.#act('pointer', this.#at('pointerMove', place)); }
+    wheel(x, y, deltaY) { return this.#act('wheel', this.#at('scroll', [x, y], { deltaX: 0, deltaY })); }
+    drag(...places) {
+        const [from, to] = places.map((place) => this.#at('pointerMove', place));
+        return this.#act('pointer', from, { type: 'pointerDown', button: 0 }, to, { type: 'pointerUp', button: 0 });
     }
-    async point(x, y) { await this.#act('pointer', { type: 'pointerMove', x: Math.round(x), y: Math.round(y) }); }
-    async wheel(x, y, deltaY) {
-        await this.#act('wheel', { type: 'scroll', x: Math.round(x), y: Math.round(y), deltaX: 0, deltaY });
-    }
-
-    async drag(...points) {
-        const [from, to] = points.map(([x, y]) => ({ type: 'pointerMove', x: Math.round(x), y: Math.round(y) }));
-        await this.#act('pointer', from, { type: 'pointerDown', button: 0 }, to, { type: 'pointerUp', button: 0 });
-    }
-
-    async resize(width, height) {
-        await this.#ask('browsingContext.setViewport', { context: this.tab, viewport: { width, height } });
-    }
-    async print() {
-        return Buffer.from((await this.#ask('browsingContext.print', { context: this.tab })).data, 'base64');
-    }
+    resize(width, height) { return this.#in_tab('browsingContext.setViewport', { viewport: { width, height } }); }
+    async print() { return Buffer.from((await this.#in_tab('browsingContext.print')).data, 'base64'); }
 
     // (Firefox lets no test drop what is on the disk, so the event is made up)
     async drop(...paths) {

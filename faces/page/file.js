@@ -1,5 +1,5 @@
 // The file that the worker reads, and what modules share of it: sizes, names of sections, and texts of refusals.
-import * as goblin from './goblin.js';
+import * as goblin from '../web/goblin.js';
 import { count, hex, name_of, NAME, once, two_digits } from './text.js';
 
 export const file = { elf: undefined, bytes: new Uint8Array(0), has_segments: true,

@@ -1,6 +1,6 @@
 // Reads one file for the page. { id, call, given } is answered with { id, result } or { id, error }, and a refusal of
 // the library is { refused } in `result`. What takes long is done in steps, and ends if the same is requested again.
-import init, * as goblin from './goblin.js';
+import init, * as goblin from '../web/goblin.js';
 import { csv_line } from './csv.js';
 import { address_details, header_fields, is_address, item_details, offset_details } from './details.js';
 import { all_sections, called, file, header_refusal, list_refusal, MOST_TABLES, own_segments, part, read_or,

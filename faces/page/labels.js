@@ -1,5 +1,5 @@
 // Names of numbers: the library's, if they are right for the file's machine and system; else the page's own, or digits.
-import * as goblin from './goblin.js';
+import * as goblin from '../web/goblin.js';
 import { file, is_wide } from './file.js';
 import * as own from './names.js';
 import { hex, once } from './text.js';

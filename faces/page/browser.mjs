@@ -12,8 +12,8 @@ import { setTimeout } from 'node:timers/promises';
 import { pathToFileURL } from 'node:url';
 import { inflateSync } from 'node:zlib';
 import { Chromium, Firefox, PATIENCE, waited } from './browsers.mjs';
-import { code, dynamic_file, elf_file, longs, note, noted_file, packed, patched, relocations, symbol,
-    symbols_file } from './elves.mjs';
+import { code, data, dynamic_file, elf_file, longs, note, noted_file, packed, patched, relocations, symbol,
+    symbols_file, times } from '../web/elves.mjs';
 
 const [, , kind, program, page, dump, made_files, stored_folder] = process.argv, stored = resolve(stored_folder);
 const made = join(made_files, 'little64'), content = readFileSync(made),
@@ -54,10 +54,19 @@ const side = () => text_of('#chosen');
 const cells = (column) => until(`![...document.querySelectorAll('#panel .body .row')]
     .some((row) => row.firstChild.textContent === '…')`)
     .then(() => each_of('#panel .body .row', `item.children[${column}].textContent`));
+const resize = (width, height) => browser.resize(width, height);
 const press = (selector, ...keys) => focus(selector).then(() => browser.press(...keys));
 const click_row = (row) => evaluate(`document.querySelectorAll('#panel .body .row')[${row}].children[1].click()`);
 const field_of = (name) => evaluate(`[...document.querySelectorAll('#chosen tr')]
     .find((row) => row.firstChild.textContent === ${quoted(name)})?.lastChild.innerText`);
+
+// Sorts the open list by a column, in one direction and then in the other.
+async function sort_by(column) {
+    for (const order of ['ascending', 'descending']) {
+        await click(`#panel [role=columnheader]:nth-child(${column}) button`);
+        await until_there(`#panel [aria-sort=${order}]`);
+    }
+}
 
 // Returns the offset of a section header of a file.
 const header_at = (content, index) => Number(content.readBigUInt64LE(0x28)) + 64 * index;
@@ -99,6 +108,11 @@ async function has_texts(wanted, read = text_of) {
     for (const [name, text] of Object.entries(wanted))
         (text instanceof RegExp ? assert.match : assert.equal)(await read(name), text, name);
 }
+
+// Takes steps one after another: each is a function with its arguments, such as `is` with what is read and wanted.
+async function take(...steps) { for (const [act, ...given] of steps) await act(...given); }
+const is = async (read, wanted, what) =>
+    (wanted instanceof RegExp ? assert.match : assert.deepEqual)(await read(), wanted, what);
 
 // Goes to a location, back or forward, or along a link, until what is chosen has a title. There fields have texts.
 const go = (place, title, fields = {}) =>
@@ -201,12 +215,11 @@ check('Tabs have the numbers that readelf counts, and sections have its names', 
 check('A file is refused in the words of C, and the page says what was read or what it is', async () => {
     const head = 'the file header', others = { '!<arch>\n': 'an archive', '\x1f\x8b': 'by gzip', '#!/': 'a script',
         MZ: 'DOS (PE)', '\xcf\xfa\xed\xfe': 'a Mach-O file' };
-    for (const [is_elf, bytes, ...words] of [
-        [true, content.subarray(0, 40), head],
+    for (const [is_elf, bytes, ...words] of [[true, content.subarray(0, 40), head],
         [false, Buffer.concat([Buffer.from('MZ'), content.subarray(2)]), head, '4d 5a 4c 46'],
         [false, Buffer.from('text\n'), head, '74 65 78 74 0a'],
-        ...Object.entries(others).map(([begin, what]) => [false, Buffer.from(begin.padEnd(80, ' '), 'latin1'), what]),
-    ]) {
+        ...Object.entries(others).map(([begin, what]) =>
+            [false, Buffer.from(begin.padEnd(80, ' '), 'latin1'), what])]) {
         const { stdout } = spawnSync(dump, [await pick_written('refused', bytes)]), said = await text_of('#refused');
         const [, words_of_c] = /^goblin_file kind=.* offset=\w+ (.+)$/m.exec(stdout);
         assert.equal(await text_of('#refused:not([hidden]) h3'), `Refused: ${words_of_c}`);
@@ -220,47 +233,36 @@ check('A file is refused in the words of C, and the page says what was read or w
 });
 
 check('The page shows why a file is not read, instead of the previous file', async () => {
-    await browser.resize(1600, 1600);
-    await pick(program_file);
-    await go(main_place, 'main');
-    await pick_written('empty', '');
-    await browser.resize(1400, 1600);
-    await setTimeout(250);
-    assert.equal(await text_of('#said'), '');
-    assert.equal(await text_of('#trouble:not([hidden])'), 'The file is empty: it has 0 bytes.');
-    assert.deepEqual([await is_hidden('shown'), await is_hidden('refused')], [true, true]);
-    const large = join(folder, 'large');
+    const large = join(folder, 'large'), trouble = '#trouble:not([hidden])',
+        is_shown = (part, wanted) => is(() => is_hidden(part), !wanted);
+    await take([resize, 1600, 1600], [pick, program_file], [go, main_place, 'main'],
+        [pick_written, 'empty', ''], [resize, 1400, 1600], [setTimeout, 250],
+        [has_texts, { '#said': '', [trouble]: 'The file is empty: it has 0 bytes.' }],
+        [is_shown, 'shown', false], [is_shown, 'refused', false]);
     writeFileSync(large, content);
     truncateSync(large, 2 ** 31 + 1);
-    await pick(made);
-    await pick(large);
     const words = 'The file has 2,147,483,649 bytes. This page reads files of at most 2 GiB (2,147,483,648 bytes).';
-    assert.deepEqual([await text_of('#trouble:not([hidden])'), await is_hidden('shown')], [words, true]);
-    assert.match(await text_of('#start .drop'), /at most 2 GiB/);
-    // (a text that is typed just before is searched no more)
-    await pick(program_file);
-    await open_tab('sections');
-    await pick(large);
-    await type('a');
-    await setTimeout(300);
-    assert.equal(await text_of('#said'), '');
+    await take([pick, made], [pick, large], [is_shown, 'shown', false],
+        [has_texts, { [trouble]: words, '#start .drop': /at most 2 GiB/ }],
+        // (a text that is typed just before is searched no more)
+        [pick, program_file], [open_tab, 'sections'], [pick, large], [type, 'a'], [setTimeout, 300],
+        [has_texts, { '#said': '' }]);
     // (one that is cut while it is read)
     truncateSync(large, 4e8);
     await browser.pick('#pick', large);
     await until(is_busy);
     truncateSync(large, content.length);
     await until(`!(${is_busy})`);
-    assert.match(await text_of('#trouble:not([hidden])'), /was changed after it was chosen/);
+    await has_texts({ [trouble]: /was changed after it was chosen/ });
 });
 
 check('If the section headers are refused, no list that is made from them is shown as empty', async () => {
     await pick_written('headers', patched(content, [0x28, content.length]));
     const words = [];
     for (const name of ['sections', 'symbols', 'relocations', 'notes']) {
-        assert.equal(await text_of(`#tab-${name} span`), 'refused', name);
+        await has_texts({ [`#tab-${name} span`]: 'refused' });
         await evaluate(`document.getElementById('panel').replaceChildren()`);
-        await click(`#tab-${name}`);
-        await until_there('#panel .refused');
+        await take([click, `#tab-${name}`], [until_there, '#panel .refused']);
         words.push(await text_of('#panel .refused'));
     }
     assert.match(words[0], new RegExp('^The section headers begin at 0x2000, .*Refused: .* while reading the section'
@@ -272,53 +274,45 @@ check('If the section headers are refused, no list that is made from them is sho
     await click('#tab-symbols');
     await until(`document.getElementById('panel').textContent.startsWith('The file has no symbols')`);
     // (a location may name a section that is not such a list; then nothing is found)
-    await open_list('symbols/1', 'none');
-    assert.equal(await text_of('#panel .notice'), 'Section 1 holds no symbols.');
-    await search('a', 'none');
-    // (a note whose owner is not UTF-8 is read; a cut one is refused, and those after it are not read)
-    await open_tab('notes');
-    assert.deepEqual(await cells(2), ['GNU', 'GAU+0000\\xff']);
-    await has_texts({ '#tab-notes span': '2+',
-        '#panel .refused': /^Refused: .* the descriptor of the note at 0x[0-9a-f]+, of \.noteU\+202E\./ });
+    await take([open_list, 'symbols/1', 'none'], [has_texts, { '#panel .notice': 'Section 1 holds no symbols.' }],
+        [search, 'a', 'none'],
+        // (a note whose owner is not UTF-8 is read; a cut one is refused, and those after it are not read)
+        [open_tab, 'notes'], [is, () => cells(2), ['GNU', 'GAU+0000\\xff']], [has_texts, { '#tab-notes span': '2+',
+            '#panel .refused': /^Refused: .* the descriptor of the note at 0x[0-9a-f]+, of \.noteU\+202E\./ }]);
 });
 
 check('Packed relocations and what only the dynamic section leads to are listed, as not proved', async () => {
     const bytes = longs(0x1000, 0b1011, 0b11, 0x2000), wanted = ['0x1000', '0x1008', '0x1018', '0x1200', '0x2000'];
     const file = elf_file({ type: 3, sections: [{ name: '.relr.dyn', type: 19, flags: 2, bytes }] });
-    await pick_written('packed', file, 'relocations');
-    await has_texts({ '#tab-relocations span': '5',
-        '#panel .others': /packed relocations .* outside of what is proved/i });
-    assert.deepEqual([await cells(1), (await saved_rows('relocations')).map(([, offset]) => offset)], [wanted, wanted]);
-    await go('relocations/1/3', 'packed relocation 3', { r_offset: /^0x1200/ });
-    await pick_written('last', patched(file, [64, (1n << 64n) - 16n], [72, (1n << 64n) - 1n]), 'relocations');
-    assert.deepEqual((await cells(1)).slice(0, 4), ['0xfffffffffffffff0', '0xfffffffffffffff8', '0x0', '0x8']);
-    for (const [at, value] of [[0x18, (1n << 64n) - 8n], [0x20, 1n << 40n]]) {
-        await pick_written('past', patched(file, [header_at(file, 1) + at, value]));
-        assert.equal(await text_of('#tab-relocations span'), 'refused');
-    }
-    const output = listed(program_file);
+    await take([pick_written, 'packed', file, 'relocations'], [has_texts, { '#tab-relocations span': '5',
+        '#panel .others': /packed relocations .* outside of what is proved/i }], [is, () => cells(1), wanted],
+    [is, async () => (await saved_rows('relocations')).map(([, offset]) => offset), wanted],
+    [go, 'relocations/1/3', 'packed relocation 3', { r_offset: /^0x1200/ }],
+    [pick_written, 'last', patched(file, [64, (1n << 64n) - 16n], [72, (1n << 64n) - 1n]), 'relocations'],
+    [is, async () => (await cells(1)).slice(0, 4), ['0xfffffffffffffff0', '0xfffffffffffffff8', '0x0', '0x8']]);
+    for (const [at, value] of [[0x18, (1n << 64n) - 8n], [0x20, 1n << 40n]])
+        await take([pick_written, 'past', patched(file, [header_at(file, 1) + at, value])],
+            [has_texts, { '#tab-relocations span': 'refused' }]);
     await pick_written('headless', Buffer.from(program_bytes).fill(0, 0x28, 0x30).fill(0, 0x3a, 0x40), 'symbols');
     const [symbols, dyn, plt] = ['.dynsym', '.rela.dyn', '.rela.plt'].map((name) => sections[name].size / 24);
     await has_texts({ '#tab-symbols span': `${symbols}`, '#tab-relocations span': `${dyn + plt}`,
         '#panel .others': /the entries of the dynamic section, whose meaning is outside of what is proved/ });
-    const is_listed = async (column, table, pattern) => {
-        const names = [...output.split(` '${table}' `)[1].split('\n\n')[0].matchAll(pattern)].map(([, name]) => name);
-        assert.deepEqual((await cells(column)).slice(0, 20), names.slice(0, 20));
+    const is_listed = (column, table, pattern) => {
+        const [part] = listed(program_file).split(` '${table}' `)[1].split('\n\n');
+        return is(async () => (await cells(column)).slice(0, 20),
+            [...part.matchAll(pattern)].map(([, name]) => name).slice(0, 20));
     };
-    await is_listed(1, '.dynsym', /^ *\d+: .* (?:UND|ABS|\d+) ?([^@ \n]*)/gm);
-    await open_list('relocations/DT_JMPREL', plt);
-    await is_listed(3, '.rela.plt', /R_\w+ +[0-9a-f]+ ([^@ ]+)/g);
+    await take([is_listed, 1, '.dynsym', /^ *\d+: .* (?:UND|ABS|\d+) ?([^@ \n]*)/gm],
+        [open_list, 'relocations/DT_JMPREL', plt], [is_listed, 3, '.rela.plt', /R_\w+ +[0-9a-f]+ ([^@ ]+)/g]);
     // (the hash tables of s390 and Alpha have wide numbers)
-    for (const machine of [22, 0x9026]) {
-        const content_of = dynamic_file(longs(1, 3, Array(9).fill(0)), [[4, 0x400000], [6, 0x400000]], { machine });
-        await pick_written('wide', content_of, 'symbols');
-        assert.equal(await text_of('#tab-symbols span'), '3');
-    }
+    const hashed = (machine, ...hash) =>
+        dynamic_file(longs(...hash), [[4, 0x400000], [6, 0x400000]], { machine });
+    for (const machine of [22, 0x9026]) await take([pick_written, 'wide', hashed(machine, 1, 3, Array(9).fill(0)),
+        'symbols'], [has_texts, { '#tab-symbols span': '3' }]);
     // (a hash table of s390 may say that symbols have more bytes than a number can)
-    await pick_written('hash', dynamic_file(longs(1, 1n << 61n), [[4, 0x400000], [6, 0x400000]], { machine: 22 }));
-    await open_list('symbols/DT_SYMTAB', 'refused');
-    await has_texts({ '#panel .refused': / while reading the symbols of DT_SYMTAB: offset /, '#panel pre': null,
-        '#tab-symbols span': 'refused' });
+    await take([pick_written, 'hash', hashed(22, 1, 1n << 61n)], [open_list, 'symbols/DT_SYMTAB', 'refused'],
+        [has_texts, { '#panel .refused': / while reading the symbols of DT_SYMTAB: offset /, '#panel pre': null,
+            '#tab-symbols span': 'refused' }]);
 });
 
 check('A damaged file takes no long time, whatever its numbers say', async () => {
@@ -359,25 +353,24 @@ const value_in = (rows, name) => rows.find(([title]) => title === name)?.[1];
 
 // What rests on what the page reads itself is below a mark, one a block. What a cut file lacks is unknown.
 check('The first tab says in words what readelf lists of a program, in the order of what a person asks', async () => {
-    const rows = await facts(program_file), of = (name) => [value_in(rows, name)].filter(Boolean);
-    assert.deepEqual(await each_of('#panel .summary h3', 'item.textContent'), ['What it is', 'What protects it',
-        'What it needs', 'Why it is large', 'Largest sections', 'Largest functions', 'How it was built']);
-    assert.deepEqual(await each_of('#panel .summary section', `[...item.querySelectorAll('.own')]
-        .map(({ textContent }) => textContent).join()`), ['', 'not proved', 'not proved', '', '', '', '']);
-    const output = listed(program_file);
+    const rows = await facts(program_file), of = (name) => value_in(rows, name), output = listed(program_file),
+        own_text = `[...item.querySelectorAll('.own')].map(({ textContent }) => textContent).join()`;
+    assert.deepEqual(await each_of('#panel .summary section', `[item.querySelector('h3').textContent, ${own_text}]`),
+        [['What it is', ''], ['What protects it', 'not proved'], ['What it needs', 'not proved'],
+            ['Why it is large', ''], ['Largest sections', ''], ['Largest functions', ''], ['How it was built', '']]);
     const needs = output.split('Version needs section')[1].matchAll(/File: (\S+).*\n((?:.* Name: .*\n)*)/g);
-    const libraries = Object.fromEntries(Array.from(needs, ([, name, lines]) =>
-        [name, [...lines.matchAll(/Name: (\S+)/g)].map(([, version]) => version)]));
-    assert.deepEqual([of('libraries'), of('symbol versions')],
-        [[[...output.matchAll(/\(NEEDED\) .*\[(.*)\]/g)].map(([, name]) => name).join(', ')],
-            [Object.entries(libraries).map(([name, all]) => `${name}: ${all.join(', ')}`).join('; ')]]);
-    assert.match(of('interpreter')[0], new RegExp(`^${/program interpreter: (.*)\]/.exec(output)[1]}, segment \\d+$`));
-    assert.deepEqual([...of('build ID'), ...of('kind'), ...of('position-independent')],
-        [`${/Build ID: (\w+)/.exec(output)[1]}, note`, `A position-independent program for x86-64 of ${
-            decimal(program_bytes.length)} bytes, without debug information`, 'yes']);
-    assert.match(await text_of('#file'), /position-independent program for x86-64/);
-    assert.deepEqual(['read-only relocations', 'stack', 'stack canary', 'stripped'].map((name) => of(name)[0]),
-        ['partial, segment 12', 'not executable, segment 11', 'yes, __stack_chk_fail', 'no, .symtab']);
+    const versions = Object.entries(Object.fromEntries(Array.from(needs, ([, name, lines]) =>
+        [name, [...lines.matchAll(/Name: (\S+)/g)].map(([, version]) => version)])));
+    for (const [name, wanted] of Object.entries({
+        libraries: [...output.matchAll(/\(NEEDED\) .*\[(.*)\]/g)].map(([, name]) => name).join(', '),
+        'symbol versions': versions.map(([name, all]) => `${name}: ${all.join(', ')}`).join('; '),
+        interpreter: new RegExp(`^${/program interpreter: (.*)\]/.exec(output)[1]}, segment \\d+$`),
+        'build ID': `${/Build ID: (\w+)/.exec(output)[1]}, note`, 'position-independent': 'yes',
+        kind: `A position-independent program for x86-64 of ${decimal(program_bytes.length)} bytes, without debug`
+            + ' information', 'read-only relocations': 'partial, segment 12', stack: 'not executable, segment 11',
+        'stack canary': 'yes, __stack_chk_fail', stripped: 'no, .symtab',
+    })) await is(() => of(name), wanted, name);
+    await has_texts({ '#file': /position-independent program for x86-64/ });
     const cut = Object.fromEntries(await facts(join(stored, 'facts', 'cut_dynamic'))),
         unknown = 'unknown: not in the file, or more than is read';
     assert.deepEqual([cut.libraries, cut['stack canary'], cut.stack], [unknown, unknown, 'not executable, segment 8']);
@@ -397,30 +390,27 @@ check('The first tab says in words what readelf lists of a program, in the order
 });
 
 check('All libraries are in one row, up to a number, with how many there are and are left out', async () => {
+    const needing = (strings, names, given) =>
+        dynamic_file(strings, [...names.map((at) => [1, at]), [5, 0x400000], [10, strings.length], [0, 0]], given);
     for (const [all, more] of [[261, ''], [300, ''], [301, ' and 1 more'], [400, ' and 100 more']]) {
-        const names = Array.from({ length: all }, (_, i) => (i < 260 ? `l${i}.so` : `libc.so.${i}`));
-        const strings = Buffer.from(`\0${names.map((name) => `${name}\0`).join('')}`);
-        const entries = [...names.map((name) => [1, strings.indexOf(`\0${name}\0`) + 1]), [5, 0x400000],
-            [10, strings.length], [0, 0]];
-        await pick_written('needed', dynamic_file(strings, entries));
+        const names = times(all, (i) => (i < 260 ? `l${i}.so` : `libc.so.${i}`)),
+            strings = Buffer.from(`\0${names.map((name) => `${name}\0`).join('')}`);
+        await pick_written('needed', needing(strings, names.map((name) => strings.indexOf(`\0${name}\0`) + 1)));
         assert.equal(value_in(await facts(), 'libraries'), `${all}: ${names.slice(0, 300).join(', ')}${more}`);
     }
     // (in a damaged file each name may be long, and of signs that are shown as several)
     const long = Buffer.alloc(4097, 1).fill(0, 0, 1).fill(0, 4096), text = Buffer.alloc(65536, 'x');
-    const entries = [...Array(20).fill([1, 1]), [5, 0x400000], [10, long.length], [0, 0]];
-    await pick_written('long', dynamic_file(long, entries, { sections: [{ name: '.comment', type: 1, bytes: text }] }));
-    const rows = await facts();
-    const libraries = `20: ${Array(8).fill('U+0001'.repeat(4095)).join(', ')} and 12 more`;
+    await pick_written('long', needing(long, Array(20).fill(1), { sections: [data('.comment', text)] }));
+    const rows = await facts(), libraries = `20: ${Array(8).fill('U+0001'.repeat(4095)).join(', ')} and 12 more`;
     assert.ok(value_in(rows, 'libraries') === libraries && value_in(rows, 'compiler').startsWith(`${text}`));
 });
 
 check('A function has one row, whatever its names, and what is in no symbol is said, too', async () => {
     const given = [['a', 0, 8], ['alias', 0, 8], ['inside', 4, 4], ['b', 8, 16], ['other', 8, 12], ['c', 40, 1]].map(
         ([text, value, size]) => ({ text, info: 2, shndx: 3, value, size }));
-    const text = code(Buffer.alloc(64, 1));
-    await pick_written('functions', symbols_file(given, text));
-    assert.deepEqual(await lines_of('Largest functions'),
-        ['in no symbol, 39 of 64 bytes of code', '16 bytes, b', '8 bytes, a', '1 byte, c']);
+    const text = code(Buffer.alloc(64, 1)), functions = () => lines_of('Largest functions');
+    await take([pick_written, 'functions', symbols_file(given, text)],
+        [is, functions, ['in no symbol, 39 of 64 bytes of code', '16 bytes, b', '8 bytes, a', '1 byte, c']]);
     // (in the first ABI of 64-bit PowerPC symbols of functions are descriptors, with the sizes of the code)
     const power = join(stored, 'made', 'powerpc64_library'), { '.symtab': { index } } = sections_of(power),
         described = symbols_of(power).find(({ name }) => name === 'function');
@@ -429,53 +419,51 @@ check('A function has one row, whatever its names, and what is in no symbol is s
     await go(`symbols/${index}/${described.index}`, 'function');
     await has_texts({ '#chosen .lies': / 16 bytes$/, '#chosen .blocks button': 'descriptor in .opd' });
     // (what another section covers is not drawn as code)
-    const data = code(Buffer.alloc(32, 1), { name: '.data', flags: 3 }),
-        content = symbols_file([{ text: 'all', info: 2, shndx: 3, size: 64 }], text, data);
+    const other = data('.data', Buffer.alloc(32, 1), { flags: 3 }),
+        content = symbols_file([{ text: 'all', info: 2, shndx: 3, size: 64 }], text, other);
     const [of_text, of_data] = [3, 4].map((index) => header_at(content, index) + 0x18);
-    await pick_written('covered', patched(content, [of_data, content.readBigUInt64LE(of_text) + 32n]));
-    assert.deepEqual(await lines_of('Largest functions'), ['in no symbol, 0 of 32 bytes of code', '64 bytes, all']);
+    await take([pick_written, 'covered', patched(content, [of_data, content.readBigUInt64LE(of_text) + 32n])],
+        [is, functions, ['in no symbol, 0 of 32 bytes of code', '64 bytes, all']]);
 });
 
 check('What is broken is in one row, with links to its places', async () => {
-    const section = (name) => ({ name, type: 1, bytes: Buffer.alloc(64, 1) }), far = 1n << 40n;
-    const made_file = elf_file({ sections: ['.a', '.b', '.c'].map(section), segments: [{ bytes: Buffer.alloc(8) }] });
+    const far = 1n << 40n, sections = ['.a', '.b', '.c'].map((name) => data(name, Buffer.alloc(64, 1)));
+    const made_file = elf_file({ sections, segments: [{ bytes: Buffer.alloc(8) }] });
     const table = header_at(made_file, 0), whole = patched(made_file, [table + 0x20, far], [table + 0x28, 9, 4]);
     const [a, b, c] = [1, 2, 3].map((index) => header_at(whole, index) + 0x18);
-    const cut = 'cut at the file’s end at', end = hex(whole.length), farthest = (1n << 63n) + 1n;
+    const cut = 'cut at the file’s end at', end = hex(whole.length), farthest = (1n << 63n) + 1n,
+        past = 'past the file’s end at', header = 'wrong in the header:';
     for (const [[at, value, width = 8, size], words, ...places] of [
         [[0, 0x7f, 1], 'no: tables, sections and segments lie in the file, and no sections overlap'],
-        [[0x34, 52, 2], 'yes: wrong in the header: e_ehsize is 52, not 64', 'header/e_ehsize'],
-        [[0x36, 32, 2], 'yes: wrong in the header: e_phentsize is 32, not 56', 'header/e_phentsize'],
-        [[0x3a, 40, 2], 'yes: wrong in the header: e_shentsize is 40, not 64', 'header/e_shentsize'],
-        [[0x3e, 9, 2], 'yes: wrong in the header: e_shstrndx is 9 of 5 sections', 'header/e_shstrndx'],
-        [[0x3e, 0xffff, 2], 'yes: wrong in the header: e_shstrndx is 65535, sh_link of section 0 is 9 of 5 sections',
+        [[0x34, 52, 2], `yes: ${header} e_ehsize is 52, not 64`, 'header/e_ehsize'],
+        [[0x36, 32, 2], `yes: ${header} e_phentsize is 32, not 56`, 'header/e_phentsize'],
+        [[0x3a, 40, 2], `yes: ${header} e_shentsize is 40, not 64`, 'header/e_shentsize'],
+        [[0x3e, 9, 2], `yes: ${header} e_shstrndx is 9 of 5 sections`, 'header/e_shstrndx'],
+        [[0x3e, 0xffff, 2], `yes: ${header} e_shstrndx is 65535, sh_link of section 0 is 9 of 5 sections`,
             'header/e_shstrndx'],
         [[0x3c, 0, 2], 'yes: refused: section headers', 'sections'],
         [[b, whole.readBigUInt64LE(a) + 8n], 'yes: overlapping: .a, .b', 'sections/1', 'sections/2'],
-        [[c, far], `yes: past the file’s end at ${end}: .c`, 'sections/3'],
-        [[c + 8, far], `yes: ${cut} ${end}: .c`, 'sections/3'],
+        [[c, far], `yes: ${past} ${end}: .c`, 'sections/3'], [[c + 8, far], `yes: ${cut} ${end}: .c`, 'sections/3'],
         [[64 + 0x20, far], `yes: ${cut} ${end}: segment 0, LOAD`, 'segments/0'],
         [[0, 0x7f, 1, table + 100], `yes: ${cut} ${hex(table + 100)}: Section headers`, 'sections'],
-        [[0, 0x7f, 1, table], `yes: past the file’s end at ${hex(table)}: Section headers`, 'sections'],
-        [[c, farthest], `yes: past the file’s end at ${end}: .c`, 'sections/3'],
+        [[0, 0x7f, 1, table], `yes: ${past} ${hex(table)}: Section headers`, 'sections'],
+        [[c, farthest], `yes: ${past} ${end}: .c`, 'sections/3'],
     ]) {
         await pick_written('broken', patched(whole.subarray(0, size), [at, value, width]));
         const found = value_in(await facts(), 'broken'), links = await each_of('#panel .summary tr',
             `item.textContent.startsWith('broken') ? [...item.querySelectorAll('a')].map(({ hash }) => hash) : []`);
         assert.deepEqual([found, links.flat()], [words, places.map((place) => `#${place}`)]);
     }
-    assert.equal(await text_of('#legend .past'), `past the end: .c at ${hex(farthest)}`);
+    await has_texts({ '#legend .past': `past the end: .c at ${hex(farthest)}` });
     // (the segments of a debug file are those of another file)
-    const debug = join(stored, 'facts', 'debug_with_sizes'), of_debug = value_in(await facts(debug), 'broken');
-    assert.deepEqual([of_debug, await text_of('#legend .past')],
-        ['no: tables and sections lie in the file, and no sections overlap', null]);
+    const of_debug = value_in(await facts(join(stored, 'facts', 'debug_with_sizes')), 'broken');
+    assert.equal(of_debug, 'no: tables and sections lie in the file, and no sections overlap');
     // (here of .text, and in .comment)
-    await go('address/0x470', 'address 0x470', { section: '.text', offset: /^none/ });
-    await go('offset/0x2d0', 'offset 0x2d0');
-    assert.deepEqual([(await side()).includes('.comment'), await field_of('address')], [true, null]);
+    await take([has_texts, { '#legend .past': null }],
+        [go, 'address/0x470', 'address 0x470', { section: '.text', offset: /^none/ }],
+        [go, 'offset/0x2d0', 'offset 0x2d0'], [is, side, /\.comment/], [is, () => field_of('address'), null]);
     const high = elf_file({ type: 2, segments: [{ vaddr: (1n << 64n) - 16n, bytes: Buffer.alloc(64, 1) }] });
-    await pick_written('high', high);
-    await go('offset/0x98', 'offset 0x98', { address: '0x10' });
+    await take([pick_written, 'high', high], [go, 'offset/0x98', 'offset 0x98', { address: '0x10' }]);
     // (an entry where nothing is loaded, as of a kernel, is no link)
     for (const [type, entry, links] of [[2, (1n << 64n) - 8n, 1], [2, 0x1000n, 0], [1, 8n, 0]]) {
         await pick_written('entry', patched(high, [0x10, type, 2], [0x18, entry]));
@@ -484,39 +472,39 @@ check('What is broken is in one row, with links to its places', async () => {
     }
     // (section 0 may have any type)
     const first = symbols_file([{ text: 'a' }]);
-    await pick_written('first', patched(first, [header_at(first, 0) + 4, 2, 4]), 'symbols');
-    assert.deepEqual([await text_of('#tab-symbols span'), await cells(1)], ['2', ['', 'a']]);
+    await take([pick_written, 'first', patched(first, [header_at(first, 0) + 4, 2, 4]), 'symbols'],
+        [has_texts, { '#tab-symbols span': '2' }], [is, () => cells(1), ['', 'a']]);
 });
 
 check('A module, its signature, compressed debug information, appended bytes and padding are called so', async () => {
-    const texts = Buffer.from('depends=crc16,mbcache\0vermagic=6.1.0 SMP \0'), signature = Buffer.alloc(700, 0x30);
-    const named = (name, bytes, flags = 0, type = 1) => ({ name, type, flags, bytes });
-    const module = elf_file({ sections: [named('.modinfo', texts, 2), named('.gnu.linkonce.this_module', texts, 3),
-        named('.debug_info', Buffer.alloc(24, 1), 0x800), named('.a', Buffer.alloc(1, 1)),
-        named('.none', Buffer.alloc(2040), 0, 0)] });
+    const texts = Buffer.from('depends=crc16,mbcache\0vermagic=6.1.0 SMP \0'), signature = Buffer.alloc(700, 0x30),
+        names = ['.modinfo', '.gnu.linkonce.this_module'];
+    const module = elf_file({ sections: [data(names[0], texts, { flags: 2 }), data(names[1], texts, { flags: 3 }),
+        data('.debug_info', Buffer.alloc(24, 1), { flags: 0x800 }), data('.a', Buffer.alloc(1, 1)),
+        data('.none', Buffer.alloc(2040), { type: 0 })] });
     const signed = Buffer.concat([signature, Buffer.from([0, 0, 2, 0, 0, 0, 0, 0, 0, 0, 2, 0xbc]),
         Buffer.from('~Module signature appended~\n')]);
     const content = Buffer.concat([module, Buffer.from('appended'), signed]);
     const rows = await facts(await pick_written('module', content));
-    assert.deepEqual(['kind', 'kernel', 'modules', 'debug information', 'appended bytes', 'module signature', 'broken']
-        .map((name) => value_in(rows, name)), [
-        `A kernel module for x86-64 of ${decimal(content.length)} bytes, with debug information`, '6.1.0 SMP ',
-        'crc16,mbcache', '24 bytes, compressed, .debug_info', `8 bytes, ${hex(module.length)}`,
-        `740 bytes, ${hex(module.length + 8)}`,
-        'no: tables, sections and segments lie in the file, and no sections overlap']);
+    for (const [name, value] of Object.entries({
+        kind: `A kernel module for x86-64 of ${decimal(content.length)} bytes, with debug information`,
+        kernel: '6.1.0 SMP ', modules: 'crc16,mbcache', 'debug information': '24 bytes, compressed, .debug_info',
+        'appended bytes': `8 bytes, ${hex(module.length)}`, 'module signature': `740 bytes, ${hex(module.length + 8)}`,
+        broken: 'no: tables, sections and segments lie in the file, and no sections overlap',
+    })) assert.equal(value_in(rows, name), value, name);
     assert.equal((await shares())['appended bytes'], Math.round(1000 * 748 / content.length) / 10);
     await open_tab('layout');
-    const [sizes, titles] = [await cells(3), await cells(5)];
-    const next = titles.indexOf('.a') + 1, last = titles.slice(-2);
+    const [sizes, titles] = [await cells(3), await cells(5)], next = titles.indexOf('.a') + 1;
     assert.deepEqual([titles.includes('.debug_info (compressed)'), titles.includes('gap')], [true, false]);
-    assert.deepEqual([sizes[next], titles[next], ...last], ['2,047', 'padding', 'appended bytes', 'module signature']);
-    const unsaid = Buffer.from('vermagic\0'), names = ['.modinfo', '.gnu.linkonce.this_module'];
-    await pick_written('unsaid', elf_file({ sections: names.map((name) => named(name, unsaid)) }));
-    assert.equal(value_in(await facts(), 'kernel'), '');
+    assert.deepEqual([sizes[next], titles[next], ...titles.slice(-2)],
+        ['2,047', 'padding', 'appended bytes', 'module signature']);
+    const unsaid = elf_file({ sections: names.map((name) => data(name, Buffer.from('vermagic\0'))) });
+    assert.equal(value_in(await facts(await pick_written('unsaid', unsaid)), 'kernel'), '');
 });
 
 check('A core has its signal, command, threads with registers, and mapped files, by the layouts of Linux', async () => {
-    const put = (size, ...numbers) => patched(Buffer.alloc(size), ...numbers);
+    const put = (size, ...numbers) => patched(Buffer.alloc(size), ...numbers),
+        running = () => facts('', 'What was running');
     const thread = (id, rip, rsp) =>
         note('CORE', 1, put(336, [12, 11, 2], [32, id, 4], [112 + 80, 0x77], [112 + 128, rip], [112 + 152, rsp]));
     const process = put(136, [24, 70, 4]);
@@ -524,36 +512,33 @@ check('A core has its signal, command, threads with registers, and mapped files,
     process.write('./program --all', 56);
     const ranges = [[0x400000, 0x401000, 0], [0x401000, 0x402000, 1], [0x7f0000, 0x7f1000, 0]];
     const mapped = Buffer.concat([longs(3, 4096, ...ranges), Buffer.from('/bin/a\0/bin/a\0/lib/b c\0')]);
-    const others = Array.from({ length: 299 }, (_, i) => thread(100 + i, 0x402000, 0x7ffd00));
     const notes = [thread(71, 0x401234, 0x7fff00), note('CORE', 3, process), note('CORE', 0x46494c45, mapped),
-        thread(72, 0x401300, 0x7ffe00), ...others];
-    await pick_written('process', noted_file(notes));
-    assert.deepEqual(await facts('', 'What was running'), [['signal', '11, SIGSEGV'],
+        thread(72, 0x401300, 0x7ffe00), ...times(299, (i) => thread(100 + i, 0x402000, 0x7ffd00))];
+    await take([pick_written, 'process', noted_file(notes)], [is, running, [['signal', '11, SIGSEGV'],
         ['command', './program --all, note'], ['process', '70'], ['thread 71', 'rip 0x401234, rsp 0x7fff00, note'],
         ['thread 72', 'rip 0x401300, rsp 0x7ffe00, note'],
         ['299 threads', 'rip 0x402000: 100, 101, 102, 103, 104, 105, 106, 107, and 291 more'],
         ['mapped file', '/bin/a, 2 ranges from 0x400000 on'],
-        ['mapped file', '/lib/b c, 1 range from 0x7f0000 on']].map((row) => [...row, 'not proved']));
-    const apart = Array.from({ length: 25 }, (_, i) => thread(i, 0x401000 + i, 0x7f0000));
-    await pick_written('apart', noted_file(apart));
-    assert.deepEqual((await lines_of('What was running')).slice(-2),
-        ['thread 19, rip 0x401013, rsp 0x7f0000, note', 'other places of threads, 5, notes']);
+        ['mapped file', '/lib/b c, 1 range from 0x7f0000 on']].map((row) => [...row, 'not proved'])],
+    [pick_written, 'apart', noted_file(times(25, (i) => thread(i, 0x401000 + i, 0x7f0000)))],
+    [is, async () => (await lines_of('What was running')).slice(-2),
+        ['thread 19, rip 0x401013, rsp 0x7f0000, note', 'other places of threads, 5, notes']]);
     // (some machines have other signals by these numbers; and a note may be too short to have a number)
     for (const [machine, bytes, signal, name] of [[62, put(336, [12, 10, 2]), '10, SIGUSR1', 'thread 0'],
         [8, put(336, [12, 10, 2]), '10', 'thread 0'], [43, put(336, [12, 10, 2]), '10', 'thread 0'],
         [62, Buffer.alloc(8, 1), 'unknown', 'thread unknown']]) {
         await pick_written('signal', noted_file([note('CORE', 1, bytes), note('CORE', 6, process)], { machine }));
-        const [first, [thread]] = await facts('', 'What was running');
+        const [first, [thread]] = await running();
         assert.deepEqual([...first.slice(0, 2), thread], ['signal', signal, name]);
     }
     await pick(join(folder, 'process'));
     await go('notes/segments/0', 'CORE PRSTATUS, thread 71', { rax: '0x77', rip: '0x401234', registers: /not proved/ });
     for (const [machine, places] of [[183, { x0: 0, sp: 31, pc: 32 }], [243, { pc: 0, sp: 2, t6: 31 }]]) {
-        const status = note('CORE', 1,
-            put(480, ...Object.values(places).map((place) => [112 + 8 * place, 0x1000 + place]))),
-            registers = Object.entries(places).map(([name, place]) => [name, hex(0x1000 + place)]);
-        await pick_written(`core${machine}`, noted_file([status], { machine }));
-        await go('notes/segments/0', 'CORE PRSTATUS, thread 0', Object.fromEntries(registers));
+        const all = Object.entries(places), status =
+            note('CORE', 1, put(480, ...all.map(([, place]) => [112 + 8 * place, 0x1000 + place])));
+        await take([pick_written, `core${machine}`, noted_file([status], { machine })],
+            [go, 'notes/segments/0', 'CORE PRSTATUS, thread 0',
+                Object.fromEntries(all.map(([name, place]) => [name, hex(0x1000 + place)]))]);
     }
 });
 
@@ -602,9 +587,9 @@ check('If a file has more segments than its header can say, the first section he
     const many = Buffer.concat([elf_file({ type: 4 }), Buffer.alloc(64 + 56 * 70000)]);
     const file = patched(many, [0x20, 128], [0x28, 64], [0x38, 0xffff, 2], [0x3a, 64, 2], [0x3c, 1, 2],
         [64 + 44, 70000, 4]);
-    await pick_written('many', file, 'segments');
-    assert.deepEqual([await text_of('#tab-segments span'), await text_of('#panel output')], ['70,000', '70,000']);
-    await go('segments/69999', 'segment 69999, NULL');
+    await take([pick_written, 'many', file, 'segments'],
+        [has_texts, { '#tab-segments span': '70,000', '#panel output': '70,000' }],
+        [go, 'segments/69999', 'segment 69999, NULL']);
 });
 
 check('In a file with sections code is what executable sections hold, and no padding of a segment', async () => {
@@ -659,101 +644,79 @@ check('Names depend on the machine and the owner, and numbers without a name are
     const notes = { name: '.note', type: 7,
         bytes: Buffer.concat([note('stapsdt', 3, bytes), note('GNU', 3, bytes), note('other', 3, bytes)]) };
     const given = [notes, text('.unwind', 0x70000001), text('.relr.dyn', 19), text('.unknown', 0x61234567),
-        text('.kept', 1, 0x200002)];
-    const names = [[62, 'X86_64_UNWIND', '0x70000001'], [40, 'ARM_EXIDX', 'ARM_EXIDX'],
-        [243, '0x70000001', '0x70000001']];
-    for (const [machine, name, of_segment] of names) {
+        text('.kept', 1, 0x200002)], are = (column, wanted) => is(() => cells(column), wanted);
+    for (const [machine, name, of_segment] of [[62, 'X86_64_UNWIND', '0x70000001'], [40, 'ARM_EXIDX', 'ARM_EXIDX'],
+        [243, '0x70000001', '0x70000001']]) {
         await pick_written(`labels${machine}`, elf_file({ machine, osabi: 3, sections: given, segments }), 'sections');
         const types = (await cells(2)).slice(2, 6), { 5: flags } = await cells(6);
-        await open_tab('segments');
-        assert.deepEqual([...types, flags, await cells(1)],
-            [name, 'RELR', '0x61234567', 'PROGBITS', 'ALLOC GNU_RETAIN', [of_segment]]);
+        assert.deepEqual([...types, flags], [name, 'RELR', '0x61234567', 'PROGBITS', 'ALLOC GNU_RETAIN']);
+        await take([open_tab, 'segments'], [are, 1, [of_segment]]);
     }
-    await open_tab('notes');
-    assert.deepEqual(await cells(3), ['STAPSDT', 'GNU_BUILD_ID', '0x3']);
-    await click('#tab-header');
-    await until(`document.querySelector('[data-field=ei_osabi]')?.textContent.includes('ELFOSABI_GNU')`);
+    await take([open_tab, 'notes'], [are, 3, ['STAPSDT', 'GNU_BUILD_ID', '0x3']], [click, '#tab-header'],
+        [until, `document.querySelector('[data-field=ei_osabi]')?.textContent.includes('ELFOSABI_GNU')`]);
     // (FreeBSD numbers the notes of its cores anew)
-    for (const [type, ...types] of [[2, 'FREEBSD_ABI_TAG', '0x7'], [4, 'PRSTATUS', 'THRMISC']]) {
-        await pick_written('freebsd', noted_file([1, 7].map((of) => note('FreeBSD', of, bytes)), { type }), 'notes');
-        assert.deepEqual(await cells(3), types);
-    }
+    for (const [type, ...types] of [[2, 'FREEBSD_ABI_TAG', '0x7'], [4, 'PRSTATUS', 'THRMISC']])
+        await take([pick_written, 'freebsd', noted_file([1, 7].map((of) => note('FreeBSD', of, bytes)), { type }),
+            'notes'], [are, 3, types]);
     // (numbers that the page does not name are in its closing list)
     const register = symbols_file([{ text: '%g2', info: 13 }]);
-    await pick_written('register', patched(register, [0x12, 43, 2]), 'symbols');
-    assert.deepEqual(await cells(4), ['NOTYPE', '13']);
-    await pick_written('alpha', elf_file({ machine: 0x9026, sections: [relocations({ type: 2 })] }), 'relocations');
-    assert.deepEqual(await cells(2), ['2']);
-    await facts();
-    assert.match(await text_of('#panel .others'), /the relocations of Alpha and .* SPARC’s symbol type STT_REGISTER/);
-    await pick(program_file);
-    // (what belongs together is apart in the text, too, which is copied and read aloud)
-    await go(main_place, 'main', { st_info: '0x12, STB_GLOBAL (1), STT_FUNC (2)', st_other: /STV_DEFAULT \(0\)/,
-        st_size: `${main.size}, ${decimal(main.size)} bytes` });
-    await has_texts({ '#tab-sections': `Sections ${counts_of(program_file).sections}`,
-        h1: 'goblin what an ELF file holds' });
+    await take([pick_written, 'register', patched(register, [0x12, 43, 2]), 'symbols'], [are, 4, ['NOTYPE', '13']],
+        [pick_written, 'alpha', elf_file({ machine: 0x9026, sections: [relocations({ type: 2 })] }), 'relocations'],
+        [are, 2, ['2']], [facts],
+        [has_texts, { '#panel .others': /the relocations of Alpha and .* SPARC’s symbol type STT_REGISTER/ }],
+        // (what belongs together is apart in the text, too, which is copied and read aloud)
+        [pick, program_file], [go, main_place, 'main', { st_info: '0x12, STB_GLOBAL (1), STT_FUNC (2)',
+            st_other: /STV_DEFAULT \(0\)/, st_size: `${main.size}, ${decimal(main.size)} bytes` }],
+        [has_texts, { '#tab-sections': `Sections ${counts_of(program_file).sections}`,
+            h1: 'goblin what an ELF file holds' }]);
 });
 
-// Names of C++: some of each form that is read, and some that are left alone, as long ones, and those of an old Rust.
+// Names of C++: some of each form that is read.
 const READ = ['_ZN5space5ClassILi5ELb1ELm7EEC2ERKS1_', '_ZNKSs4sizeEv',
     '_ZStlsISt11char_traitsIcEERSt13basic_ostreamIcT_ES5_PKc', '_ZTVN1a1bE', '_ZN1aIiEaSEOS0_', '_Z3mapIPFvPKciEET_S3_',
     '_ZThn16_N1a1bEv', '_ZN3fooB5cxx11ILN1k1eE3EJidEE3barEv.part.0', '_ZNO1a1bEVPKi', '_ZN12_GLOBAL__N_11aD1Ev',
     '_ZNVKSt6atomicIiE4loadESt12memory_order', '_ZN1aIJEiE1bEv', '_ZGVNK1a1bE'];
-const SHORT_FORMS = Array.from({ length: 8 }, (_, i) => `S_IS${i}_S${i}_E`).join(''),
-    VERY_LONG = `_Z1f1aIiiE${SHORT_FORMS}${'S8_'.repeat(250)}`; // (of 1.3 million signs)
-const LEFT_ALONE = [VERY_LONG, `_Z1fv${'.1'.repeat(60)}!`, `_Z1f${'F'.repeat(1019)}`, '_Z1fILi1EEvRAT__c',
-    '_ZZ1fvENKUlvE_clEv', '_ZN4core3fmt17h0123456789abcdefE', '_Z',
-    '_ZN', 'main', '_Z1fS9_', '_Z1fIiiEvT0A_', '_ZTVTh8_i'];
 
-check('Names of C++ are demangled as by c++filt, or left alone', async () => {
-    const rows = readFileSync(join(stored, 'mangled'), 'utf8').trim().split('\n').map((line) => line.split('\t'));
-    const by_filter = Object.fromEntries(rows),
-        names = [...READ, ...LEFT_ALONE, ...Object.keys(by_filter).filter((name) => !READ.includes(name))];
-    const wanted = names.map((name) => by_filter[name]);
+// (modules.mjs compares what each name is with c++filt)
+check('A switch shows names of C++ as they are written there, and both are found and saved', async () => {
+    const names = [...READ, 'main', '_Z'], by_filter = new Map(readFileSync(join(stored, 'mangled'), 'utf8').trim()
+        .split('\n').map((line) => line.split('\t'))), wanted = READ.map((name) => by_filter.get(name));
+    const shows = (first) => until(`${one('#panel .body .row:nth-child(2) .cell:nth-child(2)')}?.textContent
+        === ${quoted(first)}`), heads = () => each_of('#panel [role=columnheader]', 'item.textContent');
     await pick_written('mangled', symbols_file(names.map((text) => ({ text }))), 'symbols');
-    const found = (await saved_rows('symbols')).slice(1).map(([, , demangled]) => demangled);
-    // (a switch shows them in place of the names, and both are found)
-    const heads = () => each_of('#panel [role=columnheader]', 'item.textContent'), [, , ...others] = await heads();
-    assert.deepEqual([(await cells(1)).slice(1, 11), (await heads())[1]], [names.slice(0, 10), 'Name']);
+    const [index, name, ...others] = await heads();
+    assert.deepEqual([name, (await cells(1)).slice(1)], ['Name', names]);
+    assert.deepEqual((await saved_rows('symbols')).map(([, , demangled]) => demangled), ['', ...wanted, '', '']);
     await press_button('Demangle');
-    await until(`${one('#panel .body .row:nth-child(2) .cell:nth-child(2)')}?.textContent === ${quoted(wanted[0])}`);
-    assert.deepEqual([(await cells(1)).slice(1, 1 + READ.length), await heads()],
-        [wanted.slice(0, READ.length), ['#', 'Demangled (not proved)', ...others]]);
+    await shows(wanted[0]);
+    assert.deepEqual([(await cells(1)).slice(1), await heads()],
+        [[...wanted, 'main', '_Z'], [index, 'Demangled (not proved)', ...others]]);
     for (const text of [wanted[0], READ[0]]) await search(text.toUpperCase(), `1 of ${names.length + 1}`);
     await search('', `${names.length + 1}`);
     await press_button('Demangle');
-    await until(`${one('#panel .body .row:nth-child(2) .cell:nth-child(2)')}?.textContent === ${quoted(names[0])}`);
-    assert.deepEqual(found.slice(0, READ.length + LEFT_ALONE.length),
-        [...wanted.slice(0, READ.length), ...LEFT_ALONE.map(() => '')]);
-    const read = found.filter(Boolean).length;
-    assert.ok(read > 0.95 * (names.length - LEFT_ALONE.length), `${read} of ${names.length}`);
-    assert.deepEqual(found, found.map((text, i) => text && wanted[i]));
-    await go('symbols/1/1', names[0], { demangled: `${wanted[0]}, not proved` });
+    await shows(READ[0]);
+    await go('symbols/1/1', READ[0], { demangled: `${wanted[0]}, not proved` });
 });
 
 check('While a file is read, the previous one stays and can be used, and the page says how much is left', async () => {
-    await pick(program_file);
-    await open_tab('sections');
+    await take([pick, program_file], [open_tab, 'sections']);
     const large = join(folder, 'large'), { memory } = browser.cost();
     writeFileSync(large, content);
     truncateSync(large, 4e8);
     await browser.pick('#pick', large);
-    await until(is_busy);
-    await evaluate(`void (${one('#goto')}.value = '.text', ${one('#goto')}.onfocus())`);
-    await until_there('#found:not([hidden]) li');
+    await take([until, is_busy], [evaluate, `void (${one('#goto')}.value = '.text', ${one('#goto')}.onfocus())`],
+        [until_there, '#found:not([hidden]) li']);
     for (const row of [1, 2, 3]) {
         await click_row(row);
         assert.ok(await evaluate(is_busy), 'the file is read before its test is done');
         await until_chosen((await cells(1))[row]);
     }
-    await until_there('body.dimmed');
-    assert.match(await text_of('#loading'), /^Reading large: [\d,]+ MB of 400 MB left$/);
-    assert.equal(await text_of('#file b'), 'x86_64_program');
-    await until(`${one('#file b')}.textContent === 'large' && !(${is_busy})`);
     const is_undimmed = async () =>
         assert.deepEqual([await text_of('#loading'), await evaluate(`${one('.dimmed')} === null`)], ['', true]);
-    await is_undimmed();
-    assert.equal(await is_hidden('found'), true);
+    await take([until_there, 'body.dimmed'], [has_texts, { '#file b': 'x86_64_program',
+        '#loading': /^Reading large: [\d,]+ MB of 400 MB left$/ }],
+    [until, `${one('#file b')}.textContent === 'large' && !(${is_busy})`], [is_undimmed],
+    [is, () => is_hidden('found'), true]);
     // (the file is in the memory once)
     await waited('no second copy of the file is kept', () => browser.cost().memory - memory < 1.6 * 4e8);
     // (a file that another one replaces before it is read does not dim that one; timers are late, as that one may be)
@@ -774,24 +737,16 @@ check_program('A symbol has its bytes, and links along which back and forward le
     assert.ok(shown.length > 40 && bytes_of(program_file, main_at, main.size).startsWith(shown), shown);
     // (a symbol without a size has the bytes from its offset on)
     const label = symbols.find(({ type, size, section }) => type === 'NOTYPE' && size === 0
-        && section === `${data.index}`);
-    const of_label = await go(`${symtab}/${label.index}`, label.name).then(bytes_shown);
+        && section === `${data.index}`), of_label = await go(`${symtab}/${label.index}`, label.name).then(bytes_shown);
     assert.ok(of_label
         && bytes_of(program_file, label.value - data.address + data.offset, 16).startsWith(of_label), label.name);
     // (and one at whose address nothing is has no link to it)
-    const end = symbols.find(({ name }) => name === '_end');
-    await go(`${symtab}/${end.index}`, '_end', { st_value: hex(end.value) });
-    await go(main_place, 'main');
-    await follow('address', `address ${main_address}`);
-    assert.match(await side(), /segment \d+, LOAD/);
-    await follow('main');
-    await follow('.text');
-    assert.equal(await fragment(), `sections/${text.index}`);
-    for (const [title, place] of [['main', main_place], [`address ${main_address}`, `address/${main_address}`]]) {
-        await go_in_history('back', title);
-        assert.equal(await fragment(), place);
-    }
-    await go_in_history('forward', 'main');
+    const end = symbols.find(({ name }) => name === '_end'), address = `address ${main_address}`;
+    await take([go, `${symtab}/${end.index}`, '_end', { st_value: hex(end.value) }], [go, main_place, 'main'],
+        [follow, 'address', address], [is, side, /segment \d+, LOAD/], [follow, 'main'], [follow, '.text'],
+        [is, fragment, `sections/${text.index}`], [go_in_history, 'back', 'main'], [is, fragment, main_place],
+        [go_in_history, 'back', address], [is, fragment, `address/${main_address}`],
+        [go_in_history, 'forward', 'main']);
 });
 
 check('A link to a location leads there once the file is picked', async () => {
@@ -812,32 +767,22 @@ check_program('A section has links to those at its sh_link and sh_info', async (
 
 check_program('Back goes from row to row, and the steps of the arrow keys count as one', async () => {
     await open_tab('sections');
-    const [, first, second, third] = await cells(1);
-    for (const [row, title] of [[1, first], [2, second]]) {
-        await click_row(row);
-        await until_chosen(title);
-    }
-    await press('#panel .grid', 'ArrowDown');
-    await until_chosen(third);
-    await go_in_history('back', first);
-    assert.equal(await text_of(`${active_row} :nth-child(2)`), first);
-    // (a tab where nothing is chosen shows nothing of the tab before)
-    await open_tab('segments');
-    await until_chosen('ELF header');
-    await go_in_history('back', first);
-    await click('#tab-sections');
-    await until_chosen('ELF header');
-    assert.equal(await text_of(active_row), null);
+    const [, first, second, third] = await cells(1), active = () => text_of(`${active_row} :nth-child(2)`);
+    await take([click_row, 1], [until_chosen, first], [click_row, 2], [until_chosen, second],
+        [press, '#panel .grid', 'ArrowDown'], [until_chosen, third], [go_in_history, 'back', first],
+        [is, active, first],
+        // (a tab where nothing is chosen shows nothing of the tab before)
+        [open_tab, 'segments'], [until_chosen, 'ELF header'], [go_in_history, 'back', first],
+        [click, '#tab-sections'], [until_chosen, 'ELF header'], [is, () => text_of(active_row), null],
+        [go, 'sections/1', first]);
     // (an arrow key moves the mark on, also while the worker is asked where the row of a location is)
-    await go('sections/1', first);
     await evaluate(`(async () => {
         history.pushState({}, '', '#sections/5');
         dispatchEvent(new PopStateEvent('popstate'));
         for (let i = 0; i < 50; i++) await undefined;
         ${one('#panel .grid')}.dispatchEvent(new KeyboardEvent('keydown', { key: 'ArrowDown' }));
     })()`);
-    await until_chosen(second);
-    assert.equal(await text_of(`${active_row} :nth-child(2)`), second);
+    await take([until_chosen, second], [is, active, second]);
     // (a row is shown that is clicked before the list is sorted anew)
     await evaluate(`void (${one('#panel [role=columnheader]:nth-child(2) button')}.click(),
         document.querySelectorAll('#panel .body .row')[3].children[1].click())`);
@@ -845,153 +790,100 @@ check_program('Back goes from row to row, and the steps of the arrow keys count 
 });
 
 check_program('The chosen row stays marked once the list is sorted or searched', async () => {
-    const all = Object.keys(sections).length + 1, name_in_row = `${active_row} :nth-child(2)`;
-    await go(`sections/${text.index}`, '.text');
-    for (const order of ['ascending', 'descending']) {
-        await click('#panel [role=columnheader]:first-child button');
-        await until_there(`#panel [aria-sort=${order}]`);
-    }
-    await until_text('#panel .body .row :first-child', `${all - 1}`);
-    await until_text(name_in_row, '.text');
-    for (const [wanted, number, name] of [['.tex', `1 of ${all}`, '.text'], ['.dynst', `1 of ${all}`, null],
-        ['', all, '.text']]) {
-        await search(wanted, `${number}`);
-        assert.equal(await text_of(name_in_row), name, wanted);
-    }
-    // (a link to it scrolls to it)
-    const texts = Array.from({ length: 500 }, (_, i) => ({ text: `s${i + 1}` }));
-    await pick_written('scrolled', symbols_file(texts), 'symbols');
-    await go('symbols/1/400', 's400');
-    await search('s1', `111 of 501`);
-    await go('symbols/1/1', 's1');
-    await go('symbols/1/400', 's400');
-    await until_text(name_in_row, 's400');
-    // (and out of view it can be copied)
-    await go('symbols/1/1', 's1');
-    for (const order of ['ascending', 'descending']) {
-        await click('#panel [role=columnheader]:first-child button');
-        await until_there(`#panel [aria-sort=${order}]`);
-    }
-    await until_text('#panel .body .row :first-child', '500');
-    assert.equal(await text_of(name_in_row), null);
-    assert.equal(await copied('Copy row'), '1\ts1\t0x0\t0\tNOTYPE\tLOCAL\tDEFAULT\tundefined');
-    await evaluate('void (globalThis.copied = undefined)');
-    await focus('#panel .grid');
-    assert.equal(await copied_by_key(), '');
-    await until(`globalThis.copied === '1'`);
+    const all = Object.keys(sections).length + 1, marked = `${active_row} :nth-child(2)`,
+        first_row = (text) => until_text('#panel .body .row :first-child', text);
+    await take([go, `sections/${text.index}`, '.text'], [sort_by, 1], [first_row, `${all - 1}`],
+        [until_text, marked, '.text'], [search, '.tex', `1 of ${all}`], [has_texts, { [marked]: '.text' }],
+        [search, '.dynst', `1 of ${all}`], [has_texts, { [marked]: null }], [search, '', `${all}`],
+        [has_texts, { [marked]: '.text' }]);
+    // (a link to it scrolls to it, and out of view it can be copied)
+    const texts = times(500, (i) => ({ text: `s${i + 1}` }));
+    await take([pick_written, 'scrolled', symbols_file(texts), 'symbols'], [go, 'symbols/1/400', 's400'],
+        [search, 's1', '111 of 501'], [go, 'symbols/1/1', 's1'], [go, 'symbols/1/400', 's400'],
+        [until_text, marked, 's400'], [go, 'symbols/1/1', 's1'], [sort_by, 1], [first_row, '500'],
+        [has_texts, { [marked]: null }],
+        [is, () => copied('Copy row'), '1\ts1\t0x0\t0\tNOTYPE\tLOCAL\tDEFAULT\tundefined'],
+        [evaluate, 'void (globalThis.copied = undefined)'], [focus, '#panel .grid'], [is, copied_by_key, ''],
+        [until, `globalThis.copied === '1'`]);
 });
 
 check_program('A relocation leads to its symbol, and has the bytes that it changes', async () => {
-    const [dynamic] = listed(program_file).split(" '.rela.plt' ");
-    const all = [...dynamic.matchAll(
+    const [dynamic] = listed(program_file).split(" '.rela.plt' "), all = [...dynamic.matchAll(
         /^([0-9a-f]{16}) +[0-9a-f]{16} (R_\w+) +(?:[0-9a-f]{16} (\w+)(?:@\S+)? \+ )?([0-9a-f]+)$/gm)];
     const at = all.findIndex(([, , type]) => type === 'R_X86_64_GLOB_DAT'), [, digits, , name] = all[at],
-        place = parseInt(digits, 16);
-    await go(`relocations/${sections['.rela.dyn'].index}/${at}`, name, { r_type: /R_X86_64_GLOB_DAT/ });
-    const got = Object.values(sections).find(({ address, size, type }) =>
-        address > 0 && place >= address && place < address + size && type !== 'NOBITS');
-    assert.equal(await bytes_shown(), bytes_of(program_file, place - got.address + got.offset, 8));
-    await follow('address', `address ${hex(place)}`);
-    await go_in_history('back', name);
-    await follow(name);
-    await until(`location.hash.startsWith('#symbols/${sections['.dynsym'].index}/')`);
-    await until(`${with_text('#chosen th', 'st_info')} !== undefined`);
+        place = parseInt(digits, 16), got = Object.values(sections).find(({ address, size, type }) =>
+            address > 0 && place >= address && place < address + size && type !== 'NOBITS');
+    await take([go, `relocations/${sections['.rela.dyn'].index}/${at}`, name, { r_type: /R_X86_64_GLOB_DAT/ }],
+        [is, bytes_shown, bytes_of(program_file, place - got.address + got.offset, 8)],
+        [follow, 'address', `address ${hex(place)}`], [go_in_history, 'back', name], [follow, name],
+        [until, `location.hash.startsWith('#symbols/${sections['.dynsym'].index}/')`],
+        [until, `${with_text('#chosen th', 'st_info')} !== undefined`]);
     // an object file, whose relocations have offsets in the section at sh_info
     const text = code(Buffer.from('0011223344556677', 'hex')), table = relocations({ offset: 3, type: 2 });
-    await pick_written('object', elf_file({ sections: [text, { ...table, info: 1 }] }));
-    await go('relocations/2/0', 'R_X86_64_PC32');
-    assert.equal(await bytes_shown(), '3344556677');
+    await take([pick_written, 'object', elf_file({ sections: [text, { ...table, info: 1 }] })],
+        [go, 'relocations/2/0', 'R_X86_64_PC32'], [is, bytes_shown, '3344556677']);
 });
 
 check_program('The field goes to an offset, an address and a name, and says how it reads digits', async () => {
-    const inside = hex(main.value + 1),
+    const inside = hex(main.value + 1), field = one('#goto'), found = () => is_hidden('found'),
         until_place = (place) => until(`document.querySelector('#chosen h2').textContent.endsWith('${place}')`);
-    await go_by_field(' 0x10 ', 'offset 0x10');
-    assert.match(await side(), /in ELF header/);
-    await go_by_field(inside);
-    await until_place(inside);
-    assert.match(await side(), /main \+ 0x1/);
-    await go_by_field('.dynstr', '.dynstr');
-    await until_active('#chosen h2');
-    await go_by_field('main', 'main');
-    assert.equal(await fragment(), main_place);
-    // (Enter waits for a search that has begun)
-    const field = one('#goto');
-    await evaluate(`void (${field}.value = '.dynstr', ${field}.onfocus(),
-        ${field}.dispatchEvent(new KeyboardEvent('keydown', { key: 'Enter' })))`);
-    await until_chosen('.dynstr');
-    await go_by_field('there is no such name');
-    await until_text('#none:not([hidden])',
-        'The file has nothing at that offset or address, and no such name as it is in the file.');
-    // (a touch may scroll the results, and a click chooses one)
-    await evaluate(`void (${field}.value = '.dynsym', ${field}.onfocus())`);
-    await until_text('#found li b', '.dynsym');
-    await evaluate(`void ${one('#found li')}.dispatchEvent(new PointerEvent('pointerdown', { bubbles: true }))`);
-    assert.equal(await is_hidden('found'), false);
-    await click('#found li');
-    await until_chosen('.dynsym');
-    // (nothing is found for one who has left the field)
-    await evaluate(`void (${field}.focus(), ${field}.value = 'main', ${field}.dispatchEvent(new Event('input')),
-        ${field}.blur())`);
-    await setTimeout(500);
-    assert.equal(await is_hidden('found'), true);
+    const begin = (text) => evaluate(`void (${field}.value = '${text}', ${field}.onfocus())`);
+    await take([go_by_field, ' 0x10 ', 'offset 0x10'], [is, side, /in ELF header/], [go_by_field, inside],
+        [until_place, inside], [is, side, /main \+ 0x1/], [go_by_field, '.dynstr', '.dynstr'],
+        [until_active, '#chosen h2'], [go_by_field, 'main', 'main'], [is, fragment, main_place],
+        // (Enter waits for a search that has begun)
+        [evaluate, `void (${field}.value = '.dynstr', ${field}.onfocus(),
+            ${field}.dispatchEvent(new KeyboardEvent('keydown', { key: 'Enter' })))`], [until_chosen, '.dynstr'],
+        [go_by_field, 'there is no such name'], [until_text, '#none:not([hidden])',
+            'The file has nothing at that offset or address, and no such name as it is in the file.'],
+        // (a touch may scroll the results, and a click chooses one)
+        [begin, '.dynsym'], [until_text, '#found li b', '.dynsym'],
+        [evaluate, `void ${one('#found li')}.dispatchEvent(new PointerEvent('pointerdown', { bubbles: true }))`],
+        [is, found, false], [click, '#found li'], [until_chosen, '.dynsym'],
+        // (nothing is found for one who has left the field)
+        [evaluate, `void (${field}.focus(), ${field}.value = 'main', ${field}.dispatchEvent(new Event('input')),
+            ${field}.blur())`], [setTimeout, 500], [is, found, true]);
     // Digits without 0x are decimal or hexadecimal. The page says how it reads them, and links to the other reading.
     const readings = ['offset 0x64, read as decimal', 'offset 0x100, read as hexadecimal'];
-    for (const [text, [taken, other]] of [['100', readings], ['0000000000000100', readings.toReversed()]]) {
-        await go_by_field(text, taken.split(',')[0]);
-        await until_text('#said', `${taken}, or ${other}`);
-        await click('#said a');
-        await until_chosen(other.split(',')[0]);
-    }
-    await go_by_field(main.value.toString(16).padStart(16, '0'));
-    await until_place(main_address);
-    await until(`/^\\w+ ${main_address}, read as hexadecimal/.test(document.getElementById('said').textContent)`);
-    // (the addresses of kernels have 20 decimal digits)
+    for (const [text, [taken, other]] of [['100', readings], ['0000000000000100', readings.toReversed()]])
+        await take([go_by_field, text, taken.split(',')[0]], [until_text, '#said', `${taken}, or ${other}`],
+            [click, '#said a'], [until_chosen, other.split(',')[0]]);
+    // (the addresses of kernels have 20 decimal digits, and a name that could be a number is a name)
     const kernel = 0xffffffff81000000n;
-    await pick_written('kernel', elf_file({ segments: [{ vaddr: kernel, bytes: Buffer.alloc(16) }], type: 2 }));
-    await go_by_field(`${1n << 64n}`);
-    await until_there('#none:not([hidden])');
-    await go_by_field(`${kernel}`, `address ${hex(kernel)}`);
-    // (a name that could be a number is a name)
-    await pick_written('named', elf_file({ sections: [{ name: 'a1', type: 1, bytes: Buffer.alloc(256) }] }));
-    await go_by_field('a1', 'a1');
-    await go_by_field('a2', 'offset 0xa2');
+    await take([go_by_field, main.value.toString(16).padStart(16, '0')], [until_place, main_address],
+        [until, `/^\\w+ ${main_address}, read as hexadecimal/.test(document.getElementById('said').textContent)`],
+        [pick_written, 'kernel', elf_file({ segments: [{ vaddr: kernel, bytes: Buffer.alloc(16) }], type: 2 })],
+        [go_by_field, `${1n << 64n}`], [until_there, '#none:not([hidden])'],
+        [go_by_field, `${kernel}`, `address ${hex(kernel)}`],
+        [pick_written, 'named', elf_file({ sections: [data('a1', Buffer.alloc(256))] })],
+        [go_by_field, 'a1', 'a1'], [go_by_field, 'a2', 'offset 0xa2']);
 });
 
 check_program('A search finds texts and addresses, and Enter opens what it finds', async () => {
-    const all = decimal(symbols.length), of_all = (is_found) => `${symbols.filter(is_found).length} of ${all}`;
-    await open_list(symtab, all);
-    for (const at of [main.value + main.size, main.value + 1])
-        await search(`  ${hex(at)} `, of_all(({ value, size }) => value === at || (value < at && at < value + size)));
-    assert.ok((await cells(1)).includes('main'));
+    const all = decimal(symbols.length), of_all = (is_found) => `${symbols.filter(is_found).length} of ${all}`,
+        named = symbols.filter(({ name }) => name.includes('main')), [first, second] = named;
+    const at = (value) => [search, `  ${hex(value)} `, of_all(({ value: start, size }) =>
+        start === value || (start < value && value < start + size))];
     assert.ok(symbols.some(({ type }) => type === 'SECTION' || type === 'FILE'));
-    await search('FILE', of_all(({ type, name }) => type === 'FILE' || /file/i.test(name)));
-    // Enter opens the first result, and a row of the list, whose column heads are before it.
-    await search('main', of_all(({ name }) => name.includes('main')));
-    await press('#panel input', 'Enter');
-    await until_active('#chosen h2');
-    const [first, second] = symbols.filter(({ name }) => name.includes('main'));
-    assert.equal(await fragment(), `${symtab}/${first.index}`);
-    await press('#panel .saving button:last-child', 'Tab');
-    assert.equal(await evaluate(`document.activeElement.closest('[role=columnheader]')?.textContent`), '#');
+    await take([open_list, symtab, all], at(main.value + main.size), at(main.value + 1),
+        [async () => assert.ok((await cells(1)).includes('main'))],
+        [search, 'FILE', of_all(({ type, name }) => type === 'FILE' || /file/i.test(name))],
+        // Enter opens the first result, and a row of the list, whose column heads are before it.
+        [search, 'main', `${named.length} of ${all}`], [press, '#panel input', 'Enter'], [until_active, '#chosen h2'],
+        [is, fragment, `${symtab}/${first.index}`], [press, '#panel .saving button:last-child', 'Tab'],
+        [is, () => evaluate(`document.activeElement.closest('[role=columnheader]')?.textContent`), '#']);
     await browser.press(...Array(8).fill('Tab'));
     await until_active('[role=grid]');
     await browser.press('ArrowDown', 'Enter');
-    await until_active('#chosen h2');
-    assert.equal(await fragment(), `${symtab}/${second.index}`);
     // (a search in a list that another one replaces before it begins is given up)
     const { index, size } = sections['.dynsym'];
-    await type('init');
-    await open_list(`symbols/${index}`, decimal(size / 24));
-    await setTimeout(300);
-    await click_row(1);
-    await until(`location.hash.startsWith('#symbols/${index}/')`);
-    assert.equal(await fragment(), `symbols/${index}/1`);
+    await take([until_active, '#chosen h2'], [is, fragment, `${symtab}/${second.index}`], [type, 'init'],
+        [open_list, `symbols/${index}`, decimal(size / 24)], [setTimeout, 300], [click_row, 1],
+        [until, `location.hash.startsWith('#symbols/${index}/')`], [is, fragment, `symbols/${index}/1`]);
 });
 
 check('Each row of a list that is higher than an element can be is reached', async () => {
-    const texts = Array.from({ length: 300000 }, (_, i) => ({ text: `s${i + 1}` }));
-    await pick_written('high', symbols_file(texts), 'symbols');
+    await pick_written('high', symbols_file(times(300000, (i) => ({ text: `s${i + 1}` }))), 'symbols');
     for (const index of [300000, 150000, 299990, 1]) {
         await go(`symbols/1/${index}`, `s${index}`);
         const [first, ...others] = (await cells(0)).map(Number), seen = others.map((_, i) => first + i + 1);
@@ -999,14 +891,11 @@ check('Each row of a list that is higher than an element can be is reached', asy
         assert.ok(await evaluate(`${one('#panel .grid')}.getBoundingClientRect().bottom
             > ${one(active_row)}.getBoundingClientRect().top`));
     }
-    await press('#panel .grid', 'ArrowDown');
-    await until_chosen('s2');
+    await take([press, '#panel .grid', 'ArrowDown'], [until_chosen, 's2']);
     // (the rows at its start may be forgotten, and another file be shown)
     for (let at = 0; at < 80; at++)
         await evaluate(`(${one('#panel .grid')}.scrollTop = ${7e4 * at}, new Promise(requestAnimationFrame))`);
-    await pick(made);
-    await setTimeout(250);
-    assert.equal(await text_of('#said'), '');
+    await take([pick, made], [setTimeout, 250], [has_texts, { '#said': '' }]);
 });
 
 // Fails if what is done takes the browser's processes long.
@@ -1019,82 +908,40 @@ async function timed(act) {
 
 // The first ones read the names. They take a few seconds of a busy processor, and not one for each 10,000.
 check('Searches and sorts of 184,833 symbols of C++ are fast, and say how much is done', async () => {
-    const count = 184832, end = 'EEEE4some3mapERKSt6vectorISt4pairIPKcS0_ISsEESaIS6_EEi';
-    const value_of = (i) => i * 7919 % 1000003, symbol = (i) =>
-        ({ text: `_ZN5spaceINS_5ClassIiLi${i}${end}`, info: 0x12, shndx: 3, value: value_of(i) });
-    const all = Array.from({ length: count }, (_, i) => symbol(i)), [, second] = all.map(({ text }) => text).sort();
-    const path = await pick_written('symbols', symbols_file(all, code(Buffer.alloc(64))), 'symbols');
-    const signs = (word) => evaluate(`signs.some((sign) => /^${word} … \\d+ %$/.test(sign))`);
+    const count = 184832, end = 'EEEE4some3mapERKSt6vectorISt4pairIPKcS0_ISsEESaIS6_EEi', whole = decimal(count + 1);
+    const value_of = (i) => i * 7919 % 1000003, all = times(count, (i) =>
+        ({ text: `_ZN5spaceINS_5ClassIiLi${i}${end}`, info: 0x12, shndx: 3, value: value_of(i) }));
+    const [, second] = all.map(({ text }) => text).sort(), saying = `1 of ${whole}`,
+        path = await pick_written('symbols', symbols_file(all, code(Buffer.alloc(64))), 'symbols');
+    const signs = async (word) => assert.ok(await evaluate(`signs.some((sign) => /^${word} … \\d+ %$/.test(sign))`));
     const watch = (selector) => evaluate(`void new MutationObserver(() => signs.push(${one(selector)}.textContent))
         .observe(${one(selector)}, { childList: true })`);
-    await evaluate('void (globalThis.signs = [])');
-    await watch('#panel output');
-    await press_button('Demangle');
-    await timed(() => search('class<int, 777>', `1 of ${decimal(count + 1)}`));
-    assert.ok(await signs('searching'));
-    assert.match((await cells(1))[0], /^space<space::Class<int, 777> >::some::map\(/);
-    await timed(() => search('', decimal(count + 1)));
-    await press_button('Demangle');
-    const values = Array.from({ length: count }, (_, i) => value_of(i)).sort((a, b) => b - a);
-    for (const first of [() => 0, (i) => values[i]]) await timed(async () => {
-        await click('#panel [role=columnheader]:nth-child(3) button');
-        await until(`${one('#panel output')}.textContent === '${decimal(count + 1)}'`);
-        await until(`${one('#panel .body .row:nth-child(2)')}?.children[2].textContent === '${hex(first(1))}'`);
-    });
+    const in_row = (row, column, text) => until(`${one(`#panel .body .row:nth-child(${row})`)}
+        ?.children[${column}].textContent === ${quoted(text)}`);
+    await take([evaluate, 'void (globalThis.signs = [])'], [watch, '#panel output'], [press_button, 'Demangle'],
+        [timed, () => search('class<int, 777>', saying)], [signs, 'searching'],
+        [is, async () => (await cells(1))[0], /^space<space::Class<int, 777> >::some::map\(/],
+        [timed, () => search('', whole)], [press_button, 'Demangle']);
+    const values = times(count, value_of).sort((a, b) => b - a);
+    const sort = (column) => click(`#panel [role=columnheader]:nth-child(${column}) button`);
+    for (const first of [0, values[1]])
+        await timed(() => take([sort, 3], [until_text, '#panel output', whole], [in_row, 2, 2, hex(first)]));
     assert.deepEqual((await cells(2)).slice(0, 20), values.slice(0, 20).map(hex));
-    await timed(async () => {
-        await click('#panel [role=columnheader]:nth-child(2) button');
-        await until(`${one('#panel .body .row:nth-child(3)')}?.children[1].textContent === ${quoted(second)}`);
-    });
-    assert.ok(await signs('sorting'));
+    await timed(() => take([sort, 2], [in_row, 3, 1, second]));
     // (a list that is searched while it is saved says what is found)
-    await press_button('Save CSV');
-    await search('Li777E', `1 of ${decimal(count + 1)}`);
-    await waited('a saved list', () => readdirSync(browser.downloads).some((name) => name.endsWith('.csv')));
-    assert.equal(await text_of('#panel output'), `1 of ${decimal(count + 1)}`);
+    await take([signs, 'sorting'], [press_button, 'Save CSV'], [search, 'Li777E', saying], [waited, 'a saved list',
+        () => readdirSync(browser.downloads).some((name) => name.endsWith('.csv'))],
+    [has_texts, { '#panel output': saying }],
     // (what is read once is not said to be read again, as while symbols are)
-    await watch('#loading');
-    await pick(path);
+    [watch, '#loading'], [pick, path]);
     const said = new Set(await evaluate(`signs.filter((sign) => /^Reading/.test(sign))`));
     assert.ok(said.size < 4, [...said].join());
     // (Enter opens what a search finds that runs, unless another text is typed, and what is searched is not forgotten)
-    await open_tab('symbols');
-    await type('Li77');
-    await press('#panel input', 'Enter');
-    await type('Li778E');
-    await setTimeout(250);
-    assert.equal(await fragment(), 'symbols');
-    await press('#panel input', 'Enter');
-    await until_chosen(all[778].text);
-    // (the field for a name says that it searches, too, here in names that are not read yet)
-    await pick(path);
-    await watch('#none');
-    await go_by_field('Li777E', all[777].text);
-    assert.deepEqual([await evaluate(`signs.includes('searching …')`), await is_hidden('none')], [true, true]);
-});
-
-// Types that have other names in readelf than in the ABI.
-const NAMED_OTHERWISE = { 40: [32, 33, 34, 35, 36, 37, 129, 135], 183: [1028, 1029, 1030] };
-
-check('The types of relocations of several machines have the names that readelf prints', async () => {
-    const rows = readFileSync(join(stored, 'relocation_names'), 'utf8').trim().split('\n')
-        .map((line) => line.split(' '));
-    for (const [machine, least] of [[62, 43], [3, 42], [183, 117], [40, 117], [243, 53], [22, 66], [21, 130]]) {
-        const each_type = relocations(...Array.from({ length: 1040 }, (_, type) => ({ type })));
-        await pick_written(`types${machine}`, elf_file({ machine, sections: [each_type] }));
-        const names = new Map(rows.filter(([of]) => Number(of) === machine)
-            .map(([, type, name]) => [Number(type), name]));
-        await open_list('relocations/1', '1,040');
-        const own = new Map((await saved_rows('relocations')).map(([, , name], type) => [type, name]).filter(
-            ([type, name]) => name.startsWith('R_') && names.has(type) && !NAMED_OTHERWISE[machine]?.includes(type)));
-        assert.deepEqual([...own], Array.from(own.keys(), (type) => [type, names.get(type)]), `machine ${machine}`);
-        assert.ok(own.size >= least, `${own.size} names of machine ${machine}`);
-    }
-    // (in 64-bit files for MIPS a relocation has three types, the first one in the last byte)
-    const three = relocations({ type: 0 });
-    three.bytes.set([0, 24, 5, 7], 12);
-    await pick_written('mips', elf_file({ machine: 8, sections: [three] }), 'relocations');
-    assert.deepEqual(await cells(2), ['R_MIPS_GPREL16 R_MIPS_HI16 R_MIPS_SUB']);
+    await take([open_tab, 'symbols'], [type, 'Li77'], [press, '#panel input', 'Enter'], [type, 'Li778E'],
+        [setTimeout, 250], [is, fragment, 'symbols'], [press, '#panel input', 'Enter'], [until_chosen, all[778].text],
+        // (the field for a name says that it searches, too, here in names that are not read yet)
+        [pick, path], [watch, '#none'], [go_by_field, 'Li777E', all[777].text],
+        [is, () => evaluate(`signs.includes('searching …')`), true], [is, () => is_hidden('none'), true]);
 });
 
 // Returns the cells of each line of a saved list but the first.
@@ -1129,24 +976,23 @@ async function saved(name, look = () => {}) {
 const saved_rows = async (name) => rows_of(await saved(name));
 
 check('A symbol names its section by an index that does not fit in it, and a section by its symbol', async () => {
-    const others = [4, 5, 6, 6].map((index) => ({ name: `.s${index}`, type: 1, bytes: Buffer.alloc(0) }));
+    const others = [4, 5, 6, 6].map((index) => data(`.s${index}`, Buffer.alloc(0)));
     const indices = { name: '.shndx', type: 18, link: 1, entsize: 4, bytes: packed([0, 4], [0, 4], [6, 4]) };
     const content = symbols_file([{ info: 3, shndx: 5 }, { text: 'past', info: 0x12, shndx: 0xffff },
         { text: 'past', value: 1 }, { text: 'past', info: 0x12, shndx: 0xffff }], indices, ...others);
-    await pick_written('indices', content, 'symbols');
-    assert.deepEqual([await cells(1), (await cells(7)).slice(0, 3)],
-        [['', '.s5', 'past', 'past', 'past'], ['undefined', '.s5', '.s6']]);
+    const named = async () => (await cells(7)).slice(0, 3);
+    await take([pick_written, 'indices', content, 'symbols'], [is, () => cells(1), ['', '.s5', 'past', 'past', 'past']],
+        [is, named, ['undefined', '.s5', '.s6']]);
     // (a section's symbol has no name of its own for a link, and a link leads to the first one with the name)
     for (const [place, title, has_link] of [['symbols/1/1', '.s5', false], ['symbols/1/3', 'past', false],
         ['sections/7', '.s6', false], ['symbols/1/4', 'past', true], ['sections/6', '.s6', true],
-        ['symbols/1/2', 'past', true]]) {
-        await go(place, title);
-        assert.equal(await evaluate(`${with_text('#chosen button', 'Copy link')} !== undefined`), has_link);
-    }
-    await follow('.s6');
+        ['symbols/1/2', 'past', true]])
+        await take([go, place, title],
+            [is, () => evaluate(`${with_text('#chosen button', 'Copy link')} !== undefined`), has_link]);
     const at = header_at(content, 3) + 0x18; // (the indices may be said to be past all offsets)
-    await pick_written('far', patched(content, [at, (1n << 64n) - 8n], [at + 8, 1n << 40n]), 'symbols');
-    assert.deepEqual((await cells(7)).slice(0, 3), ['undefined', '.s5', 'extended index']);
+    await take([follow, '.s6'],
+        [pick_written, 'far', patched(content, [at, (1n << 64n) - 8n], [at + 8, 1n << 40n]), 'symbols'],
+        [is, named, ['undefined', '.s5', 'extended index']]);
 });
 
 // Returns what a button copies.
@@ -1164,20 +1010,16 @@ const copied_by_key = () => evaluate(`((event) => ${one('#panel .grid')}.dispatc
     { clipboardData: new DataTransfer(), bubbles: true, cancelable: true }))`);
 
 check_program('Cells, rows, bytes and whole lists are copied and saved', async () => {
-    await go(main_place, 'main');
-    await click(`${active_row} :nth-child(2)`);
-    await until_chosen('main');
-    assert.equal(await copied('Copy cell'), 'main');
-    await focus('#panel .grid');
-    assert.equal(await copied_by_key(), 'main');
     const cells_of_main = [main.index, 'main', main_address, main.size, 'FUNC', 'GLOBAL', 'DEFAULT', '.text'];
-    assert.equal(await copied('Copy row'), cells_of_main.join('\t'));
-    assert.equal((await copied('Copy hex')).replaceAll(' ', ''), bytes_of(program_file, main_at, main.size));
-    // (a page that is opened by http has no clipboard)
-    await evaluate(`void Object.defineProperty(navigator, 'clipboard', { value: undefined, configurable: true })`);
-    await press_button('Copy row');
-    await until(`/only from a page that is a file or is opened by https/.test(${one('#said')}.textContent)`);
-    await evaluate('delete navigator.clipboard');
+    await take([go, main_place, 'main'], [click, `${active_row} :nth-child(2)`], [until_chosen, 'main'],
+        [is, () => copied('Copy cell'), 'main'], [focus, '#panel .grid'], [is, copied_by_key, 'main'],
+        [is, () => copied('Copy row'), cells_of_main.join('\t')], [is, async () =>
+            (await copied('Copy hex')).replaceAll(' ', ''), bytes_of(program_file, main_at, main.size)],
+        // (a page that is opened by http has no clipboard)
+        [evaluate, `void Object.defineProperty(navigator, 'clipboard', { value: undefined, configurable: true })`],
+        [press_button, 'Copy row'],
+        [until, `/only from a page that is a file or is opened by https/.test(${one('#said')}.textContent)`],
+        [evaluate, 'delete navigator.clipboard']);
     const list = await saved('symbols'), rows = rows_of(list);
     assert.equal(list.split('\r\n')[0], '#,Name,Value,Size,Type,Binding,Visibility,Section');
     assert.deepEqual(rows.map(([number, , value, size]) => [number, value, size].map(Number)),
@@ -1209,15 +1051,10 @@ check('A list of long names is saved piece by piece, and not twice in the memory
 check('Names are sorted, in a damaged file by their first twelve signs, once they have very many', async () => {
     const [b, c] = ['b'.repeat(11), 'c'.repeat(12)];
     for (const [count, ...wanted] of [[1, `${c}2`, `${c}1`, `${b}2`, `${b}1`],
-        [72000, `${c}1`, `${c}2`, `${b}2`, `${b}1`]]) {
-        await pick_overlapping(count, [`${c}1`, `${c}2`, `${b}1`, `${b}2`]);
-        for (const order of ['ascending', 'descending']) {
-            await click('#panel [role=columnheader]:nth-child(2) button');
-            await until_there(`#panel [aria-sort=${order}]`);
-        }
-        await until(`${one('#panel .body .row :nth-child(2)')}?.textContent.startsWith('c')`);
-        assert.deepEqual((await cells(1)).slice(0, 4), wanted);
-    }
+        [72000, `${c}1`, `${c}2`, `${b}2`, `${b}1`]])
+        await take([pick_overlapping, count, [`${c}1`, `${c}2`, `${b}1`, `${b}2`]], [sort_by, 2],
+            [until, `${one('#panel .body .row :nth-child(2)')}?.textContent.startsWith('c')`],
+            [is, async () => (await cells(1)).slice(0, 4), wanted]);
 });
 
 check('A saved list holds nothing that a spreadsheet would run or that ends a cell, and plain numbers', async () => {
@@ -1227,34 +1064,30 @@ check('A saved list holds nothing that a spreadsheet would run or that ends a ce
     // (numbers that the page shows as words and signs are saved as numbers)
     const content = elf_file({ segments: [{ flags: 5, bytes: Buffer.alloc(4096) }],
         sections: [relocations({ type: 2, addend: (1n << 64n) - 16n })] });
-    await pick_written('numbers', content, 'relocations');
-    for (const text of ['-0x10', '−0x10']) await search(text, '1 of 1');
-    const saved_cells = (name) => open_tab(name).then(() => saved_rows(name));
-    assert.deepEqual([(await saved_cells('relocations'))[0][4], (await saved_cells('segments'))[0][2]],
-        ['-0x10', '0x5']);
-    const parts = await saved_cells('layout');
+    const saved_cell = (name, column) => open_tab(name).then(() => saved_rows(name)).then(([row]) => row[column]);
+    await take([pick_written, 'numbers', content, 'relocations'], [search, '-0x10', '1 of 1'],
+        [search, '−0x10', '1 of 1'], [is, () => saved_cell('relocations', 4), '-0x10'],
+        [is, () => saved_cell('segments', 2), '0x5'], [open_tab, 'layout']);
     let at = 0;
-    for (const [, from, to, size, share] of parts) {
-        assert.deepEqual([from, to, share], [at, at += Number(size), 100 * Number(size) / content.length]
-            .map((number, i) => (i < 2 ? hex(number) : number.toFixed(2))));
-    }
+    const parts = await saved_rows('layout');
+    for (const [, from, to, size, share] of parts)
+        assert.deepEqual([from, to, share],
+            [hex(at), hex(at += Number(size)), (100 * Number(size) / content.length).toFixed(2)]);
     assert.deepEqual([at, parts.length > 4], [content.length, true]);
 });
 
 // The bytes that say where the table is are marked.
 check('Of a refused table nothing can be saved, and by no way another table is', async () => {
-    const bytes = Buffer.alloc(72),
-        tables = { symbols: { type: 2, entsize: 24, bytes }, relocations: { type: 4, entsize: 24, bytes } };
-    for (const [name, table] of Object.entries(tables)) {
-        const content = elf_file({ sections: [{ name: '.read', ...table }, { name: '.refused', ...table },
-            { name: '.data', type: 1, bytes }] });
+    const bytes = Buffer.alloc(72), place = longs(64 + 72, 1n << 40n), shown = { 1: 3, 2: 'refused', 3: 'none' };
+    for (const [name, type] of [['symbols', 2], ['relocations', 4]]) {
+        const table = { type, entsize: 24, bytes }, content = elf_file({ sections: [{ name: '.read', ...table },
+            { name: '.refused', ...table }, data('.data', bytes)] });
         // (the offset of section 2, after the header and section 1, and its size)
-        const place = longs(64 + 72, 1n << 40n);
         place.copy(content, header_at(content, 2) + 0x18);
         for (const opened of [[2], [1, 2], [1, 3]]) {
             await pick_written(`refused-${name}`, content);
             for (const index of opened) {
-                await open_list(`${name}/${index}`, { 1: 3, 2: 'refused', 3: 'none' }[index]);
+                await open_list(`${name}/${index}`, shown[index]);
                 const marked = (await each_of('#panel .refused b', 'item.textContent'))
                     .filter(({ length }) => length === 2).join('');
                 assert.deepEqual([await is_visible('#panel .saving'), marked],
@@ -1267,32 +1100,28 @@ check('Of a refused table nothing can be saved, and by no way another table is',
 });
 
 check('A sentence says that a folder is dropped, that of two files one is opened, and what leads nowhere', async () => {
-    const inside = join(folder, 'inside');
+    const inside = join(folder, 'inside'), none = (kind, name) => [`${kind}=${name}`,
+        `This file has no ${kind} with the name ${name}. This is its summary.`];
     mkdirSync(inside);
     await browser.drop(inside);
     await until_text('#trouble:not([hidden])', 'inside is a folder. Drop an ELF file that is in it.');
     const dragged = `new DragEvent('dragenter', { dataTransfer: new DataTransfer(), cancelable: true })`;
     assert.equal(await evaluate(`dispatchEvent(${dragged}) && ${one('.over')} === null`), true); // (no file)
     await browser.drop(program_file, made);
-    await until_text('#said', 'The page shows one file at a time: x86_64_program. Of the 2 that were dropped, little64'
-        + ' is not opened.');
-    await until_text('#file b', 'x86_64_program');
-    await pick(program_file);
+    await take([until_text, '#said', 'The page shows one file at a time: x86_64_program. Of the 2 that were dropped,'
+        + ' little64 is not opened.'], [until_text, '#file b', 'x86_64_program'], [pick, program_file]);
     const nothing = (place) => [place, `The page finds nothing at #${place} in this file.`];
-    for (const [place, words] of [['symbol=nope', 'This file has no symbol with the name nope. This is its summary.'],
-        ['section=.no', 'This file has no section with the name .no. This is its summary.'], nothing('sections/99999'),
-        ...['header/e_no', 'address/0x', 'nowhere', `${symtab}/99999`, '%', 'sections/x', 'offset/0xffffffffffffffff',
-            'symbols/99999/1', 'notes/x/0', '__proto__/1'].map(nothing)]) {
-        await set_place(place);
-        await until_text('#said', words);
+    for (const [place, words] of [none('symbol', 'nope'), none('section', '.no'),
+        ...['sections/99999', 'header/e_no', 'address/0x', 'nowhere', `${symtab}/99999`, '%', 'sections/x',
+            'offset/0xffffffffffffffff', 'symbols/99999/1', 'notes/x/0', '__proto__/1'].map(nothing)]) {
+        await take([set_place, place], [until_text, '#said', words]);
         assert.equal((await each_of('[role=tab][aria-selected=true]', 'item.id')).length, 1, place);
     }
     // (nor is it said of the next file)
-    await pick(program_file);
-    assert.equal(await text_of('#said'), '');
+    await take([pick, program_file], [has_texts, { '#said': '' }]);
     for (const [place, title] of [['header/e_type', 'e_type'], ['sections', 'ELF header'], [main_place, 'main'],
         ['notes/segments', 'ELF header'], ['offset/0x1', 'offset 0x1'], ['summary', 'ELF header']])
-        await go(place, title).then(text_of.bind(null, '#said')).then((said) => assert.equal(said, '', place));
+        await take([go, place, title], [is, () => text_of('#said'), '', place]);
 });
 
 check('Control characters and those that turn the direction of a text are escaped, in saved lists, too', async () => {
@@ -1311,102 +1140,77 @@ check('Control characters and those that turn the direction of a text are escape
 });
 
 check('The page says in words what a refusal means, and has an example', async () => {
-    await pick_written('short', content.subarray(0, 0x1000));
-    await click('#tab-sections');
-    await until_there('#panel .plainly');
-    assert.match(await text_of('#panel .plainly'),
-        /^The section headers begin at 0x1800, the file ends at 0x1000: it is cut/);
+    await take([pick_written, 'short', content.subarray(0, 0x1000)], [click, '#tab-sections'],
+        [until_there, '#panel .plainly'],
+        [has_texts, { '#panel .plainly': /^The section headers begin at 0x1800, the file ends at 0x1000: it is cut/ }]);
     assert.ok((await facts(join(folder, 'short')))
         .some(([, value]) => value === 'unknown: not in the file, or more than is read'));
-    await click('#example');
-    await until_text('#file b', 'example');
-    assert.match(await text_of('#file'), /program at fixed addresses for x86-64/);
+    await take([click, '#example'], [until_text, '#file b', 'example'],
+        [has_texts, { '#file': /program at fixed addresses for x86-64/ }]);
 });
 
 check_program('A link by a name leads to a section or symbol of a file built anew, wherever it is', async () => {
     for (const [place, name, value] of [['section=.text', 'sh_offset', text.offset],
-        ['symbol=main', 'st_value', main.value]]) {
-        await go(place, place.split('=')[1], { [name]: new RegExp(`^${hex(value)}\\b`) });
-        assert.equal(await copied('Copy link'), `${url}#${place}`);
-    }
+        ['symbol=main', 'st_value', main.value]])
+        await take([go, place, place.split('=')[1], { [name]: new RegExp(`^${hex(value)}\\b`) }],
+            [is, () => copied('Copy link'), `${url}#${place}`]);
     await go('symbol=%', 'ELF header');
 });
 
 check_program('A row has as many bytes as fit, a field shows its bytes, and a byte its field', async () => {
     const { index, size, offset } = text,
         length = `${one('#chosen .hex .row :nth-child(2)')}?.textContent.trim().split(' ').length`;
-    for (const [width, each] of [[1600, 16], [1280, 8], [800, 16], [400, 8], [1400, 8]]) {
-        await browser.resize(width, 1000);
-        await go('header', 'ELF header');
-        await go(`sections/${index}`, '.text');
-        await until(bytes_drawn);
-        assert.equal(await evaluate(length), each, `${width}`);
-    }
-    await browser.resize(1280, 1000);
-    for (const each of [32, 8]) {
-        await press_button('Wide');
-        await until(`${length} === ${each}`);
-        assert.equal(await is_visible('#panel'), each !== 32);
-        // (in a low window, which has no such button, the list is there, too)
-        await browser.resize(1280, 560);
-        await until(`${one('#panel')}.offsetParent !== null`);
-        await browser.resize(1280, 1000);
-    }
-    await browser.resize(1400, 1000);
+    for (const [width, each] of [[1600, 16], [1280, 8], [800, 16], [400, 8], [1400, 8]])
+        await take([resize, width, 1000], [go, 'header', 'ELF header'], [go, `sections/${index}`, '.text'],
+            [until, bytes_drawn], [is, () => evaluate(length), each, `${width}`]);
+    await resize(1280, 1000);
+    // (in a low window, which has no such button, the list is there, too)
+    for (const each of [32, 8])
+        await take([press_button, 'Wide'], [until, `${length} === ${each}`],
+            [is, () => is_visible('#panel'), each !== 32], [resize, 1280, 560],
+            [until, `${one('#panel')}.offsetParent !== null`], [resize, 1280, 1000]);
     const lit = (place) => each_of(`#chosen ${place}`, 'item.textContent').then((texts) => texts.join(''));
     const is_lit = async (name, number) =>
         assert.deepEqual([await lit('tr.lit th'), await lit('.hex .cell:nth-child(2) .lit')],
             [name, longs(number).toString('hex')]);
-    await press_button('sh_size');
-    await until_there('#chosen .hex .lit');
-    await is_lit('sh_size', size);
-    await evaluate(`${one('#chosen .hex [data-field=sh_offset]')}
-        .dispatchEvent(new PointerEvent('pointerover', { bubbles: true }))`);
-    await is_lit('sh_offset', offset);
+    await take([resize, 1400, 1000], [press_button, 'sh_size'], [until_there, '#chosen .hex .lit'],
+        [is_lit, 'sh_size', size], [evaluate, `${one('#chosen .hex [data-field=sh_offset]')}
+            .dispatchEvent(new PointerEvent('pointerover', { bubbles: true }))`], [is_lit, 'sh_offset', offset]);
 });
 
 check('The byte order and the heads of columns are words', async () => {
-    await pick(made);
-    assert.match(await text_of('#file'), /little endian/);
-    await pick_written('big', readFileSync(join(made_files, 'big64')), 'segments');
-    assert.match(await text_of('#file'), /big endian/);
+    await take([pick, made], [has_texts, { '#file': /little endian/ }],
+        [pick_written, 'big', readFileSync(join(made_files, 'big64')), 'segments'],
+        [has_texts, { '#file': /big endian/ }]);
     const heads = await each_of('#panel [role=columnheader]', '[item.textContent, item.title]');
     assert.deepEqual(heads.slice(3, 7),
         [['Offset', 'p_offset'], ['File size', 'p_filesz'], ['Address', 'p_vaddr'], ['Memory size', 'p_memsz']]);
 });
 
 check_program('A cut cell has its whole text as a tooltip, and cells of segments are not cut', async () => {
-    await browser.resize(1280, 900);
     const cut = () => evaluate(`[...document.querySelectorAll('#panel .body .cell')].filter((cell) => {
         const [a, b] = [cell, document.querySelector('#panel .grid')].map((box) => box.getBoundingClientRect());
         return cell.scrollWidth > cell.clientWidth || a.left < b.left - 1 || a.right > b.right + 1;
     }).map((cell) => cell.title)`);
-    await open_tab('segments');
-    const aligned = segments_of(program_file).map(({ align }) => align);
+    const aligned = segments_of(program_file).map(({ align }) => align), named = (...texts) =>
+        symbols_file(texts.map((text) => ({ text }))), name = 'a_name_that_has_no_room_in_any_list_'.repeat(9);
     assert.ok(aligned.includes('0x1000'));
-    assert.deepEqual([await cells(8), await cut()], [aligned, []]);
-    await open_tab('sections');
-    assert.deepEqual([(await cells(1)).includes('.note.gnu.property'), await cut()], [true, []]);
-    const name = 'a_name_that_has_no_room_in_any_list_'.repeat(9);
-    await pick_written('long', symbols_file([{ text: name }]), 'symbols');
-    assert.deepEqual(await cut(), [name]);
-    // (a name takes what the other columns do not need)
-    await pick_written('fits', symbols_file([{ text: '_Z'.padEnd(30, 'x') }, { text: '_Z1fv' }]), 'symbols');
-    assert.deepEqual(await cut(), []);
+    await take([resize, 1280, 900], [open_tab, 'segments'], [is, () => cells(8), aligned], [is, cut, []],
+        [open_tab, 'sections'], [is, async () => (await cells(1)).includes('.note.gnu.property'), true], [is, cut, []],
+        [pick_written, 'long', named(name), 'symbols'], [is, cut, [name]],
+        // (a name takes what the other columns do not need)
+        [pick_written, 'fits', named('_Z'.padEnd(30, 'x'), '_Z1fv'), 'symbols'], [is, cut, []]);
 });
 
 check_program('Beside the summary and the sizes is no side that says nothing of them', async () => {
-    await browser.resize(1280, 900);
+    await resize(1280, 900);
     for (const [tab, panel, is_alone] of [['header', '.fields', false], ['summary', '.summary', true],
-        ['sections', '.grid', false], ['sizes', '.areas', true]]) {
-        await set_place(tab);
-        await until(`${one(`#tab-${tab}`)}.ariaSelected === 'true' && ${one(`#panel ${panel}`)} !== null`);
-        await until(`(${one('#panel')}.offsetWidth > 1000) === ${is_alone}`);
-        assert.equal(await is_visible('.side'), !is_alone, tab);
-    }
-    await go('sizes', 'ELF header');
-    await go('offset/0x10', 'offset 0x10');
-    assert.equal(await is_visible('.side'), true);
+        ['sections', '.grid', false], ['sizes', '.areas', true]])
+        await take([set_place, tab],
+            [until, `${one(`#tab-${tab}`)}.ariaSelected === 'true' && ${one(`#panel ${panel}`)} !== null`],
+            [until, `(${one('#panel')}.offsetWidth > 1000) === ${is_alone}`],
+            [is, () => is_visible('.side'), !is_alone, tab]);
+    await take([go, 'sizes', 'ELF header'], [go, 'offset/0x10', 'offset 0x10'], [is, () => is_visible('.side'), true]);
 });
 
 // Returns the number of sheets of a document, whose objects may be compressed.
@@ -1418,42 +1222,35 @@ function sheets_of(pdf) {
 }
 
 check('Paper has the summary, and all rows of the open list, over as many sheets as these take', async () => {
-    const rows = 1500, names = Array.from({ length: rows }, (_, i) => `name_${i}`);
+    const rows = 1500, names = times(rows, (i) => `name_${i}`), printing = (when) =>
+        evaluate(`void dispatchEvent(new Event('${when}print'))`);
     await pick_written('printed', symbols_file(names.map((text) => ({ text }))), 'symbols');
     const sheets = async () => sheets_of(await browser.print()), shown = async () => {
-        for (let times = 0; times < 2; times++) await evaluate(`void dispatchEvent(new Event('beforeprint'))`);
+        await take([printing, 'before'], [printing, 'before']);
         assert.equal((await each_of('.paper', 'item.id')).length, 1);
         const found = [await each_of('#paper .rows td:nth-child(2)', 'item.textContent'),
             await text_of('#paper h2'), await each_of('#paper h3', 'item.textContent'),
             await each_of('#paper th.right', 'item.textContent')];
-        await evaluate(`void dispatchEvent(new Event('afterprint'))`);
+        await printing('after');
         return found;
     };
-    await waited('the texts', async () => (await shown())[0].length > rows);
-    assert.deepEqual((await shown()).slice(0, 2), [['', ...names], 'Symbols 1,501, .symtab (1,501)']);
-    assert.ok((await shown())[2].includes('What it is'));
-    assert.deepEqual((await shown())[3], ['#', 'Value', 'Size']);
-    const all = await sheets();
-    assert.ok(all > rows / 100 && all < rows / 20, `${all} sheets`);
+    const until_rows = (count) => waited('the texts', async () => (await shown())[0].length === count);
+    await until_rows(rows + 1);
+    const [texts, title, blocks, right] = await shown(), all = await sheets();
+    assert.deepEqual([texts, title, right], [['', ...names], 'Symbols 1,501, .symtab (1,501)', ['#', 'Value', 'Size']]);
+    assert.ok(blocks.includes('What it is') && all > rows / 100 && all < rows / 20, `${all} sheets`);
     // (what is said of the table is printed, too)
-    await pick_written('relr', elf_file({ sections: [{ name: '.relr.dyn', type: 19, bytes: longs(0x1000) }] }),
-        'relocations');
-    await waited('the texts', async () => (await shown())[0].length === 1);
-    await evaluate(`void dispatchEvent(new Event('beforeprint'))`);
-    assert.match(await text_of('#paper .notice'), /outside of what is proved/);
-    await evaluate(`void dispatchEvent(new Event('afterprint'))`);
-    await pick(join(folder, 'printed'));
-    await open_tab('symbols');
-    await search('name_14', '111 of 1,501');
-    await waited('the texts', async () => (await shown())[0].length === 111);
-    assert.match((await shown())[1], /111 of 1,501, with “name_14”$/);
-    await go('header', 'ELF header');
+    const packed = elf_file({ sections: [{ name: '.relr.dyn', type: 19, bytes: longs(0x1000) }] });
+    await take([pick_written, 'relr', packed, 'relocations'], [until_rows, 1], [printing, 'before'],
+        [has_texts, { '#paper .notice': /outside of what is proved/ }], [printing, 'after'],
+        [pick, join(folder, 'printed')], [open_tab, 'symbols'], [search, 'name_14', '111 of 1,501'], [until_rows, 111],
+        [is, async () => (await shown())[1], /111 of 1,501, with “name_14”$/], [go, 'header', 'ELF header']);
     assert.ok(await sheets() < 3 && await text_of('#paper') === null);
 });
 
 check_program('Whatever is pressed is at least 24 pixels high', async () => {
     for (const [width, height] of [[1280, 900], [800, 900], [400, 800], [800, 400]]) {
-        await browser.resize(width, height);
+        await resize(width, height);
         for (const [place, title = 'ELF header'] of [['header/e_type', 'e_type'], ['summary'],
             ['section=.text', '.text'], ['sections'], [main_place, 'main'], [symtab], ['offset/0x10', 'offset 0x10'],
             ['sizes']]) {
@@ -1469,58 +1266,42 @@ check_program('Whatever is pressed is at least 24 pixels high', async () => {
 check_program('In low and narrow windows the first result and the first bytes are in view', async () => {
     const is_seen = (place) => `(({ top, bottom }) => top >= 0 && bottom <= innerHeight)(
         document.querySelector('${place}').getBoundingClientRect())`;
-    const number = symbols.filter(({ name }) => name.includes('main')).length;
-    for (const [width, height] of [[1280, 560], [800, 360], [640, 450], [400, 800]]) {
-        await browser.resize(width, height);
-        await go(symtab, 'ELF header');
-        await click('#back');
-        await search('main', `${number} of ${decimal(symbols.length)}`);
-        assert.ok(await evaluate(is_seen('#panel .body .row')), `${width} ${height}`);
-        await go('section=.text', '.text');
-        await until(bytes_drawn);
-        assert.ok(await evaluate(is_seen('#chosen .hex .row')), `${width} ${height}`);
-        assert.ok(await evaluate(`${one('#chosen .fields')}.clientWidth > 200`), `${width} ${height}`);
-        // (a list that is opened anew begins with its first row)
-        await open_tab('sections');
-        await go('section=.text', '.text');
-        await set_place('summary');
-        await until_there('#panel .summary');
-        await open_tab('sections');
-        assert.equal((await cells(0))[0], '0', `${width} ${height}`);
+    const number = symbols.filter(({ name }) => name.includes('main')).length, to_text = [go, 'section=.text', '.text'];
+    for (const size of [[1280, 560], [800, 360], [640, 450], [400, 800]]) {
+        const is_so = (expression) => is(() => evaluate(expression), true, `${size}`);
+        await take([resize, ...size], [go, symtab, 'ELF header'], [click, '#back'],
+            [search, 'main', `${number} of ${decimal(symbols.length)}`], [is_so, is_seen('#panel .body .row')],
+            to_text, [until, bytes_drawn], [is_so, is_seen('#chosen .hex .row')],
+            [is_so, `${one('#chosen .fields')}.clientWidth > 200`],
+            // (a list that is opened anew begins with its first row)
+            [open_tab, 'sections'], to_text, [set_place, 'summary'], [until_there, '#panel .summary'],
+            [open_tab, 'sections'], [is, async () => (await cells(0))[0], '0', `${size}`]);
     }
     // (on a small laptop several lines of bytes are, beside the fields)
-    for (const [width, height] of [[1366, 640], [1024, 640], [1280, 720]]) {
-        await browser.resize(width, height);
-        await go('section=.text', '.text');
-        await until(bytes_drawn);
+    for (const size of [[1366, 640], [1024, 640], [1280, 720]]) {
+        await take([resize, ...size], to_text, [until, bytes_drawn]);
         const seen = await each_of('#chosen .hex .row', `item.getBoundingClientRect().bottom
             <= item.closest('.grid').getBoundingClientRect().bottom`);
-        assert.ok(seen.filter(Boolean).length >= 8, `${width} ${height}: ${seen}`);
+        assert.ok(seen.filter(Boolean).length >= 8, `${size}: ${seen}`);
     }
     // (on a small phone, and where all is magnified four times, one can scroll to some of them)
-    for (const [width, height] of [[360, 640], [320, 256]]) {
-        await browser.resize(width, height);
-        for (const [place, title, list] of [[symtab, 'ELF header', '#panel .grid'],
-            ['section=.text', '.text', '#chosen .hex .grid']]) {
-            await go(place, title);
-            await until(`(() => {
-                let box = ${one(list)}, is_there = box?.clientHeight > 60;
-                while ((box = box?.parentElement)) is_there &&= getComputedStyle(box).overflowY !== 'hidden'
-                    || box.scrollHeight <= box.clientHeight + 1;
-                return is_there;
-            })()`);
-        }
-    }
+    const until_reached = (list) => until(`(() => {
+        let box = ${one(list)}, is_there = box?.clientHeight > 60;
+        while ((box = box?.parentElement)) is_there &&= getComputedStyle(box).overflowY !== 'hidden'
+            || box.scrollHeight <= box.clientHeight + 1;
+        return is_there;
+    })()`);
+    for (const size of [[360, 640], [320, 256]])
+        await take([resize, ...size], [go, symtab, 'ELF header'], [until_reached, '#panel .grid'], to_text,
+            [until_reached, '#chosen .hex .grid']);
 });
 
 // In windows of four widths.
 check_program('At most a third is the map, no word is broken, and only the list has a scroll bar', async () => {
     for (const [width, height] of [[1280, 900], [800, 900], [640, 450], [400, 800]]) {
-        await browser.resize(width, height);
-        await until(`innerWidth === ${width} && document.querySelector('section.map').offsetHeight <= innerHeight / 3`);
-        await click('#tab-header');
-        await until_there('[data-field=ei_data]');
-        await click('#back');
+        await take([resize, width, height], [until,
+            `innerWidth === ${width} && document.querySelector('section.map').offsetHeight <= innerHeight / 3`],
+        [click, '#tab-header'], [until_there, '[data-field=ei_data]'], [click, '#back']);
         const words = await evaluate(`[...document.querySelectorAll('.fields.header span, .fields.header .words')]
             .flatMap((cell) => [...cell.textContent.matchAll(/\\S+/g)].map(({ 0: word, index }) => {
                 const range = new Range();
@@ -1545,17 +1326,13 @@ check_program('At most a third is the map, no word is broken, and only the list 
         assert.ok(await evaluate(`document.documentElement.scrollWidth <= innerWidth`), `${width}`);
         // The side is beside the list, or replaces it until the user goes back.
         const { 1: title } = await cells(1);
-        await click_row(1);
-        await until_chosen(title);
-        assert.deepEqual([await is_visible('#chosen'), await is_visible('#panel')], [true, width > 1000]);
+        await take([click_row, 1], [until_chosen, title], [is, () => is_visible('#chosen'), true],
+            [is, () => is_visible('#panel'), width > 1000], [click, '#back']);
         // (with the arrow keys one walks through the list, which has the focus, too, once one is back there)
-        await click('#back');
         if (width <= 1000) await until_active('#panel .grid');
         await press('#panel .grid', 'ArrowDown');
-        await until_chosen((await cells(1))[2]);
-        assert.equal(await is_visible('#panel'), true);
-        await evaluate('history.back()');
-        await until(`document.getElementById('panel').offsetParent !== null`);
+        await take([until_chosen, (await cells(1))[2]], [is, () => is_visible('#panel'), true],
+            [evaluate, 'history.back()'], [until, `document.getElementById('panel').offsetParent !== null`]);
     }
 });
 
@@ -1751,11 +1528,11 @@ check_program('An area is as large as the share of its section in the file, and 
 
 const linear = (colour) =>
     colour.map((part) => (part <= 10.31475 ? part / 255 / 12.92 : ((part / 255 + 0.055) / 1.055) ** 2.4));
-const times = (matrix, vector) => matrix.map((row) => row.reduce((all, value, i) => all + value * vector[i], 0));
+const product = (matrix, vector) => matrix.map((row) => row.reduce((all, value, i) => all + value * vector[i], 0));
 
 // Returns the contrast of two colours: how many times as light the lighter one is, as the WCAG count it.
 function contrast(...colours) {
-    const [more, less] = colours.map((colour) => times([[0.2126, 0.7152, 0.0722]], linear(colour))[0] + 0.05)
+    const [more, less] = colours.map((colour) => product([[0.2126, 0.7152, 0.0722]], linear(colour))[0] + 0.05)
         .sort((a, b) => b - a);
     return more / less;
 }
@@ -1765,7 +1542,7 @@ const without_green = (colour) => [
     [[0.367322, 0.860646, -0.227968], [0.280085, 0.672501, 0.047413], [-0.01182, 0.04294, 0.968881]],
     [[0.4122215, 0.5363325, 0.0514460], [0.2119035, 0.6806995, 0.1073970], [0.0883025, 0.2817188, 0.6299787]],
     [[0.2104543, 0.7936178, -0.0040720], [1.9779985, -2.4285922, 0.4505937], [0.0259040, 0.7827718, -0.8086758]],
-].reduce((seen, matrix, i) => times(matrix, i === 2 ? seen.map(Math.cbrt) : seen), linear(colour));
+].reduce((seen, matrix, i) => product(matrix, i === 2 ? seen.map(Math.cbrt) : seen), linear(colour));
 
 // An eye without green sees that kinds differ. (The test can set the theme of Chromium alone.)
 check('Edges and gaps have a contrast of at least 3 to 1, and names on the map and the sizes of 4.5', async () => {
@@ -1824,11 +1601,8 @@ check('No name is markup', async () => {
     for (const name of [markup, 'U+0080U+2028', '\\xffAU+001BU+000A', 'été'])
         assert.ok(names.includes(name), names.join(' '));
     assert.equal((await each_of('#panel .esc', 'item.title')).length, 5);
-    await search('ONERROR', '1 of 21');
-    assert.deepEqual(await cells(1), [markup]);
-    await go_by_field('onerror', markup);
-    await open_sizes('[aria-label^="<img"]');
-    assert.equal(await text_of('img'), null);
+    await take([search, 'ONERROR', '1 of 21'], [is, () => cells(1), [markup]], [go_by_field, 'onerror', markup],
+        [open_sizes, '[aria-label^="<img"]'], [has_texts, { img: null }]);
 });
 
 check('A name from right to left turns no number around that stands after it', async () => {
@@ -1839,61 +1613,52 @@ check('A name from right to left turns no number around that stands after it', a
         range.setStart(texts.currentNode, texts.currentNode.data.indexOf(${quoted(sign)}));
         return range.getClientRects()[0].left;
     })()`);
-    const file = elf_file({ sections: [code(Buffer.alloc(64), { name: '\u05d0\u05d1 \u05d2' })] }),
+    const name = '\u05d0\u05d1 \u05d2', file = elf_file({ sections: [code(Buffer.alloc(64), { name })] }),
         place = hex(Number(file.readBigUInt64LE(header_at(file, 1) + 0x18)) + 16);
-    await pick_written('leftward', file);
-    await go(`offset/${place}`, `offset ${place}`, { in: '\u05d0\u05d1 \u05d2 + 0x10' });
+    await take([pick_written, 'leftward', file], [go, `offset/${place}`, `offset ${place}`, { in: `${name} + 0x10` }]);
     assert.ok(await left_of('0x10') > await left_of('\u05d0'));
     // (nor in a tooltip)
     await pick_written('cut', patched(file, [header_at(file, 1) + 0x20, 1n << 40n]), 'layout');
     const titles = await each_of('#panel .body .cell', 'item.title');
-    assert.ok(titles.some((title) => title.startsWith('\u2068\u05d0\u05d1 \u05d2\u2069 (cut: ')), titles.join());
+    assert.ok(titles.some((title) => title.startsWith(`\u2068${name}\u2069 (cut: `)), titles.join());
 });
 
 check('The keyboard reaches the described parts of the map, a row of a list, and the next tab', async () => {
-    await pick(made);
-    await open_tab('sections');
-    await press('#canvas', 'ArrowRight');
-    await until_there('#canvas[aria-valuetext^="ELF header: "]');
-    await press('#panel .grid', 'ArrowDown', 'ArrowDown', 'ArrowDown', 'ArrowUp');
-    await until_chosen('.text');
     const active = `document.activeElement.getAttribute('aria-activedescendant')`;
-    assert.equal(await evaluate(`document.getElementById(${active}).children[1].textContent`), '.text');
-    await browser.press('ArrowRight');
-    await until(`document.getElementById(${active}).textContent === '.text'`);
-    await click('#tab-header');
-    await until_there('#canvas[aria-valuetext="nothing is chosen"][aria-valuenow="0"]');
-    await click('[popovertarget]');
-    await until_there('body:has(#keys:popover-open) .fields.header[role=grid]');
-    await evaluate(`${one('#keys')}.hidePopover()`);
-    await click('#tab-sections');
-    await press('#tab-sections', 'ArrowRight');
-    await until_active('#tab-segments[aria-selected=true]');
+    await take([pick, made], [open_tab, 'sections'], [press, '#canvas', 'ArrowRight'],
+        [until_there, '#canvas[aria-valuetext^="ELF header: "]'],
+        [press, '#panel .grid', 'ArrowDown', 'ArrowDown', 'ArrowDown', 'ArrowUp'], [until_chosen, '.text'],
+        [is, () => evaluate(`document.getElementById(${active}).children[1].textContent`), '.text'],
+        [press, '#panel .grid', 'ArrowRight'], [until, `document.getElementById(${active}).textContent === '.text'`],
+        [click, '#tab-header'], [until_there, '#canvas[aria-valuetext="nothing is chosen"][aria-valuenow="0"]'],
+        [click, '[popovertarget]'], [until_there, 'body:has(#keys:popover-open) .fields.header[role=grid]'],
+        [evaluate, `${one('#keys')}.hidePopover()`], [open_tab, 'sections'],
+        [press, '#tab-sections', 'ArrowRight'], [until_active, '#tab-segments[aria-selected=true]']);
     // (with Alt keys are the browser's, which goes back)
     const pressed = `new KeyboardEvent('keydown', { key: 'ArrowLeft', altKey: true, bubbles: true, cancelable: true })`;
     for (const place of ['#panel .grid', '[role=tab]', '#canvas'])
-        assert.equal(await evaluate(`${one(place)}.dispatchEvent(${pressed})`), true, place);
+        await is(() => evaluate(`${one(place)}.dispatchEvent(${pressed})`), true, place);
     // (what replaces a link that has the focus gets it)
-    await go('sections/1', '.text');
-    await evaluate(`(() => { const link = ${one('#chosen td a')}; link.focus(); link.click(); })()`);
-    await until_active('#chosen h2');
+    await take([go, 'sections/1', '.text'],
+        [evaluate, `(() => { const link = ${one('#chosen td a')}; link.focus(); link.click(); })()`],
+        [until_active, '#chosen h2']);
 });
 
 check('If the engine lacks what the library needs, the page says so, and reads no file', async () => {
+    const shows = async (part, wanted) => is(() => is_hidden(part), !wanted, part);
     for (const hidden of ['WebAssembly.validate = () => false;', 'delete globalThis.WebAssembly;']) {
         const show = await browser.before_pages(hidden);
         await browser.open(`${url}?${hidden.length}`);
-        await until_there('#unsupported:not([hidden])');
-        assert.match(await text_of('#unsupported'), /no 64-bit WebAssembly memories/);
-        assert.equal(await is_hidden('drop'), true);
+        await take([until_there, '#unsupported:not([hidden])'],
+            [has_texts, { '#unsupported': /no 64-bit WebAssembly memories/ }], [shows, 'drop', false]);
         await show();
     }
     await browser.open(url);
-    assert.deepEqual([await is_hidden('unsupported'), await is_hidden('drop')], [true, false]);
+    await take([shows, 'unsupported', false], [shows, 'drop', true]);
 });
 
 check('A page has memories for as many files at once as goblin.js says', async () => {
-    const comments = readFileSync(new URL('goblin.js', import.meta.url), 'utf8');
+    const comments = readFileSync(new URL('../web/goblin.js', import.meta.url), 'utf8');
     const [, number] = /can hold at least (\d+) files at once/.exec(comments);
     await evaluate(`void (globalThis.held = Array.from({ length: ${number} }, () => new WebAssembly.Instance(
         new WebAssembly.Module(new Uint8Array([0, 97, 115, 109, 1, 0, 0, 0, 5, 3, 1, 4, 0])))))`);
@@ -1931,7 +1696,7 @@ async function run_checks() {
     await browser.open(url);
     await until(`document.getElementById('unmade')?.hidden`);
     for (current of checks) {
-        await browser.resize(1400, 1600);
+        await resize(1400, 1600);
         await current.run();
     }
     console.log(`${browser.constructor.title}: the page passes ${checks.length} checks over ${stored_files.length}`

@@ -1,5 +1,5 @@
 // The pieces of the file, and the parts that the ends of pieces divide it into.
-import * as goblin from './goblin.js';
+import * as goblin from '../web/goblin.js';
 import { called, file, is_debug, name_of_section, own_segments, RELOCATION_TYPES, section_at, sections, size_of,
     SYMBOL_TYPES, read_or } from './file.js';
 import { segment_type } from './labels.js';

@@ -1,5 +1,5 @@
 // Resolves symbols, relocations and addresses: to sections, segments, symbols and bytes of the file.
-import * as goblin from './goblin.js';
+import * as goblin from '../web/goblin.js';
 import { demangled } from './demangle.js';
 import { number_at } from './dynamic.js';
 import { called, file, is_wide, name_at, own_segments, read_or, section_at, sections, segment_of, segments,
@@ -186,9 +186,9 @@ export function symbol_of_address(address) {
     const thumb = file.elf.header.e_machine === goblin.EM_ARM ? 1n : 0n;
     const places = [...new Set([address | thumb, address])], tables = has_addresses() ? symbol_tables() : [];
     for (const [table, at] of tables.flatMap((table) => places.map((place) => [table, place]))) {
-        const index = read_or(undefined, () => symtab_at(table).by_address(at));
-        if (index === undefined) continue;
-        const symbol = symtab_at(table).get(index), start = address_of_symbol(symbol);
+        const { index, symbol } = read_or(undefined, () => symtab_at(table).symbol_by_address(at)) ?? {};
+        if (!symbol) continue;
+        const start = address_of_symbol(symbol);
         if (address !== start && !holds(start, symbol.st_size, address)) continue;
         return { table, index, name: title_of_symbol(table, index, symbol), from: address - start };
     }

@@ -1,5 +1,5 @@
 // The notes of sections or segments.
-import * as goblin from './goblin.js';
+import * as goblin from '../web/goblin.js';
 import { called, file, is_wide, refusal, sections, segments } from './file.js';
 import { note_type } from './labels.js';
 import { hex, name_of, NAME, once } from './text.js';
