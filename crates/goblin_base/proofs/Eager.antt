@@ -6,10 +6,9 @@
 -- fit (`first_without`).
 use Rattle.goblin_base.proofs.Common.{◌≡◌, ◌<◌, ◌≤◌, ◌+◌, ◌*◌, ◌/◌, ◌-◌, ℕ, zero, suc, List, [], ◌∷◌, ◌++◌, length}
 use Rattle.goblin_base.proofs.Common.{take, drop, false, nat_lt, Result, Ok, Err, refl, sym, ap, ◌∙◌, arith}
-use Rattle.goblin_base.proofs.Common.{le-div_iff_mul-le, div-lt_iff_lt-mul, div-mul-le_self, nat_tests, drop-drop}
-use Rattle.goblin_base.proofs.Common.{take_rest, Error, unless_fault, ◌>>=◌, records, map, Option, Some, None}
-use Rattle.goblin_base.proofs.Common.{slice_get, slice_range, range_with_len, result_ok, rows, length-take-le}
-use Rattle.goblin_base.proofs.Common.{length-drop, read_within, common_steps}
+use Rattle.goblin_base.proofs.Common.{le-div_iff_mul-le, nat_tests, drop-drop, take_rest, Error, unless_fault, ◌>>=◌}
+use Rattle.goblin_base.proofs.Common.{records, map, Option, Some, None, slice_get, slice_range, range_with_len}
+use Rattle.goblin_base.proofs.Common.{result_ok, rows, length-take-le, length-drop, read_within, common_steps}
 use Rattle.goblin_base.specs.Eager.{room_of_each, records_from, records_in}
 use Rattle.goblin_base.specs.RecordLaws.{room_of_fits, fits-room_of, unless_fault-is, unless_fault-err, read_within-ok}
 use Rattle.goblin_base.specs.Refusal.{buffer_too_short, misplaced, refusal_of}
