@@ -23,10 +23,10 @@ pub use Rattle.goblin_base.specs.declared.utf8.Awaited.{Awaited}
 pub use Rattle.goblin_base.specs.declared.walk.Found.TheVariants.{Fault}
 pub use Rattle.std.proofs.Common.{Bool, Err, IfSome, List, None, Ok, Option, Result, Some, [], ap, append-nil}
 pub use Rattle.std.proofs.Common.{append_assoc, arith, bit_and, bit_or, cond, drop, eqb, false, get_or, if◌then◌else◌}
-pub use Rattle.std.proofs.Common.{inl, inr, leb, length, length-set, lit<, ltb, map, max, min, nat_lt, ne_eqb, not}
-pub use Rattle.std.proofs.Common.{refl, replicate, reverse, rules, set, shr-shr, slice_index, subst, suc, sym, take}
-pub use Rattle.std.proofs.Common.{true, w8, zero, ℕ, ⊎_elim, ◌%◌, ◌&&◌, ◌*◌, ◌++◌, ◌+◌, ◌-◌, ◌/◌, ◌<◌, ◌==◌, ◌^◌, ◌||◌}
-pub use Rattle.std.proofs.Common.{◌↔◌, ◌∙◌, ◌∷◌, ◌≡◌, ◌≢◌, ◌≤◌, ◌⊎◌}
+pub use Rattle.std.proofs.Common.{inl, inr, leb, length, length-set, lit<, ltb, map, max, min, ne_eqb, not, refl}
+pub use Rattle.std.proofs.Common.{replicate, reverse, rules, set, shr-shr, slice_index, subst, suc, sym, take, true, w8}
+pub use Rattle.std.proofs.Common.{zero, ℕ, ⊎_elim, ◌%◌, ◌&&◌, ◌*◌, ◌++◌, ◌+◌, ◌-◌, ◌/◌, ◌<◌, ◌==◌, ◌^◌, ◌||◌, ◌↔◌, ◌∙◌}
+pub use Rattle.std.proofs.Common.{◌∷◌, ◌≡◌, ◌≢◌, ◌≤◌, ◌⊎◌}
 pub use Rattle.std.proofs.Math.Nat.{div-div-eq-div-mul, div-eq_of_lt, div-eq_of_lt-le, div-one, le-div_iff_mul-le}
 pub use Rattle.std.proofs.Math.Nat.{mod-lt, one-mul, pow-le-pow_right, pow-suc, pow-zero}
 pub use Rattle.std.proofs.lemmas.Bool.{and_from, and_parts, and_right, both_ways, cases_Bool, cases_lt, cond-false}
@@ -37,8 +37,8 @@ pub use Rattle.std.proofs.lemmas.Bool.Decides.{nat_tests}
 pub use Rattle.std.proofs.lemmas.Grind.{common_steps}
 pub use Rattle.std.proofs.lemmas.List.{drop-drop, drop-map, drop-set, drop-take, drop_all, drop_more, get_or-drop}
 pub use Rattle.std.proofs.lemmas.List.{get_or-map, get_or-take, get_or_past, length-drop, length-map, length-reverse}
-pub use Rattle.std.proofs.lemmas.List.{length-take, length-take-le, reverse-append, set_split, take-append-drop}
-pub use Rattle.std.proofs.lemmas.List.{take_all, take_more, take_rest}
+pub use Rattle.std.proofs.lemmas.List.{length-take, length-take-le, set_split, take-append-drop, take_all, take_more}
+pub use Rattle.std.proofs.lemmas.List.{take_rest}
 pub use Rattle.std.proofs.lemmas.List.Folds.{list_any_at, list_any_none, prefix_len-append}
 pub use Rattle.std.proofs.lemmas.List.FromFn.{get_or-range_with_len, length-range_with_len}
 pub use Rattle.std.proofs.lemmas.List.Sums.{fails_before_first, passes_at_first, position_or_len_is}

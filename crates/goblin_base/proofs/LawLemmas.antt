@@ -23,7 +23,6 @@ use Rattle.goblin_base.proofs.PiecesLemmas.{start_next}
 use Rattle.goblin_base.proofs.WalkLemmas.{entries_closed, no_entry_place, entries_more_readable, entries_past}
 use Rattle.goblin_base.proofs.WalkLemmas.{bad_start_from}
 use Rattle.goblin_base.proofs.StrtabLemmas.{text_at_readable, text_at_inside, strtab_in_range, walked_entries}
-use Rattle.goblin_base.proofs.StepLemmas.{step}
 
 -- ---- the strings of a table, joined, are its bytes
 -- If each whole piece is UTF-8, the entry at the start of one is that piece, and the next entry begins after its
