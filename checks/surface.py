@@ -213,6 +213,7 @@ def python(installed):
     names = [one.name for one in pkgutil.iter_modules(package.__path__) if one.name[0] != '_']
     for module in [package, *(importlib.import_module(f'goblin_elf.{name}') for name in names)]:
         listed = [name for name, one in vars(module).items() if is_own(one, module.__name__) and name[0] != '_']
+        lines += [f'goblin-scan: a column {name}' for name in vars(module).get('COLUMNS', [])]
         for name, one in [(f'{module.__name__}.{name}', vars(module)[name]) for name in getattr(module, '__all__', listed)]:
             if module is package or vars(package).get(name.split('.')[-1]) is not one:
                 lines.append(name + said(one))
