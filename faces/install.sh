@@ -431,12 +431,15 @@ if [ "$option" != --archive ]; then
     fi
     exit 0
 fi
-# Puts a file into a place. An earlier one stays there until this one is whole: place FILE PLACE
+# Puts a file into a place, and beside it the sum that `sha256sum -c` compares. An earlier one stays until this one is whole: place FILE PLACE
 place() {
     mkdir -p "$(dirname "$2")"
     part=$2.part
     cp "$1" "$part"
     mv -fT "$part" "$2"
+    (cd "$(dirname "$2")" && sha256sum "${2##*/}") > "$folder/sum"
+    cp "$folder/sum" "$part"
+    mv -fT "$part" "$2.sha256"
 }
 name=goblin_c-$version-$made_for
 archive=${1:-out/$name.tar.gz}
