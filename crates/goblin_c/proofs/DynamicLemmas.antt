@@ -4,11 +4,11 @@
 -- before an index, those from there on are what is left of them (`left`). So an entry that is read at a later index is
 -- the one at its place among them (`entry_at`). A range that is found lies in the file, because it is found after the
 -- test of room for it (`lies`).
-use Rattle.goblin_c.proofs.{Common.◌≤◌, ListLemmas.get_drop, StringLemmas.range_lies}
+use Rattle.goblin_c.proofs.{ListLemmas.get_drop, StringLemmas.range_lies}
 use Rattle.goblin_c.proofs.Common.{List, None, Ok, Option, RefusalAt, Result, Some, [], arith, drop, drop-drop, length}
-use Rattle.goblin_c.proofs.Common.{entries_from, first_item, if◌then◌else◌, length-drop, length-map, nat_tests, refl, ℕ}
-use Rattle.goblin_c.proofs.Common.{option_map, slice_get, slice_get-map, suc, zero, ◌+◌, ◌-◌, ◌==◌, ◌>>=◌, ◌∷◌, ◌≡◌}
-use Rattle.goblin_c.specs.{Types.dyn_converted, declared.types.GoblinDyn.GoblinDyn}
+use Rattle.goblin_c.proofs.Common.{entries_from, if◌then◌else◌, length-drop, length-map, nat_tests, option_map, refl, ℕ}
+use Rattle.goblin_c.proofs.Common.{slice_get, slice_get-map, suc, zero, ◌+◌, ◌-◌, ◌==◌, ◌>>=◌, ◌∷◌, ◌≡◌, ◌≤◌}
+use Rattle.goblin_c.specs.{Expected.first_item, Types.dyn_converted, declared.types.GoblinDyn.GoblinDyn}
 use Rattle.goblin_c.specs.DynamicLaws.{DynamicLiesInFile, EntriesAreCounted, EntriesAreListed, ValueIsTheFirst}
 use Rattle.goblin_dynamic.specs.{Dynamic.entries_up_to_null, Dynamic.first_value, declared.entry.Dyn.Dyn}
 use Rattle.std.{proofs.Common.not, specs.Option.option_and_then}

@@ -4,43 +4,38 @@
 -- bytes, which lie in the file (`each_read`, `read_part`). What is read of bytes fits (`fits_in`), so the low bits that
 -- C has of it are all of it.
 use Rattle.goblin.specs.{Header.HeaderFits, Header.as32, Header.as64, Header.header32, Header.header64, Sym.sym_of}
-use Rattle.goblin.specs.{ProgramHeader.program_header_of, ProgramHeader.program_header_size, WholePart.IsListOfWhole}
-use Rattle.goblin.specs.{SectionHeaders.section_headers_from_tested, declared.elf.reloc.RelocCtx.RelocCtx}
-use Rattle.goblin.specs.Reloc.{reloc_in, reloc_size}
+use Rattle.goblin.specs.{Reloc.reloc_in, Reloc.reloc_size, declared.elf.reloc.RelocCtx.RelocCtx}
+use Rattle.goblin.specs.ProgramHeader.{program_header_of, program_header_size}
 use Rattle.goblin.specs.SectionHeader.{section_header_layout, section_header_of, section_header_size}
-use Rattle.goblin.specs.SectionHeaders.{count_asked, link_of, names_index, section_headers_from}
+use Rattle.goblin.specs.SectionHeaders.{count_asked, section_headers_from, section_headers_from_tested}
 use Rattle.goblin_base.proofs.{ByteorderLemmas.length-part, Eager.all_fit, Eager.get_records, Eager.past_records}
 use Rattle.goblin_base.specs.{Eager.records_from, Eager.records_in, Eager.room_of_each, Fields.Field, Fields.FieldsFit}
 use Rattle.goblin_base.specs.{FieldLaws.IsBytes-part, Number.IsBytes, TableLaws.records-agree}
 use Rattle.goblin_base.specs.{Layout.IsRecord, Record.records, Record.unless_fault, declared.container.Endian.Endian}
 use Rattle.goblin_base.specs.declared.container.Container.{Container, TheVariants.Big, TheVariants.Little}
-use Rattle.goblin_c.{proofs.Common.◌≡◌, proofs.Common.◌≤◌, specs.Status.converted_list}
 use Rattle.goblin_c.proofs.Common.{Bool, Ctx, Decides, Err, GoblinHeader, GoblinRange, List, None, Ok, Option, Refusal}
 use Rattle.goblin_c.proofs.Common.{RefusalAt, Result, Some, [], ap, arith, ctx_of, drop, drop-drop, each_converted, inl}
-use Rattle.goblin_c.proofs.Common.{first_item, fits-room_of, get_or, get_or_from_slice_get, if◌then◌else◌, item_at, map}
-use Rattle.goblin_c.proofs.Common.{leb-false, leb-true, length, length-drop, length-map, mod-eq_of_lt, nat_le, refl, ℕ}
-use Rattle.goblin_c.proofs.Common.{nat_tests, option_map, position_or_len, refusal_at, refusal_of, refuse_as, room_of}
-use Rattle.goblin_c.proofs.Common.{refused_at, room_of_fits, slice_get, slice_get-get_or, slice_get-map, subst, suc}
-use Rattle.goblin_c.proofs.Common.{slice_get_within, sym, take, true, zero, ◌*◌, ◌+◌, ◌-◌, ◌<◌, ◌==◌, ◌>>=◌, ◌∙◌, ◌∷◌}
-use Rattle.goblin_c.specs.{Dynamic.whole_entries_expected, Types.symbol_converted, WriteLaws.ItemsAreWhole}
-use Rattle.goblin_c.specs.{Expected.symbol_expected, Expected.symbols_expected, Expected.whole_header, Refused.Returns}
+use Rattle.goblin_c.proofs.Common.{fits-room_of, get_or_from_slice_get, if◌then◌else◌, item_at, length, length-drop, ℕ}
+use Rattle.goblin_c.proofs.Common.{length-map, map, mod-eq_of_lt, nat_tests, option_map, position_or_len, refl, room_of}
+use Rattle.goblin_c.proofs.Common.{refusal_at, refuse_as, refused_at, room_of_fits, slice_get, slice_get-get_or, subst}
+use Rattle.goblin_c.proofs.Common.{slice_get-map, slice_get_within, suc, sym, take, true, zero, ◌*◌, ◌+◌, ◌-◌, ◌<◌, ◌∙◌}
+use Rattle.goblin_c.proofs.Common.{◌==◌, ◌>>=◌, ◌∷◌, ◌≡◌, ◌≤◌}
+use Rattle.goblin_c.specs.{Common.Reloc, Common.SectionHeader, Common.sym_layout, Common.sym_size, Refused.Returns}
+use Rattle.goblin_c.specs.{Dynamic.whole_entries_expected, Expected.symbols_expected, WriteLaws.ItemsAreWhole}
+use Rattle.goblin_c.specs.{Status.converted_list, Types.symbol_converted}
 use Rattle.goblin_c.specs.Common.{GoblinReloc, GoblinSection, GoblinSymbol, Header, Layout, ProgramHeader, Refused, Sym}
-use Rattle.goblin_c.specs.Common.{Reloc, SectionHeader, program_headers_from, segment_count, sym_layout, sym_size}
-use Rattle.goblin_c.specs.Expected.{count_of, found_item, is_mips64el, items_from, reloc_expected, relocs_expected}
-use Rattle.goblin_c.specs.Expected.{section_expected, sections_expected, segment_expected, segments_expected, table_at}
-use Rattle.goblin_c.specs.Laws.{ContextIsTheHeaders, FilledByIndex, FindsFrom, FindsItemFrom, GivenFrom, HasHeader}
-use Rattle.goblin_c.specs.Laws.{KeepsWhatIsRead, NamesByIndex, NamesContext, RefusesAll, RelocsByIndex, ReturnsCount}
-use Rattle.goblin_c.specs.Laws.{ReturnsEach, SectionsByIndex, SectionsByType, SegmentsByIndex, SymbolsByIndex}
-use Rattle.goblin_c.specs.Laws.{TablesByIndex, WholeHeaderIsTheLibrarys, WholeHeaderKeeps}
+use Rattle.goblin_c.specs.Expected.{found_item, is_mips64el, reloc_expected, relocs_expected, section_expected}
+use Rattle.goblin_c.specs.Expected.{sections_expected, segment_expected, segments_expected, symbol_expected}
+use Rattle.goblin_c.specs.Laws.{ContextIsTheHeaders, FindsItemFrom, HasHeader, NamesContext, RefusesAll, SectionsByType}
 use Rattle.goblin_c.specs.Types.{header_converted, reloc_converted, section_converted, segment_converted}
 use Rattle.goblin_c.specs.Write.{RelocFits, SectionFits, SymbolFits, dyn_layout, reloc_ctx, reloc_layout, reloc_of}
 use Rattle.goblin_c.specs.Write.{section_layout, section_of, segment_layout, symbol_layout, symbol_of}
 use Rattle.goblin_dynamic.specs.Dyn.{entry_laws}
-use Rattle.goblin_headers.proofs.{WholeParts.sections_of_whole, WholeParts.segments_of_whole, WholeTrips.was_read}
+use Rattle.goblin_headers.proofs.WholeTrips.{was_read}
 use Rattle.goblin_headers.specs.{ProgramHeaderLaws.program_header_laws, SectionHeaderLaws.section_header_laws}
 use Rattle.goblin_records.specs.{Reloc.AddendFits, Reloc.StoredFits, Reloc.reloc_layout_in, SymLaws.sym_laws}
 use Rattle.goblin_records.specs.RelocLaws.{reloc_laws, reloc_laws_in}
-use Rattle.std.proofs.Common.{false, max, nat_lt, position, true≢false, ◌/◌, ◌^◌, ◌⊎◌}
+use Rattle.std.proofs.Common.{false, max, nat_lt, position, ◌/◌, ◌^◌, ◌⊎◌}
 use Rattle.std.proofs.Math.Nat.{div-mul-le_self, le-div_iff_mul-le, mul-div_left, mul-le-mul_right}
 use Rattle.std.proofs.lemmas.{Bool.cases_lt, Bool.Decides.Decides-eqb, Option.slice_get_past}
 use Rattle.std.proofs.lemmas.List.{take-take, Quantifiers.position-Some, Sums.fails_before_first}
@@ -289,94 +284,20 @@ items_are_whole = record {
 -- the context of what C hands back is the one that the header names
 pub context_is_the_headers : ContextIsTheHeaders
 context_is_the_headers bytes h has =
-    let was = was_read bytes h has.0 has.1 in
-    let order_is = was.names.names_order.named in (
-      (grind (arith, nat_tests, was.names.named), grind (arith, nat_tests, order_is)),
-      grind (arith, nat_tests, was.names.named, order_is),
-    )
+    let names = (was_read bytes h has.0 has.1).names in grind (arith, nat_tests, names.named, names.names_order.named)
 
 -- a header names one context
-one_context : (bytes : List ℕ) (h : Header) (ctx : Ctx)
+pub one_context : (bytes : List ℕ) (h : Header) (ctx : Ctx)
     → HasHeader bytes h → NamesContext h ctx → ctx_of (header_converted h) ≡ ctx
 one_context bytes h ctx has named = grind (arith, nat_tests, context_is_the_headers)
 
--- the items of a list for C by index, and how many they are
-listed : {X Y : Type 0} (convert : X → Y) (all : Result (List X) RefusalAt)
-    → ReturnsEach convert all (item_at (each_converted convert all))
-    × ReturnsCount all (count_of (each_converted convert all))
-listed convert (Ok items) =
-    (λ index. ap Ok (slice_get-map convert items index), ap (λ (n : ℕ). Ok (Some n)) (length-map items convert))
-listed convert (Err refusal) = (λ index. refl, refl)
-
-pub sections_by_index : SectionsByIndex
-sections_by_index bytes h ctx has named =
-    rw (← one_context bytes h ctx has named) (listed section_converted (sections_expected bytes (header_converted h)))
-
-pub segments_by_index : SegmentsByIndex
-segments_by_index bytes h ctx has named =
-    rw (← one_context bytes h ctx has named) (listed segment_converted (segments_expected bytes (header_converted h)))
-
-pub symbols_by_index : SymbolsByIndex
-symbols_by_index bytes h ctx range has named =
-    rw (← one_context bytes h ctx has named)
-    (listed symbol_converted (symbols_expected bytes (header_converted h) range))
-
-pub relocs_by_index : RelocsByIndex
-relocs_by_index bytes h ctx range is_rela has named =
-    rw (← one_context bytes h ctx has named, ← (context_is_the_headers bytes h has).1)
-    (listed reloc_converted (relocs_expected bytes (header_converted h) range is_rela))
-
-pub whole_header_is_the_librarys : WholeHeaderIsTheLibrarys
-whole_header_is_the_librarys bytes h ctx has named = grind (arith, nat_tests, one_context)
-
 -- the item at an index after those that are dropped
 pub get_drop : {X : Type 0} (xs : List X) (n k : ℕ) → slice_get xs (n + k) ≡ slice_get (drop n xs) k
-get_drop xs zero k = ap (slice_get xs) (omega arith)
+get_drop xs zero k = grind arith
 get_drop [] (suc n) k = refl
-get_drop (x ∷ xs) (suc n) k =
-    let more : suc n + k ≡ suc (n + k) = omega arith in
-    ap (slice_get (x ∷ xs)) more ∙ get_drop xs n k
+get_drop (x ∷ xs) (suc n) k = grind (arith, get_drop xs n k)
 
--- the items for C from an index on
-given : {X : Type 0} (items : List X) (first : ℕ) (past : Bool)
-    → nat_le (length items) first ≡ past
-    → GivenFrom {Y = X} first
-    (λ index. Ok (slice_get items index)) (Ok (if past then None else Some (drop first items)))
-given items first true is =
-    let there : length items ≤ first = leb-true (length items) first is in
-    λ k. ap Ok (slice_get_past items (first + k) (omega arith))
-given items first false is =
-    let some : first < length items = leb-false (length items) first is in
-    (omega (arith, length-drop first items), λ k. ap Ok (get_drop items first k))
-
-from : {X : Type 0} (all : Result (List X) RefusalAt) (first : ℕ)
-    → GivenFrom {Y = X} first (item_at all) (items_from all first)
-from all first = grind (arith, nat_tests, given)
-
-pub filled_by_index : FilledByIndex
-filled_by_index = grind (arith, nat_tests, from, relocs, sections, segments, symbols)
-
-pub tables_by_index : TablesByIndex
-tables_by_index bytes h index = grind (arith, nat_tests, slice_get-map)
-
--- the table with the index in the header, or the one that the first section links to
-in_header : (all : Result (List SectionHeader) RefusalAt) (index : ℕ)
-    → (index == 0xffff) ≡ false
-    → (all >>= λ items. Ok (table_at items (names_index index (slice_get items 0))))
-    ≡ (all >>= λ items. Ok (table_at items index))
-in_header all index other = grind (arith, nat_tests)
-
-in_first : (all : Result (List SectionHeader) RefusalAt) (first : GoblinSection)
-    → item_at (each_converted section_converted all) 0 ≡ Ok (Some first)
-    → (all >>= λ items. Ok (table_at items (link_of (slice_get items 0))))
-    ≡ (all >>= λ items. Ok (table_at items first.sh_link))
-in_first all first is = grind (arith, slice_get-map)
-
-pub names_by_index : NamesByIndex
-names_by_index bytes h = (
-  λ other. in_header (sections_expected bytes h) _ (grind (arith, nat_tests)),
-  λ first is found. rw is (in_first (sections_expected bytes h) first found),
-)
+pub ruleset by_index = (nat_tests, slice_get-map, slice_get_past, get_drop, length-drop)
 
 -- ---- Looking for the first item that passes a test, from an index on.
 --
@@ -384,104 +305,60 @@ names_by_index bytes h = (
 -- (`converted_one`), and the library's search stops at the first of these that passes its test: so none for C before it
 -- is so, and none at all if the search finds none (`finds`).
 
--- the first item that passes a test, and that none does
+-- the first item that passes a test, and that none before it does
 first_passes : {X : Type 0} (test : X → Bool) (items : List X) (i : ℕ)
     → position test items ≡ Some i → (x : X) × (slice_get items i ≡ Some x) × (test x ≡ true)
 first_passes test [] i is = absurd (cc)
 first_passes test (x ∷ items) i is =
-    let found = position-Some test (x ∷ items) i x is in
-    (get_or (x ∷ items) i x, slice_get-get_or (x ∷ items) i x found.0, found.1)
+    grind (arith, position-Some test (x ∷ items) i x, slice_get-get_or (x ∷ items) i x)
 
 pub fails_before : {X : Type 0} (test : X → Bool) (items : List X) (k : ℕ) (x : X)
     → slice_get items k ≡ Some x → k < position_or_len test items → test x ≡ false
 fails_before test items k x found before =
-    rw (get_or_from_slice_get items k x x found) at (fails_before_first test items k x before)
+    grind (arith, get_or_from_slice_get items k x x found, fails_before_first test items k x before)
 
 -- the item that an item for C was converted from
 pub converted_one : {X Y : Type 0} (convert : X → Y) (items : List X) (k : ℕ) (y : Y)
     → ◌≡◌ {A = Result (Option Y) RefusalAt} (Ok (slice_get (map convert items) k)) (Ok (Some y))
     → (x : X) × (slice_get items k ≡ Some x) × (y ≡ convert x)
-converted_one convert [] k y is = absurd (cc)
-converted_one convert (x ∷ items) zero y is = (x, refl, cc)
-converted_one convert (x ∷ items) (suc k) y is = converted_one convert items k y is
+converted_one convert items k y is = grind (arith, slice_get-map)
 
--- it is among those from the first index on
-there : {X : Type 0} (items : List X) (first i : ℕ) (x : X)
-    → first ≤ i → slice_get items i ≡ Some x → slice_get (drop first items) (i - first) ≡ Some x
-there items first i x after found =
-    let place : first + (i - first) ≡ i = omega (arith, after) in
-    rw (← get_drop items first (i - first), place) found
-
--- the items for C from an index on that pass a test
 module _ {X Y : Type 0} (convert : X → Y) (IsSo : Y → Type 0) (test : X → Bool) (items : List X)
-    (decides : (k : ℕ) (x : X) → slice_get items k ≡ Some x → Decides (test x) (IsSo (convert x))) where
-  not_so : (first k : ℕ) (y : Y)
+    (decides : (k : ℕ) (x : X) → slice_get items k ≡ Some x → Decides (test x) (IsSo (convert x)))
+    (Refuses : RefusalAt → Type 0) (first : ℕ) where
+  -- an item for C before the first that passes is not so
+  not_so : (k : ℕ) (y : Y)
       → first ≤ k → ◌≡◌ {A = Result (Option Y) RefusalAt} (Ok (slice_get (map convert items) k)) (Ok (Some y))
-      → ((x : X) → slice_get (drop first items) (k - first) ≡ Some x → test x ≡ false)
-      → ¬ (IsSo y)
-  not_so first k y after stored fails so =
+      → k - first < position_or_len test (drop first items) → ¬ (IsSo y)
+  not_so k y after stored before so =
       let one = converted_one convert items k y stored in
-      true≢false (sym ((decides k one.0 one.1).1 (subst IsSo one.2 so))
-      ∙ fails one.0 (there items first k one.0 after one.1))
+      let place : first + (k - first) ≡ k = omega (arith, after) in
+      let there : slice_get (drop first items) (k - first) ≡ Some one.0 =
+      rw (← get_drop items first (k - first), place) one.1 in
+      let fails = fails_before test (drop first items) (k - first) one.0 there before in
+      grind (arith, decides k one.0 one.1, fails, subst IsSo one.2 so)
 
-  pub finds : (Refuses : RefusalAt → Type 0) (first : ℕ) (found : Option ℕ)
+  -- so the first that passes is what is looked for
+  pub finds : (found : Option ℕ)
       → position test (drop first items) ≡ found
-      → FindsFrom first
-      (λ index. Ok (slice_get (map convert items) index)) IsSo Refuses (Ok (option_map (λ place. first + place) found))
-  finds Refuses first (Some i) is =
+      → FindsItemFrom first (λ index. Ok (slice_get (map convert items) index)) IsSo Refuses
+      (Ok (found_item convert items (option_map (λ place. first + place) found)))
+  finds (Some i) is =
       let one = first_passes test (drop first items) i is in
-      let own = get_drop items first i ∙ one.1 in (
-        omega arith,
-        (
-          convert one.0,
-          ap Ok (slice_get-map convert items (first + i) ∙ ap (option_map convert) own),
-          (decides (first + i) one.0 own).0 one.2,
-        ),
-        λ k y after before stored.
-            not_so first k y after stored
-            (λ x found. fails_before test (drop first items) (k - first) x found (grind (arith, nat_tests))),
-      )
-  finds Refuses first None is =
+      let own = get_drop items first i ∙ one.1 in
+      grind (arith, nat_tests, own, slice_get-map, decides (first + i) one.0 own, one.2, not_so)
+  finds None is =
       λ k y after stored.
-      not_so first k y after stored (λ x found. fails_before test (drop first items) (k - first) x found
-      (grind (arith, nat_tests, slice_get_within (drop first items) (k - first) x found)))
-
--- the item that is found is the one that a call stores at its index
-pub with_item : {X Y : Type 0} (convert : X → Y) (IsSo : Y → Type 0) (Refuses : RefusalAt → Type 0) (items : List X)
-    (first : ℕ) (found : Option ℕ)
-    → FindsFrom first (λ index. Ok (slice_get (map convert items) index)) IsSo Refuses (Ok found)
-    → FindsItemFrom first (λ index. Ok (slice_get (map convert items) index)) IsSo Refuses
-    (Ok (found_item convert items found))
-with_item convert IsSo Refuses items first None is = is
-with_item convert IsSo Refuses items first (Some i) is =
-    let one = converted_one convert items i is.1.0 is.1.1 in
-    rw one.1 (is, ap Ok (slice_get-map convert items i ∙ ap (option_map convert) one.1))
-
--- the first of all items that passes a test
-module _ {X Y : Type 0} (convert : X → Y) (IsSo : Y → Type 0) (test : X → Bool) where
-  pub first_found : (items : List X)
-      → ((k : ℕ) (x : X) → slice_get items k ≡ Some x → Decides (test x) (IsSo (convert x)))
-      → (Refuses : RefusalAt → Type 0) (first : ℕ)
-      → FindsItemFrom first
-      (λ index. Ok (slice_get (map convert items) index)) IsSo Refuses (Ok (first_item convert test first items))
-  first_found items decides Refuses first =
-      with_item convert IsSo Refuses items first
-      (option_map (λ place. first + place) (position test (drop first items)))
-      (finds convert IsSo test items decides Refuses first (position test (drop first items)) refl)
-
-  first_of_list : ((x : X) → Decides (test x) (IsSo (convert x)))
-      → (all : Result (List X) RefusalAt) (first : ℕ)
-      → let call = item_at (each_converted convert all) in
-      FindsItemFrom first call IsSo (RefusesAll call) (all >>= λ items. Ok (first_item convert test first items))
-  first_of_list decides (Ok items) first =
-      first_found items (λ k x found. decides x) (RefusesAll (item_at (each_converted convert (Ok items)))) first
-  first_of_list decides (Err e) first = λ index. refl
+      not_so k y after stored (grind (arith, nat_tests, slice_get_within (map convert items), length-map, length-drop))
 
 pub sections_by_type : SectionsByType
 sections_by_type bytes h sh_type first =
-    first_of_list section_converted (λ (section : GoblinSection). section.sh_type ≡ sh_type)
-    (λ section. section.sh_type == sh_type)
-    (λ section. Decides-eqb section.sh_type sh_type) (sections_expected bytes h) first
+    let test = λ (section : SectionHeader). section.sh_type == sh_type in
+    let found = λ (items : List SectionHeader).
+    finds section_converted (λ section. section.sh_type ≡ sh_type) test items
+    (λ k section found. Decides-eqb section.sh_type sh_type) (RefusesAll (section_expected bytes h)) first
+    (position test (drop first items)) refl in
+    grind (arith, found)
 
 -- ---- Items of lists that lie in the file.
 --
@@ -577,44 +454,3 @@ plain_reloc_is bytes h range is_rela index x other file ends is =
     (relocs_expected bytes h range is_rela) x
     (rw (not_empty, room_of_fits (length bytes) range.offset range.size file, same) refl) positive refl ends
     (rw plain is)
-
--- ---- With the header that counts only what lies whole in the file, no list of headers is refused, and a list that
--- isn't refused with the plain header is the same: so are the calls that read them.
-
--- one list isn't refused, and is another where that isn't refused: so with the offsets of their refusals
-keeps_at : {X : Type 0} (place other_place : ℕ) (list part : Result (List X) Refusal)
-    → IsListOfWhole list part → KeepsWhatIsRead (refused_at place list) (refused_at other_place part)
-keeps_at place other_place list part is = grind (arith, nat_tests)
-
-sections_kept : (bytes : List ℕ) (h : GoblinHeader)
-    → KeepsWhatIsRead (sections_expected bytes h) (sections_expected bytes (whole_header bytes h))
-sections_kept bytes h = grind (arith, keeps_at, sections_of_whole bytes h.e_shoff h.e_shnum (ctx_of h))
-
--- the program headers, with the two offsets of their refusals
-segments_by : (count other_count : Result ℕ Refusal) (list : ℕ → Result (List ProgramHeader) Refusal)
-    (first place other_first other_place : ℕ)
-    → IsListOfWhole (count >>= list) (other_count >>= list)
-    → KeepsWhatIsRead (refused_at first count >>= λ n. refused_at place (list n))
-    (refused_at other_first other_count >>= λ n. refused_at other_place (list n))
-segments_by count other_count list first place other_first other_place is = grind (arith, is)
-
-segments_kept : (bytes : List ℕ) (h : GoblinHeader)
-    → KeepsWhatIsRead (segments_expected bytes h) (segments_expected bytes (whole_header bytes h))
-segments_kept bytes h =
-    let whole = whole_header bytes h in
-    segments_by (refuse_as refusal_of (segment_count bytes h.e_phnum h.e_shoff (ctx_of h)))
-    (refuse_as refusal_of (segment_count bytes whole.e_phnum whole.e_shoff (ctx_of h)))
-    (λ n. program_headers_from bytes h.e_phoff n (ctx_of h)) h.e_shoff h.e_phoff whole.e_shoff h.e_phoff
-    (segments_of_whole bytes h.e_phnum h.e_phoff h.e_shoff h.e_shnum (ctx_of h))
-
-pub whole_header_keeps : WholeHeaderKeeps
-whole_header_keeps bytes h =
-    let sections = sections_kept bytes h in
-    let segments = segments_kept bytes h in
-    record {
-      section_count = grind arith;
-      section = λ index. grind arith;
-      segment_count = grind arith;
-      segment = λ index. grind arith;
-      others = refl;
-    }

@@ -8,17 +8,16 @@ use Rattle.goblin.specs.{Notes.LieWithin, declared.elf.note.Nhdr32.Nhdr32, decla
 use Rattle.goblin.specs.Note.{NoteParts, bytes_at, item_and_rest, note_align, note_at, note_items, note_places}
 use Rattle.goblin.specs.NoteLaws.{note_by_note, whole_is_note}
 use Rattle.goblin_base.specs.Record.{read_within}
-use Rattle.goblin_c.proofs.{Common.◌∙◌, Common.◌≡◌, Common.◌≤◌, ListLemmas.one_converted}
+use Rattle.goblin_c.{proofs.ListLemmas.one_converted, specs.Common.refusal_of, specs.Types.note_converted}
 use Rattle.goblin_c.proofs.Common.{Bool, Ctx, Err, GoblinHeader, GoblinRange, List, None, Ok, Option, Refusal, Result}
 use Rattle.goblin_c.proofs.Common.{RefusalAt, Some, [], ap, arith, ctx_of, drop, fits-room_of, if◌then◌else◌, is_utf8}
-use Rattle.goblin_c.proofs.Common.{leb-false, length, length-drop, length-take, nat_le, nat_tests, refl, refusal_of, ℕ}
-use Rattle.goblin_c.proofs.Common.{refuse_as, refused_at, suc, sym, take, take_all, true, zero, ◌+◌, ◌-◌, ◌<◌, ◌>>=◌}
+use Rattle.goblin_c.proofs.Common.{length, length-drop, length-take, nat_le, nat_tests, refl, refuse_as, refused_at, ℕ}
+use Rattle.goblin_c.proofs.Common.{suc, sym, take, take_all, true, zero, ◌+◌, ◌-◌, ◌<◌, ◌>>=◌, ◌∙◌, ◌≡◌, ◌≤◌}
 use Rattle.goblin_c.specs.{Laws.items_reported, Laws.notes_reported, declared.types.GoblinNote.GoblinNote}
 use Rattle.goblin_c.specs.Laws.{NotesAreItems, NotesAreText, NotesInARow, NotesLieInFile, WholeNotesAreNotes}
 use Rattle.goblin_c.specs.Notes.{bytes_from, note_expected, note_utf8_expected, parts_at, read_parts, without_last}
-use Rattle.goblin_c.specs.Types.{note_converted}
 use Rattle.std.proofs.Math.Seq.{drop-drop, take-nil}
-use Rattle.std.proofs.lemmas.{Bool.lt-leb, List.drop-take, List.drop_all}
+use Rattle.std.proofs.lemmas.{Bool.leb-false, Bool.lt-leb, List.drop-take, List.drop_all}
 use Rattle.goblin_base.specs.declared.container.Endian.TheVariants as endian
 
 -- the items of a result, before the range's end and from there on

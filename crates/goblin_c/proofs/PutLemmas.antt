@@ -8,18 +8,18 @@ use Rattle.goblin_base.proofs.{ByteorderLemmas.length-part, Eager.length_records
 use Rattle.goblin_base.specs.{Number.IsBytes, Number.number_at, Number.spelled, Place.with_number}
 use Rattle.goblin_base.specs.{NumberLaws.length-spelled, NumberLaws.spelled-number, declared.container.Endian.Endian}
 use Rattle.goblin_base.specs.FieldLaws.{IsBytes-part, number_at-lt, number_at-with_number}
+use Rattle.goblin_c.{proofs.PlaceLemmas.numbers_lie_in_range, specs.Types.refusal_converted}
 use Rattle.goblin_c.proofs.Common.{Ctx, Err, GoblinHeader, GoblinRange, List, None, Ok, Option, RefusalAt, Result, Some}
 use Rattle.goblin_c.proofs.Common.{ap, arith, ctx_of, drop, drop-drop, each_converted, fits-room_of, get_or, item_at, ℕ}
 use Rattle.goblin_c.proofs.Common.{length, length-drop, length-map, length-take, length-take-le, mod-eq_of_lt, refl}
-use Rattle.goblin_c.proofs.Common.{nat_tests, refusal_of, refuse_as, refused_at, room_of_fits, slice_get-get_or, take}
-use Rattle.goblin_c.proofs.Common.{slice_get_within, take_all, true, ◌*◌, ◌++◌, ◌+◌, ◌<◌, ◌>>=◌, ◌∙◌, ◌≡◌, ◌≤◌}
+use Rattle.goblin_c.proofs.Common.{nat_tests, refuse_as, refused_at, room_of_fits, slice_get-get_or, slice_get_within}
+use Rattle.goblin_c.proofs.Common.{take, take_all, true, ◌*◌, ◌++◌, ◌+◌, ◌<◌, ◌>>=◌, ◌∙◌, ◌≡◌, ◌≤◌}
 use Rattle.goblin_c.proofs.ListLemmas.{Read, entries, item_read, reloc_same, reloc_whole, relocs, same_items, sections}
 use Rattle.goblin_c.proofs.ListLemmas.{section_same, section_whole, segments, symbol_same, symbol_whole, symbols}
-use Rattle.goblin_c.proofs.PlaceLemmas.{numbers_lie_in_range}
 use Rattle.goblin_c.specs.{Bytes.is_width, Bytes.number_expected, Expected.count_of, Expected.header_expected}
-use Rattle.goblin_c.specs.{Common.Dyn, Common.Error, Common.GoblinDyn, Common.Layout, Places.number_in_expected}
-use Rattle.goblin_c.specs.{Dynamic.entry_expected, Dynamic.whole_entries_expected, Types.refusal_converted}
+use Rattle.goblin_c.specs.{Dynamic.entry_expected, Dynamic.whole_entries_expected, Places.number_in_expected}
 use Rattle.goblin_c.specs.{Write.with_bytes, declared.misfit.Misfit.Misfit, declared.types.GoblinReloc.GoblinReloc}
+use Rattle.goblin_c.specs.Common.{Dyn, Error, GoblinDyn, Layout, refusal_of}
 use Rattle.goblin_c.specs.Write.{DynFits, FitsClass, dyn_layout, dyn_of, dyn_put_expected, header_of, named_ctx, put_at}
 use Rattle.goblin_c.specs.Write.{put_if_there, put_unless, reloc_ctx, reloc_of, section_of, segment_of, symbol_of}
 use Rattle.goblin_c.specs.WriteLaws.{ChangesOnly, CountsStay, HeadersAreRead, NumbersArePut, NumbersInRangesArePut}

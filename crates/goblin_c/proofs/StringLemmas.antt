@@ -6,25 +6,25 @@
 -- finds is the first with that name (`by_name`).
 use Rattle.goblin_base.specs.{Strtab.has_name, Strtab.plain, Strtab.range_in, Wanted.is_piece, Wanted.starts_piece}
 use Rattle.goblin_base.specs.Pieces.{piece}
-use Rattle.goblin_c.proofs.{BufferLemmas.stored_item, ListLemmas.symbol_parts, ListLemmas.symbols}
+use Rattle.goblin_c.proofs.{BufferLemmas.stored_item, ListLemmas.symbols}
 use Rattle.goblin_c.proofs.Common.{Bool, Decides, Err, GoblinRange, List, None, Ok, Option, RefusalAt, Result, Some, []}
-use Rattle.goblin_c.proofs.Common.{ap, arith, closed_len, ctx_of, drop, each_converted, first_item, fits-room_of, inl}
-use Rattle.goblin_c.proofs.Common.{get_or, if◌then◌else◌, is_utf8, item_at, length, length-drop, length-take, nat_le, ℕ}
-use Rattle.goblin_c.proofs.Common.{length-take-le, mod-eq_of_lt, nat_tests, position_or_len, refl, refusal_at, subst}
-use Rattle.goblin_c.proofs.Common.{refuse_as, refused_at, slice_get, slice_get-get_or, string_expected, suc, sym, take}
-use Rattle.goblin_c.proofs.Common.{true, zero, ◌+◌, ◌-◌, ◌<◌, ◌==◌, ◌>>=◌, ◌∙◌, ◌∷◌, ◌≡◌, ◌≤◌}
-use Rattle.goblin_c.proofs.ListLemmas.{expected_is, first_found, fits_in, one_converted, section_name, sections}
+use Rattle.goblin_c.proofs.Common.{ap, arith, closed_len, ctx_of, drop, each_converted, fits-room_of, get_or, inl, refl}
+use Rattle.goblin_c.proofs.Common.{if◌then◌else◌, is_utf8, item_at, length, length-drop, length-take, length-take-le, ℕ}
+use Rattle.goblin_c.proofs.Common.{mod-eq_of_lt, nat_le, nat_tests, position_or_len, refusal_at, refuse_as, refused_at}
+use Rattle.goblin_c.proofs.Common.{slice_get, slice_get-get_or, string_expected, subst, suc, sym, take, true, zero, ◌+◌}
+use Rattle.goblin_c.proofs.Common.{◌-◌, ◌<◌, ◌==◌, ◌>>=◌, ◌∙◌, ◌∷◌, ◌≡◌, ◌≤◌}
+use Rattle.goblin_c.proofs.ListLemmas.{expected_is, finds, fits_in, one_converted, section_name, sections, symbol_parts}
 use Rattle.goblin_c.specs.{Bytes.IsCString, Bytes.range_expected, Bytes.string_closed_expected, Refused.Returns}
-use Rattle.goblin_c.specs.{Common.GoblinRefusal, Common.Refused, Types.section_converted, Types.symbol_converted}
-use Rattle.goblin_c.specs.{Expected.symbols_expected, Status.Stores}
-use Rattle.goblin_c.specs.Expected.{is_named, passes, sections_expected, string_utf8_expected, strings_expected}
+use Rattle.goblin_c.specs.{Common.GoblinRefusal, Common.Refused, Expected.strings_expected, Expected.symbols_expected}
+use Rattle.goblin_c.specs.{Status.Stores, Types.section_converted, Types.symbol_converted}
+use Rattle.goblin_c.specs.Expected.{first_item, is_named, passes, sections_expected, string_utf8_expected}
 use Rattle.goblin_c.specs.Laws.{BytesLieInFile, EmptyHaveNoBytes, FindsItemFrom, IsNameAt, LiesIn, RefusesInTurn}
 use Rattle.goblin_c.specs.Laws.{SectionsByName, StringsAreBytes, StringsAreCompared, StringsAreThere, StringsLieInFile}
 use Rattle.goblin_c.specs.Laws.{SymbolsByName, TextIsFound, TextIsUtf8, bytes_in, range_is, range_starts}
-use Rattle.std.{proofs.Common.slice_index, specs.List.before_first, specs.Prelude.IsErr, specs.Prelude.◌≢◌}
-use Rattle.std.proofs.{Common.inr, Math.Seq.drop-drop, Math.Seq.take-take, lemmas.Slice.Eq.bytes_eq-Decides}
-use Rattle.std.proofs.lemmas.List.{drop-take, get_or-drop, get_or-take, take_min}
-use Rattle.std.proofs.lemmas.List.Sums.{fails_before_first, passes_at_first, prefix_len-le-length}
+use Rattle.std.proofs.{Common.inr, Common.position, Common.slice_index, Math.Seq.drop-drop, Math.Seq.take-take}
+use Rattle.std.proofs.lemmas.{List.get_or-drop, List.get_or-take, List.take_min, Slice.Eq.bytes_eq-Decides}
+use Rattle.std.proofs.lemmas.List.{drop-take, Sums.fails_before_first, Sums.passes_at_first, Sums.prefix_len-le-length}
+use Rattle.std.specs.{List.before_first, Prelude.IsErr, Prelude.◌≢◌}
 
 -- the strings of a range are its bytes, and lie in the file
 pub in_range : (bytes : List ℕ) (range : GoblinRange) (found : List ℕ)
@@ -118,8 +118,9 @@ module _ {X Y : Type 0} (convert : X → Y) (bytes : List ℕ) (names : GoblinRa
       FindsItemFrom first call HasTheName (RefusesInTurn call (string_expected bytes names))
       (all >>= λ items. strings >>= λ read. Ok (first_item convert (test read) first items))
   by_name first (Ok items) (Ok read) found decides =
-      first_found convert HasTheName (test read) items (λ k x. decides read items k x found refl)
+      finds convert HasTheName (test read) items (λ k x. decides read items k x found refl)
       (RefusesInTurn (item_at (each_converted convert (Ok items))) (string_expected bytes names)) first
+      (position (test read) (drop first items)) refl
   by_name first (Ok items) (Err e) found decides = inr ((λ k other refused. cc), (λ offset. rw found refl))
   by_name first (Err e) strings found decides = inl (λ index. refl)
 
