@@ -1,13 +1,12 @@
 -- What the proofs of this crate cite most, passed on from one place. Declares nothing.
 pub use Rattle.goblin_base.specs.{RecordLaws.fits-room_of, RecordLaws.room_of_fits, Texts.facts_of}
-pub use Rattle.goblin_c.specs.Bytes.{closed_len, string_expected}
 pub use Rattle.goblin_c.specs.Common.{Ctx, GoblinHeader, GoblinRange, Refusal, refuse_as, ◌>>=◌}
 unfoldable pub use Rattle.goblin_c.specs.Common.{room_of}
-pub use Rattle.goblin_c.specs.{Dynamic.entries_from, Expected.ctx_of, Expected.each_converted, Expected.item_at}
-pub use Rattle.goblin_c.specs.{FilledBuffer.laid, Refused.RefusalAt, Refused.refusal_at, Refused.refused_at}
-pub use Rattle.std.proofs.Common.{Bool, Err, List, None, Ok, Option, Result, Some, [], ap, arith, drop, get_or, inl, ℕ}
-pub use Rattle.std.proofs.Common.{if◌then◌else◌, length, map, min, nat_le, refl, rules, slice_get, subst, suc, sym, ◌*◌}
-pub use Rattle.std.proofs.Common.{take, true, zero, ◌++◌, ◌+◌, ◌-◌, ◌<◌, ◌==◌, ◌∙◌, ◌∷◌, ◌≡◌, ◌≤◌}
+pub use Rattle.goblin_c.specs.{Bytes.closed_len, Bytes.string_expected, Expected.ctx_of, FilledBuffer.laid}
+pub use Rattle.goblin_c.specs.{Dynamic.entries_from, Refused.RefusalAt, Refused.refusal_at, Refused.refused_at}
+pub use Rattle.std.proofs.Common.{Bool, Err, List, None, Ok, Option, Result, Some, [], ap, arith, drop, get_or, length}
+pub use Rattle.std.proofs.Common.{if◌then◌else◌, map, min, refl, rules, slice_get, suc, sym, take, true, zero, ℕ, ◌*◌}
+pub use Rattle.std.proofs.Common.{◌++◌, ◌+◌, ◌-◌, ◌<◌, ◌==◌, ◌∙◌, ◌∷◌, ◌≡◌, ◌≤◌}
 pub use Rattle.std.proofs.Math.Nat.{mod-eq_of_lt}
 pub use Rattle.std.proofs.lemmas.Iterator.{Consumers.YieldsList-from_first, Search.position_from_yields_List}
 pub use Rattle.std.proofs.lemmas.List.{drop-drop, length-drop, length-map, length-take, length-take-le, take_all}

@@ -14,18 +14,17 @@ use Rattle.goblin_base.specs.{FieldLaws.IsBytes-part, Number.IsBytes, TableLaws.
 use Rattle.goblin_base.specs.{Layout.IsRecord, Record.records, Record.unless_fault, declared.container.Endian.Endian}
 use Rattle.goblin_base.specs.declared.container.Container.{Container, TheVariants.Big, TheVariants.Little}
 use Rattle.goblin_c.proofs.Common.{Bool, Ctx, Decides, Err, GoblinHeader, GoblinRange, List, None, Ok, Option, Refusal}
-use Rattle.goblin_c.proofs.Common.{RefusalAt, Result, Some, [], ap, arith, ctx_of, drop, drop-drop, each_converted, inl}
-use Rattle.goblin_c.proofs.Common.{fits-room_of, get_or_from_slice_get, if◌then◌else◌, item_at, length, length-drop, ℕ}
-use Rattle.goblin_c.proofs.Common.{length-map, map, mod-eq_of_lt, nat_tests, option_map, position_or_len, refl, room_of}
-use Rattle.goblin_c.proofs.Common.{refusal_at, refuse_as, refused_at, room_of_fits, slice_get, slice_get-get_or, subst}
-use Rattle.goblin_c.proofs.Common.{slice_get-map, slice_get_within, suc, sym, take, true, zero, ◌*◌, ◌+◌, ◌-◌, ◌<◌, ◌∙◌}
-use Rattle.goblin_c.proofs.Common.{◌==◌, ◌>>=◌, ◌∷◌, ◌≡◌, ◌≤◌}
+use Rattle.goblin_c.proofs.Common.{RefusalAt, Result, Some, [], ap, arith, ctx_of, drop, drop-drop, fits-room_of, map}
+use Rattle.goblin_c.proofs.Common.{get_or_from_slice_get, if◌then◌else◌, length, length-drop, length-map, mod-eq_of_lt}
+use Rattle.goblin_c.proofs.Common.{nat_tests, option_map, position_or_len, refl, refusal_at, refuse_as, refused_at, suc}
+use Rattle.goblin_c.proofs.Common.{room_of, room_of_fits, slice_get, slice_get-get_or, slice_get-map, slice_get_within}
+use Rattle.goblin_c.proofs.Common.{sym, take, true, zero, ℕ, ◌*◌, ◌+◌, ◌-◌, ◌<◌, ◌==◌, ◌>>=◌, ◌∙◌, ◌∷◌, ◌≡◌, ◌≤◌}
 use Rattle.goblin_c.specs.{Common.Reloc, Common.SectionHeader, Common.sym_layout, Common.sym_size, Refused.Returns}
-use Rattle.goblin_c.specs.{Dynamic.whole_entries_expected, Expected.symbols_expected, WriteLaws.ItemsAreWhole}
-use Rattle.goblin_c.specs.{Status.converted_list, Types.symbol_converted}
+use Rattle.goblin_c.specs.{Dynamic.whole_entries_expected, Expected.symbol_expected, Expected.symbols_expected}
+use Rattle.goblin_c.specs.{Status.converted_list, Types.symbol_converted, WriteLaws.ItemsAreWhole}
 use Rattle.goblin_c.specs.Common.{GoblinReloc, GoblinSection, GoblinSymbol, Header, Layout, ProgramHeader, Refused, Sym}
-use Rattle.goblin_c.specs.Expected.{found_item, is_mips64el, reloc_expected, relocs_expected, section_expected}
-use Rattle.goblin_c.specs.Expected.{sections_expected, segment_expected, segments_expected, symbol_expected}
+use Rattle.goblin_c.specs.Expected.{each_converted, found_item, is_mips64el, item_at, reloc_expected, relocs_expected}
+use Rattle.goblin_c.specs.Expected.{section_expected, sections_expected, segment_expected, segments_expected}
 use Rattle.goblin_c.specs.Laws.{ContextIsTheHeaders, FindsItemFrom, HasHeader, NamesContext, RefusesAll, SectionsByType}
 use Rattle.goblin_c.specs.Types.{header_converted, reloc_converted, section_converted, segment_converted}
 use Rattle.goblin_c.specs.Write.{RelocFits, SectionFits, SymbolFits, dyn_layout, reloc_ctx, reloc_layout, reloc_of}
@@ -35,7 +34,7 @@ use Rattle.goblin_headers.proofs.WholeTrips.{was_read}
 use Rattle.goblin_headers.specs.{ProgramHeaderLaws.program_header_laws, SectionHeaderLaws.section_header_laws}
 use Rattle.goblin_records.specs.{Reloc.AddendFits, Reloc.StoredFits, Reloc.reloc_layout_in, SymLaws.sym_laws}
 use Rattle.goblin_records.specs.RelocLaws.{reloc_laws, reloc_laws_in}
-use Rattle.std.proofs.Common.{false, max, nat_lt, position, ◌/◌, ◌^◌, ◌⊎◌}
+use Rattle.std.proofs.Common.{false, inl, max, nat_lt, position, subst, ◌/◌, ◌^◌, ◌⊎◌}
 use Rattle.std.proofs.Math.Nat.{div-mul-le_self, le-div_iff_mul-le, mul-div_left, mul-le-mul_right}
 use Rattle.std.proofs.lemmas.{Bool.cases_lt, Bool.Decides.Decides-eqb, Option.slice_get_past}
 use Rattle.std.proofs.lemmas.List.{take-take, Quantifiers.position-Some, Sums.fails_before_first}

@@ -11,12 +11,12 @@ use Rattle.goblin_base.specs.Record.{read_within}
 use Rattle.goblin_c.{proofs.ListLemmas.one_converted, specs.Common.refusal_of, specs.Types.note_converted}
 use Rattle.goblin_c.proofs.Common.{Bool, Ctx, Err, GoblinHeader, GoblinRange, List, None, Ok, Option, Refusal, Result}
 use Rattle.goblin_c.proofs.Common.{RefusalAt, Some, [], ap, arith, ctx_of, drop, fits-room_of, if◌then◌else◌, is_utf8}
-use Rattle.goblin_c.proofs.Common.{length, length-drop, length-take, nat_le, nat_tests, refl, refuse_as, refused_at, ℕ}
-use Rattle.goblin_c.proofs.Common.{suc, sym, take, take_all, true, zero, ◌+◌, ◌-◌, ◌<◌, ◌>>=◌, ◌∙◌, ◌≡◌, ◌≤◌}
+use Rattle.goblin_c.proofs.Common.{length, length-drop, length-take, nat_tests, refl, refuse_as, refused_at, suc, sym}
+use Rattle.goblin_c.proofs.Common.{take, take_all, true, zero, ℕ, ◌+◌, ◌-◌, ◌<◌, ◌>>=◌, ◌∙◌, ◌≡◌, ◌≤◌}
 use Rattle.goblin_c.specs.{Laws.items_reported, Laws.notes_reported, declared.types.GoblinNote.GoblinNote}
 use Rattle.goblin_c.specs.Laws.{NotesAreItems, NotesAreText, NotesInARow, NotesLieInFile, WholeNotesAreNotes}
 use Rattle.goblin_c.specs.Notes.{bytes_from, note_expected, note_utf8_expected, parts_at, read_parts, without_last}
-use Rattle.std.proofs.Math.Seq.{drop-drop, take-nil}
+use Rattle.std.proofs.{Common.nat_le, Math.Seq.drop-drop, Math.Seq.take-nil}
 use Rattle.std.proofs.lemmas.{Bool.leb-false, Bool.lt-leb, List.drop-take, List.drop_all}
 use Rattle.goblin_base.specs.declared.container.Endian.TheVariants as endian
 

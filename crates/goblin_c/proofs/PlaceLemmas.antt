@@ -8,17 +8,17 @@ use Rattle.goblin.specs.ProgramHeaders.{loads, offset_in}
 use Rattle.goblin_base.specs.declared.scroll.Error.{Error as Misplaced}
 use Rattle.goblin_c.proofs.{BufferLemmas.ends-before, ListLemmas.converted_one, ListLemmas.fails_before}
 use Rattle.goblin_c.proofs.Common.{Bool, Decides, Err, GoblinHeader, GoblinRange, List, None, Ok, Option, RefusalAt, []}
-use Rattle.goblin_c.proofs.Common.{Result, Some, arith, drop, fits-room_of, get_or_from_slice_get, inl, length, min, ℕ}
-use Rattle.goblin_c.proofs.Common.{length-drop, nat_le, nat_tests, option_map, position_or_len, refl, refuse_as, subst}
-use Rattle.goblin_c.proofs.Common.{refused_at, room_of, room_of_fits, slice_get, slice_get-map, slice_get_within, sym}
-use Rattle.goblin_c.proofs.Common.{true, ◌+◌, ◌-◌, ◌<◌, ◌>>=◌, ◌∙◌, ◌≡◌, ◌≤◌}
+use Rattle.goblin_c.proofs.Common.{Result, Some, arith, drop, fits-room_of, get_or_from_slice_get, length, length-drop}
+use Rattle.goblin_c.proofs.Common.{min, nat_tests, option_map, position_or_len, refl, refuse_as, refused_at, room_of, ℕ}
+use Rattle.goblin_c.proofs.Common.{room_of_fits, slice_get, slice_get-map, slice_get_within, sym, true, ◌+◌, ◌-◌, ◌<◌}
+use Rattle.goblin_c.proofs.Common.{◌>>=◌, ◌∙◌, ◌≡◌, ◌≤◌}
 use Rattle.goblin_c.specs.{Common.ProgramHeader, Common.loaded_from, Common.misplaced, Places.cut_range, Places.in_file}
 use Rattle.goblin_c.specs.{Expected.segment_expected, Expected.segments_expected, Types.segment_converted}
 use Rattle.goblin_c.specs.{Laws.bytes_in, declared.types.GoblinSegment.GoblinSegment}
 use Rattle.goblin_c.specs.PlaceLaws.{AddressesAreLoaded, BytesAreFound, IsOffsetOf, IsSlice, LoadsByte, LoadsFirst}
 use Rattle.goblin_c.specs.PlaceLaws.{NotesRefuseThere, NumbersAreFound, NumbersLieInRange, PartsLieInFile}
-use Rattle.std.proofs.{Common.false, Common.find, Common.inr, Common.true≢false, Math.Seq.take-nil}
-use Rattle.std.proofs.lemmas.Bool.{leb-false, leb-true}
+use Rattle.std.proofs.{Math.Seq.take-nil, lemmas.Bool.leb-false, lemmas.Bool.leb-true}
+use Rattle.std.proofs.Common.{false, find, inl, inr, nat_le, subst, true≢false}
 use Rattle.std.proofs.lemmas.List.{drop_all, take_min, Folds.find_at, Sums.passes_at_first}
 
 -- the part of a range has the same bytes of the file
