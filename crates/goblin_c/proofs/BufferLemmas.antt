@@ -6,14 +6,13 @@
 use Rattle.goblin.{proofs.AddressLemmas.some-within, specs.Note.PartRefusal, specs.Note.whole_places}
 use Rattle.goblin_base.specs.{Record.read_within, Refusal.bad_input}
 use Rattle.goblin_base.specs.{Texts.are_short, Texts.each_short, Texts.is_short, declared.texts.Part.Part}
-use Rattle.goblin_c.{proofs.Common.◌∙◌, specs.TextLaws.PartHasSameText, specs.TextLaws.PartsHaveSameText}
-use Rattle.goblin_c.{proofs.Common.◌∷◌, specs.Status.FillsEach, specs.Status.StopsAt, specs.Status.Stores}
-use Rattle.goblin_c.{proofs.Common.◌≡◌, proofs.Common.◌≤◌, specs.Common.GoblinRefusal, specs.Common.buffer_too_short}
-use Rattle.goblin_c.proofs.Common.{Err, List, None, Ok, Option, Refusal, RefusalAt, Result, Some, [], ap, arith, drop}
-use Rattle.goblin_c.proofs.Common.{drop-drop, get_or, get_or_from_slice_get, laid, length, length-drop, length-map, map}
-use Rattle.goblin_c.proofs.Common.{length-take, length-take-le, min, nat_tests, refl, room_of, slice_get, slice_get-map}
-use Rattle.goblin_c.proofs.Common.{slice_get-get_or, slice_get_within, suc, sym, take, zero, ℕ, ◌++◌, ◌+◌, ◌-◌, ◌<◌}
-use Rattle.goblin_c.specs.Laws.{BufferIsFilled, IsFilled, KindsAreAboveOne, TextIsClosed}
+use Rattle.goblin_c.{proofs.Common.◌≤◌, specs.Common.GoblinRefusal, specs.Common.Refusal, specs.Common.buffer_too_short}
+use Rattle.goblin_c.proofs.Common.{Err, List, None, Ok, Option, RefusalAt, Result, Some, [], ap, arith, drop, drop-drop}
+use Rattle.goblin_c.proofs.Common.{get_or, get_or_from_slice_get, laid, length, length-drop, length-map, length-take, ℕ}
+use Rattle.goblin_c.proofs.Common.{length-take-le, map, min, nat_tests, refl, room_of, slice_get, slice_get-get_or, suc}
+use Rattle.goblin_c.proofs.Common.{slice_get-map, slice_get_within, sym, take, zero, ◌++◌, ◌+◌, ◌-◌, ◌<◌, ◌∙◌, ◌∷◌, ◌≡◌}
+use Rattle.goblin_c.specs.{Laws.BufferIsFilled, Laws.IsFilled, Laws.KindsAreAboveOne, Laws.TextIsClosed, Status.Stores}
+use Rattle.goblin_c.specs.{Status.FillsEach, Status.StopsAt, TextLaws.PartHasSameText, TextLaws.PartsHaveSameText}
 use Rattle.std.proofs.{Common.IsTrue, Common.length-append, Common.take_all, Math.ListN.set}
 use Rattle.std.proofs.lemmas.{Bool.and_parts, Bool.leb-true, List.take_rest, Option.slice_get_past, Slice.take-put_mid}
 use Rattle.std.proofs.lemmas.List.{drop-set-lt, get_or-drop, get_or-take, map-append, take_more, take_more_set}

@@ -13,16 +13,16 @@ use Rattle.goblin_base.specs.{Eager.records_from, Eager.records_in, Eager.room_o
 use Rattle.goblin_base.specs.{FieldLaws.IsBytes-part, Number.IsBytes, TableLaws.records-agree}
 use Rattle.goblin_base.specs.{Layout.IsRecord, Record.records, Record.unless_fault, declared.container.Endian.Endian}
 use Rattle.goblin_base.specs.declared.container.Container.{Container, TheVariants.Big, TheVariants.Little}
-use Rattle.goblin_c.proofs.Common.{Bool, Ctx, Decides, Err, GoblinHeader, GoblinRange, List, None, Ok, Option, Refusal}
-use Rattle.goblin_c.proofs.Common.{RefusalAt, Result, Some, [], ap, arith, ctx_of, drop, drop-drop, fits-room_of, map}
-use Rattle.goblin_c.proofs.Common.{get_or_from_slice_get, if◌then◌else◌, length, length-drop, length-map, mod-eq_of_lt}
-use Rattle.goblin_c.proofs.Common.{nat_tests, option_map, position_or_len, refl, refusal_at, refuse_as, refused_at, suc}
-use Rattle.goblin_c.proofs.Common.{room_of, room_of_fits, slice_get, slice_get-get_or, slice_get-map, slice_get_within}
-use Rattle.goblin_c.proofs.Common.{sym, take, true, zero, ℕ, ◌*◌, ◌+◌, ◌-◌, ◌<◌, ◌==◌, ◌>>=◌, ◌∙◌, ◌∷◌, ◌≡◌, ◌≤◌}
-use Rattle.goblin_c.specs.{Common.Reloc, Common.SectionHeader, Common.sym_layout, Common.sym_size, Refused.Returns}
+use Rattle.goblin_c.proofs.Common.{Bool, Decides, Err, GoblinHeader, GoblinRange, List, None, Ok, Option, RefusalAt, []}
+use Rattle.goblin_c.proofs.Common.{Result, Some, ap, arith, ctx_of, drop, drop-drop, fits-room_of, if◌then◌else◌, map}
+use Rattle.goblin_c.proofs.Common.{get_or_from_slice_get, length, length-drop, length-map, mod-eq_of_lt, nat_tests, suc}
+use Rattle.goblin_c.proofs.Common.{option_map, position_or_len, refl, refusal_at, refuse_as, refused_at, room_of, sym}
+use Rattle.goblin_c.proofs.Common.{room_of_fits, slice_get, slice_get-get_or, slice_get-map, slice_get_within, take, ℕ}
+use Rattle.goblin_c.proofs.Common.{true, zero, ◌*◌, ◌+◌, ◌-◌, ◌<◌, ◌==◌, ◌>>=◌, ◌∙◌, ◌∷◌, ◌≡◌, ◌≤◌}
 use Rattle.goblin_c.specs.{Dynamic.whole_entries_expected, Expected.symbol_expected, Expected.symbols_expected}
-use Rattle.goblin_c.specs.{Status.converted_list, Types.symbol_converted, WriteLaws.ItemsAreWhole}
-use Rattle.goblin_c.specs.Common.{GoblinReloc, GoblinSection, GoblinSymbol, Header, Layout, ProgramHeader, Refused, Sym}
+use Rattle.goblin_c.specs.{Refused.Returns, Status.converted_list, Types.symbol_converted, WriteLaws.ItemsAreWhole}
+use Rattle.goblin_c.specs.Common.{Ctx, GoblinReloc, GoblinSection, GoblinSymbol, Header, Layout, ProgramHeader, Refusal}
+use Rattle.goblin_c.specs.Common.{Refused, Reloc, SectionHeader, Sym, sym_layout, sym_size}
 use Rattle.goblin_c.specs.Expected.{each_converted, found_item, is_mips64el, item_at, reloc_expected, relocs_expected}
 use Rattle.goblin_c.specs.Expected.{section_expected, sections_expected, segment_expected, segments_expected}
 use Rattle.goblin_c.specs.Laws.{ContextIsTheHeaders, FindsItemFrom, HasHeader, NamesContext, RefusesAll, SectionsByType}

@@ -9,16 +9,16 @@ use Rattle.goblin_base.specs.{Number.IsBytes, Number.number_at, Number.spelled, 
 use Rattle.goblin_base.specs.{NumberLaws.length-spelled, NumberLaws.spelled-number, declared.container.Endian.Endian}
 use Rattle.goblin_base.specs.FieldLaws.{IsBytes-part, number_at-lt, number_at-with_number}
 use Rattle.goblin_c.proofs.{Common.◌+◌, Common.◌>>=◌, Common.◌≡◌, Common.◌≤◌, PlaceLemmas.numbers_lie_in_range}
-use Rattle.goblin_c.proofs.Common.{Ctx, Err, GoblinHeader, GoblinRange, List, None, Ok, Option, RefusalAt, Result, Some}
+use Rattle.goblin_c.proofs.Common.{Err, GoblinHeader, GoblinRange, List, None, Ok, Option, RefusalAt, Result, Some, ℕ}
 use Rattle.goblin_c.proofs.Common.{arith, ctx_of, drop, drop-drop, fits-room_of, get_or, length, length-drop, nat_tests}
 use Rattle.goblin_c.proofs.Common.{length-map, length-take, length-take-le, mod-eq_of_lt, refl, refuse_as, refused_at}
-use Rattle.goblin_c.proofs.Common.{room_of_fits, slice_get-get_or, slice_get_within, take, take_all, true, ℕ, ◌*◌, ◌++◌}
+use Rattle.goblin_c.proofs.Common.{room_of_fits, slice_get-get_or, slice_get_within, take, take_all, true, ◌*◌, ◌++◌}
 use Rattle.goblin_c.proofs.ListLemmas.{Read, entries, item_read, reloc_same, reloc_whole, relocs, same_items, sections}
 use Rattle.goblin_c.proofs.ListLemmas.{section_same, section_whole, segments, symbol_same, symbol_whole, symbols}
-use Rattle.goblin_c.specs.{Bytes.is_width, Bytes.number_expected, Common.Error, Common.Layout, Common.refusal_of}
-use Rattle.goblin_c.specs.{Dynamic.whole_entries_expected, Places.number_in_expected, declared.misfit.Misfit.Misfit}
+use Rattle.goblin_c.specs.{Bytes.is_width, Bytes.number_expected, declared.misfit.Misfit.Misfit}
+use Rattle.goblin_c.specs.{Common.Ctx, Common.Error, Common.Layout, Common.refusal_of, Dynamic.whole_entries_expected}
+use Rattle.goblin_c.specs.{Places.number_in_expected, Types.refusal_converted}
 use Rattle.goblin_c.specs.Expected.{count_of, each_converted, header_expected, item_at}
-use Rattle.goblin_c.specs.Types.{refusal_converted}
 use Rattle.goblin_c.specs.Write.{FitsClass, dyn_of, header_of, named_ctx, put_at, put_if_there, put_unless, reloc_ctx}
 use Rattle.goblin_c.specs.Write.{reloc_of, section_of, segment_of, symbol_of, with_bytes}
 use Rattle.goblin_c.specs.WriteLaws.{ChangesOnly, CountsStay, HeadersAreRead, NumbersArePut, NumbersInRangesArePut}

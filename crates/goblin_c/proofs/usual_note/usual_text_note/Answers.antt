@@ -1,7 +1,7 @@
 -- The name is ASCII, and so UTF-8: the note is stored as text (`notes_are_text`).
-use Rattle.goblin_c.proofs.Common.{ap, arith, drop, is_utf8, refl, sym, take, ℕ, ◌+◌, ◌-◌, ◌∙◌, ◌≡◌}
+use Rattle.goblin_c.proofs.Common.{ap, arith, drop, refl, sym, take, ℕ, ◌+◌, ◌-◌, ◌∙◌, ◌≡◌}
 use Rattle.goblin_c.proofs.NoteLemmas.{notes_are_text}
-use Rattle.std.proofs.lemmas.Str.{IsUtf8-from_ascii, is_utf8-from_IsUtf8}
+use Rattle.std.{proofs.lemmas.Str.IsUtf8-from_ascii, proofs.lemmas.Str.is_utf8-from_IsUtf8, specs.Str.is_utf8}
 use Rattle.goblin_c.proofs.usual_note.usual_text_note.Goals as goal
 
 pub returns : goal.returns
