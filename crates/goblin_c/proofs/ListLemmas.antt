@@ -13,12 +13,12 @@ use Rattle.goblin_base.specs.{Eager.records_from, Eager.records_in, Eager.room_o
 use Rattle.goblin_base.specs.{FieldLaws.IsBytes-part, Number.IsBytes, TableLaws.records-agree}
 use Rattle.goblin_base.specs.{Layout.IsRecord, Record.records, Record.unless_fault, declared.container.Endian.Endian}
 use Rattle.goblin_base.specs.declared.container.Container.{Container, TheVariants.Big, TheVariants.Little}
-use Rattle.goblin_c.proofs.Common.{Bool, Decides, Err, GoblinHeader, GoblinRange, List, None, Ok, Option, RefusalAt, []}
-use Rattle.goblin_c.proofs.Common.{Result, Some, ap, arith, ctx_of, drop, drop-drop, fits-room_of, if◌then◌else◌, map}
-use Rattle.goblin_c.proofs.Common.{get_or_from_slice_get, length, length-drop, length-map, mod-eq_of_lt, nat_tests, suc}
-use Rattle.goblin_c.proofs.Common.{option_map, position_or_len, refl, refusal_at, refuse_as, refused_at, room_of, sym}
-use Rattle.goblin_c.proofs.Common.{room_of_fits, slice_get, slice_get-get_or, slice_get-map, slice_get_within, take, ℕ}
-use Rattle.goblin_c.proofs.Common.{true, zero, ◌*◌, ◌+◌, ◌-◌, ◌<◌, ◌==◌, ◌>>=◌, ◌∙◌, ◌∷◌, ◌≡◌, ◌≤◌}
+use Rattle.goblin_c.proofs.Common.{Decides, Err, GoblinHeader, GoblinRange, List, None, Ok, Option, RefusalAt, Result}
+use Rattle.goblin_c.proofs.Common.{Some, [], ap, arith, ctx_of, drop, drop-drop, fits-room_of, get_or_from_slice_get, ℕ}
+use Rattle.goblin_c.proofs.Common.{if◌then◌else◌, length, length-drop, length-map, map, mod-eq_of_lt, nat_tests, refl}
+use Rattle.goblin_c.proofs.Common.{option_map, position_or_len, refusal_at, refuse_as, refused_at, room_of, slice_get}
+use Rattle.goblin_c.proofs.Common.{room_of_fits, slice_get-get_or, slice_get-map, slice_get_within, suc, sym, take, ◌*◌}
+use Rattle.goblin_c.proofs.Common.{true, zero, ◌+◌, ◌-◌, ◌<◌, ◌==◌, ◌>>=◌, ◌∙◌, ◌∷◌, ◌≡◌, ◌≤◌}
 use Rattle.goblin_c.specs.{Dynamic.whole_entries_expected, Expected.symbol_expected, Expected.symbols_expected}
 use Rattle.goblin_c.specs.{Refused.Returns, Status.converted_list, Types.symbol_converted, WriteLaws.ItemsAreWhole}
 use Rattle.goblin_c.specs.Common.{Ctx, GoblinReloc, GoblinSection, GoblinSymbol, Header, Layout, ProgramHeader, Refusal}
@@ -34,7 +34,7 @@ use Rattle.goblin_headers.proofs.WholeTrips.{was_read}
 use Rattle.goblin_headers.specs.{ProgramHeaderLaws.program_header_laws, SectionHeaderLaws.section_header_laws}
 use Rattle.goblin_records.specs.{Reloc.AddendFits, Reloc.StoredFits, Reloc.reloc_layout_in, SymLaws.sym_laws}
 use Rattle.goblin_records.specs.RelocLaws.{reloc_laws, reloc_laws_in}
-use Rattle.std.proofs.Common.{false, inl, max, nat_lt, position, subst, ◌/◌, ◌^◌, ◌⊎◌}
+use Rattle.std.proofs.Common.{Bool, false, inl, max, nat_lt, position, subst, ◌/◌, ◌^◌, ◌⊎◌}
 use Rattle.std.proofs.Math.Nat.{div-mul-le_self, le-div_iff_mul-le, mul-div_left, mul-le-mul_right}
 use Rattle.std.proofs.lemmas.{Bool.cases_lt, Bool.Decides.Decides-eqb, Option.slice_get_past}
 use Rattle.std.proofs.lemmas.List.{take-take, Quantifiers.position-Some, Sums.fails_before_first}

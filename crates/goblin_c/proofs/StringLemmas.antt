@@ -6,11 +6,11 @@
 -- finds is the first with that name (`by_name`).
 use Rattle.goblin_base.specs.{Pieces.piece, Strtab.has_name, Strtab.range_in, Wanted.is_piece, Wanted.starts_piece}
 use Rattle.goblin_c.proofs.BufferLemmas.{kinds_are_above_one}
-use Rattle.goblin_c.proofs.Common.{Bool, Decides, Err, GoblinRange, List, None, Ok, Option, RefusalAt, Result, Some, []}
-use Rattle.goblin_c.proofs.Common.{ap, arith, closed_len, ctx_of, drop, fits-room_of, if◌then◌else◌, length, nat_tests}
-use Rattle.goblin_c.proofs.Common.{length-drop, length-take, length-take-le, mod-eq_of_lt, position_or_len, refl, suc}
-use Rattle.goblin_c.proofs.Common.{refusal_at, refuse_as, slice_get, slice_get-get_or, string_expected, take, true, ℕ}
-use Rattle.goblin_c.proofs.Common.{zero, ◌+◌, ◌-◌, ◌<◌, ◌==◌, ◌>>=◌, ◌∷◌, ◌≡◌, ◌≤◌}
+use Rattle.goblin_c.proofs.Common.{Decides, Err, GoblinRange, List, None, Ok, Option, RefusalAt, Result, Some, [], ap}
+use Rattle.goblin_c.proofs.Common.{arith, closed_len, ctx_of, drop, fits-room_of, if◌then◌else◌, length, length-drop, ℕ}
+use Rattle.goblin_c.proofs.Common.{length-take, length-take-le, mod-eq_of_lt, nat_tests, position_or_len, refl, suc}
+use Rattle.goblin_c.proofs.Common.{refusal_at, refuse_as, slice_get, slice_get-get_or, string_expected, take, true, ◌+◌}
+use Rattle.goblin_c.proofs.Common.{zero, ◌-◌, ◌<◌, ◌==◌, ◌>>=◌, ◌∷◌, ◌≡◌, ◌≤◌}
 use Rattle.goblin_c.proofs.ListLemmas.{finds, fits_in, section_name, sections, symbol_parts, symbols}
 use Rattle.goblin_c.specs.{Bytes.IsCString, Bytes.range_expected, Bytes.string_closed_expected, Status.Stores}
 use Rattle.goblin_c.specs.{Common.GoblinRefusal, Common.Refused, Common.SectionHeader, Common.Sym, Refused.Returns}
@@ -19,7 +19,7 @@ use Rattle.goblin_c.specs.{Laws.TextIsFound, Laws.TextIsUtf8, Types.section_conv
 use Rattle.goblin_c.specs.Expected.{first_item, is_named, section_expected, sections_expected, strings_expected}
 use Rattle.goblin_c.specs.Laws.{BytesLieInFile, EmptyHaveNoBytes, IsNameAt, LiesIn, RefusesInTurn, SectionsByName}
 use Rattle.goblin_c.specs.Laws.{StringsAreBytes, StringsAreCompared, StringsAreThere, StringsLieInFile, SymbolsByName}
-use Rattle.std.proofs.{Common.position, Common.slice_index, Math.Seq.drop-drop, Math.Seq.take-take}
+use Rattle.std.proofs.{Common.Bool, Common.position, Common.slice_index, Math.Seq.drop-drop, Math.Seq.take-take}
 use Rattle.std.proofs.lemmas.{List.get_or-drop, List.get_or-take, List.take_min, Slice.Eq.bytes_eq-Decides}
 use Rattle.std.proofs.lemmas.List.{drop-take, Sums.fails_before_first, Sums.passes_at_first, Sums.prefix_len-le-length}
 use Rattle.std.specs.{List.before_first, Prelude.IsErr, Prelude.◌≢◌, Str.is_utf8}
