@@ -1,9 +1,9 @@
 -- What the proofs of this crate cite most, passed on from one place. Declares nothing.
 pub use Rattle.goblin_base.specs.{RecordLaws.fits-room_of, RecordLaws.room_of_fits, Texts.facts_of}
 unfoldable pub use Rattle.goblin_c.specs.Common.{room_of}
-pub use Rattle.goblin_c.specs.{Bytes.closed_len, Bytes.string_expected, FilledBuffer.laid}
+pub use Rattle.goblin_c.specs.{Bytes.closed_len, Bytes.string_expected, Refused.RefusalAt, Refused.refused_at}
 pub use Rattle.goblin_c.specs.{Common.GoblinHeader, Common.GoblinRange, Common.refuse_as, Common.◌>>=◌, Expected.ctx_of}
-pub use Rattle.goblin_c.specs.{Dynamic.entries_from, Refused.RefusalAt, Refused.refusal_at, Refused.refused_at}
+pub use Rattle.goblin_c.specs.{Dynamic.entries_from, FilledBuffer.laid}
 pub use Rattle.std.proofs.Common.{Err, List, None, Ok, Option, Result, Some, [], ap, arith, drop, get_or, if◌then◌else◌}
 pub use Rattle.std.proofs.Common.{length, map, refl, rules, slice_get, suc, sym, take, true, zero, ℕ, ◌*◌, ◌++◌, ◌+◌}
 pub use Rattle.std.proofs.lemmas.Iterator.{Consumers.YieldsList-from_first, Search.position_from_yields_List}

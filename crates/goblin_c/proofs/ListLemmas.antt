@@ -4,41 +4,35 @@
 -- bytes, which lie in the file (`each_read`, `read_part`). What is read of bytes fits (`fits_in`), so the low bits that
 -- C has of it are all of it.
 use Rattle.goblin.specs.{Header.HeaderFits, Header.as32, Header.as64, Header.header32, Header.header64, Sym.sym_of}
-use Rattle.goblin.specs.{Reloc.reloc_in, Reloc.reloc_size, declared.elf.reloc.RelocCtx.RelocCtx}
-use Rattle.goblin.specs.ProgramHeader.{program_header_of, program_header_size}
-use Rattle.goblin.specs.SectionHeader.{section_header_layout, section_header_of, section_header_size}
+use Rattle.goblin.specs.{ProgramHeader.program_header_of, ProgramHeader.program_header_size, Reloc.reloc_size}
+use Rattle.goblin.specs.{Reloc.reloc_in, SectionHeader.section_header_of, SectionHeader.section_header_size}
 use Rattle.goblin.specs.SectionHeaders.{count_asked, section_headers_from, section_headers_from_tested}
 use Rattle.goblin_base.proofs.{ByteorderLemmas.length-part, Eager.all_fit, Eager.get_records, Eager.past_records}
 use Rattle.goblin_base.specs.{Eager.records_from, Eager.records_in, Eager.room_of_each, Fields.Field, Fields.FieldsFit}
-use Rattle.goblin_base.specs.{FieldLaws.IsBytes-part, Number.IsBytes, TableLaws.records-agree}
-use Rattle.goblin_base.specs.{Layout.IsRecord, Record.records, Record.unless_fault, declared.container.Endian.Endian}
-use Rattle.goblin_base.specs.declared.container.Container.{Container, TheVariants.Big, TheVariants.Little}
-use Rattle.goblin_c.proofs.Common.{Decides, Err, GoblinHeader, GoblinRange, List, None, Ok, Option, RefusalAt, Result}
-use Rattle.goblin_c.proofs.Common.{Some, [], ap, arith, ctx_of, drop, drop-drop, fits-room_of, get_or_from_slice_get, ℕ}
-use Rattle.goblin_c.proofs.Common.{if◌then◌else◌, length, length-drop, length-map, map, mod-eq_of_lt, nat_tests, refl}
-use Rattle.goblin_c.proofs.Common.{option_map, position_or_len, refusal_at, refuse_as, refused_at, room_of, slice_get}
-use Rattle.goblin_c.proofs.Common.{room_of_fits, slice_get-get_or, slice_get-map, slice_get_within, suc, sym, take, ◌*◌}
-use Rattle.goblin_c.proofs.Common.{true, zero, ◌+◌, ◌-◌, ◌<◌, ◌==◌, ◌>>=◌, ◌∙◌, ◌∷◌, ◌≡◌, ◌≤◌}
+use Rattle.goblin_base.specs.{FieldLaws.IsBytes-part, Layout.IsRecord, Number.IsBytes, TableLaws.records-agree}
+use Rattle.goblin_base.specs.{Record.records, Record.unless_fault, declared.container.Container.Container}
+use Rattle.goblin_c.{proofs.Common.◌∙◌, proofs.Common.◌∷◌, proofs.Common.◌≡◌, proofs.Common.◌≤◌, specs.Refused.Returns}
+use Rattle.goblin_c.proofs.Common.{Decides, GoblinHeader, GoblinRange, List, None, Ok, Option, RefusalAt, Result, Some}
+use Rattle.goblin_c.proofs.Common.{[], arith, ctx_of, drop, drop-drop, fits-room_of, get_or_from_slice_get, length, map}
+use Rattle.goblin_c.proofs.Common.{if◌then◌else◌, length-drop, length-map, mod-eq_of_lt, nat_tests, option_map, refl, ℕ}
+use Rattle.goblin_c.proofs.Common.{position_or_len, refused_at, room_of, room_of_fits, slice_get, slice_get-get_or, suc}
+use Rattle.goblin_c.proofs.Common.{slice_get-map, slice_get_within, take, true, zero, ◌*◌, ◌+◌, ◌-◌, ◌<◌, ◌==◌, ◌>>=◌}
+use Rattle.goblin_c.specs.{Common.sym_size, Status.converted_list, Types.symbol_converted, WriteLaws.ItemsAreWhole}
 use Rattle.goblin_c.specs.{Dynamic.whole_entries_expected, Expected.symbol_expected, Expected.symbols_expected}
-use Rattle.goblin_c.specs.{Refused.Returns, Status.converted_list, Types.symbol_converted, WriteLaws.ItemsAreWhole}
-use Rattle.goblin_c.specs.Common.{Ctx, GoblinReloc, GoblinSection, GoblinSymbol, Header, Layout, ProgramHeader, Refusal}
-use Rattle.goblin_c.specs.Common.{Refused, Reloc, SectionHeader, Sym, sym_layout, sym_size}
+use Rattle.goblin_c.specs.Common.{Ctx, Header, Layout, ProgramHeader, Refusal, Refused, Reloc, SectionHeader, Sym}
 use Rattle.goblin_c.specs.Expected.{each_converted, found_item, is_mips64el, item_at, reloc_expected, relocs_expected}
 use Rattle.goblin_c.specs.Expected.{section_expected, sections_expected, segment_expected, segments_expected}
 use Rattle.goblin_c.specs.Laws.{ContextIsTheHeaders, FindsItemFrom, HasHeader, NamesContext, RefusesAll, SectionsByType}
 use Rattle.goblin_c.specs.Types.{header_converted, reloc_converted, section_converted, segment_converted}
-use Rattle.goblin_c.specs.Write.{RelocFits, SectionFits, SymbolFits, dyn_layout, reloc_ctx, reloc_layout, reloc_of}
-use Rattle.goblin_c.specs.Write.{section_layout, section_of, segment_layout, symbol_layout, symbol_of}
+use Rattle.goblin_c.specs.Write.{dyn_layout, reloc_ctx, reloc_layout, section_layout, segment_layout, symbol_layout}
 use Rattle.goblin_dynamic.specs.Dyn.{entry_laws}
 use Rattle.goblin_headers.proofs.WholeTrips.{was_read}
 use Rattle.goblin_headers.specs.{ProgramHeaderLaws.program_header_laws, SectionHeaderLaws.section_header_laws}
-use Rattle.goblin_records.specs.{Reloc.AddendFits, Reloc.StoredFits, Reloc.reloc_layout_in, SymLaws.sym_laws}
-use Rattle.goblin_records.specs.RelocLaws.{reloc_laws, reloc_laws_in}
+use Rattle.goblin_records.specs.{RelocLaws.reloc_laws, RelocLaws.reloc_laws_in, SymLaws.sym_laws}
 use Rattle.std.proofs.Common.{Bool, false, inl, max, nat_lt, position, subst, ◌/◌, ◌^◌, ◌⊎◌}
 use Rattle.std.proofs.Math.Nat.{div-mul-le_self, le-div_iff_mul-le, mul-div_left, mul-le-mul_right}
 use Rattle.std.proofs.lemmas.{Bool.cases_lt, Bool.Decides.Decides-eqb, Option.slice_get_past}
 use Rattle.std.proofs.lemmas.List.{take-take, Quantifiers.position-Some, Sums.fails_before_first}
-use Rattle.std.specs.Prelude.{pos, unwrap_or, ℤ}
 
 -- the value of a step that went on
 pub bind_ok : {A B E : Type 0} (first : Result A E) (next : A → Result B E) (y : B)
@@ -180,20 +174,9 @@ module _ (h : GoblinHeader) where
   }
 
 -- the items of a list that is not converted
-same_item : {R : Type 0} (found : Option R) → option_map (λ (x : R). x) found ≡ found
-same_item (Some x) = refl
-same_item None = refl
-
 pub same_items : {R : Type 0} (all : Result (List R) RefusalAt) (index : ℕ)
     → item_at (each_converted (λ (x : R). x) all) index ≡ item_at all index
-same_items {R} (Ok items) index =
-    ap Ok (slice_get-map (λ (x : R). x) items index ∙ same_item (slice_get items index))
-same_items (Err e) index = refl
-
--- the result that is expected of a call is its own, with refusals for errors
-pub expected_is : {X : Type 0} (answer : Result X Refused) (expected : Result X RefusalAt)
-    → Returns (λ found. found) answer expected → refuse_as refusal_at answer ≡ expected
-expected_is answer expected is = grind (arith, nat_tests)
+same_items all index = grind (arith, slice_get-map)
 
 -- fields fit, or not
 fields_decided : (fields : List Field) → FieldsFit fields ⊎ (¬ (FieldsFit fields))
@@ -201,78 +184,19 @@ fields_decided [] = inl tt
 fields_decided (f ∷ fields) = grind (arith, cases_lt f.value (256 ^ f.width), fields_decided fields)
 
 pub header_decided : (class : Container) (h : Header) → HeaderFits class h ⊎ (¬ (HeaderFits class h))
-header_decided Little h = fields_decided (header32.fields (as32 h))
-header_decided Big h = fields_decided (header64.fields (as64 h))
-
--- the numbers that are narrower for C
-pub section_name : (class : Container) (order : Endian) (s : SectionHeader)
-    → (section_header_layout class order).Fits s → s.sh_name < 2 ^ 32
-section_name Little order s fits = omega (arith, fits.0)
-section_name Big order s fits = omega (arith, fits.0)
-
-pub symbol_parts : (class : Container) (order : Endian) (s : Sym)
-    → (sym_layout class order).Fits s → (s.st_name < 2 ^ 32) × (s.st_shndx < 2 ^ 16)
-symbol_parts Little order s fits = (omega (arith, fits.0), omega (arith, fits.1.1.1.1.1.0))
-symbol_parts Big order s fits = (omega (arith, fits.0), omega (arith, fits.1.1.1.0))
-
-reloc_symbol : (is_mips64el is_rela : Bool) (class : Container) (r : Reloc)
-    → StoredFits is_mips64el is_rela class r → r.r_sym < 2 ^ 32
-reloc_symbol false is_rela Little r fits = omega (arith, fits.symbol)
-reloc_symbol false is_rela Big r fits = fits.symbol
-reloc_symbol true is_rela class r fits = fits.0
-
-addend_whole : (is_rela : Bool) (width : ℕ) (addend : Option ℤ)
-    → AddendFits is_rela width addend → (if is_rela then Some (unwrap_or addend (pos 0)) else None) ≡ addend
-addend_whole false width addend fits = sym fits
-addend_whole true width (Some x) fits = refl
-addend_whole true width None fits = absurd fits
-
-reloc_addend : (is_mips64el is_rela : Bool) (class : Container) (r : Reloc)
-    → StoredFits is_mips64el is_rela class r
-    → (if is_rela then Some (unwrap_or r.r_addend (pos 0)) else None) ≡ r.r_addend
-reloc_addend false is_rela class r fits = addend_whole is_rela _ r.r_addend fits.addend
-reloc_addend true is_rela class r fits = addend_whole is_rela _ r.r_addend fits.2.addend
+header_decided class h =
+    grind (arith, fields_decided (header32.fields (as32 h)), fields_decided (header64.fields (as64 h)))
 
 -- so what C has of an item that fits is all of it
-pub section_whole : (h : GoblinHeader) (s : SectionHeader)
-    → (section_layout h).Fits s → section_of (section_converted s) ≡ s
-section_whole h s fits = grind (arith, nat_tests, mod-eq_of_lt, section_name)
-
-pub symbol_whole : (h : GoblinHeader) (s : Sym) → (symbol_layout h).Fits s → symbol_of (symbol_converted s) ≡ s
-symbol_whole h s fits = grind (arith, nat_tests, mod-eq_of_lt, symbol_parts)
-
-pub reloc_whole : (c : RelocCtx) (r : Reloc)
-    → (reloc_layout_in c).Fits r → reloc_of c.is_rela (reloc_converted r) ≡ r
-reloc_whole c r fits = grind (arith, nat_tests, mod-eq_of_lt, reloc_addend, reloc_symbol)
-
--- and an item of C's that fits is the one that is read where it is put
-pub section_same : (h : GoblinHeader) (s : GoblinSection)
-    → SectionFits h s → section_converted (section_of s) ≡ s
-section_same h s fits = grind (arith, nat_tests, mod-eq_of_lt, section_name)
-
-pub symbol_same : (h : GoblinHeader) (s : GoblinSymbol) → SymbolFits h s → symbol_converted (symbol_of s) ≡ s
-symbol_same h s fits =
-    let parts = symbol_parts (ctx_of h).container (ctx_of h).le (symbol_of s) fits in
-    rw (mod-eq_of_lt parts.0, mod-eq_of_lt parts.1) refl
-
-addend_same : (is_rela : Bool) (addend : ℤ)
-    → (is_rela ≡ false → addend ≡ pos 0) → unwrap_or (if is_rela then Some addend else None) (pos 0) ≡ addend
-addend_same true addend none = refl
-addend_same false addend none = sym (none refl)
-
-pub reloc_same : (h : GoblinHeader) (is_rela : Bool) (r : GoblinReloc)
-    → RelocFits h is_rela r → reloc_converted (reloc_of is_rela r) ≡ r
-reloc_same h is_rela r fits = grind (arith, nat_tests, addend_same, mod-eq_of_lt, reloc_symbol)
-
 pub items_are_whole : ItemsAreWhole
 items_are_whole = record {
   section = λ bytes h items index s are is found.
-      section_whole h s (fits_in (sections h) bytes items index s are is found);
+      grind (arith, fits_in (sections h) bytes items index s are is found, mod-eq_of_lt);
   segment = λ s. refl;
   symbol = λ bytes h table items index s are is found.
-      symbol_whole h s (fits_in (symbols h table) bytes items index s are is found);
+      grind (arith, fits_in (symbols h table) bytes items index s are is found, mod-eq_of_lt);
   reloc = λ bytes h table is_rela items index r are is found.
-      reloc_whole (reloc_ctx h is_rela) r (fits_in (relocs h table is_rela) bytes items index r are is found);
+      grind (arith, fits_in (relocs h table is_rela) bytes items index r are is found, mod-eq_of_lt);
 }
 
 -- ---- Items by index are those of the library's lists, in the context that a file's header names.

@@ -13,14 +13,12 @@ use Rattle.goblin_c.proofs.Common.{Err, GoblinHeader, GoblinRange, List, None, O
 use Rattle.goblin_c.proofs.Common.{arith, ctx_of, drop, drop-drop, fits-room_of, get_or, length, length-drop, nat_tests}
 use Rattle.goblin_c.proofs.Common.{length-map, length-take, length-take-le, mod-eq_of_lt, refl, refuse_as, refused_at}
 use Rattle.goblin_c.proofs.Common.{room_of_fits, slice_get-get_or, slice_get_within, take, take_all, true, ◌*◌, ◌++◌}
-use Rattle.goblin_c.proofs.ListLemmas.{Read, entries, item_read, reloc_same, reloc_whole, relocs, same_items, sections}
-use Rattle.goblin_c.proofs.ListLemmas.{section_same, section_whole, segments, symbol_same, symbol_whole, symbols}
-use Rattle.goblin_c.specs.{Bytes.is_width, Bytes.number_expected, declared.misfit.Misfit.Misfit}
-use Rattle.goblin_c.specs.{Common.Ctx, Common.Error, Common.Layout, Common.refusal_of, Dynamic.whole_entries_expected}
-use Rattle.goblin_c.specs.{Places.number_in_expected, Types.refusal_converted}
+use Rattle.goblin_c.proofs.ListLemmas.{Read, entries, item_read, relocs, same_items, sections, segments, symbols}
+use Rattle.goblin_c.specs.{Bytes.is_width, Bytes.number_expected, Places.number_in_expected, Types.refusal_converted}
+use Rattle.goblin_c.specs.{Common.Ctx, Common.Error, Common.Layout, Common.refusal_of, declared.misfit.Misfit.Misfit}
 use Rattle.goblin_c.specs.Expected.{count_of, each_converted, header_expected, item_at}
-use Rattle.goblin_c.specs.Write.{FitsClass, dyn_of, header_of, named_ctx, put_at, put_if_there, put_unless, reloc_ctx}
-use Rattle.goblin_c.specs.Write.{reloc_of, section_of, segment_of, symbol_of, with_bytes}
+use Rattle.goblin_c.specs.Write.{FitsClass, dyn_of, header_of, named_ctx, put_at, put_if_there, put_unless, reloc_of}
+use Rattle.goblin_c.specs.Write.{section_of, segment_of, symbol_of, with_bytes}
 use Rattle.goblin_c.specs.WriteLaws.{ChangesOnly, CountsStay, HeadersAreRead, NumbersArePut, NumbersInRangesArePut}
 use Rattle.goblin_c.specs.WriteLaws.{PutsAreRead, PutsChangeOne, ReadsArePut, UnfitAreRefused}
 use Rattle.goblin_headers.proofs.WholeTrips.{reads_back}
@@ -120,11 +118,12 @@ module _ {R Y : Type 0} {l : Layout R} {convert : R → Y} {start : ℕ} {list :
 
 pub reads_are_put : ReadsArePut
 reads_are_put = record {
-  section = λ bytes h index s. read_is_put (sections h) section_of bytes index s (section_whole h);
+  section = λ bytes h index s. read_is_put (sections h) section_of bytes index s (λ x fits. grind (arith, mod-eq_of_lt));
   segment = λ bytes h index s. read_is_put (segments h) segment_of bytes index s (λ x fits. refl);
-  symbol = λ bytes h table index s. read_is_put (symbols h table) symbol_of bytes index s (symbol_whole h);
+  symbol = λ bytes h table index s.
+      read_is_put (symbols h table) symbol_of bytes index s (λ x fits. grind (arith, mod-eq_of_lt));
   reloc = λ bytes h table is_rela index r are found.
-      (read_is_put (relocs h table is_rela) (reloc_of is_rela) bytes index r (reloc_whole (reloc_ctx h is_rela)) are
+      (read_is_put (relocs h table is_rela) (reloc_of is_rela) bytes index r (λ x fits. grind (arith, mod-eq_of_lt)) are
       found).1;
   entry = λ bytes h range index d are is.
       grind (arith, same_items, read_is_put (entries h range) (λ x. x) bytes index (dyn_of d) (λ x fits. refl) are);
@@ -132,22 +131,24 @@ reads_are_put = record {
 
 pub puts_are_read : PutsAreRead
 puts_are_read = record {
-  section = λ bytes new h index s fits put same.
-      grind (arith, put_is_read (sections h) bytes new index (section_of s) fits put same, section_same h s fits);
+  section = λ bytes new h index s fits.
+      grind (arith, put_is_read (sections h) bytes new index (section_of s) fits, mod-eq_of_lt);
   segment = λ bytes new h index s. put_is_read (segments h) bytes new index (segment_of s);
-  symbol = λ bytes new h table index s fits put same.
-      grind (arith, put_is_read (symbols h table) bytes new index (symbol_of s) fits put same, symbol_same h s fits);
-  reloc = λ bytes new h table is_rela index r fits put same.
+  symbol = λ bytes new h table index s fits.
+      grind (arith, put_is_read (symbols h table) bytes new index (symbol_of s) fits, mod-eq_of_lt);
+  reloc = λ bytes new h table is_rela index r fits.
+      grind (arith, put_is_read (relocs h table is_rela) bytes new index (reloc_of is_rela r) fits.0, mod-eq_of_lt);
+  entry = λ bytes new h range index d fits is.
       grind (
         arith,
-        put_is_read (relocs h table is_rela) bytes new index (reloc_of is_rela r) fits.0 put same,
-        reloc_same h is_rela r fits,
+        put_is_read (entries h range) bytes new index (dyn_of d) fits,
+        same_items,
+        length-drop,
+        length-map,
+        length-take,
+        length_records,
+        put_changes_one (entries h range) bytes new index (dyn_of d) None,
       );
-  entry = λ bytes new h range index d fits is.
-      let put = put_changes_one (entries h range) bytes new index (dyn_of d) None (rw same_items is) in
-      rw (← same_items (whole_entries_expected new h range) index)
-      (put_is_read (entries h range) bytes new index (dyn_of d) fits (rw same_items is)
-      (grind (arith, put.same_length, length-drop, length-map, length-take, length_records)));
 }
 
 pub puts_change_one : PutsChangeOne

@@ -5,16 +5,15 @@
 -- look-up passes a name exactly if a call stores a string with its bytes (`named-Decides`), so the first item that it
 -- finds is the first with that name (`by_name`).
 use Rattle.goblin_base.specs.{Pieces.piece, Strtab.has_name, Strtab.range_in, Wanted.is_piece, Wanted.starts_piece}
-use Rattle.goblin_c.proofs.BufferLemmas.{kinds_are_above_one}
+use Rattle.goblin_c.proofs.{BufferLemmas.kinds_are_above_one, Common.◌>>=◌, Common.◌∷◌, Common.◌≡◌, Common.◌≤◌}
 use Rattle.goblin_c.proofs.Common.{Decides, Err, GoblinRange, List, None, Ok, Option, RefusalAt, Result, Some, [], ap}
-use Rattle.goblin_c.proofs.Common.{arith, closed_len, ctx_of, drop, fits-room_of, if◌then◌else◌, length, length-drop, ℕ}
-use Rattle.goblin_c.proofs.Common.{length-take, length-take-le, mod-eq_of_lt, nat_tests, position_or_len, refl, suc}
-use Rattle.goblin_c.proofs.Common.{refusal_at, refuse_as, slice_get, slice_get-get_or, string_expected, take, true, ◌+◌}
-use Rattle.goblin_c.proofs.Common.{zero, ◌-◌, ◌<◌, ◌==◌, ◌>>=◌, ◌∷◌, ◌≡◌, ◌≤◌}
-use Rattle.goblin_c.proofs.ListLemmas.{finds, fits_in, section_name, sections, symbol_parts, symbols}
-use Rattle.goblin_c.specs.{Bytes.IsCString, Bytes.range_expected, Bytes.string_closed_expected, Status.Stores}
-use Rattle.goblin_c.specs.{Common.GoblinRefusal, Common.Refused, Common.SectionHeader, Common.Sym, Refused.Returns}
-use Rattle.goblin_c.specs.{Expected.symbol_expected, Expected.symbols_expected, Laws.bytes_in}
+use Rattle.goblin_c.proofs.Common.{arith, closed_len, drop, fits-room_of, if◌then◌else◌, length, length-drop, nat_tests}
+use Rattle.goblin_c.proofs.Common.{length-take, length-take-le, mod-eq_of_lt, position_or_len, refl, refuse_as, suc, ℕ}
+use Rattle.goblin_c.proofs.Common.{slice_get, slice_get-get_or, string_expected, take, true, zero, ◌+◌, ◌-◌, ◌<◌, ◌==◌}
+use Rattle.goblin_c.proofs.ListLemmas.{finds, fits_in, sections, symbols}
+use Rattle.goblin_c.specs.{Bytes.IsCString, Bytes.range_expected, Bytes.string_closed_expected, Laws.bytes_in}
+use Rattle.goblin_c.specs.{Common.GoblinRefusal, Common.Refused, Common.SectionHeader, Common.Sym, Status.Stores}
+use Rattle.goblin_c.specs.{Expected.symbol_expected, Expected.symbols_expected, Refused.Returns, Refused.refusal_at}
 use Rattle.goblin_c.specs.{Laws.TextIsFound, Laws.TextIsUtf8, Types.section_converted, Types.symbol_converted}
 use Rattle.goblin_c.specs.Expected.{first_item, is_named, section_expected, sections_expected, strings_expected}
 use Rattle.goblin_c.specs.Laws.{BytesLieInFile, EmptyHaveNoBytes, IsNameAt, LiesIn, RefusesInTurn, SectionsByName}
@@ -83,10 +82,12 @@ sections_by_name bytes h names name first are =
     let found = λ (read : List ℕ) (items : List SectionHeader) (is : strings_expected bytes names ≡ Ok read)
     (own : sections_expected bytes h ≡ Ok items).
     finds section_converted (λ section. IsNameAt bytes names section.sh_name name) (test read) items
-    (λ k section there.
-    let fits = fits_in (sections h) bytes items k section are own there in
-    rw (mod-eq_of_lt (section_name (ctx_of h).container (ctx_of h).le section fits))
-    (named-Decides bytes names name read section.sh_name is))
+    (λ k section there. grind (
+      arith,
+      mod-eq_of_lt,
+      fits_in (sections h) bytes items k section are own there,
+      named-Decides bytes names name read section.sh_name is,
+    ))
     (RefusesInTurn (section_expected bytes h) (string_expected bytes names)) first
     (position (test read) (drop first items)) refl in
     grind (arith, found)
@@ -97,10 +98,12 @@ symbols_by_name bytes h range names name first are =
     let found = λ (read : List ℕ) (items : List Sym) (is : strings_expected bytes names ≡ Ok read)
     (own : symbols_expected bytes h range ≡ Ok items).
     finds symbol_converted (λ symbol. IsNameAt bytes names symbol.st_name name) (test read) items
-    (λ k symbol there.
-    let fits = fits_in (symbols h range) bytes items k symbol are own there in
-    rw (mod-eq_of_lt (symbol_parts (ctx_of h).container (ctx_of h).le symbol fits).0)
-    (named-Decides bytes names name read symbol.st_name is))
+    (λ k symbol there. grind (
+      arith,
+      mod-eq_of_lt,
+      fits_in (symbols h range) bytes items k symbol are own there,
+      named-Decides bytes names name read symbol.st_name is,
+    ))
     (RefusesInTurn (symbol_expected bytes h range) (string_expected bytes names)) first
     (position (test read) (drop first items)) refl in
     grind (arith, found)

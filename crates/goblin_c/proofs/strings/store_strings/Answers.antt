@@ -2,9 +2,10 @@
 -- `rest-step`). At one past the table none is (`bytes_past`), and the call stops there (`fills_before`). So it does at
 -- the first offset if the table is refused (`bytes_refused`).
 use Rattle.goblin_c.proofs.BufferLemmas.{each-step, fills_all, fills_before, rest-step, result_at}
-use Rattle.goblin_c.proofs.Common.{Err, GoblinRange, None, Ok, Some, ap, arith, get_or, length, map, refl, refusal_at}
-use Rattle.goblin_c.proofs.Common.{slice_get, string_expected, take, ◌+◌, ◌∙◌, ◌≡◌}
+use Rattle.goblin_c.proofs.Common.{Err, GoblinRange, None, Ok, Some, ap, arith, get_or, length, map, refl, slice_get}
+use Rattle.goblin_c.proofs.Common.{string_expected, take, ◌+◌, ◌∙◌, ◌≡◌}
 use Rattle.goblin_c.proofs.StringLemmas.{bytes_past, bytes_refused, bytes_there}
+use Rattle.goblin_c.specs.Refused.{refusal_at}
 use Rattle.goblin_c.proofs.strings.store_strings.Goals as goal
 
 pub loop-i-preserved : goal.loop-i-preserved
