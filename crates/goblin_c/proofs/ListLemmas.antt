@@ -3,34 +3,31 @@
 -- A list that was read passed the test of room for each of its records (`each_fits`), so each was read from its own
 -- bytes, which lie in the file (`each_read`, `read_part`). What is read of bytes fits (`fits_in`), so the low bits that
 -- C has of it are all of it.
-use Rattle.goblin.specs.{Header.HeaderFits, Header.as32, Header.as64, Header.header32, Header.header64, Sym.sym_of}
-use Rattle.goblin.specs.{ProgramHeader.program_header_of, ProgramHeader.program_header_size, Reloc.reloc_size}
-use Rattle.goblin.specs.{Reloc.reloc_in, SectionHeader.section_header_of, SectionHeader.section_header_size}
+use Rattle.goblin.specs.Header.{HeaderFits, as32, as64, header32, header64}
 use Rattle.goblin.specs.SectionHeaders.{count_asked, section_headers_from, section_headers_from_tested}
-use Rattle.goblin_base.proofs.{ByteorderLemmas.length-part, Eager.all_fit, Eager.get_records, Eager.past_records}
+use Rattle.goblin_base.proofs.{ByteorderLemmas.length-part, Eager.past_records}
 use Rattle.goblin_base.specs.{Eager.records_from, Eager.records_in, Eager.room_of_each, Fields.Field, Fields.FieldsFit}
 use Rattle.goblin_base.specs.{FieldLaws.IsBytes-part, Layout.IsRecord, Number.IsBytes, TableLaws.records-agree}
 use Rattle.goblin_base.specs.{Record.records, Record.unless_fault, declared.container.Container.Container}
-use Rattle.goblin_c.{proofs.Common.◌∙◌, proofs.Common.◌∷◌, proofs.Common.◌≡◌, proofs.Common.◌≤◌, specs.Refused.Returns}
 use Rattle.goblin_c.proofs.Common.{Decides, GoblinHeader, GoblinRange, List, None, Ok, Option, RefusalAt, Result, Some}
-use Rattle.goblin_c.proofs.Common.{[], arith, ctx_of, drop, drop-drop, fits-room_of, get_or_from_slice_get, length, map}
-use Rattle.goblin_c.proofs.Common.{if◌then◌else◌, length-drop, length-map, mod-eq_of_lt, nat_tests, option_map, refl, ℕ}
-use Rattle.goblin_c.proofs.Common.{position_or_len, refused_at, room_of, room_of_fits, slice_get, slice_get-get_or, suc}
-use Rattle.goblin_c.proofs.Common.{slice_get-map, slice_get_within, take, true, zero, ◌*◌, ◌+◌, ◌-◌, ◌<◌, ◌==◌, ◌>>=◌}
-use Rattle.goblin_c.specs.{Common.sym_size, Status.converted_list, Types.symbol_converted, WriteLaws.ItemsAreWhole}
-use Rattle.goblin_c.specs.{Dynamic.whole_entries_expected, Expected.symbol_expected, Expected.symbols_expected}
-use Rattle.goblin_c.specs.Common.{Ctx, Header, Layout, ProgramHeader, Refusal, Refused, Reloc, SectionHeader, Sym}
-use Rattle.goblin_c.specs.Expected.{each_converted, found_item, is_mips64el, item_at, reloc_expected, relocs_expected}
-use Rattle.goblin_c.specs.Expected.{section_expected, sections_expected, segment_expected, segments_expected}
+use Rattle.goblin_c.proofs.Common.{[], arith, ctx_of, drop, drop-drop, fits-room_of, get_or_from_slice_get, get_records}
+use Rattle.goblin_c.proofs.Common.{if◌then◌else◌, length, length-drop, length-map, map, mod-eq_of_lt, nat_tests, refl}
+use Rattle.goblin_c.proofs.Common.{option_map, position_or_len, refused_at, room_of, segments_expected, slice_get, suc}
+use Rattle.goblin_c.proofs.Common.{slice_get-get_or, slice_get-map, slice_get_within, take, true, zero, ℕ, ◌*◌, ◌+◌}
+use Rattle.goblin_c.proofs.Common.{◌-◌, ◌<◌, ◌==◌, ◌>>=◌, ◌∙◌, ◌∷◌, ◌≡◌, ◌≤◌}
+use Rattle.goblin_c.specs.{Dynamic.whole_entries_expected, Expected.sections_expected, Expected.symbols_expected}
+use Rattle.goblin_c.specs.{Refused.Returns, Status.converted_list, Types.symbol_converted, WriteLaws.ItemsAreWhole}
+use Rattle.goblin_c.specs.Common.{Ctx, Header, Layout, Refusal, Refused, SectionHeader}
+use Rattle.goblin_c.specs.Expected.{each_converted, found_item, item_at, relocs_expected, section_expected}
 use Rattle.goblin_c.specs.Laws.{ContextIsTheHeaders, FindsItemFrom, HasHeader, NamesContext, RefusesAll, SectionsByType}
 use Rattle.goblin_c.specs.Types.{header_converted, reloc_converted, section_converted, segment_converted}
 use Rattle.goblin_c.specs.Write.{dyn_layout, reloc_ctx, reloc_layout, section_layout, segment_layout, symbol_layout}
 use Rattle.goblin_dynamic.specs.Dyn.{entry_laws}
 use Rattle.goblin_headers.proofs.WholeTrips.{was_read}
 use Rattle.goblin_headers.specs.{ProgramHeaderLaws.program_header_laws, SectionHeaderLaws.section_header_laws}
-use Rattle.goblin_records.specs.{RelocLaws.reloc_laws, RelocLaws.reloc_laws_in, SymLaws.sym_laws}
-use Rattle.std.proofs.Common.{Bool, false, inl, max, nat_lt, position, subst, ◌/◌, ◌^◌, ◌⊎◌}
-use Rattle.std.proofs.Math.Nat.{div-mul-le_self, le-div_iff_mul-le, mul-div_left, mul-le-mul_right}
+use Rattle.goblin_records.specs.{RelocLaws.reloc_laws_in, SymLaws.sym_laws}
+use Rattle.std.proofs.Common.{Bool, false, inl, max, position, subst, ◌/◌, ◌^◌, ◌⊎◌}
+use Rattle.std.proofs.Math.Nat.{div-mul-le_self, mul-le-mul_right}
 use Rattle.std.proofs.lemmas.{Bool.cases_lt, Bool.Decides.Decides-eqb, Option.slice_get_past}
 use Rattle.std.proofs.lemmas.List.{take-take, Quantifiers.position-Some, Sums.fails_before_first}
 
@@ -282,98 +279,3 @@ sections_by_type bytes h sh_type first =
     (λ k section found. Decides-eqb section.sh_type sh_type) (RefusesAll (section_expected bytes h)) first
     (position test (drop first items)) refl in
     grind (arith, found)
-
--- ---- Items of lists that lie in the file.
---
--- Such a list passes each test that its call makes, so it is the list of its records, and the item with an index is
--- read from its own bytes (`listed_item`).
-
--- The item with an index of a list that is read from the bytes of its records. These lie in so many bytes, and the
--- record with the index does.
-listed_item : {R Y : Type 0} (convert : R → Y) (size : ℕ) (read : List ℕ → R) (bytes : List ℕ)
-    (start count total index : ℕ) (all : Result (List R) RefusalAt) (x : R)
-    → all ≡ Ok (records size read count (drop start bytes))
-    → 0 < size → total / size ≡ count → (index + 1) * size ≤ total
-    → x ≡ read (take size (drop (start + index * size) bytes))
-    → item_at (each_converted convert all) index ≡ Ok (Some (convert x))
-listed_item convert size read bytes start count total index all x are some parts ends is =
-    grind (arith, nat_tests, drop-drop, get_records, le-div_iff_mul-le, slice_get-map)
-
-pub symbol_is : (bytes : List ℕ) (h : GoblinHeader) (range : GoblinRange) (index : ℕ) (x : Sym)
-    → let own = sym_size (ctx_of h).container in
-    range.size < 2 ^ 64 → range.offset + range.size ≤ length bytes → (index + 1) * own ≤ range.size
-    → x ≡ sym_of (ctx_of h).container (ctx_of h).le (take own (drop (range.offset + index * own) bytes))
-    → symbol_expected bytes h range index ≡ Ok (Some (symbol_converted x))
-symbol_is bytes h range index x bound file ends is = grind (arith, nat_tests, listed_item, sym_laws)
-
--- records that lie in the bytes are read at once
-records_inside : {R : Type 0} (size : ℕ) (read : List ℕ → R) (bytes : List ℕ) (start count : ℕ)
-    → 0 < size → start + count * size ≤ length bytes
-    → records_in size read bytes start count ≡ Ok (records size read count (drop start bytes))
-unfolding records_in
-records_inside size read bytes start count some fits = grind (arith, nat_tests, all_fit, le-div_iff_mul-le)
-
--- the section headers and the program headers, whose numbers the header states
-pub section_is : (bytes : List ℕ) (h : GoblinHeader) (index : ℕ) (x : SectionHeader)
-    → let own = section_header_size (ctx_of h).container in
-    (h.e_shoff ≡ 0 → ⊥) → h.e_shoff + h.e_shnum * own ≤ length bytes → (index + 1) * own ≤ h.e_shnum * own
-    → x ≡ section_header_of (ctx_of h).container (ctx_of h).le (take own (drop (h.e_shoff + index * own) bytes))
-    → section_expected bytes h index ≡ Ok (Some (section_converted x))
-unfolding section_headers_from section_headers_from_tested
-section_is bytes h index x there file ends is =
-    let own = section_header_size (ctx_of h).container in
-    let read = section_header_of (ctx_of h).container (ctx_of h).le in
-    let positive = (section_header_laws (ctx_of h).container (ctx_of h).le).size_positive in
-    let one : own ≤ h.e_shnum * own = omega (arith, ends) in
-    let some : 0 < h.e_shnum = grind (arith, nat_tests, ends, positive) in
-    let at_start : (h.e_shoff == 0) ≡ false = grind (arith, nat_tests) in
-    let asked : count_asked bytes h.e_shoff h.e_shnum (ctx_of h) ≡ h.e_shnum = grind (arith, nat_tests) in
-    let few : nat_lt (length bytes / own) h.e_shnum ≡ false = grind (arith, nat_tests) in
-    let most : max 1 h.e_shnum ≡ h.e_shnum = omega (arith, some) in
-    listed_item section_converted own read bytes h.e_shoff h.e_shnum (h.e_shnum * own) index (sections_expected bytes h)
-    x (rw (
-      at_start,
-      room_of_fits (length bytes) h.e_shoff own (omega (arith, one, file)),
-      asked,
-      few,
-      most,
-      records_inside own read bytes h.e_shoff h.e_shnum positive file,
-    ) refl) positive (mul-div_left h.e_shnum positive) ends is
-
-pub segment_is : (bytes : List ℕ) (h : GoblinHeader) (index : ℕ) (x : ProgramHeader)
-    → let own = program_header_size (ctx_of h).container in
-    (h.e_phnum ≡ 0xffff → ⊥) → h.e_phoff + h.e_phnum * own ≤ length bytes → (index + 1) * own ≤ h.e_phnum * own
-    → x ≡ program_header_of (ctx_of h).container (ctx_of h).le (take own (drop (h.e_phoff + index * own) bytes))
-    → segment_expected bytes h index ≡ Ok (Some (segment_converted x))
-unfolding records_from
-segment_is bytes h index x plain file ends is =
-    let own = program_header_size (ctx_of h).container in
-    let read = program_header_of (ctx_of h).container (ctx_of h).le in
-    let positive = (program_header_laws (ctx_of h).container (ctx_of h).le).size_positive in
-    let left : h.e_phnum ≤ (length bytes - h.e_phoff) / own = (le-div_iff_mul-le positive).1 (omega (arith, file)) in
-    let test : (h.e_phnum == 0xffff) ≡ false = grind (arith, nat_tests) in
-    let few : nat_lt (length bytes / own) h.e_phnum ≡ false = grind (arith, nat_tests) in
-    listed_item segment_converted own read bytes h.e_phoff h.e_phnum (h.e_phnum * own) index (segments_expected bytes h)
-    x (rw (test, few, all_fit (length bytes) h.e_phoff own h.e_phnum positive (omega (arith, file)) left) refl)
-    positive (mul-div_left h.e_phnum positive) ends is
-
--- a relocation of a file of another machine than MIPS, which is not of MIPS64
-pub plain_reloc_is : (bytes : List ℕ) (h : GoblinHeader) (range : GoblinRange) (is_rela : Bool) (index : ℕ) (x : Reloc)
-    → let own = reloc_size is_rela (ctx_of h).container in
-    (h.e_machine ≡ 8 → ⊥) → range.offset + range.size ≤ length bytes → (index + 1) * own ≤ range.size
-    → x ≡ reloc_in (record { is_rela = is_rela; ctx = ctx_of h; is_mips64el = false })
-    (take own (drop (range.offset + index * own) bytes))
-    → reloc_expected bytes h range is_rela index ≡ Ok (Some (reloc_converted x))
-plain_reloc_is bytes h range is_rela index x other file ends is =
-    let own = reloc_size is_rela (ctx_of h).container in
-    let read = reloc_in (reloc_ctx h is_rela) in
-    let positive = (reloc_laws is_rela (ctx_of h).container (ctx_of h).le).size_positive in
-    let count = range.size / own in
-    let plain : is_mips64el h ≡ false = grind (arith, nat_tests) in
-    let not_empty : (range.size == 0) ≡ false = grind (arith, nat_tests) in
-    let same = records-agree own read count (take range.size (drop range.offset bytes)) (drop range.offset bytes)
-    (take-take (count * own) range.size (drop range.offset bytes) (div-mul-le_self range.size own)) in
-    listed_item reloc_converted own read bytes range.offset count range.size index
-    (relocs_expected bytes h range is_rela) x
-    (rw (not_empty, room_of_fits (length bytes) range.offset range.size file, same) refl) positive refl ends
-    (rw plain is)

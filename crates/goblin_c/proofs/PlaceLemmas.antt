@@ -9,13 +9,12 @@ use Rattle.goblin_base.specs.declared.scroll.Error.{Error as Misplaced}
 use Rattle.goblin_c.proofs.{BufferLemmas.ends-before, ListLemmas.converted_one, ListLemmas.fails_before}
 use Rattle.goblin_c.proofs.Common.{Decides, Err, GoblinHeader, List, None, Ok, Option, Result, Some, arith, drop, refl}
 use Rattle.goblin_c.proofs.Common.{fits-room_of, get_or_from_slice_get, length, length-drop, nat_tests, option_map, sym}
-use Rattle.goblin_c.proofs.Common.{position_or_len, refuse_as, refused_at, room_of, room_of_fits, slice_get, true, ℕ}
-use Rattle.goblin_c.proofs.Common.{slice_get-map, slice_get_within, ◌<◌, ◌>>=◌, ◌∙◌, ◌≡◌}
+use Rattle.goblin_c.proofs.Common.{position_or_len, refuse_as, refused_at, room_of, room_of_fits, segments_expected, ℕ}
+use Rattle.goblin_c.proofs.Common.{slice_get, slice_get-map, slice_get_within, true, ◌<◌, ◌>>=◌, ◌∙◌, ◌≡◌}
 use Rattle.goblin_c.specs.{Common.ProgramHeader, Common.misplaced, declared.types.GoblinSegment.GoblinSegment}
-use Rattle.goblin_c.specs.{Expected.segment_expected, Expected.segments_expected, Types.segment_converted}
+use Rattle.goblin_c.specs.{Expected.segment_expected, Places.in_file, Types.segment_converted}
 use Rattle.goblin_c.specs.PlaceLaws.{AddressesAreLoaded, BytesAreFound, IsOffsetOf, IsSlice, LoadsByte, LoadsFirst}
 use Rattle.goblin_c.specs.PlaceLaws.{NotesRefuseThere, NumbersAreFound, NumbersLieInRange, PartsLieInFile}
-use Rattle.goblin_c.specs.Places.{in_file}
 use Rattle.std.proofs.{Common.false, Common.find, Common.inr, Common.subst, Common.true≢false, Math.Seq.take-nil}
 use Rattle.std.proofs.lemmas.List.{drop_all, take_min, Folds.find_at, Sums.passes_at_first}
 

@@ -1,12 +1,24 @@
--- The record that was found is the expected section header (`section_is`).
-use Rattle.goblin_c.proofs.{Common.Ok, Common.Some, Common.ap, Common.sym, Common.◌∙◌, ListLemmas.section_is}
+-- The file has all section headers that the header states, so the list is that of their records.
+use Rattle.goblin.specs.SectionHeaders.{section_headers_from, section_headers_from_tested}
+use Rattle.goblin_base.{proofs.Eager.all_fit, specs.Eager.records_in}
+use Rattle.goblin_c.proofs.Common.{arith, ctx_of, drop-drop, get_records, le-div_iff_mul-le, length, nat_tests}
+use Rattle.goblin_c.proofs.Common.{room_of_fits, slice_get-map}
+use Rattle.goblin_headers.specs.SectionHeaderLaws.{section_header_laws}
 use Rattle.goblin_c.proofs.inside.section_inside.Goals as goal
 
 pub returns : goal.returns
+unfolding section_headers_from section_headers_from_tested records_in
 returns c =
-    let found = c.in_ok-found in
-    section_is c.args.bytes.now c.args.header.now c.args.index found.found c.if-header-eq0.false
-    (rw (c.from.ensures, c.size.ensures, c.ctx_of-ctx.ensures) at found.ensures.file)
-    (rw (c.from.ensures, c.size.ensures, c.ctx_of-ctx.ensures) at found.ensures.index)
-    (rw c.ctx_of-ctx.ensures at found.ensures.value)
-    ∙ ap (λ s. Ok (Some s)) (sym c.convert_section.ensures)
+    let h = c.args.header.now in
+    let bytes = c.args.bytes.now in
+    grind (
+      arith,
+      nat_tests,
+      room_of_fits (length bytes) h.e_shoff,
+      all_fit (length bytes) h.e_shoff,
+      drop-drop,
+      get_records,
+      le-div_iff_mul-le,
+      slice_get-map,
+      (section_header_laws (ctx_of h).container (ctx_of h).le).size_positive,
+    )
