@@ -5,11 +5,11 @@
 -- look-up passes a name exactly if a call stores a string with its bytes (`named-Decides`), so the first item that it
 -- finds is the first with that name (`by_name`).
 use Rattle.goblin_base.specs.{Pieces.piece, Strtab.has_name, Strtab.range_in, Wanted.is_piece, Wanted.starts_piece}
-use Rattle.goblin_c.proofs.{BufferLemmas.kinds_are_above_one, Common.◌>>=◌, Common.◌∷◌, Common.◌≡◌, Common.◌≤◌}
-use Rattle.goblin_c.proofs.Common.{Decides, Err, GoblinRange, List, None, Ok, Option, RefusalAt, Result, Some, [], ap}
-use Rattle.goblin_c.proofs.Common.{arith, closed_len, drop, fits-room_of, if◌then◌else◌, length, length-drop, nat_tests}
-use Rattle.goblin_c.proofs.Common.{length-take, length-take-le, mod-eq_of_lt, position_or_len, refl, refuse_as, suc, ℕ}
-use Rattle.goblin_c.proofs.Common.{slice_get, slice_get-get_or, string_expected, take, true, zero, ◌+◌, ◌-◌, ◌<◌, ◌==◌}
+use Rattle.goblin_c.proofs.BufferLemmas.{kinds_are_above_one}
+use Rattle.goblin_c.proofs.Common.{Decides, GoblinRange, List, Ok, Option, Result, Some, [], ap, arith, closed_len, suc}
+use Rattle.goblin_c.proofs.Common.{drop, fits-room_of, if◌then◌else◌, length, length-drop, length-take, length-take-le}
+use Rattle.goblin_c.proofs.Common.{mod-eq_of_lt, nat_tests, position_or_len, refl, refuse_as, slice_get, take, true, ℕ}
+use Rattle.goblin_c.proofs.Common.{slice_get-get_or, string_expected, zero, ◌+◌, ◌-◌, ◌<◌, ◌==◌, ◌>>=◌, ◌∷◌, ◌≡◌, ◌≤◌}
 use Rattle.goblin_c.proofs.ListLemmas.{finds, fits_in, sections, symbols}
 use Rattle.goblin_c.specs.{Bytes.IsCString, Bytes.range_expected, Bytes.string_closed_expected, Laws.bytes_in}
 use Rattle.goblin_c.specs.{Common.GoblinRefusal, Common.Refused, Common.SectionHeader, Common.Sym, Status.Stores}
@@ -171,24 +171,6 @@ pub strings_lie_in_file : StringsLieInFile
 strings_lie_in_file bytes range offset found is = grind (arith, nat_tests, bytes_lie_in_file, strings_are_bytes)
 
 pub ruleset place_laws = (bytes_lie_in_file, empty_have_no_bytes, strings_are_bytes, text_is_utf8)
-
--- ---- The bytes of many strings, each at an offset.
-
--- the bytes of each string: at an offset in the strings, past them, and of strings that are refused
-pub bytes_there : (bytes : List ℕ) (range : GoblinRange) (offset : ℕ) (strings : List ℕ) (size : ℕ)
-    → strings_expected bytes range ≡ Ok strings → offset < length strings → size ≡ length (piece strings 0 offset)
-    → string_expected bytes range offset
-    ≡ Ok (Some (record { offset = range.offset + offset; size = size }))
-bytes_there bytes range offset strings size found before is = grind (arith, nat_tests)
-
-pub bytes_past : (bytes : List ℕ) (range : GoblinRange) (offset : ℕ) (strings : List ℕ)
-    → strings_expected bytes range ≡ Ok strings → length strings ≤ offset
-    → string_expected bytes range offset ≡ Ok None
-bytes_past bytes range offset strings found past = grind (arith, nat_tests)
-
-pub bytes_refused : (bytes : List ℕ) (range : GoblinRange) (offset : ℕ) (refusal : RefusalAt)
-    → strings_expected bytes range ≡ Err refusal → string_expected bytes range offset ≡ Err refusal
-bytes_refused bytes range offset refusal refused = grind (arith, nat_tests)
 
 -- ---- Strings that a zero byte closes.
 --
