@@ -42,14 +42,10 @@ pub laid-item : {X : Type 0} (all : List X) (first i : ℕ) (old now : List X) (
     → slice_get all (first + i) ≡ Some x → now ≡ laid (take i (drop first all)) old → i < length old
     → set now i x ≡ laid (take (i + 1) (drop first all)) old
 laid-item all first i old now x found is room =
-    grind (
-      arith,
-      slice_get_within all (first + i) x found,
-      get_or-drop first all i x,
-      length-drop first all,
-      get_or_from_slice_get all (first + i) x x found,
-      laid-step i (drop first all) old now x,
-    )
+    let inside = slice_get_within all (first + i) x found in
+    let item = get_or_from_slice_get all (first + i) x x found in
+    let step_is = laid-step i (drop first all) old now x in
+    grind (arith, inside, get_or-drop first all i x, length-drop first all, item, step_is)
 
 -- a list ends before an index at which it has no item
 pub ends-before : {X : Type 0} (items : List X) (i : ℕ) → slice_get items i ≡ None → length items ≤ i
@@ -153,14 +149,10 @@ pub each-step : {X Y : Type 0} (wrap : X → Y) (results : List Y) (now : List X
     → map wrap (take i now) ≡ take i results → slice_get results i ≡ Some (wrap x) → i < length now
     → map wrap (take (i + 1) (set now i x)) ≡ take (i + 1) results
 each-step wrap results now i x are found room =
-    grind (
-      arith,
-      slice_get_within results i (wrap x) found,
-      get_or_from_slice_get results i (wrap x) (wrap x) found,
-      map-append wrap (take i now) (x ∷ []),
-      take_more_set now i x room,
-      take_more results i (wrap x),
-    )
+    let inside = slice_get_within results i (wrap x) found in
+    let item_is = get_or_from_slice_get results i (wrap x) (wrap x) found in
+    let front = map-append wrap (take i now) (x ∷ []) in
+    grind (arith, inside, item_is, front, take_more_set now i x room, take_more results i (wrap x))
 
 -- and what follows it
 pub rest-step : {X : Type 0} (old now : List X) (i : ℕ) (x : X)
@@ -182,11 +174,8 @@ module _ {X Y : Type 0} (f : Y → Result (Option X) RefusalAt) (n : ℕ) (xs : 
       → drop filled new ≡ drop filled old → StopsAt (Some next) was status why
       → FillsEach (map f (take n xs)) old was status new filled why
   fills_before d next inside is are rest ends =
-      grind (
-        arith,
-        result_at f n xs filled (get_or xs filled d) d refl inside,
-        slice_get_within (map f (take n xs)) filled,
-      )
+      let result_is = result_at f n xs filled (get_or xs filled d) d refl inside in
+      grind (arith, result_is, slice_get_within (map f (take n xs)) filled)
 
   -- it goes through all
   pub fills_all : filled ≡ min (length xs) n

@@ -11,13 +11,13 @@ use Rattle.goblin_base.specs.{FieldLaws.IsBytes-part, Layout.IsRecord, Number.Is
 use Rattle.goblin_base.specs.{Record.records, Record.unless_fault, declared.container.Container.Container}
 use Rattle.goblin_c.proofs.Common.{Decides, GoblinHeader, GoblinRange, List, None, Ok, Option, RefusalAt, Result, Some}
 use Rattle.goblin_c.proofs.Common.{[], arith, ctx_of, drop, drop-drop, fits-room_of, get_or_from_slice_get, get_records}
-use Rattle.goblin_c.proofs.Common.{if◌then◌else◌, length, length-drop, length-map, map, mod-eq_of_lt, nat_tests, refl}
-use Rattle.goblin_c.proofs.Common.{option_map, position_or_len, refused_at, room_of, segments_expected, slice_get, suc}
-use Rattle.goblin_c.proofs.Common.{slice_get-get_or, slice_get-map, slice_get_within, take, true, zero, ℕ, ◌*◌, ◌+◌}
-use Rattle.goblin_c.proofs.Common.{◌-◌, ◌<◌, ◌==◌, ◌>>=◌, ◌∙◌, ◌∷◌, ◌≡◌, ◌≤◌}
+use Rattle.goblin_c.proofs.Common.{length, length-drop, length-map, map, mod-eq_of_lt, nat_tests, option_map, refl, suc}
+use Rattle.goblin_c.proofs.Common.{position_or_len, room_of, segments_expected, slice_get, slice_get-get_or, take, true}
+use Rattle.goblin_c.proofs.Common.{slice_get-map, slice_get_within, zero, ℕ, ◌*◌, ◌+◌, ◌-◌, ◌<◌, ◌==◌, ◌>>=◌, ◌∙◌, ◌∷◌}
+use Rattle.goblin_c.proofs.Common.{◌≡◌, ◌≤◌}
 use Rattle.goblin_c.specs.{Dynamic.whole_entries_expected, Expected.sections_expected, Expected.symbols_expected}
 use Rattle.goblin_c.specs.{Refused.Returns, Status.converted_list, Types.symbol_converted, WriteLaws.ItemsAreWhole}
-use Rattle.goblin_c.specs.Common.{Ctx, Header, Layout, Refusal, Refused, SectionHeader}
+use Rattle.goblin_c.specs.Common.{Ctx, Header, Layout, Refused, SectionHeader}
 use Rattle.goblin_c.specs.Expected.{each_converted, found_item, item_at, relocs_expected, section_expected}
 use Rattle.goblin_c.specs.Laws.{ContextIsTheHeaders, FindsItemFrom, HasHeader, NamesContext, RefusesAll, SectionsByType}
 use Rattle.goblin_c.specs.Types.{header_converted, reloc_converted, section_converted, segment_converted}
@@ -35,12 +35,6 @@ use Rattle.std.proofs.lemmas.List.{take-take, Quantifiers.position-Some, Sums.fa
 pub bind_ok : {A B E : Type 0} (first : Result A E) (next : A → Result B E) (y : B)
     → (first >>= next) ≡ Ok y → (x : A) × (first ≡ Ok x) × (next x ≡ Ok y)
 bind_ok first next y is = grind (arith, nat_tests)
-
--- an item for C was read, and is this item converted
-pub one_converted : {X Y : Type 0} (past : Bool) (offset : ℕ) (answer : Result X Refusal) (convert : X → Y) (found : Y)
-    → (if past then Ok None else (refused_at offset answer >>= λ x. Ok (Some (convert x)))) ≡ Ok (Some found)
-    → (x : X) × (past ≡ false) × (answer ≡ Ok x) × (found ≡ convert x)
-one_converted past offset answer convert found is = grind (arith, nat_tests)
 
 -- records that pass the test of room one by one lie in the bytes
 each_fits : (len start size count : ℕ) (u : Unit {0})
@@ -66,13 +60,8 @@ module _ {R : Type 0} (size : ℕ) (read : List ℕ → R) (bytes : List ℕ) (s
   each_read are fit index x found =
       let before : index < count → (index + 1) * size ≤ count * size = λ h. mul-le-mul_right size (omega (arith, h)) in
       let all = drop start bytes in
-      grind (
-        arith,
-        before,
-        get_records size read count all index,
-        past_records size read count all index,
-        drop-drop (index * size) start bytes,
-      )
+      let none = past_records size read count all index in
+      grind (arith, before, get_records size read count all index, none, drop-drop (index * size) start bytes)
 
   read_in : records_in size read bytes start count ≡ Ok items → EachRead size read bytes start items
   unfolding records_in

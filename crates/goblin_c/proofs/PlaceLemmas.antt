@@ -9,10 +9,10 @@ use Rattle.goblin_base.specs.declared.scroll.Error.{Error as Misplaced}
 use Rattle.goblin_c.proofs.{BufferLemmas.ends-before, ListLemmas.converted_one, ListLemmas.fails_before}
 use Rattle.goblin_c.proofs.Common.{Decides, Err, GoblinHeader, List, None, Ok, Option, Result, Some, arith, drop, refl}
 use Rattle.goblin_c.proofs.Common.{fits-room_of, get_or_from_slice_get, length, length-drop, nat_tests, option_map, sym}
-use Rattle.goblin_c.proofs.Common.{position_or_len, refuse_as, refused_at, room_of, room_of_fits, segments_expected, ℕ}
-use Rattle.goblin_c.proofs.Common.{slice_get, slice_get-map, slice_get_within, true, ◌<◌, ◌>>=◌, ◌∙◌, ◌≡◌}
+use Rattle.goblin_c.proofs.Common.{position_or_len, refuse_as, room_of, room_of_fits, segments_expected, slice_get, ℕ}
+use Rattle.goblin_c.proofs.Common.{slice_get-map, slice_get_within, true, ◌<◌, ◌>>=◌, ◌∙◌, ◌≡◌}
 use Rattle.goblin_c.specs.{Common.ProgramHeader, Common.misplaced, declared.types.GoblinSegment.GoblinSegment}
-use Rattle.goblin_c.specs.{Expected.segment_expected, Places.in_file, Types.segment_converted}
+use Rattle.goblin_c.specs.{Expected.segment_expected, Places.in_file, Refused.refused_at, Types.segment_converted}
 use Rattle.goblin_c.specs.PlaceLaws.{AddressesAreLoaded, BytesAreFound, IsOffsetOf, IsSlice, LoadsByte, LoadsFirst}
 use Rattle.goblin_c.specs.PlaceLaws.{NotesRefuseThere, NumbersAreFound, NumbersLieInRange, PartsLieInFile}
 use Rattle.std.proofs.{Common.false, Common.find, Common.inr, Common.subst, Common.true≢false, Math.Seq.take-nil}
@@ -21,14 +21,9 @@ use Rattle.std.proofs.lemmas.List.{drop_all, take_min, Folds.find_at, Sums.passe
 -- the part of a range has the same bytes of the file
 pub parts_lie_in_file : PartsLieInFile
 parts_lie_in_file bytes range =
-    grind (
-      arith,
-      length-drop range.offset bytes,
-      take_min range.size (drop range.offset bytes),
-      drop_all (length bytes) bytes,
-      drop_all range.offset bytes,
-      take-nil,
-    )
+    let rest_size = length-drop range.offset bytes in
+    let cut = take_min range.size (drop range.offset bytes) in
+    grind (arith, rest_size, cut, drop_all (length bytes) bytes, drop_all range.offset bytes, take-nil)
 
 -- a number in a range was read after the tests of room for both
 pub numbers_lie_in_range : NumbersLieInRange
@@ -46,14 +41,9 @@ first_loads address items s is =
     let index = position_or_len (loads address) items in
     let there : slice_get items index ≡ Some s = sym (find_at (loads address) items) ∙ is in (
       index,
-      grind (
-        arith,
-        there,
-        passes_at_first (loads address) items s,
-        slice_get_within items index s there,
-        get_or_from_slice_get items index s s there,
-        fails_before,
-      ),
+      let passes = passes_at_first (loads address) items s in
+          let item = get_or_from_slice_get items index s s there in
+          grind (arith, there, passes, slice_get_within items index s there, item, fails_before),
     )
 
 none_loads : (address : ℕ) (items : List ProgramHeader)

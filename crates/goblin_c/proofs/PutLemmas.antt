@@ -8,17 +8,17 @@ use Rattle.goblin_base.proofs.{ByteorderLemmas.length-part, Eager.length_records
 use Rattle.goblin_base.specs.{Number.IsBytes, Number.number_at, Number.spelled, Place.with_number}
 use Rattle.goblin_base.specs.{NumberLaws.length-spelled, NumberLaws.spelled-number, declared.container.Endian.Endian}
 use Rattle.goblin_base.specs.FieldLaws.{IsBytes-part, number_at-lt, number_at-with_number}
-use Rattle.goblin_c.proofs.{Common.◌+◌, Common.◌>>=◌, Common.◌≡◌, Common.◌≤◌, PlaceLemmas.numbers_lie_in_range}
+use Rattle.goblin_c.proofs.{Common.◌≤◌, PlaceLemmas.numbers_lie_in_range}
 use Rattle.goblin_c.proofs.Common.{Err, GoblinHeader, GoblinRange, List, None, Ok, Option, RefusalAt, Result, Some, ℕ}
 use Rattle.goblin_c.proofs.Common.{arith, ctx_of, drop, drop-drop, fits-room_of, get_or, length, length-drop, nat_tests}
-use Rattle.goblin_c.proofs.Common.{length-map, length-take, length-take-le, mod-eq_of_lt, refl, refuse_as, refused_at}
-use Rattle.goblin_c.proofs.Common.{room_of_fits, slice_get-get_or, slice_get_within, take, take_all, true, ◌*◌, ◌++◌}
+use Rattle.goblin_c.proofs.Common.{length-map, length-take, length-take-le, mod-eq_of_lt, refl, refuse_as, room_of_fits}
+use Rattle.goblin_c.proofs.Common.{slice_get-get_or, slice_get_within, take, take_all, true, ◌*◌, ◌++◌, ◌+◌, ◌>>=◌, ◌≡◌}
 use Rattle.goblin_c.proofs.ListLemmas.{Read, entries, item_read, relocs, same_items, sections, segments, symbols}
 use Rattle.goblin_c.specs.{Bytes.is_width, Bytes.number_expected, Places.number_in_expected, Types.refusal_converted}
 use Rattle.goblin_c.specs.{Common.Ctx, Common.Error, Common.Layout, Common.refusal_of, declared.misfit.Misfit.Misfit}
+use Rattle.goblin_c.specs.{Refused.refused_at, Write.section_of, Write.segment_of, Write.symbol_of, Write.with_bytes}
 use Rattle.goblin_c.specs.Expected.{count_of, each_converted, header_expected, item_at}
 use Rattle.goblin_c.specs.Write.{FitsClass, dyn_of, header_of, named_ctx, put_at, put_if_there, put_unless, reloc_of}
-use Rattle.goblin_c.specs.Write.{section_of, segment_of, symbol_of, with_bytes}
 use Rattle.goblin_c.specs.WriteLaws.{ChangesOnly, CountsStay, HeadersAreRead, NumbersArePut, NumbersInRangesArePut}
 use Rattle.goblin_c.specs.WriteLaws.{PutsAreRead, PutsChangeOne, ReadsArePut, UnfitAreRefused}
 use Rattle.goblin_headers.proofs.WholeTrips.{reads_back}
@@ -42,14 +42,9 @@ module _ (bytes : List ℕ) (place : ℕ) (own : List ℕ) (size : ℕ) (long : 
 pub rewritten : (bytes : List ℕ) (place size : ℕ)
     → place + size ≤ length bytes → with_bytes bytes place (take size (drop place bytes)) ≡ bytes
 rewritten bytes place size room =
-    grind (
-      arith,
-      append_assoc,
-      length-part bytes place size room,
-      drop-drop size place bytes,
-      take-append-drop size (drop place bytes),
-      take-append-drop place bytes,
-    )
+    let size_is = length-part bytes place size room in
+    let whole = take-append-drop size (drop place bytes) in
+    grind (arith, append_assoc, size_is, drop-drop size place bytes, whole, take-append-drop place bytes)
 
 -- what is put was found, and fits
 pub put_found : {Y : Type 0} (found : Result (Option Y) RefusalAt) (misfit : Option Misfit) (place : ℕ)
@@ -84,11 +79,8 @@ module _ {R Y : Type 0} {l : Layout R} {convert : R → Y} {start : ℕ} {list :
       ≡ Ok (Some new)
       → ChangesOnly (start + index * l.size) l.size bytes new
   put_changes_one bytes new index x misfit put =
-      grind (
-        arith,
-        others_stay bytes (start + index * l.size) (l.image x) l.size (own.laws.length_image x),
-        item_read own bytes index,
-      )
+      let stay = others_stay bytes (start + index * l.size) (l.image x) l.size (own.laws.length_image x) in
+      grind (arith, stay, item_read own bytes index)
 
   -- what such a call stores fits if what is read does, and is put without a change
   read_is_put : (back : Y → R) (bytes : List ℕ) (index : ℕ) (y : Y)
@@ -104,17 +96,9 @@ module _ {R Y : Type 0} {l : Layout R} {convert : R → Y} {start : ℕ} {list :
       let long : length there ≡ l.size = length-part bytes place l.size read.0 in
       let some = IsBytes-part bytes place l.size are in
       let fits = own.laws.reads_fit there some (omega (arith, long)) in
-      grind (
-        arith,
-        same (l.read there) fits,
-        fits,
-        read,
-        found,
-        own.laws.writes_back there some,
-        take_all l.size there,
-        long,
-        rewritten bytes place l.size,
-      )
+      let back_is = own.laws.writes_back there some in
+      let same_bytes = rewritten bytes place l.size in
+      grind (arith, same (l.read there) fits, fits, read, found, back_is, take_all l.size there, long, same_bytes)
 
 pub reads_are_put : ReadsArePut
 reads_are_put = record {
@@ -139,16 +123,9 @@ puts_are_read = record {
   reloc = λ bytes new h table is_rela index r fits.
       grind (arith, put_is_read (relocs h table is_rela) bytes new index (reloc_of is_rela r) fits.0, mod-eq_of_lt);
   entry = λ bytes new h range index d fits is.
-      grind (
-        arith,
-        put_is_read (entries h range) bytes new index (dyn_of d) fits,
-        same_items,
-        length-drop,
-        length-map,
-        length-take,
-        length_records,
-        put_changes_one (entries h range) bytes new index (dyn_of d) None,
-      );
+      let read = put_is_read (entries h range) bytes new index (dyn_of d) fits in
+      let one = put_changes_one (entries h range) bytes new index (dyn_of d) None in
+      grind (arith, read, same_items, length-drop, length-map, length-take, length_records, one);
 }
 
 pub puts_change_one : PutsChangeOne
@@ -211,44 +188,27 @@ with_number-is order bytes offset width value = grind (arith, nat_tests, length-
 number_stays : (order : Endian) (bytes : List ℕ) (offset width value : ℕ)
     → offset + width ≤ length bytes → ChangesOnly offset width bytes (with_number order bytes offset width value)
 number_stays order bytes offset width value room =
-    grind (
-      arith,
-      with_number-is order bytes offset width value,
-      others_stay bytes offset (spelled order width value) width (length-spelled order width value),
-    )
+    let stay = others_stay bytes offset (spelled order width value) width (length-spelled order width value) in
+    grind (arith, with_number-is order bytes offset width value, stay)
 
 pub numbers_are_put : NumbersArePut
 numbers_are_put = record {
   read = λ bytes new h offset width value fits put.
-      grind (
-        arith,
-        nat_tests,
-        fits-room_of (length bytes) offset width,
-        room_of_fits (length new) offset width,
-        number_stays (ctx_of h).le bytes offset width value,
-        mod-eq_of_lt fits,
-        number_at-with_number (ctx_of h).le bytes offset width value,
-      );
+      let fits_there = fits-room_of (length bytes) offset width in
+      let stays = number_stays (ctx_of h).le bytes offset width value in
+      let number = number_at-with_number (ctx_of h).le bytes offset width value in
+      grind (arith, nat_tests, fits_there, room_of_fits (length new) offset width, stays, mod-eq_of_lt fits, number);
   one = λ bytes new h offset width value misfit put.
-      grind (
-        arith,
-        nat_tests,
-        fits-room_of (length bytes) offset width,
-        number_stays (ctx_of h).le bytes offset width value,
-      );
+      let stays_is = number_stays (ctx_of h).le bytes offset width value in
+      grind (arith, nat_tests, fits-room_of (length bytes) offset width, stays_is);
   back = λ bytes h offset width value are found.
       let order = (ctx_of h).le in
       let spelt = spelled-number order (take width (drop offset bytes)) (IsBytes-part bytes offset width are) in
-      grind (
-        arith,
-        nat_tests,
-        spelt,
-        read_there bytes h offset width value found,
-        length-part bytes offset width,
-        number_at-lt order bytes offset width are,
-        with_number-is order bytes offset width value,
-        rewritten bytes offset width,
-      );
+      let there = read_there bytes h offset width value found in
+      let size = length-part bytes offset width in
+      let least = number_at-lt order bytes offset width are in
+      let spelt_there = with_number-is order bytes offset width value in
+      grind (arith, nat_tests, spelt, there, size, least, spelt_there, rewritten bytes offset width);
 }
 
 pub numbers_in_ranges_are_put : NumbersInRangesArePut

@@ -5,22 +5,22 @@
 -- look-up passes a name exactly if a call stores a string with its bytes (`named-Decides`), so the first item that it
 -- finds is the first with that name (`by_name`).
 use Rattle.goblin_base.specs.{Pieces.piece, Strtab.has_name, Strtab.range_in, Wanted.is_piece, Wanted.starts_piece}
-use Rattle.goblin_c.proofs.BufferLemmas.{kinds_are_above_one}
+use Rattle.goblin_c.{proofs.BufferLemmas.kinds_are_above_one, specs.Bytes.IsCString, specs.Bytes.string_closed_expected}
 use Rattle.goblin_c.proofs.Common.{Decides, GoblinRange, List, Ok, Option, Result, Some, [], ap, arith, closed_len, suc}
-use Rattle.goblin_c.proofs.Common.{drop, fits-room_of, if◌then◌else◌, length, length-drop, length-take, length-take-le}
-use Rattle.goblin_c.proofs.Common.{mod-eq_of_lt, nat_tests, position_or_len, refl, refuse_as, slice_get, take, true, ℕ}
-use Rattle.goblin_c.proofs.Common.{slice_get-get_or, string_expected, zero, ◌+◌, ◌-◌, ◌<◌, ◌==◌, ◌>>=◌, ◌∷◌, ◌≡◌, ◌≤◌}
+use Rattle.goblin_c.proofs.Common.{drop, fits-room_of, length, length-drop, length-take, length-take-le, mod-eq_of_lt}
+use Rattle.goblin_c.proofs.Common.{nat_tests, position_or_len, refl, refuse_as, slice_get, slice_get-get_or, take, true}
+use Rattle.goblin_c.proofs.Common.{string_expected, zero, ℕ, ◌+◌, ◌-◌, ◌<◌, ◌==◌, ◌>>=◌, ◌∷◌, ◌≡◌, ◌≤◌}
 use Rattle.goblin_c.proofs.ListLemmas.{finds, fits_in, sections, symbols}
-use Rattle.goblin_c.specs.{Bytes.IsCString, Bytes.range_expected, Bytes.string_closed_expected, Laws.bytes_in}
 use Rattle.goblin_c.specs.{Common.GoblinRefusal, Common.Refused, Common.SectionHeader, Common.Sym, Status.Stores}
 use Rattle.goblin_c.specs.{Expected.symbol_expected, Expected.symbols_expected, Refused.Returns, Refused.refusal_at}
-use Rattle.goblin_c.specs.{Laws.TextIsFound, Laws.TextIsUtf8, Types.section_converted, Types.symbol_converted}
+use Rattle.goblin_c.specs.{Laws.TextIsUtf8, Laws.bytes_in, Types.section_converted, Types.symbol_converted}
 use Rattle.goblin_c.specs.Expected.{first_item, is_named, section_expected, sections_expected, strings_expected}
-use Rattle.goblin_c.specs.Laws.{BytesLieInFile, EmptyHaveNoBytes, IsNameAt, LiesIn, RefusesInTurn, SectionsByName}
+use Rattle.goblin_c.specs.Laws.{BytesLieInFile, EmptyHaveNoBytes, IsNameAt, RefusesInTurn, SectionsByName, TextIsFound}
 use Rattle.goblin_c.specs.Laws.{StringsAreBytes, StringsAreCompared, StringsAreThere, StringsLieInFile, SymbolsByName}
-use Rattle.std.proofs.{Common.Bool, Common.position, Common.slice_index, Math.Seq.drop-drop, Math.Seq.take-take}
-use Rattle.std.proofs.lemmas.{List.get_or-drop, List.get_or-take, List.take_min, Slice.Eq.bytes_eq-Decides}
-use Rattle.std.proofs.lemmas.List.{drop-take, Sums.fails_before_first, Sums.passes_at_first, Sums.prefix_len-le-length}
+use Rattle.std.proofs.{Math.Seq.drop-drop, Math.Seq.take-take, lemmas.Slice.Eq.bytes_eq-Decides}
+use Rattle.std.proofs.Common.{Bool, if◌then◌else◌, position, slice_index}
+use Rattle.std.proofs.lemmas.List.{drop-take, get_or-drop, get_or-take, take_min}
+use Rattle.std.proofs.lemmas.List.Sums.{fails_before_first, passes_at_first, prefix_len-le-length}
 use Rattle.std.specs.{List.before_first, Prelude.IsErr, Prelude.◌≢◌, Str.is_utf8}
 
 -- the strings of a range are its bytes, and lie in the file
@@ -49,14 +49,8 @@ piece_is_there bytes range offset strings found before =
     let n = range.size - offset in
     let is = in_range bytes range strings found in
     let enough : offset + n ≡ range.size = omega (arith, ap length is.0, length-take range.size all) in
-    grind (
-      arith,
-      is,
-      enough,
-      drop-take offset n all,
-      drop-drop offset range.offset bytes,
-      in_front (λ b. b == 0) n (drop offset all),
-    )
+    let front = in_front (λ b. b == 0) n (drop offset all) in
+    grind (arith, is, enough, drop-take offset n all, drop-drop offset range.offset bytes, front)
 
 pub strings_are_there : StringsAreThere
 strings_are_there bytes range offset place is = grind (arith, nat_tests, piece_is_there bytes range offset)
@@ -82,12 +76,9 @@ sections_by_name bytes h names name first are =
     let found = λ (read : List ℕ) (items : List SectionHeader) (is : strings_expected bytes names ≡ Ok read)
     (own : sections_expected bytes h ≡ Ok items).
     finds section_converted (λ section. IsNameAt bytes names section.sh_name name) (test read) items
-    (λ k section there. grind (
-      arith,
-      mod-eq_of_lt,
-      fits_in (sections h) bytes items k section are own there,
-      named-Decides bytes names name read section.sh_name is,
-    ))
+    (λ k section there.
+    let fits = fits_in (sections h) bytes items k section are own there in
+    grind (arith, mod-eq_of_lt, fits, named-Decides bytes names name read section.sh_name is))
     (RefusesInTurn (section_expected bytes h) (string_expected bytes names)) first
     (position (test read) (drop first items)) refl in
     grind (arith, found)
@@ -98,12 +89,9 @@ symbols_by_name bytes h range names name first are =
     let found = λ (read : List ℕ) (items : List Sym) (is : strings_expected bytes names ≡ Ok read)
     (own : symbols_expected bytes h range ≡ Ok items).
     finds symbol_converted (λ symbol. IsNameAt bytes names symbol.st_name name) (test read) items
-    (λ k symbol there. grind (
-      arith,
-      mod-eq_of_lt,
-      fits_in (symbols h range) bytes items k symbol are own there,
-      named-Decides bytes names name read symbol.st_name is,
-    ))
+    (λ k symbol there.
+    let fits = fits_in (symbols h range) bytes items k symbol are own there in
+    grind (arith, mod-eq_of_lt, fits, named-Decides bytes names name read symbol.st_name is))
     (RefusesInTurn (symbol_expected bytes h range) (string_expected bytes names)) first
     (position (test read) (drop first items)) refl in
     grind (arith, found)
@@ -144,17 +132,11 @@ outside_is bytes range past = grind (arith, nat_tests)
 pub ruleset inside = (inside_is, outside_is)
 
 -- ---- where the bytes of stored ranges lie
--- A range is stored only after the test of room for it (`range_lies`). The bytes of a string are the piece at its
--- offset, which is no longer than the strings from there on (`piece_short`).
-
--- a range that is stored lies in the file
-pub range_lies : (bytes : List ℕ) (range found : GoblinRange)
-    → range_expected bytes range ≡ Ok (Some found) → LiesIn bytes found
-range_lies bytes range found is = grind (arith, fits-room_of (length bytes) range.offset range.size)
-
+-- A range is stored only after the test of room for it. The bytes of a string are the piece at its offset, which is no
+-- longer than the strings from there on.
 pub bytes_lie_in_file : BytesLieInFile
 unfolding piece
-bytes_lie_in_file = grind (arith, nat_tests, in_range, length-drop, length-take, range_lies)
+bytes_lie_in_file = grind (arith, nat_tests, in_range, length-drop, length-take, fits-room_of)
 
 pub empty_have_no_bytes : EmptyHaveNoBytes
 empty_have_no_bytes = grind (arith, nat_tests)
@@ -195,19 +177,14 @@ module _ (bytes : List ℕ) (range : GoblinRange) (offset : ℕ) (strings : List
   zero-after : slice_get bytes (range.offset + offset + length (piece strings 0 offset)) ≡ Some 0
   zero-after =
       let k = offset + end in
-      grind (
-        arith,
-        nat_tests,
-        passes_at_first (λ b. b == 0) rest 0,
-        size,
-        in_range bytes range strings found,
-        length-take range.size (drop range.offset bytes),
-        get_or-drop range.offset bytes k 0,
-        length-drop,
-        get_or-take range.size (drop range.offset bytes) k 0,
-        get_or-drop offset strings end 0,
-        slice_get-get_or bytes (range.offset + k) 0,
-      )
+      let passes = passes_at_first (λ b. b == 0) rest 0 in
+      let lies = in_range bytes range strings found in
+      let taken = length-take range.size (drop range.offset bytes) in
+      let dropped = get_or-drop range.offset bytes k 0 in
+      let took = get_or-take range.size (drop range.offset bytes) k 0 in
+      let dropped_is = get_or-drop offset strings end 0 in
+      let byte_is = slice_get-get_or bytes (range.offset + k) 0 in
+      grind (arith, nat_tests, passes, size, lies, taken, dropped, length-drop, took, dropped_is, byte_is)
 
   closed_is : IsCString bytes (place_of range offset (piece strings 0 offset))
   unfolding piece

@@ -11,35 +11,20 @@ loop-i-preserved c =
     let entries = entries_from c.args.all.now c.args.first in
     let found : slice_get entries c.loop-i.i ≡ Some c.in-Some.entry =
     grind (arith, entry_at c.args.all.now c.args.first c.loop-i.i, c.entry_at.ensures, c.in-Some.is) in
-    grind (
-      arith,
-      found,
-      slice_get_within entries c.loop-i.i c.in-Some.entry found,
-      c.loop-i.invariant,
-      laid-item entries 0 c.loop-i.i c.args.buffer.now c.loop-i.buffer c.in-Some.entry,
-    )
+    let step = laid-item entries 0 c.loop-i.i c.args.buffer.now c.loop-i.buffer c.in-Some.entry in
+    grind (arith, found, slice_get_within entries c.loop-i.i c.in-Some.entry found, c.loop-i.invariant, step)
 
 pub returns-in-None-clause-written : goal.returns-in-None-clause-written
 returns-in-None-clause-written c =
     let entries = entries_from c.args.all.now c.args.first in
-    grind (
-      arith,
-      entry_at c.args.all.now c.args.first c.loop-i.i,
-      c.entry_at.ensures,
-      c.in-None.is,
-      ends-before entries c.loop-i.i,
-      set-get_or c.loop-i.buffer c.loop-i.i,
-      c.loop-i.invariant,
-      laid-enough c.loop-i.i entries c.args.buffer.now,
-    )
+    let entry = entry_at c.args.all.now c.args.first c.loop-i.i in
+    let ends = ends-before entries c.loop-i.i in
+    let same = set-get_or c.loop-i.buffer c.loop-i.i in
+    let enough = laid-enough c.loop-i.i entries c.args.buffer.now in
+    grind (arith, entry, c.entry_at.ensures, c.in-None.is, ends, same, c.loop-i.invariant, enough)
 
 pub returns-in-None-clause-value : goal.returns-in-None-clause-value
 returns-in-None-clause-value c =
-    grind (
-      arith,
-      entry_at c.args.all.now c.args.first c.loop-i.i,
-      c.entry_at.ensures,
-      c.in-None.is,
-      ends-before (entries_from c.args.all.now c.args.first) c.loop-i.i,
-      c.loop-i.invariant,
-    )
+    let entry = entry_at c.args.all.now c.args.first c.loop-i.i in
+    let ends = ends-before (entries_from c.args.all.now c.args.first) c.loop-i.i in
+    grind (arith, entry, c.entry_at.ensures, c.in-None.is, ends, c.loop-i.invariant)

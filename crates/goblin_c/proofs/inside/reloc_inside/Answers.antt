@@ -17,14 +17,6 @@ returns c =
     let count = range.size / own in
     let same = records-agree own (reloc_in (reloc_ctx h c.args.is_rela)) count (take range.size part) part
     (take-take (count * own) range.size part (div-mul-le_self range.size own)) in
-    grind (
-      arith,
-      nat_tests,
-      same,
-      drop-drop,
-      get_records,
-      le-div_iff_mul-le,
-      slice_get-map,
-      room_of_fits (length c.args.bytes.now) range.offset range.size,
-      (reloc_laws c.args.is_rela (ctx_of h).container (ctx_of h).le).size_positive,
-    )
+    let room = room_of_fits (length c.args.bytes.now) range.offset range.size in
+    let positive = (reloc_laws c.args.is_rela (ctx_of h).container (ctx_of h).le).size_positive in
+    grind (arith, nat_tests, same, drop-drop, get_records, le-div_iff_mul-le, slice_get-map, room, positive)

@@ -11,14 +11,7 @@ unfolding section_headers_from section_headers_from_tested records_in
 returns c =
     let h = c.args.header.now in
     let bytes = c.args.bytes.now in
-    grind (
-      arith,
-      nat_tests,
-      room_of_fits (length bytes) h.e_shoff,
-      all_fit (length bytes) h.e_shoff,
-      drop-drop,
-      get_records,
-      le-div_iff_mul-le,
-      slice_get-map,
-      (section_header_laws (ctx_of h).container (ctx_of h).le).size_positive,
-    )
+    let room = room_of_fits (length bytes) h.e_shoff in
+    let fit = all_fit (length bytes) h.e_shoff in
+    let positive = (section_header_laws (ctx_of h).container (ctx_of h).le).size_positive in
+    grind (arith, nat_tests, room, fit, drop-drop, get_records, le-div_iff_mul-le, slice_get-map, positive)

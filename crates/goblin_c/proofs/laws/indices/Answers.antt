@@ -7,11 +7,6 @@ returns c = record {
   sections = λ bytes h ctx has named. grind (arith, one_context bytes h ctx has named, slice_get-map, length-map);
   segments = λ bytes h ctx has named. grind (arith, one_context bytes h ctx has named, slice_get-map, length-map);
   symbols = λ bytes h ctx range has named. grind (arith, one_context bytes h ctx has named, slice_get-map, length-map);
-  relocs = λ bytes h ctx range is_rela has named. grind (
-    arith,
-    one_context bytes h ctx has named,
-    context_is_the_headers bytes h has,
-    slice_get-map,
-    length-map,
-  );
+  relocs = λ bytes h ctx range is_rela has named.
+      grind (arith, one_context bytes h ctx has named, context_is_the_headers bytes h has, slice_get-map, length-map);
 }

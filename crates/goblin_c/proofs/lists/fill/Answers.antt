@@ -8,14 +8,9 @@ use Rattle.goblin_c.proofs.lists.fill.Goals as goal
 pub loop-i-preserved : goal.loop-i-preserved
 loop-i-preserved g c =
     let all = g.L.Listed.listed c.args.all.now in
-    grind (
-      arith,
-      c.converted.ensures,
-      c.in-Some.is,
-      c.loop-i.invariant,
-      slice_get_within all (c.args.first + c.loop-i.i) c.in-Some.item,
-      laid-item all c.args.first c.loop-i.i c.args.buffer.now c.loop-i.buffer c.in-Some.item,
-    )
+    let inside = slice_get_within all (c.args.first + c.loop-i.i) c.in-Some.item in
+    let step = laid-item all c.args.first c.loop-i.i c.args.buffer.now c.loop-i.buffer c.in-Some.item in
+    grind (arith, c.converted.ensures, c.in-Some.is, c.loop-i.invariant, inside, step)
 
 pub returns-in-None-clause-written : goal.returns-in-None-clause-written
 returns-in-None-clause-written g c =
