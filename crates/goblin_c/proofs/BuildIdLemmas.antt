@@ -1,16 +1,17 @@
 -- The build ID is looked for note by note, and then header by header.
 --
 -- What is left to look at has the same first build ID as all that there was, and as many notes less as were read
--- (`at_end`, `at_refusal`, `at_id`, `after_note`). So it is of the notes of headers: those of the first one stand before
+-- (`at_end`, `at_refusal`, `at_id`, `after_note`). So it is of the notes of headers: those of the first one stand
+-- before
 -- those of the others (`after_holder`).
-use Rattle.goblin_c.proofs.Common.{Bool, Err, GoblinHeader, GoblinRange, List, None, Ok, Option, Result, Some, [], ap}
+use Rattle.goblin_c.proofs.Common.{Err, GoblinHeader, GoblinRange, List, None, Ok, Option, Result, Some, [], ap}
 use Rattle.goblin_c.proofs.Common.{arith, drop, get_or_from_slice_get, length, length-take, map, refl, slice_get}
 use Rattle.goblin_c.proofs.Common.{slice_get_within, suc, sym, take, true, zero, ℕ, ◌++◌, ◌+◌, ◌∙◌, ◌≡◌, ◌≤◌}
 use Rattle.goblin_c.specs.BuildId.{Seek, build_id_expected, first_build_id, holder_of_segment, id_of_sections}
 use Rattle.goblin_c.specs.BuildId.{is_build_id, note_and_rest, notes_of, whole_notes}
 use Rattle.goblin_c.specs.Common.{GoblinNote, GoblinRefusal, ProgramHeader, is_some}
 use Rattle.goblin_c.specs.{Notes.whole_note, Segments.segments_expected}
-use Rattle.std.proofs.Common.{false, if◌then◌else◌, length-append, true≢false, ◌-◌, ◌<◌, ◌∷◌}
+use Rattle.std.proofs.Common.{Bool, false, if◌then◌else◌, length-append, true≢false, ◌-◌, ◌<◌, ◌∷◌}
 use Rattle.std.proofs.{Math.Seq.take-nil, lemmas.List.at_drop_more, lemmas.Option.none-some}
 
 -- the notes from an offset on, by the note there
@@ -54,7 +55,8 @@ at_id bytes all rest more most note found is here =
     let there = ap (λ b. if b then Some (Ok note.desc) else first_build_id bytes more) here in
     (sym (found ∙ ap (first_build_id bytes) is ∙ there), tt)
 
-pub after_note : (bytes : List ℕ) (all rest more : List (Result GoblinNote GoblinRefusal)) (read : ℕ) (note : GoblinNote)
+pub after_note : (bytes : List ℕ) (all rest more : List (Result GoblinNote GoblinRefusal)) (read : ℕ) (note :
+    GoblinNote)
     → first_build_id bytes all ≡ first_build_id bytes rest → length all ≡ read + length rest → rest ≡ Ok note ∷ more
     → is_build_id bytes note ≡ false
     → (first_build_id bytes all ≡ first_build_id bytes more) × (length all ≡ read + 1 + length more)
@@ -156,7 +158,10 @@ ends_at most left more bytes h all i range alignment x within there seen =
     let rest = left - length own in
     let others = take rest (notes_of most bytes h (drop (i + 1) all)) in
     let short = short_enough left bytes h range alignment range.offset in
-    ap (first_build_id bytes) (holder_and_rest most left rest bytes h all i range alignment within there (omega (arith, short)))
+    ap (first_build_id bytes) (holder_and_rest most left rest bytes h all i range alignment within there (omega (
+      arith,
+      short,
+    )))
     ∙ first_of_both bytes own others ∙ ap (λ first. either first (first_build_id bytes others)) (sym seen.0)
 
 -- if nothing ends it there, it goes on with the next header

@@ -42,7 +42,8 @@ holders_in (Segments all) = map holder_of_segment all
 holders_in (Sections all) = map holder_of_section all
 
 -- the notes of such ranges, one range after another, the first so many of each
-abbrev pub notes_of : ℕ → List ℕ → GoblinHeader → List (Option (GoblinRange × ℕ)) → List (Result GoblinNote GoblinRefusal)
+abbrev pub notes_of : ℕ → List ℕ → GoblinHeader → List (Option (GoblinRange × ℕ))
+    → List (Result GoblinNote GoblinRefusal)
 notes_of most bytes h [] = []
 notes_of most bytes h (None ∷ holders) = notes_of most bytes h holders
 notes_of most bytes h (Some holder ∷ holders) =

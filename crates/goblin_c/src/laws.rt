@@ -70,7 +70,7 @@ pub fn whole()
 /// Laws: `goblin_linked_section` stores what `goblin_section` stores at an index, but nothing at index 0 or of a
 /// section without bytes in the file. `goblin_names_section` stores the table at the index in the header,
 /// or if that is 0xffff at the index that the first section links to.
-#[tactic(auto, using(crate::proofs::ListLemmas::tables_by_index, crate::proofs::ListLemmas::names_by_index))]
+#[tactic(auto, using(crate::proofs::ListLemmas::by_index))]
 pub fn names()
     ensures tables { TablesByIndex }
     ensures names { NamesByIndex }

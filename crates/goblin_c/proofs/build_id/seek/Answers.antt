@@ -43,7 +43,8 @@ returns-then-is_build_id c =
     let is = sym c.whole_note.ensures ∙ c.in-Ok-Some.is ∙ ap Ok c.in-Ok-Some.field-0-is in
     at_id file.bytes.now (whole_notes c.args.most file.bytes.now file.header range c.args.alignment range.offset)
     (whole_notes left file.bytes.now file.header range c.args.alignment c.loop-read.offset) _ c.args.most note so_far.0
-    (one_more left (left - 1) file.bytes.now file.header range c.args.alignment c.loop-read.offset note (omega arith) is)
+    (one_more left (left - 1) file.bytes.now file.header range c.args.alignment c.loop-read.offset note (omega arith)
+    is)
     (sym c.is_build_id.ensures ∙ c.if-is_build_id.true)
 
 pub loop-read-preserved : goal.loop-read-preserved
@@ -54,7 +55,8 @@ loop-read-preserved c more sum =
     let so_far = c.loop-read.invariant (more + 1) (omega arith) in
     let is = sym c.whole_note.ensures ∙ c.in-Ok-Some.is ∙ ap Ok c.in-Ok-Some.field-0-is in
     after_note file.bytes.now (whole_notes c.args.most file.bytes.now file.header range c.args.alignment range.offset)
-    (whole_notes (more + 1) file.bytes.now file.header range c.args.alignment c.loop-read.offset) _ c.loop-read.read note
+    (whole_notes (more + 1) file.bytes.now file.header range c.args.alignment c.loop-read.offset) _ c.loop-read.read
+    note
     so_far.0 so_far.1
     (one_more (more + 1) more file.bytes.now file.header range c.args.alignment c.loop-read.offset note refl is)
     (sym c.is_build_id.ensures ∙ c.if-is_build_id.false)

@@ -1,4 +1,5 @@
--- The notes of each header end the search (`ended`), or it goes on with those of the next one (`passed`, `past_holder`).
+-- The notes of each header end the search (`ended`), or it goes on with those of the next one (`passed`,
+-- `past_holder`).
 use Rattle.goblin_c.proofs.BuildIdLemmas.{ended, passed, past_holder}
 use Rattle.goblin_c.proofs.Common.{Some, ap, arith, length, sym, take, ◌∙◌}
 use Rattle.goblin_c.proofs.build_id.seek_in.Goals.{in-Some+else-is_some, in_default}

@@ -1,4 +1,5 @@
-use Rattle.goblin_c.proofs.Common.{entries_from, laid, length, min, take, ◌-◌, ◌≡◌, ◌≤◌}
+use Rattle.goblin_c.proofs.Common.{entries_from, laid, length, take, ◌-◌, ◌≡◌, ◌≤◌}
+use Rattle.std.proofs.Common.{min}
 use Rattle.goblin_c.proofs.dynamic.fill.Given as goal
 
 abbrev pub invariant-loop-i : goal.invariant-loop-i

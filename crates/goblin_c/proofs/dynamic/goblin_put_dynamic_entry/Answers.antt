@@ -5,4 +5,5 @@ use Rattle.goblin_c.proofs.dynamic.goblin_put_dynamic_entry.Goals as goal
 pub put_found-requires : goal.put_found-requires
 put_found-requires c =
     let read = item_read (entries c.args.header.now c.args.dynamic.now) c.args.bytes.now c.args.index in
-    rw c.ctx-ctx.ensures (λ x there. grind (arith, there, c.entry_of-found.ensures, read x, same_items))
+    let found = rw (c.of.ensures.bytes, c.of.ensures.header) at c.entry_of-found.ensures in
+    rw c.ctx-ctx.ensures (λ x there. grind (arith, there, found, read x, same_items))

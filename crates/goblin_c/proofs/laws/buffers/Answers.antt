@@ -1,5 +1,6 @@
-use Rattle.goblin_c.proofs.{BufferLemmas.buffer_is_filled, BufferLemmas.text_is_closed, ListLemmas.filled_by_index}
+use Rattle.goblin_c.proofs.{BufferLemmas.buffer_is_filled, BufferLemmas.text_is_closed, Common.arith}
+use Rattle.goblin_c.proofs.{ListLemmas.by_index}
 use Rattle.goblin_c.proofs.laws.buffers.Goals as goal
 
 pub returns : goal.returns
-returns c = record { items = filled_by_index; held = buffer_is_filled; closed = text_is_closed }
+returns c = record { items = grind (arith, by_index); held = buffer_is_filled; closed = text_is_closed }

@@ -1,8 +1,7 @@
 -- The note was read before the end of the bytes and of its range, so it is the expected one (`usual_note_is`).
 use Rattle.goblin_c.proofs.Common.{Ok, Some, ap, arith, sym, ◌+◌, ◌∙◌}
-use Rattle.goblin_c.proofs.notes.usual_note.Goals.{in-4+in_ok-places-in-4}
-use Rattle.goblin_c.proofs.notes.usual_note.Goals.{in-8+in_ok-places-in-8}
-use Rattle.goblin_c.proofs.{NoteLemmas.usual_note_is, notes.usual_note.Goals.in-4+in_ok-places-in-4}
+use Rattle.goblin_c.proofs.NoteLemmas.{usual_note_is}
+use Rattle.goblin_c.proofs.notes.usual_note.Goals.{in-4+in_ok-places-in-4, in-8+in_ok-places-in-8}
 use Rattle.std.proofs.lemmas.Bool.{leb-false}
 use Rattle.goblin_c.proofs.notes.usual_note.Goals as goal
 

@@ -1,7 +1,8 @@
 -- The name is ASCII, and so UTF-8: the note is stored as text (`notes_are_text`).
-use Rattle.goblin_c.proofs.Common.{ap, arith, drop, is_utf8, refl, sym, take, ℕ, ◌+◌, ◌-◌, ◌∙◌, ◌≡◌}
+use Rattle.goblin_c.proofs.Common.{ap, arith, drop, refl, sym, take, ℕ, ◌+◌, ◌-◌, ◌∙◌, ◌≡◌}
 use Rattle.goblin_c.proofs.NoteLemmas.{notes_are_text}
 use Rattle.std.proofs.lemmas.Str.{IsUtf8-from_ascii, is_utf8-from_IsUtf8}
+use Rattle.std.specs.Str.{is_utf8}
 use Rattle.goblin_c.proofs.notes.usual_text_note.Goals as goal
 
 pub returns : goal.returns

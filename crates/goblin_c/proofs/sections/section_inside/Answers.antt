@@ -1,13 +1,18 @@
--- The record that was found is the expected section header (`section_is`).
-use Rattle.goblin_c.proofs.{Common.Ok, Common.Some, Common.ap, Common.sym, ListLemmas.section_is}
-use Rattle.goblin_c.proofs.{Common.◌∙◌}
+-- The file has all section headers that the header states, so the list is that of their records.
+use Rattle.goblin.specs.SectionHeaders.{section_headers_from, section_headers_from_tested}
+use Rattle.goblin_base.proofs.Eager.{all_fit}
+use Rattle.goblin_base.specs.Eager.{records_in}
+use Rattle.goblin_c.proofs.Common.{arith, ctx_of, drop-drop, get_records, le-div_iff_mul-le, length, nat_tests}
+use Rattle.goblin_c.proofs.Common.{room_of_fits, slice_get-map}
+use Rattle.goblin_headers.specs.SectionHeaderLaws.{section_header_laws}
 use Rattle.goblin_c.proofs.sections.section_inside.Goals as goal
 
 pub returns : goal.returns
+unfolding section_headers_from section_headers_from_tested records_in
 returns c =
-    let found = c.in_ok-found in
-    section_is c.args.file.now.bytes.now c.args.file.now.header c.args.index found.found c.if-header-eq0.false
-    (rw (c.from.ensures, c.size.ensures, c.ctx-ctx.ensures) at found.ensures.file)
-    (rw (c.from.ensures, c.size.ensures, c.ctx-ctx.ensures) at found.ensures.index)
-    (rw c.ctx-ctx.ensures at found.ensures.value)
-    ∙ ap (λ s. Ok (Some s)) (sym c.convert_section.ensures)
+    let h = c.args.file.now.header in
+    let bytes = c.args.file.now.bytes.now in
+    let room = room_of_fits (length bytes) h.e_shoff in
+    let fit = all_fit (length bytes) h.e_shoff in
+    let positive = (section_header_laws (ctx_of h).container (ctx_of h).le).size_positive in
+    grind (arith, nat_tests, room, fit, drop-drop, get_records, le-div_iff_mul-le, slice_get-map, positive)

@@ -3,6 +3,7 @@ use Rattle.goblin_c.proofs.segments.goblin_put_segment.Goals as goal
 
 pub put_found-requires : goal.put_found-requires
 put_found-requires c =
+    let list = rw (c.of.ensures.bytes, c.of.ensures.header) at c.segments.ensures in
     rw c.ctx-ctx.ensures
-    (λ x. room_for (segments c.args.header.now) c.args.bytes.now (λ s. s) c.args.index _ _ x (rw (c.of.ensures.bytes, c.of.ensures.header) at c.segments.ensures)
+    (λ x. room_for (segments c.args.header.now) c.args.bytes.now (λ s. s) c.args.index _ _ x list
     c.item_at-found.ensures)

@@ -1,13 +1,19 @@
--- The record that was found is the expected program header (`segment_is`).
-use Rattle.goblin_c.proofs.{Common.Ok, Common.Some, Common.ap, Common.sym, ListLemmas.segment_is}
-use Rattle.goblin_c.proofs.{Common.◌∙◌}
+-- The file has all program headers that the header states, so the list is that of their records.
+use Rattle.goblin_base.proofs.Eager.{all_fit}
+use Rattle.goblin_base.specs.{Eager.records_from, Record.records}
+use Rattle.goblin_c.proofs.Common.{Ok, arith, ctx_of, drop, drop-drop, get_records, le-div_iff_mul-le, length}
+use Rattle.goblin_c.proofs.Common.{nat_tests, segments_expected, slice_get-map, ◌≡◌}
+use Rattle.goblin_c.specs.Segments.{segment_layout}
+use Rattle.goblin_headers.specs.ProgramHeaderLaws.{program_header_laws}
 use Rattle.goblin_c.proofs.segments.segment_inside.Goals as goal
 
 pub returns : goal.returns
+unfolding records_from
 returns c =
-    let found = c.in_ok-found in
-    segment_is c.args.file.now.bytes.now c.args.file.now.header c.args.index found.found c.if-header.false
-    (rw (c.from.ensures, c.size.ensures, c.ctx-ctx.ensures) at found.ensures.file)
-    (rw (c.from.ensures, c.size.ensures, c.ctx-ctx.ensures) at found.ensures.index)
-    (rw c.ctx-ctx.ensures at found.ensures.value)
-    ∙ ap (λ s. Ok (Some s)) (sym c.convert_segment.ensures)
+    let h = c.args.file.now.header in
+    let bytes = c.args.file.now.bytes.now in
+    let l = segment_layout h in
+    let positive = (program_header_laws (ctx_of h).container (ctx_of h).le).size_positive in
+    let listed : segments_expected bytes h ≡ Ok (records l.size l.read h.e_phnum (drop h.e_phoff bytes)) =
+    grind (arith, nat_tests, all_fit (length bytes) h.e_phoff l.size h.e_phnum positive, le-div_iff_mul-le, positive) in
+    grind (arith, listed, positive, drop-drop, get_records, le-div_iff_mul-le, slice_get-map)

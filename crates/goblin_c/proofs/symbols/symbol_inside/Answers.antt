@@ -1,11 +1,7 @@
--- The record that was found is the expected symbol (`symbol_is`).
-use Rattle.goblin_c.proofs.Common.{Ok, Some, ap, sym, ◌∙◌}
-use Rattle.goblin_c.proofs.ListLemmas.{symbol_is}
+-- The bytes of the table hold the record, which its list has at the index.
+use Rattle.goblin_c.proofs.Common.{arith, drop-drop, get_records, le-div_iff_mul-le, nat_tests, slice_get-map}
+use Rattle.goblin_records.specs.SymLaws.{sym_laws}
 use Rattle.goblin_c.proofs.symbols.symbol_inside.Goals as goal
 
 pub returns : goal.returns
-returns c =
-    let found = c.in_ok-found in
-    symbol_is c.args.file.now.bytes.now c.args.file.now.header c.args.range.now c.args.index found.found found.ensures.bound
-    found.ensures.file (rw (← c.requires) at found.ensures.index) (rw (← c.requires) at found.ensures.value)
-    ∙ ap (λ s. Ok (Some s)) (sym c.convert_symbol.ensures)
+returns c = grind (arith, nat_tests, drop-drop, get_records, le-div_iff_mul-le, slice_get-map, sym_laws)

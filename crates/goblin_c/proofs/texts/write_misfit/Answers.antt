@@ -16,7 +16,8 @@ returns c =
     let two = laid-on c.args.len (codes ": ") (decimal c.args.why.now.first) c.args.buffer.now _ _ _ _
     (colon.written, colon.value) (number.written, number.value) in
     let three = laid-on c.args.len start middle c.args.buffer.now _ _ _ _ two (words.written, words.value) in
-    let four = laid-on c.args.len (start ++ middle) end c.args.buffer.now _ _ _ _ three (offset.written, offset.value) in
+    let four = laid-on c.args.len (start ++ middle) end c.args.buffer.now _ _ _ _ three (offset.written, offset.value)
+    in
     record {
       written = four.0;
       value = four.1;

@@ -4,14 +4,13 @@
 use Rattle.goblin_base.proofs.PartsLemmas.{parts_text_more}
 use Rattle.goblin_base.specs.Texts.{parts_text, prefix}
 use Rattle.goblin_c.proofs.BufferLemmas.{laid-part, long-part, short_parts}
-use Rattle.goblin_c.proofs.Common.{List, ap, arith, facts_of, length, sym, take, ℕ, ◌++◌, ◌+◌, ◌∙◌, ◌≤◌}
+use Rattle.goblin_c.proofs.Common.{List, ap, arith, facts_of, sym, take, ℕ, ◌++◌, ◌+◌, ◌∙◌}
 use Rattle.std.proofs.Common.{append_assoc}
 use Rattle.goblin_c.proofs.texts.write_parts.Goals as goal
 
 pub write_part-len-requires-clause-part : goal.write_part-len-requires-clause-part
 write_part-len-requires-clause-part c =
-    let each_short = (short_parts c.parts-parts.result.now c.parts-parts.ensures.bound).1 in
-    each_short c.loop-part.part-index _ c.loop-part-test.true
+    (short_parts c.parts-parts.result.now c.parts-parts.ensures.bound).1 c.loop-part.part-index _ c.loop-part-test.true
 
 pub loop-part-preserved : goal.loop-part-preserved
 loop-part-preserved c =
@@ -34,7 +33,4 @@ loop-part-preserved c =
     }
 
 pub returns-clause-bound : goal.returns-clause-bound
-returns-clause-bound c =
-    let few : length c.parts-parts.result.now ≤ 16 =
-    (short_parts c.parts-parts.result.now c.parts-parts.ensures.bound).0 in
-    omega (arith, few)
+returns-clause-bound c = omega (arith, (short_parts c.parts-parts.result.now c.parts-parts.ensures.bound).0)

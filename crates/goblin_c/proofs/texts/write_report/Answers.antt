@@ -1,4 +1,5 @@
--- The zero byte is written after the library's text (`laid-part`), and after the number and the offset, if there are some.
+-- The zero byte is written after the library's text (`laid-part`), and after the number and the offset, if there are
+-- some.
 use Rattle.goblin_base.specs.Texts.{facts_of, facts_text}
 use Rattle.goblin_c.proofs.BufferLemmas.{laid-part, long-part}
 use Rattle.goblin_c.proofs.texts.write_report.Goals.{else-is_misfit, then-is_misfit}

@@ -1,5 +1,5 @@
-use Rattle.goblin_c.proofs.{BufferLemmas.laid-part, Common.refl}
-use Rattle.goblin_c.proofs.{Common.[], Common.◌∷◌}
+use Rattle.goblin_c.proofs.BufferLemmas.{laid-part}
+use Rattle.goblin_c.proofs.Common.{[], refl, ◌∷◌}
 use Rattle.goblin_c.proofs.texts.write_text.Goals as goal
 
 pub returns : goal.returns
