@@ -4,8 +4,8 @@ pub use Rattle.goblin_base.specs.RecordLaws.{fits-room_of, room_of_fits}
 pub use Rattle.goblin_base.specs.Texts.{facts_of}
 pub use Rattle.goblin_c.specs.Buffers.{laid}
 pub use Rattle.goblin_c.specs.Common.{GoblinHeader, GoblinRange, refuse_as, ◌>>=◌}
-pub use Rattle.goblin_c.specs.Dynamic.{entries_from}
-pub use Rattle.goblin_c.specs.File.{ctx_of}
+pub use Rattle.goblin_c.specs.Dynamic.{entries_left}
+pub use Rattle.goblin_c.specs.File.{context_of}
 pub use Rattle.goblin_c.specs.Results.{RefusalAt}
 pub use Rattle.goblin_c.specs.Segments.{segments_expected}
 pub use Rattle.goblin_c.specs.Strings.{closed_len, string_expected}

@@ -5,7 +5,7 @@
 -- the one at its place among them (`entry_at`). A range that is found lies in the file, because it is found after the
 -- test of room for it.
 use Rattle.goblin_c.proofs.Common.{List, None, Ok, Option, RefusalAt, Result, Some, [], arith, drop, drop-drop}
-use Rattle.goblin_c.proofs.Common.{entries_from, fits-room_of, length, length-drop, length-map, nat_tests, option_map}
+use Rattle.goblin_c.proofs.Common.{entries_left, fits-room_of, length, length-drop, length-map, nat_tests, option_map}
 use Rattle.goblin_c.proofs.Common.{refl, slice_get, slice_get-map, suc, zero, ℕ, ◌+◌, ◌-◌, ◌==◌, ◌>>=◌, ◌∷◌, ◌≡◌, ◌≤◌}
 use Rattle.goblin_c.proofs.ListLemmas.{get_drop}
 use Rattle.goblin_c.specs.Dynamic.{DynamicLiesInFile, EntriesAreCounted, EntriesAreListed, ValueIsTheFirst}
@@ -21,7 +21,7 @@ abbrev pub unless_end : Dyn → Option GoblinDyn
 unless_end d = if d.d_tag == 0 then None else Some (dyn_converted d)
 
 pub first_entry : (all : List Dyn) (index : ℕ)
-    → slice_get (entries_from all index) 0 ≡ option_and_then unless_end (slice_get all index)
+    → slice_get (entries_left all index) 0 ≡ option_and_then unless_end (slice_get all index)
 first_entry [] zero = refl
 first_entry (d ∷ rest) zero = grind (arith, nat_tests, take_while-cons (λ (e : Dyn). not (e.d_tag == 0)) d rest)
 first_entry [] (suc i) = refl
@@ -35,15 +35,15 @@ left (suc i) (d ∷ rest) h =
 left i all h = refl
 
 pub entry_at : (all : List Dyn) (first i : ℕ)
-    → i ≤ length (entries_from all first)
-    → slice_get (entries_from all (first + i)) 0 ≡ slice_get (entries_from all first) i
+    → i ≤ length (entries_left all first)
+    → slice_get (entries_left all (first + i)) 0 ≡ slice_get (entries_left all first) i
 entry_at all first i within =
     let entries = entries_up_to_null (drop first all) in
     let size = length-map entries dyn_converted in
     grind (arith, drop-drop i first all, left i (drop first all), size, slice_get-map, get_drop entries i 0)
 
 -- they are no more than the list has from there on
-pub few_entries : (all : List Dyn) (first : ℕ) → length (entries_from all first) ≤ length all - first
+pub few_entries : (all : List Dyn) (first : ℕ) → length (entries_left all first) ≤ length all - first
 few_entries all first = grind (arith, nat_tests, length-drop, length-map, length-prefix_len, prefix_len-le-length)
 
 pub entries_are_listed : EntriesAreListed

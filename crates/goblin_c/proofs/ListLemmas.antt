@@ -10,7 +10,7 @@ use Rattle.goblin_base.specs.{Eager.records_from, Eager.records_in, Eager.room_o
 use Rattle.goblin_base.specs.{Fields.Field, Fields.FieldsFit, Layout.IsRecord, Number.IsBytes, Record.records}
 use Rattle.goblin_base.specs.{Record.unless_fault, TableLaws.records-agree, declared.container.Container.Container}
 use Rattle.goblin_c.proofs.Common.{Decides, GoblinHeader, GoblinRange, List, None, Ok, Option, RefusalAt, Result, Some}
-use Rattle.goblin_c.proofs.Common.{[], arith, ctx_of, drop, drop-drop, fits-room_of, get_or_from_slice_get, get_records}
+use Rattle.goblin_c.proofs.Common.{[], arith, context_of, drop, drop-drop, fits-room_of, get_or_from_slice_get, get_records}
 use Rattle.goblin_c.proofs.Common.{length, length-drop, length-map, map, mod-eq_of_lt, nat_tests, option_map}
 use Rattle.goblin_c.proofs.Common.{position_or_len, refl, room_of, segments_expected, slice_get, slice_get-get_or}
 use Rattle.goblin_c.proofs.Common.{slice_get-map, slice_get_within, suc, take, true, zero, ℕ, ◌*◌, ◌+◌, ◌-◌, ◌<◌, ◌==◌}
@@ -18,12 +18,12 @@ use Rattle.goblin_c.proofs.Common.{◌>>=◌, ◌∙◌, ◌∷◌, ◌≡◌, �
 use Rattle.goblin_c.specs.Common.{Ctx, Header, Layout, Refused, SectionHeader}
 use Rattle.goblin_c.specs.File.{ContextIsTheHeaders, HasHeader, NamesContext, header_converted}
 use Rattle.goblin_c.specs.Items.{FindsItemFrom, RefusesAll, each_converted, found_item, item_at}
-use Rattle.goblin_c.specs.Relocs.{reloc_converted, reloc_ctx, reloc_layout, relocs_expected}
-use Rattle.goblin_c.specs.Sections.{SectionsByType, section_converted, section_expected, section_layout}
-use Rattle.goblin_c.specs.Symbols.{symbol_converted, symbol_layout, symbols_expected}
-use Rattle.goblin_c.specs.{Dynamic.dyn_layout, Dynamic.whole_entries_expected, Laws.ItemsAreWhole, Results.Returns}
+use Rattle.goblin_c.specs.Relocs.{reloc_converted, reloc_ctx, reloc_layout_of, relocs_expected}
+use Rattle.goblin_c.specs.Sections.{SectionsByType, section_converted, section_expected, section_layout_of}
+use Rattle.goblin_c.specs.Symbols.{symbol_converted, symbol_layout_of, symbols_expected}
+use Rattle.goblin_c.specs.{Dynamic.dyn_layout_of, Dynamic.whole_entries_expected, Laws.ItemsAreWhole, Results.ReturnsAt}
 use Rattle.goblin_c.specs.{Results.converted_list, Sections.sections_expected, Segments.segment_converted}
-use Rattle.goblin_c.specs.{Segments.segment_layout}
+use Rattle.goblin_c.specs.{Segments.segment_layout_of}
 use Rattle.goblin_dynamic.specs.Dyn.{entry_laws}
 use Rattle.goblin_headers.proofs.WholeTrips.{was_read}
 use Rattle.goblin_headers.specs.{ProgramHeaderLaws.program_header_laws, SectionHeaderLaws.section_header_laws}
@@ -115,74 +115,74 @@ module _ {R Y : Type 0} {l : Layout R} {convert : R → Y} {start : ℕ} {list :
   -- so it is with an item that a call found
   pub room_for : {L : Type 0} (view : L → List R) (index : ℕ) (answer : Result L Refused)
       (found : Result (Option Y) Refused) (y : Y)
-      → Returns view answer (list bytes)
-      → Returns (λ x. x) found (item_at (converted_list (λ list. map convert (view list)) answer) index)
+      → ReturnsAt view answer (list bytes)
+      → ReturnsAt (λ x. x) found (item_at (converted_list (λ list. map convert (view list)) answer) index)
       → found ≡ Ok (Some y)
       → start + index * l.size + l.size ≤ length bytes
   room_for view index answer found y is stored there = grind (arith, item_read index y)
 
 module _ (h : GoblinHeader) where
-  pub sections : Read (section_layout h) section_converted h.e_shoff (λ xs. sections_expected xs h)
+  pub sections : Read (section_layout_of h) section_converted h.e_shoff (λ xs. sections_expected xs h)
   unfolding section_headers_from section_headers_from_tested
   sections = record {
-    laws = section_header_laws (ctx_of h).container (ctx_of h).le;
+    laws = section_header_laws (context_of h).container (context_of h).le;
     lie = λ bytes items is. grind (
       arith,
       nat_tests,
-      read_in (section_layout h).size (section_layout h).read bytes h.e_shoff
-          (max 1 (count_asked bytes h.e_shoff h.e_shnum (ctx_of h))) items,
+      read_in (section_layout_of h).size (section_layout_of h).read bytes h.e_shoff
+          (max 1 (count_asked bytes h.e_shoff h.e_shnum (context_of h))) items,
     );
   }
 
-  pub segments : Read (segment_layout h) segment_converted h.e_phoff (λ xs. segments_expected xs h)
+  pub segments : Read (segment_layout_of h) segment_converted h.e_phoff (λ xs. segments_expected xs h)
   unfolding records_from records_in
   segments = record {
-    laws = program_header_laws (ctx_of h).container (ctx_of h).le;
+    laws = program_header_laws (context_of h).container (context_of h).le;
     lie = λ bytes items is. grind (
       arith,
       nat_tests,
       bind_ok,
-      read_in (segment_layout h).size (segment_layout h).read
+      read_in (segment_layout_of h).size (segment_layout_of h).read
           bytes h.e_phoff,
     );
   }
 
   pub symbols : (table : GoblinRange)
-      → Read (symbol_layout h) symbol_converted table.offset (λ xs. symbols_expected xs h table)
+      → Read (symbol_layout_of h) symbol_converted table.offset (λ xs. symbols_expected xs h table)
   symbols table = record {
-    laws = sym_laws (ctx_of h).container (ctx_of h).le;
+    laws = sym_laws (context_of h).container (context_of h).le;
     lie = λ bytes items is. grind (
       arith,
       nat_tests,
-      each_read (symbol_layout h).size (symbol_layout h).read bytes
-          table.offset (table.size / (symbol_layout h).size) items,
+      each_read (symbol_layout_of h).size (symbol_layout_of h).read bytes
+          table.offset (table.size / (symbol_layout_of h).size) items,
     );
   }
 
   pub relocs : (table : GoblinRange) (is_rela : Bool)
-      → Read (reloc_layout h is_rela) reloc_converted table.offset (λ xs. relocs_expected xs h table is_rela)
+      → Read (reloc_layout_of h is_rela) reloc_converted table.offset (λ xs. relocs_expected xs h table is_rela)
   relocs table is_rela = record {
     laws = reloc_laws_in (reloc_ctx h is_rela);
     lie = λ bytes items is. grind (
       arith,
       nat_tests,
-      read_part (reloc_layout h is_rela).size (reloc_layout h
+      read_part (reloc_layout_of h is_rela).size (reloc_layout_of h
           is_rela).read bytes table.offset table.size items,
     );
   }
 
   -- the entries of a range, which are not converted
   pub entries : (range : GoblinRange)
-      → Read (dyn_layout h) (λ d. d) range.offset (λ xs. whole_entries_expected xs h range)
+      → Read (dyn_layout_of h) (λ d. d) range.offset (λ xs. whole_entries_expected xs h range)
   entries range = record {
-    laws = entry_laws (ctx_of h).container (ctx_of h).le;
+    laws = entry_laws (context_of h).container (context_of h).le;
     lie = λ bytes items is. grind (
       arith,
       nat_tests,
       length-part bytes range.offset range.size,
       fits-room_of (length
           bytes) range.offset range.size,
-      read_part (dyn_layout h).size (dyn_layout h).read bytes range.offset range.size
+      read_part (dyn_layout_of h).size (dyn_layout_of h).read bytes range.offset range.size
           items,
     );
   }
@@ -225,7 +225,7 @@ context_is_the_headers bytes h has =
 
 -- a header names one context
 pub one_context : (bytes : List ℕ) (h : Header) (ctx : Ctx)
-    → HasHeader bytes h → NamesContext h ctx → ctx_of (header_converted h) ≡ ctx
+    → HasHeader bytes h → NamesContext h ctx → context_of (header_converted h) ≡ ctx
 one_context bytes h ctx has named = grind (arith, nat_tests, context_is_the_headers)
 
 -- the item at an index after those that are dropped

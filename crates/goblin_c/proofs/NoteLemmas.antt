@@ -5,7 +5,7 @@
 -- (`in_a_row`). The parts of a note lie in the file because its places do (`notes_lie_in_file`).
 use Rattle.goblin.specs.Note.{note_at, note_items, places_at, read_places}
 use Rattle.goblin.specs.{NoteLaws.note_by_note, NoteLaws.whole_is_note, declared.elf.note.NotePlaces.NotePlaces}
-use Rattle.goblin_c.proofs.Common.{GoblinHeader, GoblinRange, List, Ok, Some, arith, ctx_of, drop, fits-room_of, length}
+use Rattle.goblin_c.proofs.Common.{GoblinHeader, GoblinRange, List, Ok, Some, arith, context_of, drop, fits-room_of, length}
 use Rattle.goblin_c.proofs.Common.{length-drop, length-take, nat_tests, refl, suc, take, take_all, zero, ℕ, ◌+◌, ◌-◌}
 use Rattle.goblin_c.proofs.Common.{◌<◌, ◌≡◌}
 use Rattle.goblin_c.specs.Notes.{NotesAreItems, NotesAreText, NotesInARow, NotesLieInFile, WholeNotesAreNotes}
@@ -17,12 +17,12 @@ use Rattle.goblin_base.specs.declared.container.Endian.TheVariants as endian
 
 -- the items from an offset on are those of which the call there stores the first
 items_there : (bytes : List ℕ) (h : GoblinHeader) (range : GoblinRange) (alignment offset : ℕ)
-    → note_items bytes (range.offset + range.size) offset (alignment, ctx_of h)
+    → note_items bytes (range.offset + range.size) offset (alignment, context_of h)
     ≡ items_reported bytes (note_utf8_expected bytes h range alignment offset)
-    (λ next. note_items bytes (range.offset + range.size) next (alignment, ctx_of h))
+    (λ next. note_items bytes (range.offset + range.size) next (alignment, context_of h))
 unfolding note_at
 items_there bytes h range alignment offset =
-    grind (arith, nat_tests, note_by_note bytes (range.offset + range.size) offset (alignment, ctx_of h), drop-drop)
+    grind (arith, nat_tests, note_by_note bytes (range.offset + range.size) offset (alignment, context_of h), drop-drop)
 
 pub notes_are_items : NotesAreItems
 notes_are_items notes h range alignment over = grind (arith, nat_tests, items_there)
@@ -30,7 +30,7 @@ notes_are_items notes h range alignment over = grind (arith, nat_tests, items_th
 -- one more call stores one more item
 in_a_row : (calls : ℕ) (bytes : List ℕ) (h : GoblinHeader) (range : GoblinRange) (alignment offset : ℕ)
     → notes_reported calls bytes h range alignment offset
-    ≡ take calls (note_items bytes (range.offset + range.size) offset (alignment, ctx_of h))
+    ≡ take calls (note_items bytes (range.offset + range.size) offset (alignment, context_of h))
 in_a_row zero bytes h range alignment offset = refl
 in_a_row (suc calls) bytes h range alignment offset =
     grind (arith, items_there bytes h range alignment offset, take-nil, in_a_row calls bytes h range alignment)
@@ -57,7 +57,7 @@ pub whole_notes_are_notes : WholeNotesAreNotes
 unfolding places_at
 whole_notes_are_notes bytes h range alignment offset note is within =
     let n = range.offset + range.size - offset in
-    let whole = whole_is_note alignment (ctx_of h).le (drop offset bytes) n in
+    let whole = whole_is_note alignment (context_of h).le (drop offset bytes) n in
     grind (arith, nat_tests, is, whole, drop-take offset n bytes)
 
 pub usual_note_is : (bytes : List ℕ) (h : GoblinHeader) (range : GoblinRange) (alignment offset : ℕ)

@@ -12,7 +12,7 @@ use Rattle.goblin_c.proofs.Common.{position_or_len, refl, refuse_as, room_of, ro
 use Rattle.goblin_c.proofs.Common.{slice_get, slice_get-map, slice_get_within, sym, true, ℕ, ◌<◌, ◌>>=◌, ◌∙◌, ◌≡◌}
 use Rattle.goblin_c.proofs.{BufferLemmas.ends-before, ListLemmas.converted_one, ListLemmas.fails_before}
 use Rattle.goblin_c.specs.Numbers.{IsSlice, NumbersAreFound, NumbersLieInRange, PartsLieInFile}
-use Rattle.goblin_c.specs.Segments.{AddressesAreLoaded, IsOffsetOf, LoadsByte, LoadsFirst, in_file, segment_converted}
+use Rattle.goblin_c.specs.Segments.{AddressesAreLoaded, IsOffsetOf, LoadsByte, LoadsFirst, offset_in_file, segment_converted}
 use Rattle.goblin_c.specs.{Common.ProgramHeader, Common.misplaced, Laws.BytesAreFound, Notes.NotesRefuseThere}
 use Rattle.goblin_c.specs.{Results.refused_at, Segments.segment_expected, declared.segments.GoblinSegment.GoblinSegment}
 use Rattle.std.proofs.Common.{false, find, inr, subst, true≢false}
@@ -90,7 +90,7 @@ module _ (bytes : List ℕ) (h : GoblinHeader) (address : ℕ) (short : IsSlice 
 
   by_found : (found : Option ProgramHeader)
       → find (loads address) items ≡ found
-      → IsOffsetOf bytes h address (in_file bytes (option_map (offset_in address) found))
+      → IsOffsetOf bytes h address (offset_in_file bytes (option_map (offset_in address) found))
   by_found (Some s) found =
       by_room s (first_loads address items s found) (room_of (length bytes) (offset_in address s) 1) refl
   by_found None found = λ k y stored. not_loaded k y stored (λ x there. none_loads address items found k x there)

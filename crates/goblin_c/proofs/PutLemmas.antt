@@ -9,19 +9,19 @@ use Rattle.goblin_base.specs.FieldLaws.{IsBytes-part, number_at-lt, number_at-wi
 use Rattle.goblin_base.specs.{Number.IsBytes, Number.number_at, Number.spelled, NumberLaws.length-spelled}
 use Rattle.goblin_base.specs.{NumberLaws.spelled-number, Place.with_number, declared.container.Endian.Endian}
 use Rattle.goblin_c.proofs.Common.{Err, GoblinHeader, GoblinRange, List, None, Ok, Option, RefusalAt, Result, Some}
-use Rattle.goblin_c.proofs.Common.{arith, ctx_of, drop, drop-drop, fits-room_of, get_or, length, length-drop}
+use Rattle.goblin_c.proofs.Common.{arith, context_of, drop, drop-drop, fits-room_of, get_or, length, length-drop}
 use Rattle.goblin_c.proofs.Common.{length-map, length-take, length-take-le, mod-eq_of_lt, nat_tests, refl, refuse_as}
 use Rattle.goblin_c.proofs.Common.{room_of_fits, slice_get-get_or, slice_get_within, take, take_all, true, ℕ, ◌*◌, ◌++◌}
 use Rattle.goblin_c.proofs.Common.{◌+◌, ◌>>=◌, ◌≡◌, ◌≤◌}
 use Rattle.goblin_c.proofs.ListLemmas.{Read, entries, item_read, relocs, same_items, sections, segments, symbols}
 use Rattle.goblin_c.proofs.PlaceLemmas.{numbers_lie_in_range}
-use Rattle.goblin_c.specs.File.{FitsClass, HeadersAreRead, header_expected, header_of, named_ctx}
+use Rattle.goblin_c.specs.File.{FitsClass, HeadersAreRead, header_expected, header_from_c, named_ctx}
 use Rattle.goblin_c.specs.Laws.{CountsStay, PutsAreRead, PutsChangeOne, ReadsArePut, UnfitAreRefused}
 use Rattle.goblin_c.specs.Numbers.{NumbersArePut, NumbersInRangesArePut, is_width, number_expected, number_in_expected}
 use Rattle.goblin_c.specs.Puts.{ChangesOnly, put_at, put_if_there, put_unless, with_bytes}
-use Rattle.goblin_c.specs.{Common.Ctx, Common.Error, Common.Layout, Common.refusal_of, Dynamic.dyn_of, Items.count_of}
-use Rattle.goblin_c.specs.{Items.each_converted, Items.item_at, Relocs.reloc_of, Results.refusal_converted}
-use Rattle.goblin_c.specs.{Results.refused_at, Sections.section_of, Segments.segment_of, Symbols.symbol_of}
+use Rattle.goblin_c.specs.{Common.Ctx, Common.Error, Common.Layout, Common.refusal_of, Dynamic.dyn_from_c, Items.count_of}
+use Rattle.goblin_c.specs.{Items.each_converted, Items.item_at, Relocs.reloc_from_c, Results.refusal_converted}
+use Rattle.goblin_c.specs.{Results.refused_at, Sections.section_from_c, Segments.segment_from_c, Symbols.symbol_from_c}
 use Rattle.goblin_c.specs.{declared.misfit.Misfit.Misfit}
 use Rattle.goblin_headers.proofs.WholeTrips.{reads_back}
 use Rattle.std.proofs.{Common.append_assoc, Common.length-append, Math.Seq.take-append_seam, lemmas.List.drop_at}
@@ -104,44 +104,44 @@ module _ {R Y : Type 0} {l : Layout R} {convert : R → Y} {start : ℕ} {list :
 
 pub reads_are_put : ReadsArePut
 reads_are_put = record {
-  section = λ bytes h index s. read_is_put (sections h) section_of bytes index s (λ x fits. grind (
+  section = λ bytes h index s. read_is_put (sections h) section_from_c bytes index s (λ x fits. grind (
     arith,
     mod-eq_of_lt,
   ));
-  segment = λ bytes h index s. read_is_put (segments h) segment_of bytes index s (λ x fits. refl);
+  segment = λ bytes h index s. read_is_put (segments h) segment_from_c bytes index s (λ x fits. refl);
   symbol = λ bytes h table index s.
-      read_is_put (symbols h table) symbol_of bytes index s (λ x fits. grind (arith, mod-eq_of_lt));
+      read_is_put (symbols h table) symbol_from_c bytes index s (λ x fits. grind (arith, mod-eq_of_lt));
   reloc = λ bytes h table is_rela index r are found.
-      (read_is_put (relocs h table is_rela) (reloc_of is_rela) bytes index r (λ x fits. grind (arith, mod-eq_of_lt)) are
+      (read_is_put (relocs h table is_rela) (reloc_from_c is_rela) bytes index r (λ x fits. grind (arith, mod-eq_of_lt)) are
       found).1;
   entry = λ bytes h range index d are is.
-      grind (arith, same_items, read_is_put (entries h range) (λ x. x) bytes index (dyn_of d) (λ x fits. refl) are);
+      grind (arith, same_items, read_is_put (entries h range) (λ x. x) bytes index (dyn_from_c d) (λ x fits. refl) are);
 }
 
 pub puts_are_read : PutsAreRead
 puts_are_read = record {
   section = λ bytes new h index s fits.
-      grind (arith, put_is_read (sections h) bytes new index (section_of s) fits, mod-eq_of_lt);
-  segment = λ bytes new h index s. put_is_read (segments h) bytes new index (segment_of s);
+      grind (arith, put_is_read (sections h) bytes new index (section_from_c s) fits, mod-eq_of_lt);
+  segment = λ bytes new h index s. put_is_read (segments h) bytes new index (segment_from_c s);
   symbol = λ bytes new h table index s fits.
-      grind (arith, put_is_read (symbols h table) bytes new index (symbol_of s) fits, mod-eq_of_lt);
+      grind (arith, put_is_read (symbols h table) bytes new index (symbol_from_c s) fits, mod-eq_of_lt);
   reloc = λ bytes new h table is_rela index r fits.
-      grind (arith, put_is_read (relocs h table is_rela) bytes new index (reloc_of is_rela r) fits.0, mod-eq_of_lt);
+      grind (arith, put_is_read (relocs h table is_rela) bytes new index (reloc_from_c is_rela r) fits.0, mod-eq_of_lt);
   entry = λ bytes new h range index d fits is.
-      let read = put_is_read (entries h range) bytes new index (dyn_of d) fits in
-      let one = put_changes_one (entries h range) bytes new index (dyn_of d) None in
+      let read = put_is_read (entries h range) bytes new index (dyn_from_c d) fits in
+      let one = put_changes_one (entries h range) bytes new index (dyn_from_c d) None in
       grind (arith, read, same_items, length-drop, length-map, length-take, length_records, one);
 }
 
 pub puts_change_one : PutsChangeOne
 puts_change_one = record {
-  section = λ bytes new h index s. put_changes_one (sections h) bytes new index (section_of s);
-  segment = λ bytes new h index s. put_changes_one (segments h) bytes new index (segment_of s);
-  symbol = λ bytes new h table index s. put_changes_one (symbols h table) bytes new index (symbol_of s);
+  section = λ bytes new h index s. put_changes_one (sections h) bytes new index (section_from_c s);
+  segment = λ bytes new h index s. put_changes_one (segments h) bytes new index (segment_from_c s);
+  symbol = λ bytes new h table index s. put_changes_one (symbols h table) bytes new index (symbol_from_c s);
   reloc = λ bytes new h table is_rela index r.
-      put_changes_one (relocs h table is_rela) bytes new index (reloc_of is_rela r);
+      put_changes_one (relocs h table is_rela) bytes new index (reloc_from_c is_rela r);
   entry = λ bytes new h range index d misfit is.
-      put_changes_one (entries h range) bytes new index (dyn_of d) misfit (rw same_items is);
+      put_changes_one (entries h range) bytes new index (dyn_from_c d) misfit (rw same_items is);
 }
 
 -- files of the same length have as many symbols and relocations in a range
@@ -158,7 +158,7 @@ pub ruleset put_laws = (puts_are_read, puts_change_one, reads_are_put, counts_st
 is_read : (bytes : List ℕ) (h : GoblinHeader) (ctx : Ctx)
     → FitsClass bytes h → named_ctx bytes h ≡ Ok ctx
     → header_expected
-    ((header_layout ctx.container ctx.le).image (header_of bytes h) ++ drop (header_size ctx.container) bytes)
+    ((header_layout ctx.container ctx.le).image (header_from_c bytes h) ++ drop (header_size ctx.container) bytes)
     ≡ Ok (Some h)
 is_read bytes h ctx fits is = grind (arith, nat_tests, length-drop, length-take-le, fits-room_of, reads_back)
 
@@ -171,7 +171,7 @@ put_in answer after new put = grind (arith, nat_tests)
 
 pub headers_are_read : HeadersAreRead
 headers_are_read bytes new h fits put =
-    let own = put_in (named_ctx bytes h) (λ ctx. (header_layout ctx.container ctx.le).image (header_of bytes h)
+    let own = put_in (named_ctx bytes h) (λ ctx. (header_layout ctx.container ctx.le).image (header_from_c bytes h)
     ++ drop (header_size ctx.container) bytes) new put in
     rw (← own.2) (is_read bytes h own.0 fits own.1)
 
@@ -181,7 +181,7 @@ headers_are_read bytes new h fits put =
 pub read_there : (bytes : List ℕ) (h : GoblinHeader) (offset width value : ℕ)
     → number_expected bytes h offset width ≡ Ok (Some value)
     → (is_width width ≡ true) × (offset + width ≤ length bytes)
-    × (value ≡ number_at (ctx_of h).le bytes offset width)
+    × (value ≡ number_at (context_of h).le bytes offset width)
 read_there bytes h offset width value is = grind (arith, fits-room_of (length bytes) offset width)
 
 -- the bytes of a number are written over those at its offset
@@ -200,14 +200,14 @@ pub numbers_are_put : NumbersArePut
 numbers_are_put = record {
   read = λ bytes new h offset width value fits put.
       let fits_there = fits-room_of (length bytes) offset width in
-      let stays = number_stays (ctx_of h).le bytes offset width value in
-      let number = number_at-with_number (ctx_of h).le bytes offset width value in
+      let stays = number_stays (context_of h).le bytes offset width value in
+      let number = number_at-with_number (context_of h).le bytes offset width value in
       grind (arith, nat_tests, fits_there, room_of_fits (length new) offset width, stays, mod-eq_of_lt fits, number);
   one = λ bytes new h offset width value misfit put.
-      let stays_is = number_stays (ctx_of h).le bytes offset width value in
+      let stays_is = number_stays (context_of h).le bytes offset width value in
       grind (arith, nat_tests, fits-room_of (length bytes) offset width, stays_is);
   back = λ bytes h offset width value are found.
-      let order = (ctx_of h).le in
+      let order = (context_of h).le in
       let spelt = spelled-number order (take width (drop offset bytes)) (IsBytes-part bytes offset width are) in
       let there = read_there bytes h offset width value found in
       let size = length-part bytes offset width in

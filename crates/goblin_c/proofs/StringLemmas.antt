@@ -14,10 +14,10 @@ use Rattle.goblin_c.proofs.ListLemmas.{finds, fits_in, sections, symbols}
 use Rattle.goblin_c.specs.Common.{GoblinRefusal, Refused, SectionHeader, Sym}
 use Rattle.goblin_c.specs.Sections.{SectionsByName, section_converted, section_expected, sections_expected}
 use Rattle.goblin_c.specs.Strings.{IsCString, IsNameAt, RefusesInTurn, StringsAreBytes, StringsAreCompared}
-use Rattle.goblin_c.specs.Strings.{StringsAreThere, StringsLieInFile, TextIsUtf8, is_named, string_closed_expected}
+use Rattle.goblin_c.specs.Strings.{StringsAreThere, StringsLieInFile, BytesAreText, is_named, string_closed_expected}
 use Rattle.goblin_c.specs.Symbols.{SymbolsByName, symbol_converted, symbol_expected, symbols_expected}
 use Rattle.goblin_c.specs.{Items.first_item, Laws.BytesLieInFile, Laws.EmptyHaveNoBytes, Laws.TextIsFound}
-use Rattle.goblin_c.specs.{Numbers.bytes_in, Results.Returns, Results.Stores, Results.refusal_at}
+use Rattle.goblin_c.specs.{Numbers.bytes_in, Results.ReturnsAt, Results.Stores, Results.refusal_at}
 use Rattle.goblin_c.specs.{Strings.strings_expected}
 use Rattle.std.proofs.Common.{Bool, if◌then◌else◌, position, slice_index}
 use Rattle.std.proofs.lemmas.List.Sums.{fails_before_first, passes_at_first, prefix_len-le-length}
@@ -149,7 +149,7 @@ pub strings_are_bytes : StringsAreBytes
 strings_are_bytes bytes range offset found is = grind (arith, nat_tests)
 
 -- and one that is UTF-8 is read as text
-pub text_is_utf8 : TextIsUtf8
+pub text_is_utf8 : BytesAreText
 text_is_utf8 bytes range offset found is text = grind (arith, nat_tests, piece_is_there bytes range offset)
 
 pub strings_lie_in_file : StringsLieInFile
@@ -215,7 +215,7 @@ closed_whole bytes (suc n) some few is = grind (arith, nat_tests, closed_last by
 -- what a call stores at 0 is a C string
 pub is_c_string : (bytes : List ℕ) (range : GoblinRange) (offset : ℕ) (result : Result (Option GoblinRange) Refused)
     (old new : GoblinRange) (was why : GoblinRefusal) (status : ℕ)
-    → Returns (λ found. found) result (string_closed_expected bytes range offset)
+    → ReturnsAt (λ found. found) result (string_closed_expected bytes range offset)
     → Stores (refuse_as refusal_at result) old was status new why → status ≡ 0 → IsCString bytes new
 is_c_string bytes range offset result old new was why status is stores ok =
     grind (arith, nat_tests, kinds_are_above_one, closed_is bytes range offset)

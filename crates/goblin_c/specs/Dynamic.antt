@@ -1,7 +1,7 @@
 -- The dynamic section: its range, its entries, the value of a tag, the range of its strings, and as an entry is put.
 use Rattle.goblin_c.specs.Common.{Dyn, GoblinDyn, GoblinHeader, GoblinRange, Layout, Misfit, ProgramHeader}
 use Rattle.goblin_c.specs.Common.{SectionHeader, option_map, refusal_of, refuse_as, ◌>>=◌}
-use Rattle.goblin_c.specs.{File.ctx_of, Items.count_of, Items.first_item, Items.item_at, Numbers.LiesIn}
+use Rattle.goblin_c.specs.{File.context_of, Items.count_of, Items.first_item, Items.item_at, Numbers.LiesIn}
 use Rattle.goblin_c.specs.{Numbers.range_expected, Puts.Put, Puts.misfit_from, Puts.put_at, Puts.put_if_there}
 use Rattle.goblin_c.specs.{Results.RefusalAt, Results.refused_at, Sections.sections_expected}
 use Rattle.goblin_c.specs.{Segments.segments_expected}
@@ -47,19 +47,19 @@ unless_empty [] = None
 unless_empty (x ∷ xs) = Some (x ∷ xs)
 
 -- the entries for C from an index on, before the next one of tag 0 (DT_NULL)
-abbrev pub entries_from : List Dyn → ℕ → List GoblinDyn
-entries_from entries first = map dyn_converted (entries_up_to_null (drop first entries))
+abbrev pub entries_left : List Dyn → ℕ → List GoblinDyn
+entries_left entries first = map dyn_converted (entries_up_to_null (drop first entries))
 
 -- all entries that lie in a range whole
 abbrev pub whole_entries_expected : List ℕ → GoblinHeader → GoblinRange → Result (List Dyn) RefusalAt
 whole_entries_expected bytes h range =
-    refused_at range.offset (refuse_as refusal_of (whole_entries_in bytes (file_range_of range) (ctx_of h)))
+    refused_at range.offset (refuse_as refusal_of (whole_entries_in bytes (file_range_of range) (context_of h)))
 
 -- those of a range from an index on, if there are some
 abbrev pub entries_from_expected : List ℕ → GoblinHeader → GoblinRange → ℕ → Result (Option (List GoblinDyn)) RefusalAt
 entries_from_expected bytes h range first = do
   entries ← whole_entries_expected bytes h range
-  Ok (unless_empty (entries_from entries first))
+  Ok (unless_empty (entries_left entries first))
 
 -- the entry at an index of those that lie in a range whole
 abbrev pub entry_expected : List ℕ → GoblinHeader → GoblinRange → ℕ → Result (Option Dyn) RefusalAt
@@ -68,7 +68,7 @@ entry_expected bytes h range index = item_at (whole_entries_expected bytes h ran
 -- the entries of a range before its first one of tag 0, as the library reads them
 abbrev pub entries_expected : List ℕ → GoblinHeader → GoblinRange → Result (List Dyn) RefusalAt
 entries_expected bytes h range =
-    refused_at range.offset (refuse_as refusal_of (entries_in bytes (file_range_of range) (ctx_of h)))
+    refused_at range.offset (refuse_as refusal_of (entries_in bytes (file_range_of range) (context_of h)))
 
 -- how many these are
 abbrev pub dynamic_count_expected : List ℕ → GoblinHeader → GoblinRange → Result (Option ℕ) RefusalAt
@@ -89,21 +89,21 @@ dynamic_strings_expected bytes h range = do
   range_in_file bytes found
 
 -- an entry of the dynamic section is put at an index of those that lie in the range whole
-abbrev pub dyn_of : GoblinDyn → Dyn
-dyn_of own = record { d_tag = own.d_tag; d_val = own.d_val }
+abbrev pub dyn_from_c : GoblinDyn → Dyn
+dyn_from_c own = record { d_tag = own.d_tag; d_val = own.d_val }
 
-abbrev pub dyn_layout : GoblinHeader → Layout Dyn
-dyn_layout h = entry_layout (ctx_of h).container (ctx_of h).le
+abbrev pub dyn_layout_of : GoblinHeader → Layout Dyn
+dyn_layout_of h = entry_layout (context_of h).container (context_of h).le
 
 abbrev pub DynFits : GoblinHeader → GoblinDyn → Type 0
-DynFits h d = (dyn_layout h).Fits (dyn_of d)
+DynFits h d = (dyn_layout_of h).Fits (dyn_from_c d)
 
 abbrev pub dyn_misfit : Dyn → Misfit
 dyn_misfit d = misfit_from 0 ((entry 4).fields d)
 
 abbrev pub dyn_put_expected : List ℕ → GoblinHeader → GoblinRange → ℕ → GoblinDyn → Option Misfit → Put
 dyn_put_expected bytes h range index d misfit =
-    put_if_there (entry_expected bytes h range index) (put_at (dyn_layout h) bytes range.offset index (dyn_of d) misfit)
+    put_if_there (entry_expected bytes h range index) (put_at (dyn_layout_of h) bytes range.offset index (dyn_from_c d) misfit)
 
 -- the entries that are stored from an index on are those of the library's list, if it does not end before the index
 abbrev pub EntriesAreListed : Type 0

@@ -14,15 +14,15 @@ use Rattle.goblin_base.specs.declared.container.Container.TheVariants as class
 use Rattle.goblin_base.specs.declared.container.Endian.TheVariants as endian
 
 -- the class and the byte order that C hands back
-abbrev pub ctx_of : GoblinHeader → Ctx
-ctx_of h = record {
+abbrev pub context_of : GoblinHeader → Ctx
+context_of h = record {
   container = if h.ei_class == 2 then class.Big else class.Little;
   le = if h.ei_data == 2 then endian.Big else endian.Little;
 }
 
 -- whether a file is a little endian one for MIPS64
 abbrev pub is_mips64el : GoblinHeader → Bool
-is_mips64el h = is_mips64el_in h.e_machine (ctx_of h)
+is_mips64el h = is_mips64el_in h.e_machine (context_of h)
 
 -- a header for C
 abbrev pub header_converted : Header → GoblinHeader
@@ -48,8 +48,8 @@ header_converted h = record {
 }
 
 -- the index of the section that holds the section names, if this is the first section
-abbrev pub names_index_of : GoblinHeader → Option SectionHeader → ℕ
-names_index_of h first = names_index h.e_shstrndx first
+abbrev pub names_index_for : GoblinHeader → Option SectionHeader → ℕ
+names_index_for h first = names_index h.e_shstrndx first
 
 -- the header at a file's start
 abbrev pub header_expected : List ℕ → Result (Option GoblinHeader) RefusalAt
@@ -58,19 +58,19 @@ header_expected bytes = do
   Ok (Some (header_converted read.0))
 
 -- the header that counts only what lies whole in the file
-abbrev pub whole_header : List ℕ → GoblinHeader → GoblinHeader
-whole_header bytes h = let part = sections_part bytes h.e_shoff h.e_shnum (ctx_of h) in record h {
+abbrev pub whole_header_of : List ℕ → GoblinHeader → GoblinHeader
+whole_header_of bytes h = let part = sections_part bytes h.e_shoff h.e_shnum (context_of h) in record h {
   e_shoff = part.offset;
   e_shnum = part.count;
-  e_phnum = segments_part bytes h.e_phnum h.e_phoff h.e_shoff (ctx_of h);
+  e_phnum = segments_part bytes h.e_phnum h.e_phoff h.e_shoff (context_of h);
 }
 
 -- the identification: the magic number, the bytes that the header for C has, and those that pad it in the file
 abbrev pub ident_of : List ℕ → GoblinHeader → List ℕ
 ident_of bytes h = magic ++ h.ei_class ∷ h.ei_data ∷ h.ei_version ∷ h.ei_osabi ∷ h.ei_abiversion ∷ take 7 (drop 9 bytes)
 
-abbrev pub header_of : List ℕ → GoblinHeader → Header
-header_of bytes own = record {
+abbrev pub header_from_c : List ℕ → GoblinHeader → Header
+header_from_c bytes own = record {
   e_ident = ident_of bytes own;
   e_type = own.e_type;
   e_machine = own.e_machine;
@@ -100,10 +100,10 @@ abbrev pub header_put_expected : List ℕ → GoblinHeader → Option Misfit →
 header_put_expected bytes h misfit = do
   ctx ← refuse_as refusal_converted (refused_at 0 (refuse_as refusal_of (named_ctx bytes h)))
   put_unless misfit 0
-      ((header_layout ctx.container ctx.le).image (header_of bytes h) ++ drop (header_size ctx.container) bytes)
+      ((header_layout ctx.container ctx.le).image (header_from_c bytes h) ++ drop (header_size ctx.container) bytes)
 
 abbrev pub FitsClass : List ℕ → GoblinHeader → Type 0
-FitsClass bytes h = HeaderFits (ctx_of h).container (header_of bytes h)
+FitsClass bytes h = HeaderFits (context_of h).container (header_from_c bytes h)
 
 abbrev pub header_misfit : Header → Misfit
 header_misfit h = misfit_from 16 (header32.fields (header_as32 h))
@@ -122,13 +122,13 @@ NamesContext h ctx =
 abbrev pub ContextIsTheHeaders : Type 0
 ContextIsTheHeaders =
     (bytes : List ℕ) (h : Header) → HasHeader bytes h
-    → NamesContext h (ctx_of (header_converted h)) × (is_mips64el (header_converted h) ≡ is_of_mips64el h)
+    → NamesContext h (context_of (header_converted h)) × (is_mips64el (header_converted h) ≡ is_of_mips64el h)
 
 -- of a file's own header it is the one that the library makes
 abbrev pub WholeHeaderIsTheLibrarys : Type 0
 WholeHeaderIsTheLibrarys =
     (bytes : List ℕ) (h : Header) (ctx : Ctx) → HasHeader bytes h → NamesContext h ctx
-    → whole_header bytes (header_converted h) ≡ header_converted (library_whole bytes h ctx)
+    → whole_header_of bytes (header_converted h) ≡ header_converted (library_whole bytes h ctx)
 
 -- a header that fits and was put is read again
 abbrev pub HeadersAreRead : Type 0

@@ -2,18 +2,18 @@
 use Rattle.goblin_c.specs.Common.{Dyn, GoblinDyn, GoblinHeader, GoblinRange, GoblinReloc, GoblinSection, GoblinSegment}
 use Rattle.goblin_c.specs.Common.{GoblinSymbol, IsBytes, Misfit, ProgramHeader, Reloc, SectionHeader, Sym, has_name}
 use Rattle.goblin_c.specs.Common.{is_utf8, plain, ◌>>=◌}
-use Rattle.goblin_c.specs.Dynamic.{DynFits, dyn_layout, dyn_of, dyn_put_expected, entry_expected}
-use Rattle.goblin_c.specs.Numbers.{IsRange, LiesIn, number_expected, number_in_expected, number_in_put_expected}
-use Rattle.goblin_c.specs.Relocs.{RelocFits, reloc_converted, reloc_count_expected, reloc_expected, reloc_layout}
-use Rattle.goblin_c.specs.Relocs.{reloc_of, reloc_put_expected, relocs_expected, relocs_from_expected}
+use Rattle.goblin_c.specs.Dynamic.{DynFits, dyn_layout_of, dyn_from_c, dyn_put_expected, entry_expected}
+use Rattle.goblin_c.specs.Numbers.{IsItsRange, LiesIn, number_expected, number_in_expected, number_in_put_expected}
+use Rattle.goblin_c.specs.Relocs.{RelocFitsTable, reloc_converted, reloc_count_expected, reloc_expected, reloc_layout_of}
+use Rattle.goblin_c.specs.Relocs.{reloc_from_c, reloc_put_expected, relocs_expected, relocs_from_expected}
 use Rattle.goblin_c.specs.Sections.{SectionFits, section_by_name_expected, section_converted, section_count_expected}
-use Rattle.goblin_c.specs.Sections.{section_expected, section_layout, section_of, section_put_expected}
+use Rattle.goblin_c.specs.Sections.{section_expected, section_layout_of, section_from_c, section_put_expected}
 use Rattle.goblin_c.specs.Sections.{section_range_expected, sections_expected, sections_from_expected}
 use Rattle.goblin_c.specs.Segments.{SegmentFits, segment_converted, segment_count_expected, segment_expected}
-use Rattle.goblin_c.specs.Segments.{segment_layout, segment_of, segment_put_expected, segment_range_expected}
+use Rattle.goblin_c.specs.Segments.{segment_layout_of, segment_from_c, segment_put_expected, segment_range_expected}
 use Rattle.goblin_c.specs.Symbols.{SymbolFits, symbol_by_name_expected, symbol_converted, symbol_count_expected}
-use Rattle.goblin_c.specs.Symbols.{symbol_expected, symbol_layout, symbol_of, symbol_put_expected, symbols_expected}
-use Rattle.goblin_c.specs.{File.whole_header, Items.GivenFrom, Items.first_item, Numbers.number_put_expected}
+use Rattle.goblin_c.specs.Symbols.{symbol_expected, symbol_layout_of, symbol_from_c, symbol_put_expected, symbols_expected}
+use Rattle.goblin_c.specs.{File.whole_header_of, Items.GivenFrom, Items.first_item, Numbers.number_put_expected}
 use Rattle.goblin_c.specs.{Puts.ChangesOnly, Puts.IsUnfit, Results.RefusalAt, Segments.segments_from_expected}
 use Rattle.goblin_c.specs.{Strings.string_expected, Strings.strings_expected, Symbols.symbols_from_expected}
 use Rattle.std.specs.Prelude.{Bool, IsOk, List, None, Ok, Option, Result, Some, length, slice_get, true, ℕ, ◌*◌, ◌+◌}
@@ -27,16 +27,16 @@ KeepsWhatIsRead plain other = IsOk other × (IsOk plain → other ≡ plain)
 -- fields stay
 pub record WholeKeeps (bytes : List ℕ) (h : GoblinHeader) : Type 0 where
   pub section_count :
-      KeepsWhatIsRead (section_count_expected bytes h) (section_count_expected bytes (whole_header bytes h))
+      KeepsWhatIsRead (section_count_expected bytes h) (section_count_expected bytes (whole_header_of bytes h))
   pub section :
       (index : ℕ)
-      → KeepsWhatIsRead (section_expected bytes h index) (section_expected bytes (whole_header bytes h) index)
+      → KeepsWhatIsRead (section_expected bytes h index) (section_expected bytes (whole_header_of bytes h) index)
   pub segment_count :
-      KeepsWhatIsRead (segment_count_expected bytes h) (segment_count_expected bytes (whole_header bytes h))
+      KeepsWhatIsRead (segment_count_expected bytes h) (segment_count_expected bytes (whole_header_of bytes h))
   pub segment :
       (index : ℕ)
-      → KeepsWhatIsRead (segment_expected bytes h index) (segment_expected bytes (whole_header bytes h) index)
-  pub others : record (whole_header bytes h) { e_shoff = h.e_shoff; e_shnum = h.e_shnum; e_phnum = h.e_phnum } ≡ h
+      → KeepsWhatIsRead (segment_expected bytes h index) (segment_expected bytes (whole_header_of bytes h) index)
+  pub others : record (whole_header_of bytes h) { e_shoff = h.e_shoff; e_shnum = h.e_shnum; e_phnum = h.e_phnum } ≡ h
 
 abbrev pub WholeHeaderKeeps : Type 0
 WholeHeaderKeeps = (bytes : List ℕ) (h : GoblinHeader) → WholeKeeps bytes h
@@ -82,10 +82,10 @@ pub record EmptyHaveNoBytes : Type 0 where
 pub record BytesAreFound : Type 0 where
   pub section :
       (bytes : List ℕ) (s : GoblinSection)
-      → s.sh_type ≢ 0 → s.sh_type ≢ 8 → s.file.size ≢ 0 → IsRange bytes s.file (section_range_expected bytes s)
+      → s.sh_type ≢ 0 → s.sh_type ≢ 8 → s.file.size ≢ 0 → IsItsRange bytes s.file (section_range_expected bytes s)
   pub segment :
       (bytes : List ℕ) (s : GoblinSegment)
-      → s.p_type ≢ 0 → s.file.size ≢ 0 → IsRange bytes s.file (segment_range_expected bytes s)
+      → s.p_type ≢ 0 → s.file.size ≢ 0 → IsItsRange bytes s.file (segment_range_expected bytes s)
 
 -- with a name that is UTF-8 a search finds what it finds by strings that are read as UTF-8
 pub record TextIsFound : Type 0 where
@@ -121,13 +121,13 @@ pub record PutsAreRead : Type 0 where
       → symbol_expected new h table index ≡ Ok (Some s)
   pub reloc :
       (bytes new : List ℕ) (h : GoblinHeader) (table : GoblinRange) (is_rela : Bool) (index : ℕ) (r : GoblinReloc)
-      → RelocFits h is_rela r → reloc_put_expected bytes h table is_rela index r None ≡ Ok (Some new)
+      → RelocFitsTable h is_rela r → reloc_put_expected bytes h table is_rela index r None ≡ Ok (Some new)
       → reloc_count_expected new h table is_rela ≡ reloc_count_expected bytes h table is_rela
       → reloc_expected new h table is_rela index ≡ Ok (Some r)
   pub entry :
       (bytes new : List ℕ) (h : GoblinHeader) (range : GoblinRange) (index : ℕ) (d : GoblinDyn)
       → DynFits h d → dyn_put_expected bytes h range index d None ≡ Ok (Some new)
-      → entry_expected new h range index ≡ Ok (Some (dyn_of d))
+      → entry_expected new h range index ≡ Ok (Some (dyn_from_c d))
 
 -- files of the same length have as many symbols and relocations in a range
 pub record CountsStay : Type 0 where
@@ -144,25 +144,25 @@ pub record PutsChangeOne : Type 0 where
   pub section :
       (bytes new : List ℕ) (h : GoblinHeader) (index : ℕ) (s : GoblinSection) (misfit : Option Misfit)
       → section_put_expected bytes h index s misfit ≡ Ok (Some new)
-      → ChangesOnly (h.e_shoff + index * (section_layout h).size) (section_layout h).size bytes new
+      → ChangesOnly (h.e_shoff + index * (section_layout_of h).size) (section_layout_of h).size bytes new
   pub segment :
       (bytes new : List ℕ) (h : GoblinHeader) (index : ℕ) (s : GoblinSegment) (misfit : Option Misfit)
       → segment_put_expected bytes h index s misfit ≡ Ok (Some new)
-      → ChangesOnly (h.e_phoff + index * (segment_layout h).size) (segment_layout h).size bytes new
+      → ChangesOnly (h.e_phoff + index * (segment_layout_of h).size) (segment_layout_of h).size bytes new
   pub symbol :
       (bytes new : List ℕ) (h : GoblinHeader) (table : GoblinRange) (index : ℕ) (s : GoblinSymbol)
       (misfit : Option Misfit)
       → symbol_put_expected bytes h table index s misfit ≡ Ok (Some new)
-      → ChangesOnly (table.offset + index * (symbol_layout h).size) (symbol_layout h).size bytes new
+      → ChangesOnly (table.offset + index * (symbol_layout_of h).size) (symbol_layout_of h).size bytes new
   pub reloc :
       (bytes new : List ℕ) (h : GoblinHeader) (table : GoblinRange) (is_rela : Bool) (index : ℕ) (r : GoblinReloc)
       (misfit : Option Misfit)
       → reloc_put_expected bytes h table is_rela index r misfit ≡ Ok (Some new)
-      → let size = (reloc_layout h is_rela).size in ChangesOnly (table.offset + index * size) size bytes new
+      → let size = (reloc_layout_of h is_rela).size in ChangesOnly (table.offset + index * size) size bytes new
   pub entry :
       (bytes new : List ℕ) (h : GoblinHeader) (range : GoblinRange) (index : ℕ) (d : GoblinDyn) (misfit : Option Misfit)
       → dyn_put_expected bytes h range index d misfit ≡ Ok (Some new)
-      → ChangesOnly (range.offset + index * (dyn_layout h).size) (dyn_layout h).size bytes new
+      → ChangesOnly (range.offset + index * (dyn_layout_of h).size) (dyn_layout_of h).size bytes new
 
 -- what the call that reads stores fits, and if it is put at its index, no byte changes; a relocation may be put back
 -- so, too
@@ -185,7 +185,7 @@ pub record ReadsArePut : Type 0 where
       → reloc_put_expected bytes h table is_rela index r None ≡ Ok (Some bytes)
   pub entry :
       (bytes : List ℕ) (h : GoblinHeader) (range : GoblinRange) (index : ℕ) (d : GoblinDyn)
-      → IsBytes bytes → entry_expected bytes h range index ≡ Ok (Some (dyn_of d))
+      → IsBytes bytes → entry_expected bytes h range index ≡ Ok (Some (dyn_from_c d))
       → DynFits h d × (dyn_put_expected bytes h range index d None ≡ Ok (Some bytes))
 
 -- of an item that the library reads C has all
@@ -193,47 +193,47 @@ pub record ItemsAreWhole : Type 0 where
   pub section :
       (bytes : List ℕ) (h : GoblinHeader) (sections : List SectionHeader) (index : ℕ) (s : SectionHeader)
       → IsBytes bytes → sections_expected bytes h ≡ Ok sections → slice_get sections index ≡ Some s
-      → section_of (section_converted s) ≡ s
-  pub segment : (s : ProgramHeader) → segment_of (segment_converted s) ≡ s
+      → section_from_c (section_converted s) ≡ s
+  pub segment : (s : ProgramHeader) → segment_from_c (segment_converted s) ≡ s
   pub symbol :
       (bytes : List ℕ) (h : GoblinHeader) (table : GoblinRange) (symbols : List Sym) (index : ℕ) (s : Sym)
       → IsBytes bytes → symbols_expected bytes h table ≡ Ok symbols → slice_get symbols index ≡ Some s
-      → symbol_of (symbol_converted s) ≡ s
+      → symbol_from_c (symbol_converted s) ≡ s
   pub reloc :
       (bytes : List ℕ) (h : GoblinHeader) (table : GoblinRange) (is_rela : Bool) (relocs : List Reloc) (index : ℕ)
       (r : Reloc)
       → IsBytes bytes → relocs_expected bytes h table is_rela ≡ Ok relocs → slice_get relocs index ≡ Some r
-      → reloc_of is_rela (reloc_converted r) ≡ r
+      → reloc_from_c is_rela (reloc_converted r) ≡ r
 
 -- so is what doesn't fit, if the call that reads stores an item there
 pub record UnfitAreRefused : Type 0 where
   pub section :
       (bytes : List ℕ) (h : GoblinHeader) (index : ℕ) (s found : GoblinSection) (misfit : Misfit)
       → section_expected bytes h index ≡ Ok (Some found)
-      → let place = h.e_shoff + index * (section_layout h).size in
+      → let place = h.e_shoff + index * (section_layout_of h).size in
       IsUnfit place misfit (section_put_expected bytes h index s (Some misfit))
   pub segment :
       (bytes : List ℕ) (h : GoblinHeader) (index : ℕ) (s found : GoblinSegment) (misfit : Misfit)
       → segment_expected bytes h index ≡ Ok (Some found)
-      → let place = h.e_phoff + index * (segment_layout h).size in
+      → let place = h.e_phoff + index * (segment_layout_of h).size in
       IsUnfit place misfit (segment_put_expected bytes h index s (Some misfit))
   pub symbol :
       (bytes : List ℕ) (h : GoblinHeader) (table : GoblinRange) (index : ℕ) (s found : GoblinSymbol)
       (misfit : Misfit)
       → symbol_expected bytes h table index ≡ Ok (Some found)
-      → let place = table.offset + index * (symbol_layout h).size in
+      → let place = table.offset + index * (symbol_layout_of h).size in
       IsUnfit place misfit (symbol_put_expected bytes h table index s (Some misfit))
   pub reloc :
       (bytes : List ℕ) (h : GoblinHeader) (table : GoblinRange) (is_rela : Bool) (index : ℕ) (r found : GoblinReloc)
       (misfit : Misfit)
       → reloc_expected bytes h table is_rela index ≡ Ok (Some found)
-      → let place = table.offset + index * (reloc_layout h is_rela).size in
+      → let place = table.offset + index * (reloc_layout_of h is_rela).size in
       IsUnfit place misfit (reloc_put_expected bytes h table is_rela index r (Some misfit))
   pub entry :
       (bytes : List ℕ) (h : GoblinHeader) (range : GoblinRange) (index : ℕ) (d : GoblinDyn) (found : Dyn)
       (misfit : Misfit)
       → entry_expected bytes h range index ≡ Ok (Some found)
-      → IsUnfit (range.offset + index * (dyn_layout h).size) misfit
+      → IsUnfit (range.offset + index * (dyn_layout_of h).size) misfit
       (dyn_put_expected bytes h range index d (Some misfit))
   pub number :
       (bytes : List ℕ) (h : GoblinHeader) (offset width value found : ℕ) (misfit : Misfit)

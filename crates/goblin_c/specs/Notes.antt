@@ -8,7 +8,7 @@ use Rattle.goblin_c.specs.Common.{Ctx, GoblinHeader, GoblinNote, GoblinRange, Go
 use Rattle.goblin_c.specs.Common.{Refusal, is_utf8, places_at, refusal_of, refuse_as, whole_places, ◌>>=◌}
 use Rattle.goblin_c.specs.Results.{RefusalAt, refusal_converted, refused_at}
 use Rattle.goblin_c.specs.declared.results.TheConstants.{NOTE_DESC, NOTE_HEADER, NOTE_NAME}
-use Rattle.goblin_c.specs.{File.ctx_of, Numbers.LiesIn, Numbers.bytes_in}
+use Rattle.goblin_c.specs.{File.context_of, Numbers.LiesIn, Numbers.bytes_in}
 use Rattle.std.specs.Prelude.{Err, List, None, Ok, Option, Result, Some, [], drop, if◌then◌else◌, length, nat_le, suc}
 use Rattle.std.specs.Prelude.{take, true, zero, ℕ, ◌+◌, ◌-◌, ◌∷◌, ◌≡◌, ◌≤◌}
 use Rattle.goblin.specs.declared.elf.note.NotePart.TheVariants as part
@@ -44,7 +44,7 @@ abbrev pub note_expected : List ℕ → GoblinHeader → GoblinRange → ℕ →
 note_expected bytes h range alignment offset =
     if nat_le (range.offset + range.size) offset then Ok None
     else do
-      places ← refused_at offset (parts_at bytes offset (alignment, ctx_of h))
+      places ← refused_at offset (parts_at bytes offset (alignment, context_of h))
       Ok (Some (note_converted offset places))
 
 -- the same, if its name is UTF-8
@@ -52,7 +52,7 @@ abbrev pub note_utf8_expected : List ℕ → GoblinHeader → GoblinRange → �
 note_utf8_expected bytes h range alignment offset =
     if nat_le (range.offset + range.size) offset then Ok None
     else do
-      places ← refused_at offset (places_at bytes offset (alignment, ctx_of h))
+      places ← refused_at offset (places_at bytes offset (alignment, context_of h))
       Ok (Some (note_converted offset places))
 
 -- the bytes of a range from an offset of the file on
@@ -68,7 +68,7 @@ abbrev pub note_whole_expected : List ℕ → GoblinHeader → GoblinRange → �
 note_whole_expected bytes h range alignment offset =
     if nat_le (range.offset + range.size) offset then Ok None
     else do
-      places ← whole_places alignment (ctx_of h).le (bytes_from bytes range offset)
+      places ← whole_places alignment (context_of h).le (bytes_from bytes range offset)
       Ok (Some (note_converted offset (without_last places)))
 
 -- the number of a part, or 0 for none
@@ -103,7 +103,7 @@ items_reported bytes (Err why) rest = Err why.refusal ∷ []
 
 -- the library's iterator goes over the file's notes in this range, with this alignment
 abbrev pub IsOver : NoteDataIterator → GoblinHeader → GoblinRange → ℕ → Type 0
-IsOver notes h range alignment = (notes.size ≡ range.offset + range.size) × (notes.ctx ≡ (alignment, ctx_of h))
+IsOver notes h range alignment = (notes.size ≡ range.offset + range.size) × (notes.ctx ≡ (alignment, context_of h))
 
 -- the items that the iterator has left are those of which the call at its offset stores the first, and the next offset
 -- is where the iterator goes on

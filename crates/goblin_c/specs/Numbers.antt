@@ -3,7 +3,7 @@ use Rattle.goblin_base.specs.Place.{with_number}
 use Rattle.goblin_c.specs.Common.{GoblinHeader, GoblinRange, IsBytes, Misfit, misplaced, number_at, refuse_as, room_of}
 use Rattle.goblin_c.specs.Common.{◌>>=◌}
 use Rattle.goblin_c.specs.Puts.{ChangesOnly, Put, put_if_there, put_unless}
-use Rattle.goblin_c.specs.{File.ctx_of, Results.RefusalAt, Results.refused_at}
+use Rattle.goblin_c.specs.{File.context_of, Results.RefusalAt, Results.refused_at}
 use Rattle.std.specs.Prelude.{Bool, Err, List, None, Ok, Option, Result, Some, drop, if◌then◌else◌, length, min, take}
 use Rattle.std.specs.Prelude.{ℕ, ◌+◌, ◌-◌, ◌<◌, ◌==◌, ◌^◌, ◌||◌, ◌≡◌, ◌≤◌, ◌⊎◌}
 
@@ -35,7 +35,7 @@ is_width width = width == 1 || width == 2 || width == 4 || width == 8
 abbrev pub number_expected : List ℕ → GoblinHeader → ℕ → ℕ → Result (Option ℕ) RefusalAt
 number_expected bytes h offset width = if is_width width then (do
   _ ← refused_at offset (refuse_as misplaced (room_of (length bytes) offset width))
-  Ok (Some (number_at (ctx_of h).le bytes offset width))) else Ok None
+  Ok (Some (number_at (context_of h).le bytes offset width))) else Ok None
 
 -- the number of so many bytes at an offset in a range, in the order of the file: the range must lie in the file, and
 -- the number in the range
@@ -56,14 +56,14 @@ number_misfit value = record { value = value; offset = 0; item = 0 }
 abbrev pub number_put_expected : List ℕ → GoblinHeader → ℕ → ℕ → ℕ → Option Misfit → Put
 number_put_expected bytes h offset width value misfit =
     put_if_there (number_expected bytes h offset width)
-    (put_unless misfit offset (with_number (ctx_of h).le bytes offset width value))
+    (put_unless misfit offset (with_number (context_of h).le bytes offset width value))
 
 -- so is one in a range
 abbrev pub number_in_put_expected : List ℕ → GoblinHeader → GoblinRange → ℕ → ℕ → ℕ → Option Misfit → Put
 number_in_put_expected bytes h range offset width value misfit =
     let place = range.offset + offset in
     put_if_there (number_in_expected bytes h range offset width)
-    (put_unless misfit place (with_number (ctx_of h).le bytes place width value))
+    (put_unless misfit place (with_number (context_of h).le bytes place width value))
 
 -- a slice has fewer bytes than this
 abbrev pub IsSlice : List ℕ → Type 0
@@ -78,10 +78,10 @@ NumbersLieInRange =
     × (number_expected bytes h (range.offset + offset) width ≡ Ok (Some value))
 
 -- a result is this range, which lies in the file; or the range doesn't, and the refusal has its offset
-abbrev pub IsRange : List ℕ → GoblinRange → Result (Option GoblinRange) RefusalAt → Type 0
-IsRange bytes range (Ok (Some found)) = (found ≡ range) × LiesIn bytes range
-IsRange bytes range (Ok None) = ⊥
-IsRange bytes range (Err refusal) = (¬ (LiesIn bytes range)) × (refusal.offset ≡ range.offset)
+abbrev pub IsItsRange : List ℕ → GoblinRange → Result (Option GoblinRange) RefusalAt → Type 0
+IsItsRange bytes range (Ok (Some found)) = (found ≡ range) × LiesIn bytes range
+IsItsRange bytes range (Ok None) = ⊥
+IsItsRange bytes range (Err refusal) = (¬ (LiesIn bytes range)) × (refusal.offset ≡ range.offset)
 
 -- a number has so many bytes
 abbrev pub IsWidth : ℕ → Type 0

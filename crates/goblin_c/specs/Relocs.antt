@@ -4,7 +4,7 @@ use Rattle.goblin.specs.{declared.elf.reloc.RelocCtx.RelocCtx}
 use Rattle.goblin_base.specs.{Signed.complement, declared.container.Container.Container}
 use Rattle.goblin_c.specs.Common.{Ctx, GoblinHeader, GoblinRange, GoblinReloc, Header, Layout, Misfit, Reloc}
 use Rattle.goblin_c.specs.Common.{is_of_mips64el, refusal_of, refuse_as, relocs_of, word_size}
-use Rattle.goblin_c.specs.File.{HasHeader, NamesContext, ctx_of, header_converted, is_mips64el}
+use Rattle.goblin_c.specs.File.{HasHeader, NamesContext, context_of, header_converted, is_mips64el}
 use Rattle.goblin_c.specs.Items.{ReturnsCount, ReturnsEach, count_of, each_converted, item_at, items_from}
 use Rattle.goblin_c.specs.{Puts.Put, Puts.put_at, Puts.put_if_there, Results.RefusalAt, Results.refused_at}
 use Rattle.goblin_c.specs.{declared.results.TheConstants.ADDEND}
@@ -23,7 +23,7 @@ reloc_converted r = record {
 -- the relocations of a range
 abbrev pub relocs_expected : List ℕ → GoblinHeader → GoblinRange → Bool → Result (List Reloc) RefusalAt
 relocs_expected bytes h range is_rela =
-    let relocs = relocs_of bytes range.offset range.size is_rela (ctx_of h) (is_mips64el h) in
+    let relocs = relocs_of bytes range.offset range.size is_rela (context_of h) (is_mips64el h) in
     refused_at range.offset (refuse_as refusal_of relocs)
 
 -- they for C, one by its index, from an index on, and how many there are
@@ -41,8 +41,8 @@ abbrev pub reloc_count_expected : List ℕ → GoblinHeader → GoblinRange → 
 reloc_count_expected bytes h range is_rela = count_of (relocs_converted bytes h range is_rela)
 
 -- a relocation of a table with addends or without
-abbrev pub reloc_of : Bool → GoblinReloc → Reloc
-reloc_of is_rela own = record {
+abbrev pub reloc_from_c : Bool → GoblinReloc → Reloc
+reloc_from_c is_rela own = record {
   r_offset = own.r_offset;
   r_addend = if is_rela then Some own.r_addend else None;
   r_sym = own.r_sym;
@@ -50,14 +50,14 @@ reloc_of is_rela own = record {
 }
 
 abbrev pub reloc_ctx : GoblinHeader → Bool → RelocCtx
-reloc_ctx h is_rela = record { is_rela = is_rela; ctx = ctx_of h; is_mips64el = is_mips64el h }
+reloc_ctx h is_rela = record { is_rela = is_rela; ctx = context_of h; is_mips64el = is_mips64el h }
 
-abbrev pub reloc_layout : GoblinHeader → Bool → Layout Reloc
-reloc_layout h is_rela = reloc_layout_in (reloc_ctx h is_rela)
+abbrev pub reloc_layout_of : GoblinHeader → Bool → Layout Reloc
+reloc_layout_of h is_rela = reloc_layout_in (reloc_ctx h is_rela)
 
-abbrev pub RelocFits : GoblinHeader → Bool → GoblinReloc → Type 0
-RelocFits h is_rela r =
-    (reloc_layout h is_rela).Fits (reloc_of is_rela r) × (is_rela ≡ false → r.r_addend ≡ pos 0)
+abbrev pub RelocFitsTable : GoblinHeader → Bool → GoblinReloc → Type 0
+RelocFitsTable h is_rela r =
+    (reloc_layout_of h is_rela).Fits (reloc_from_c is_rela r) × (is_rela ≡ false → r.r_addend ≡ pos 0)
 
 -- the same of a relocation, whose symbol and type share `r_info`; the addend doesn't fit if all others do, and is
 -- marked where the table has none
@@ -72,7 +72,7 @@ reloc_misfit class is_rela r =
 abbrev pub reloc_put_expected : List ℕ → GoblinHeader → GoblinRange → Bool → ℕ → GoblinReloc → Option Misfit → Put
 reloc_put_expected bytes h table is_rela index r misfit =
     put_if_there (reloc_expected bytes h table is_rela index)
-    (put_at (reloc_layout h is_rela) bytes table.offset index (reloc_of is_rela r) misfit)
+    (put_at (reloc_layout_of h is_rela) bytes table.offset index (reloc_from_c is_rela r) misfit)
 
 -- the relocations of a range by index are the library's list, and the count is its length
 abbrev pub RelocsByIndex : Type 0

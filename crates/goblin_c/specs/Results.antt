@@ -27,9 +27,9 @@ abbrev pub refusal_at : Refused → RefusalAt
 refusal_at e = record { refusal = refusal_of e.error; offset = e.offset }
 
 -- a result, seen by `view`, is the expected one, an error and its offset too
-abbrev pub Returns : {X Y : Type 0} → (X → Y) → Result X Refused → Result Y RefusalAt → Type 0
-Returns view (Ok x) expected = expected ≡ Ok (view x)
-Returns view (Err e) expected = expected ≡ Err (refusal_at e)
+abbrev pub ReturnsAt : {X Y : Type 0} → (X → Y) → Result X Refused → Result Y RefusalAt → Type 0
+ReturnsAt view (Ok x) expected = expected ≡ Ok (view x)
+ReturnsAt view (Err e) expected = expected ≡ Err (refusal_at e)
 
 -- 1 or 0
 abbrev pub number_of_bool : Bool → ℕ

@@ -2,7 +2,7 @@
 use Rattle.goblin.specs.SectionHeader.{as32 as section_as32, section_header32, section_header_layout}
 use Rattle.goblin_c.specs.Common.{Ctx, GoblinHeader, GoblinRange, GoblinSection, Header, IsBytes, Layout, Misfit}
 use Rattle.goblin_c.specs.Common.{SectionHeader, is_nobits, is_table, linked, option_map, section_headers_of, ◌>>=◌}
-use Rattle.goblin_c.specs.File.{HasHeader, NamesContext, ctx_of, header_converted, names_index_of}
+use Rattle.goblin_c.specs.File.{HasHeader, NamesContext, context_of, header_converted, names_index_for}
 use Rattle.goblin_c.specs.Items.{FindsItemFrom, RefusesAll, ReturnsCount, ReturnsEach, count_of, each_converted}
 use Rattle.goblin_c.specs.Strings.{IsNameAt, RefusesInTurn, is_named, string_expected, strings_expected}
 use Rattle.goblin_c.specs.{Items.first_item, Items.item_at, Items.items_from, Numbers.range_expected, Puts.Put}
@@ -26,7 +26,7 @@ section_converted s = record {
 
 -- the section headers of a file, as the library reads them at once
 abbrev pub sections_expected : List ℕ → GoblinHeader → Result (List SectionHeader) RefusalAt
-sections_expected bytes h = refused_at h.e_shoff (section_headers_of bytes h.e_shoff h.e_shnum (ctx_of h))
+sections_expected bytes h = refused_at h.e_shoff (section_headers_of bytes h.e_shoff h.e_shnum (context_of h))
 
 -- the section headers for C, one by its index, from an index on, and how many there are
 abbrev pub sections_converted : List ℕ → GoblinHeader → Result (List GoblinSection) RefusalAt
@@ -73,7 +73,7 @@ table_expected bytes h index = do
 abbrev pub names_section_expected : List ℕ → GoblinHeader → Result (Option GoblinSection) RefusalAt
 names_section_expected bytes h = do
   sections ← sections_expected bytes h
-  Ok (table_at sections (names_index_of h (slice_get sections 0)))
+  Ok (table_at sections (names_index_for h (slice_get sections 0)))
 
 -- a section has bytes in the file: it is not of type 0, which stands for no section, nor of the type without bytes in
 -- the file, and has a size (System V gABI, "Sections")
@@ -84,8 +84,8 @@ section_has_bytes s = not (s.sh_type == 0 || is_nobits s.sh_type || s.file.size 
 abbrev pub section_range_expected : List ℕ → GoblinSection → Result (Option GoblinRange) RefusalAt
 section_range_expected bytes s = if section_has_bytes s then range_expected bytes s.file else Ok None
 
-abbrev pub section_of : GoblinSection → SectionHeader
-section_of own = record {
+abbrev pub section_from_c : GoblinSection → SectionHeader
+section_from_c own = record {
   sh_name = own.sh_name;
   sh_type = own.sh_type;
   sh_flags = own.sh_flags;
@@ -99,12 +99,12 @@ section_of own = record {
 }
 
 -- how records of a file lie in it
-abbrev pub section_layout : GoblinHeader → Layout SectionHeader
-section_layout h = section_header_layout (ctx_of h).container (ctx_of h).le
+abbrev pub section_layout_of : GoblinHeader → Layout SectionHeader
+section_layout_of h = section_header_layout (context_of h).container (context_of h).le
 
 -- each field fits the class; a relocation's addend is 0 if its table has none
 abbrev pub SectionFits : GoblinHeader → GoblinSection → Type 0
-SectionFits h s = (section_layout h).Fits (section_of s)
+SectionFits h s = (section_layout_of h).Fits (section_from_c s)
 
 -- the first value of a record, in file order, that doesn't fit its field in the 32-bit class; in the other class each
 -- value that C has fits
@@ -115,7 +115,7 @@ section_misfit s = misfit_from 0 (section_header32.fields (section_as32 s))
 abbrev pub section_put_expected : List ℕ → GoblinHeader → ℕ → GoblinSection → Option Misfit → Put
 section_put_expected bytes h index s misfit =
     put_if_there (section_expected bytes h index)
-    (put_at (section_layout h) bytes h.e_shoff index (section_of s) misfit)
+    (put_at (section_layout_of h) bytes h.e_shoff index (section_from_c s) misfit)
 
 -- the section headers of a file by index are the library's list, and the count is its length
 abbrev pub SectionsByIndex : Type 0

@@ -3,7 +3,7 @@ use Rattle.goblin.specs.ProgramHeader.{as32 as segment_as32, program_header32, p
 use Rattle.goblin_c.specs.Common.{Ctx, GoblinHeader, GoblinRange, GoblinSegment, Header, Layout, Misfit, ProgramHeader}
 use Rattle.goblin_c.specs.Common.{loaded_from, misplaced, program_headers_from, refusal_of, refuse_as, room_of}
 use Rattle.goblin_c.specs.Common.{segment_count, ◌>>=◌}
-use Rattle.goblin_c.specs.File.{HasHeader, NamesContext, ctx_of, header_converted}
+use Rattle.goblin_c.specs.File.{HasHeader, NamesContext, context_of, header_converted}
 use Rattle.goblin_c.specs.Items.{RefusesAll, ReturnsCount, ReturnsEach, count_of, each_converted, item_at, items_from}
 use Rattle.goblin_c.specs.{Numbers.IsSlice, Numbers.range_expected, Puts.Put, Puts.misfit_from, Puts.put_at}
 use Rattle.goblin_c.specs.{Puts.put_if_there, Results.RefusalAt, Results.refused_at}
@@ -26,8 +26,8 @@ segment_converted s = record {
 -- at section 0, which then states it
 abbrev pub segments_expected : List ℕ → GoblinHeader → Result (List ProgramHeader) RefusalAt
 segments_expected bytes h = do
-  count ← refused_at h.e_shoff (refuse_as refusal_of (segment_count bytes h.e_phnum h.e_shoff (ctx_of h)))
-  refused_at h.e_phoff (program_headers_from bytes h.e_phoff count (ctx_of h))
+  count ← refused_at h.e_shoff (refuse_as refusal_of (segment_count bytes h.e_phnum h.e_shoff (context_of h)))
+  refused_at h.e_phoff (program_headers_from bytes h.e_phoff count (context_of h))
 
 -- they for C, one by its index, from an index on, and how many there are
 abbrev pub segments_converted : List ℕ → GoblinHeader → Result (List GoblinSegment) RefusalAt
@@ -50,20 +50,20 @@ abbrev pub segment_range_expected : List ℕ → GoblinSegment → Result (Optio
 segment_range_expected bytes s = if segment_has_bytes s then range_expected bytes s.file else Ok None
 
 -- an offset of the file, if there is one, at which the file must have a byte
-abbrev pub in_file : List ℕ → Option ℕ → Result (Option ℕ) RefusalAt
-in_file bytes (Some offset) = do
+abbrev pub offset_in_file : List ℕ → Option ℕ → Result (Option ℕ) RefusalAt
+offset_in_file bytes (Some offset) = do
   _ ← refused_at offset (refuse_as misplaced (room_of (length bytes) offset 1))
   Ok (Some offset)
-in_file bytes None = Ok None
+offset_in_file bytes None = Ok None
 
 -- the offset of the byte that is loaded at an address (System V gABI, "Program Header")
 abbrev pub address_to_offset_expected : List ℕ → GoblinHeader → ℕ → Result (Option ℕ) RefusalAt
 address_to_offset_expected bytes h address = do
   segments ← segments_expected bytes h
-  in_file bytes (loaded_from address segments)
+  offset_in_file bytes (loaded_from address segments)
 
-abbrev pub segment_of : GoblinSegment → ProgramHeader
-segment_of own = record {
+abbrev pub segment_from_c : GoblinSegment → ProgramHeader
+segment_from_c own = record {
   p_type = own.p_type;
   p_flags = own.p_flags;
   p_offset = own.file.offset;
@@ -74,11 +74,11 @@ segment_of own = record {
   p_align = own.p_align;
 }
 
-abbrev pub segment_layout : GoblinHeader → Layout ProgramHeader
-segment_layout h = program_header_layout (ctx_of h).container (ctx_of h).le
+abbrev pub segment_layout_of : GoblinHeader → Layout ProgramHeader
+segment_layout_of h = program_header_layout (context_of h).container (context_of h).le
 
 abbrev pub SegmentFits : GoblinHeader → GoblinSegment → Type 0
-SegmentFits h s = (segment_layout h).Fits (segment_of s)
+SegmentFits h s = (segment_layout_of h).Fits (segment_from_c s)
 
 abbrev pub segment_misfit : ProgramHeader → Misfit
 segment_misfit s = misfit_from 0 (program_header32.fields (segment_as32 s))
@@ -86,7 +86,7 @@ segment_misfit s = misfit_from 0 (program_header32.fields (segment_as32 s))
 abbrev pub segment_put_expected : List ℕ → GoblinHeader → ℕ → GoblinSegment → Option Misfit → Put
 segment_put_expected bytes h index s misfit =
     put_if_there (segment_expected bytes h index)
-    (put_at (segment_layout h) bytes h.e_phoff index (segment_of s) misfit)
+    (put_at (segment_layout_of h) bytes h.e_phoff index (segment_from_c s) misfit)
 
 -- the program headers of the library's list, of as many as the file states
 abbrev pub segments_in : List ℕ → Header → Ctx → Result (List ProgramHeader) RefusalAt

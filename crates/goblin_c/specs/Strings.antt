@@ -105,8 +105,8 @@ StringsAreBytes =
     → string_utf8_expected bytes range offset ≡ Ok (Some found) → string_expected bytes range offset ≡ Ok (Some found)
 
 -- and one that is UTF-8 is stored as such
-abbrev pub TextIsUtf8 : Type 0
-TextIsUtf8 =
+abbrev pub BytesAreText : Type 0
+BytesAreText =
     (bytes : List ℕ) (range : GoblinRange) (offset : ℕ) (found : GoblinRange)
     → string_expected bytes range offset ≡ Ok (Some found) → is_utf8 (bytes_in bytes found) ≡ true
     → string_utf8_expected bytes range offset ≡ Ok (Some found)

@@ -3,7 +3,7 @@ use Rattle.goblin.specs.Addresses.{symbol_at}
 use Rattle.goblin.specs.Sym.{as32 as symbol_as32, sym32}
 use Rattle.goblin_c.specs.Common.{Ctx, GoblinHeader, GoblinRange, GoblinSymbol, Header, IsBytes, Layout, Misfit, Sym}
 use Rattle.goblin_c.specs.Common.{refusal_of, refuse_as, sym_layout, sym_size, symtab_of, ◌>>=◌}
-use Rattle.goblin_c.specs.File.{HasHeader, NamesContext, ctx_of, header_converted}
+use Rattle.goblin_c.specs.File.{HasHeader, NamesContext, context_of, header_converted}
 use Rattle.goblin_c.specs.Items.{FindsItemFrom, ReturnsCount, ReturnsEach, count_of, each_converted, first_item}
 use Rattle.goblin_c.specs.Strings.{IsNameAt, RefusesInTurn, is_named, string_expected, strings_expected}
 use Rattle.goblin_c.specs.{Items.item_at, Items.items_from, Puts.Put, Puts.misfit_from, Puts.put_at, Puts.put_if_there}
@@ -23,8 +23,8 @@ symbol_converted s = record {
 
 -- the symbols of a range, as many as lie in it whole
 abbrev pub symbols_expected : List ℕ → GoblinHeader → GoblinRange → Result (List Sym) RefusalAt
-symbols_expected bytes h range = let count = range.size / sym_size (ctx_of h).container in do
-  table ← refused_at range.offset (refuse_as refusal_of (symtab_of bytes range.offset count (ctx_of h)))
+symbols_expected bytes h range = let count = range.size / sym_size (context_of h).container in do
+  table ← refused_at range.offset (refuse_as refusal_of (symtab_of bytes range.offset count (context_of h)))
   Ok table.symbols
 
 -- they for C, one by its index, from an index on, and how many there are
@@ -56,8 +56,8 @@ symbol_by_address_expected bytes h range address = do
   sections ← sections_expected bytes h
   Ok (symbol_at address sections h.e_type symbols)
 
-abbrev pub symbol_of : GoblinSymbol → Sym
-symbol_of own = record {
+abbrev pub symbol_from_c : GoblinSymbol → Sym
+symbol_from_c own = record {
   st_name = own.st_name;
   st_info = own.st_info;
   st_other = own.st_other;
@@ -66,11 +66,11 @@ symbol_of own = record {
   st_size = own.st_size;
 }
 
-abbrev pub symbol_layout : GoblinHeader → Layout Sym
-symbol_layout h = sym_layout (ctx_of h).container (ctx_of h).le
+abbrev pub symbol_layout_of : GoblinHeader → Layout Sym
+symbol_layout_of h = sym_layout (context_of h).container (context_of h).le
 
 abbrev pub SymbolFits : GoblinHeader → GoblinSymbol → Type 0
-SymbolFits h s = (symbol_layout h).Fits (symbol_of s)
+SymbolFits h s = (symbol_layout_of h).Fits (symbol_from_c s)
 
 abbrev pub symbol_misfit : Sym → Misfit
 symbol_misfit s = misfit_from 0 (sym32.fields (symbol_as32 s))
@@ -78,7 +78,7 @@ symbol_misfit s = misfit_from 0 (sym32.fields (symbol_as32 s))
 abbrev pub symbol_put_expected : List ℕ → GoblinHeader → GoblinRange → ℕ → GoblinSymbol → Option Misfit → Put
 symbol_put_expected bytes h table index s misfit =
     put_if_there (symbol_expected bytes h table index)
-    (put_at (symbol_layout h) bytes table.offset index (symbol_of s) misfit)
+    (put_at (symbol_layout_of h) bytes table.offset index (symbol_from_c s) misfit)
 
 -- the symbols of the library's table in a range, of as many as lie in it whole
 abbrev pub symbols_in : List ℕ → GoblinRange → Ctx → Result (List Sym) RefusalAt

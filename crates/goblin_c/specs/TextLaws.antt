@@ -9,7 +9,7 @@ use Rattle.goblin_c.specs.Common.{refuse_as, room_of, section_headers_from, sect
 use Rattle.goblin_c.specs.Common.{◌>>=◌}
 use Rattle.goblin_c.specs.Dynamic.{dyn_put_expected, dynamic_count_expected, dynamic_expected, dynamic_strings_expected}
 use Rattle.goblin_c.specs.Dynamic.{dynamic_value_expected, entries_from_expected, entry_expected}
-use Rattle.goblin_c.specs.File.{ctx_of, header_expected, header_put_expected, named_ctx}
+use Rattle.goblin_c.specs.File.{context_of, header_expected, header_put_expected, named_ctx}
 use Rattle.goblin_c.specs.Notes.{note_expected, note_utf8_expected, note_whole_expected, part_converted, parts_at}
 use Rattle.goblin_c.specs.Numbers.{number_expected, number_in_expected, number_in_put_expected, number_put_expected}
 use Rattle.goblin_c.specs.Relocs.{reloc_count_expected, reloc_expected, reloc_put_expected, relocs_expected}
@@ -203,8 +203,8 @@ refusals_have_same_text bytes h range names name is_rela index offset address al
     let relocs = known_relocs bytes h range is_rela in
     let strings = known_strings bytes range in
     let names_known = known_strings bytes names in
-    let note_known = known_note bytes offset (alignment, ctx_of h) in
-    let parts_known = known_parts bytes offset (alignment, ctx_of h) in
+    let note_known = known_note bytes offset (alignment, context_of h) in
+    let parts_known = known_parts bytes offset (alignment, context_of h) in
     record {
       header = same_text (header_expected bytes) (grind (arith, known_header bytes));
       section_count = same_text (section_count_expected bytes h) (grind (arith, sections));

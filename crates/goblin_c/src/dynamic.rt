@@ -1,9 +1,9 @@
 //! The dynamic section: its range, its entries, the value of a tag, the range of its strings, and how an entry is put.
 ghost use Rattle.goblin_c.specs.Buffers.{laid};
-ghost use Rattle.goblin_c.specs.Dynamic.{DynFits, dyn_converted, dyn_misfit, dyn_of, dyn_put_expected, dynamic_count_expected, dynamic_expected, dynamic_strings_expected, dynamic_value_expected, entries_expected, entries_from, entries_from_expected, entry_expected, file_range_of, range_in_file, whole_entries_expected};
+ghost use Rattle.goblin_c.specs.Dynamic.{DynFits, dyn_converted, dyn_misfit, dyn_from_c, dyn_put_expected, dynamic_count_expected, dynamic_expected, dynamic_strings_expected, dynamic_value_expected, entries_expected, entries_left, entries_from_expected, entry_expected, file_range_of, range_in_file, whole_entries_expected};
 ghost use Rattle.goblin_c.specs.Items.{first_item, found_item};
 ghost use Rattle.goblin_c.specs.Puts.{Puts};
-ghost use Rattle.goblin_c.specs.Results.{Fills, Returns, Stores, StoresBoth};
+ghost use Rattle.goblin_c.specs.Results.{Fills, ReturnsAt, Stores, StoresBoth};
 ghost use Rattle.goblin_dynamic.specs.Dyn.{entry_layout};
 ghost use Rattle.std.specs.Prelude.{IfSome, IsTrue, drop, length, min, position, slice_get, ◌+◌, ◌<◌, ◌==◌, ◌^◌, ◌↔◌, ◌≡◌, ◌≤◌};
 
@@ -27,8 +27,8 @@ pub struct GoblinDyn {
 }
 
 // Returns the entry from C.
-pub(crate) fn dyn_of(own: &GoblinDyn) -> Dyn
-    ensures { result ≡ dyn_of own.now }
+pub(crate) fn dyn_from_c(own: &GoblinDyn) -> Dyn
+    ensures { result ≡ dyn_from_c own.now }
 {
     Dyn {
         d_tag: own.d_tag,
@@ -58,7 +58,7 @@ fn file_range_of(range: &GoblinRange) -> FileRange
 
 // Returns a range for C, if there is one, which must lie in the file.
 fn range_in_file(bytes: &[u8], range: Option<FileRange>) -> Result<Option<GoblinRange>>
-    ensures { Returns (λ found. found) result (range_in_file bytes.now range) }
+    ensures { ReturnsAt (λ found. found) result (range_in_file bytes.now range) }
 {
     match range {
         Some(range) => {
@@ -72,7 +72,7 @@ fn range_in_file(bytes: &[u8], range: Option<FileRange>) -> Result<Option<Goblin
 
 // Returns the range of the dynamic section by the segments, or in a file without segments by the sections.
 fn range_of_dynamic(file: &GoblinFile<'_>) -> Result<Option<GoblinRange>>
-    ensures { Returns (λ found. found) result (dynamic_expected file.now.bytes.now file.now.header) }
+    ensures { ReturnsAt (λ found. found) result (dynamic_expected file.now.bytes.now file.now.header) }
 {
     let segments = file.segments()?;
     let range = if segments.is_empty() {
@@ -100,7 +100,7 @@ pub extern "C" fn goblin_dynamic(
 #[inline(always)]
 #[tactic(auto, using(crate::proofs::DynamicLemmas::first_entry))]
 fn entry_at(all: &Table<'_, Dyn, Ctx>, index: usize) -> Option<GoblinDyn>
-    ensures { result ≡ slice_get (entries_from all.now index) 0 }
+    ensures { result ≡ slice_get (entries_left all.now index) 0 }
 {
     match all.get(index) {
         Some(entry) if entry.d_tag != DT_NULL => Some(convert_dyn(&entry)),
@@ -112,8 +112,8 @@ fn entry_at(all: &Table<'_, Dyn, Ctx>, index: usize) -> Option<GoblinDyn>
 #[tactic(auto, using(crate::proofs::DynamicLemmas::few_entries, crate::proofs::BufferLemmas::laid_steps))]
 fn fill(all: &Table<'_, Dyn, Ctx>, first: usize, buffer: &mut [GoblinDyn]) -> usize
     requires { first ≤ length all.now }
-    ensures written { buffer.new ≡ laid (entries_from all.now first) buffer.old }
-    ensures value { result ≡ min (length (entries_from all.now first)) (length buffer.old) }
+    ensures written { buffer.new ≡ laid (entries_left all.now first) buffer.old }
+    ensures value { result ≡ min (length (entries_left all.now first)) (length buffer.old) }
 {
     let mut count = buffer.len().min(all.len() - first);
     for (i, place) in buffer.iter_mut().enumerate() {
@@ -130,7 +130,7 @@ fn fill(all: &Table<'_, Dyn, Ctx>, first: usize, buffer: &mut [GoblinDyn]) -> us
 
 // Returns all entries that lie in a range whole.
 fn whole_entries_of<'a>(file: &GoblinFile<'a>, range: &GoblinRange) -> Result<Table<'a, Dyn, Ctx>>
-    ensures { Returns (λ all. all) result (whole_entries_expected file.now.bytes.now file.now.header range.now) }
+    ensures { ReturnsAt (λ all. all) result (whole_entries_expected file.now.bytes.now file.now.header range.now) }
 {
     let all = Dynamic::whole_in_range(file.bytes, file_range_of(range), file.header.ctx());
     refused_at(range.offset, all)
@@ -164,7 +164,7 @@ pub extern "C" fn goblin_dynamic_entries(
 
 // Returns the entries of a range, before the one that ends them.
 fn entries_of<'a>(file: &GoblinFile<'a>, range: &GoblinRange) -> Result<Dynamic<'a>>
-    ensures { Returns (λ entries. entries) result (entries_expected file.now.bytes.now file.now.header range.now) }
+    ensures { ReturnsAt (λ entries. entries) result (entries_expected file.now.bytes.now file.now.header range.now) }
 {
     let entries = Dynamic::in_range(file.bytes, file_range_of(range), file.header.ctx());
     refused_at(range.offset, entries)
@@ -221,7 +221,7 @@ fn value_of(
     tag: u64,
     first: u64,
 ) -> Result<Option<(u64, u64)>>
-    ensures { Returns (λ found. found) result
+    ensures { ReturnsAt (λ found. found) result
         (dynamic_value_expected file.now.bytes.now file.now.header range.now tag first) }
 {
     let all = entries_of(file, range)?;
@@ -248,7 +248,7 @@ pub extern "C" fn goblin_dynamic_value(
 
 // Returns the range of the strings.
 fn strings_of(file: &GoblinFile<'_>, range: &GoblinRange) -> Result<Option<GoblinRange>>
-    ensures { Returns (λ found. found) result
+    ensures { ReturnsAt (λ found. found) result
         (dynamic_strings_expected file.now.bytes.now file.now.header range.now) }
 {
     let entries = entries_of(file, range)?;
@@ -277,7 +277,7 @@ pub extern "C" fn goblin_dynamic_strings(
 
 // Returns the entry at an index of those that lie in a range whole.
 fn entry_of(file: &GoblinFile<'_>, range: &GoblinRange, index: u64) -> Result<Option<Dyn>>
-    ensures { Returns (λ found. found) result (entry_expected file.now.bytes.now file.now.header range.now index) }
+    ensures { ReturnsAt (λ found. found) result (entry_expected file.now.bytes.now file.now.header range.now index) }
 {
     Ok(whole_entries_of(file, range)?.get(index as usize))
 }
@@ -310,12 +310,12 @@ pub extern "C" fn goblin_put_dynamic_entry(
     entry: &GoblinDyn,
     why: &mut GoblinRefusal,
 ) -> u32
-    ensures { Puts (DynFits header.now entry.now) (dyn_misfit (dyn_of entry.now))
+    ensures { Puts (DynFits header.now entry.now) (dyn_misfit (dyn_from_c entry.now))
         (dyn_put_expected bytes.old header.now dynamic.now index entry.now)
         bytes.old why.old result bytes.new why.new }
 {
     let found = entry_of(&GoblinFile::of(bytes, header), dynamic, index);
-    let (ctx, record) = (header.ctx(), dyn_of(entry));
+    let (ctx, record) = (header.ctx(), dyn_from_c(entry));
     let unfit = (!entry_fits(&record, ctx)).then(|| dyn_misfit(&record));
     put_found(bytes, found, dynamic.offset, index, record, ctx, unfit, why)
 }

@@ -1,6 +1,6 @@
 //! The file and its header.
 ghost use Rattle.goblin_c.specs.Common.{header_size, option_map, order_named};
-ghost use Rattle.goblin_c.specs.File.{FitsClass, ctx_of, header_converted, header_expected, header_misfit, header_of, header_put_expected, named_ctx, names_index_of, whole_header};
+ghost use Rattle.goblin_c.specs.File.{FitsClass, context_of, header_converted, header_expected, header_misfit, header_from_c, header_put_expected, named_ctx, names_index_for, whole_header_of};
 ghost use Rattle.goblin_c.specs.Puts.{Puts};
 ghost use Rattle.goblin_c.specs.Results.{Stores};
 ghost use Rattle.std.specs.Prelude.{IfOk, Some, if◌then◌else◌, length, ◌==◌, ◌≡◌, ◌≤◌};
@@ -93,9 +93,9 @@ pub(crate) fn convert_header(h: &Header) -> GoblinHeader
 }
 
 // Returns the header from C. The bytes that pad the identification are those of the file.
-pub(crate) fn header_of(bytes: &[u8], own: &GoblinHeader) -> Header
+pub(crate) fn header_from_c(bytes: &[u8], own: &GoblinHeader) -> Header
     requires { 16 ≤ length bytes.now }
-    ensures { result ≡ header_of bytes.now own.now }
+    ensures { result ≡ header_from_c bytes.now own.now }
 {
     let [class, data, version] = [own.ei_class, own.ei_data, own.ei_version];
     let [osabi, abiversion] = [own.ei_osabi, own.ei_abiversion];
@@ -123,7 +123,7 @@ pub(crate) fn header_of(bytes: &[u8], own: &GoblinHeader) -> Header
 impl GoblinHeader {
     /// Returns the class and the byte order.
     pub fn ctx(&self) -> Ctx
-        ensures { result ≡ ctx_of self.now }
+        ensures { result ≡ context_of self.now }
     {
         let is_64 = self.ei_class == ELFCLASS64;
         let is_big_endian = self.ei_data == ELFDATA2MSB;
@@ -144,7 +144,7 @@ impl GoblinHeader {
     /// Returns the index of the section that holds the section names, if this is the first section.
     pub fn names_index(&self, first: Option<&SectionHeader>) -> usize
         ensures value { let seen = option_map (λ section. section.now) first.entry in
-            result ≡ names_index_of self.now seen }
+            result ≡ names_index_for self.now seen }
     {
         SectionHeader::names_index(self.e_shstrndx, first)
     }
@@ -174,7 +174,7 @@ pub extern "C" fn goblin_file<'a>(
 /// Stores a copy of a file whose header counts only the section headers and program headers that lie whole in it.
 #[unsafe(no_mangle)]
 pub extern "C" fn goblin_whole_header<'a>(file: &GoblinFile<'a>, whole: &mut GoblinFile<'a>)
-    ensures header { whole.new.header ≡ whole_header file.now.bytes.now file.now.header }
+    ensures header { whole.new.header ≡ whole_header_of file.now.bytes.now file.now.header }
     ensures bytes { whole.new.bytes.now ≡ file.now.bytes.now }
 {
     let (bytes, header) = (file.bytes, &file.header);
@@ -217,7 +217,7 @@ pub fn header_misfit(h: &Header) -> Misfit
 // Returns the class and the byte order that a header names, if the bytes hold a header of the class.
 fn named_ctx(bytes: &[u8], header: &GoblinHeader) -> goblin::error::Result<Ctx>
     ensures value { result ≡ named_ctx bytes.now header.now }
-    ensures same { IfOk result (λ ctx. ctx ≡ ctx_of header.now) }
+    ensures same { IfOk result (λ ctx. ctx ≡ context_of header.now) }
     ensures named { IfOk result (λ ctx. order_named header.now.ei_data ≡ Some ctx.le) }
     ensures fits { IfOk result (λ ctx. header_size ctx.container ≤ length bytes.now) }
 {
@@ -245,14 +245,14 @@ pub extern "C" fn goblin_put_header(
     why: &mut GoblinRefusal,
 ) -> u32
     ensures { Puts (FitsClass bytes.old header.now)
-        (header_misfit (header_of bytes.old header.now))
+        (header_misfit (header_from_c bytes.old header.now))
         (header_put_expected bytes.old header.now) bytes.old why.old result bytes.new why.new }
 {
     let ctx = match named_ctx(bytes, header) {
         Ok(ctx) => ctx,
         Err(error) => return refuse(&Refused { error, offset: 0 }, why),
     };
-    let record = header_of(bytes, header);
+    let record = header_from_c(bytes, header);
     if !record.fits(ctx.container) {
         return header_misfit(&record).refuse_at(0, why);
     }

@@ -1,9 +1,9 @@
 //! Lists whose items are converted for C: how many there are, one at an index, and many at once, into a
 //! buffer of the caller's; and records that lie in the file, which are read at once.
 ghost use Rattle.goblin_c.specs.Buffers.{laid};
-ghost use Rattle.goblin_c.specs.File.{ctx_of};
+ghost use Rattle.goblin_c.specs.File.{context_of};
 ghost use Rattle.goblin_c.specs.Items.{count_of, item_at, items_from};
-ghost use Rattle.goblin_c.specs.Results.{Fills, Returns, Stores, converted_list};
+ghost use Rattle.goblin_c.specs.Results.{Fills, ReturnsAt, Stores, converted_list};
 ghost use Rattle.std.specs.Prelude.{IfSome, IsTrue, List, drop, length, min, slice_get, take, ◌*◌, ◌+◌, ◌-◌, ◌<◌, ◌^◌, ◌≡◌, ◌≤◌};
 ghost use Rattle.goblin_base.specs.declared.container.Container.TheVariants as class;
 ghost use Rattle.goblin_base.specs.declared.container.Endian.TheVariants as endian;
@@ -32,7 +32,7 @@ pub trait Listed: Drop {
 
 /// Returns the number of items of a list.
 pub fn count_of<L: Listed>(list: Result<L>) -> Result<Option<u64>>
-    ensures { Returns (λ found. found) result (count_of (converted_list L.listed list)) }
+    ensures { ReturnsAt (λ found. found) result (count_of (converted_list L.listed list)) }
 {
     Ok(Some(list?.count() as u64))
 }
@@ -40,7 +40,7 @@ pub fn count_of<L: Listed>(list: Result<L>) -> Result<Option<u64>>
 /// Returns the item of a list at an index.
 #[inline(always)]
 pub fn item_at<L: Listed>(list: Result<L>, index: u64) -> Result<Option<L::Converted>>
-    ensures { Returns (λ found. found) result (item_at (converted_list L.listed list) index) }
+    ensures { ReturnsAt (λ found. found) result (item_at (converted_list L.listed list) index) }
 {
     Ok(list?.converted(index as usize))
 }
@@ -139,7 +139,7 @@ pub fn record_in<R: LaidOut<C>, C: Copy>(
 // asks for neither again.
 #[inline(always)]
 pub fn is_usual(header: &GoblinHeader) -> bool
-    ensures { IsTrue result → ctx_of header.now ≡ record { container = class.Big; le = endian.Little } }
+    ensures { IsTrue result → context_of header.now ≡ record { container = class.Big; le = endian.Little } }
 {
     header.ei_class == ELFCLASS64 && header.ei_data != ELFDATA2MSB
 }

@@ -9,7 +9,7 @@ ghost use Rattle.goblin_c.specs.Relocs.{RelocsByIndex};
 ghost use Rattle.goblin_c.specs.Results.{KindsAreAboveOne};
 ghost use Rattle.goblin_c.specs.Sections.{NamesByIndex, SectionsByIndex, SectionsByName, SectionsByType, TablesByIndex};
 ghost use Rattle.goblin_c.specs.Segments.{AddressesAreLoaded, SegmentsByIndex};
-ghost use Rattle.goblin_c.specs.Strings.{StringsAreBytes, StringsAreCompared, StringsAreThere, StringsLieInFile, TextIsUtf8};
+ghost use Rattle.goblin_c.specs.Strings.{StringsAreBytes, StringsAreCompared, StringsAreThere, StringsLieInFile, BytesAreText};
 ghost use Rattle.goblin_c.specs.Symbols.{SymbolsByIndex, SymbolsByName};
 ghost use Rattle.goblin_c.specs.TextLaws.{PartsHaveSameText, RefusalsHaveSameText};
 
@@ -128,7 +128,7 @@ pub fn places()
     ensures within { BytesLieInFile }
     ensures none { EmptyHaveNoBytes }
     ensures same { StringsAreBytes }
-    ensures text { TextIsUtf8 }
+    ensures text { BytesAreText }
 {}
 
 /// Law: `goblin_section_range` stores the range of a section that has another type than 0 and 8 and a size, and

@@ -5,7 +5,7 @@ ghost use Rattle.goblin.specs.Steps.{refuse_as};
 ghost use Rattle.goblin_base.specs.Place.{with_number};
 ghost use Rattle.goblin_c.specs.Numbers.{NumberFits, cut_range, is_width, number_expected, number_in_expected, number_in_put_expected, number_misfit, number_put_expected, range_expected};
 ghost use Rattle.goblin_c.specs.Puts.{Puts};
-ghost use Rattle.goblin_c.specs.Results.{Returns, Stores, refused_at};
+ghost use Rattle.goblin_c.specs.Results.{ReturnsAt, Stores, refused_at};
 ghost use Rattle.std.specs.Prelude.{IsOk, IsTrue, length, min, ◌+◌, ◌-◌, ◌^◌, ◌≡◌, ◌≤◌, nat_le};
 
 use crate::file::{GoblinFile, GoblinHeader};
@@ -46,7 +46,7 @@ impl GoblinRange {
 /// Tests that some bytes lie in the file.
 pub fn fits(bytes: &[u8], offset: u64, size: u64) -> Result<()>
     ensures value { let expected = refuse_as misplaced (room_of (length bytes.now) offset size) in
-        Returns (λ found. found) result (refused_at offset expected) }
+        ReturnsAt (λ found. found) result (refused_at offset expected) }
     ensures fits { IsOk result → offset + size ≤ length bytes.now }
 {
     refused_at(
@@ -57,7 +57,7 @@ pub fn fits(bytes: &[u8], offset: u64, size: u64) -> Result<()>
 
 // Returns a range that lies in the file.
 pub fn range_in(bytes: &[u8], range: &GoblinRange) -> Result<Option<GoblinRange>>
-    ensures { Returns (λ found. found) result (range_expected bytes.now range.now) }
+    ensures { ReturnsAt (λ found. found) result (range_expected bytes.now range.now) }
 {
     fits(bytes, range.offset, range.size)?;
     Ok(Some(*range))
@@ -80,7 +80,7 @@ pub extern "C" fn goblin_range_in_file(
 
 // Returns the number of some width in bytes at an offset, in the file's byte order.
 fn number(file: &GoblinFile<'_>, offset: u64, width: u64) -> Result<Option<u64>>
-    ensures { Returns (λ found. found) result (number_expected file.now.bytes.now file.now.header offset width) }
+    ensures { ReturnsAt (λ found. found) result (number_expected file.now.bytes.now file.now.header offset width) }
 {
     if !is_width(width) {
         return Ok(None);
@@ -116,7 +116,7 @@ pub extern "C" fn goblin_number(
 fn fits_in(range: &GoblinRange, offset: u64, width: u64) -> Result<()>
     ensures value { let place = min (range.now.offset + offset) (2 ^ 64 - 1) in
         let expected = refuse_as misplaced (room_of range.now.size offset width) in
-        Returns (λ found. found) result (refused_at place expected) }
+        ReturnsAt (λ found. found) result (refused_at place expected) }
     ensures fits { IsOk result → offset + width ≤ range.now.size }
 {
     match room(range.size as usize, offset as usize, width as usize) {
@@ -135,7 +135,7 @@ fn number_in(
     offset: u64,
     width: u64,
 ) -> Result<Option<u64>>
-    ensures { Returns (λ found. found) result
+    ensures { ReturnsAt (λ found. found) result
         (number_in_expected file.now.bytes.now file.now.header range.now offset width) }
 {
     if !is_width(width) {

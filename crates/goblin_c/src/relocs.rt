@@ -1,8 +1,8 @@
 //! Relocations: one, many, how many, and how one is put.
-ghost use Rattle.goblin_c.specs.File.{ctx_of};
+ghost use Rattle.goblin_c.specs.File.{context_of};
 ghost use Rattle.goblin_c.specs.Puts.{Puts};
-ghost use Rattle.goblin_c.specs.Relocs.{RelocFits, reloc_converted, reloc_count_expected, reloc_ctx, reloc_expected, reloc_misfit, reloc_of, reloc_put_expected, relocs_expected, relocs_from_expected};
-ghost use Rattle.goblin_c.specs.Results.{Fills, Returns, Stores};
+ghost use Rattle.goblin_c.specs.Relocs.{RelocFitsTable, reloc_converted, reloc_count_expected, reloc_ctx, reloc_expected, reloc_misfit, reloc_from_c, reloc_put_expected, relocs_expected, relocs_from_expected};
+ghost use Rattle.goblin_c.specs.Results.{Fills, ReturnsAt, Stores};
 ghost use Rattle.std.specs.Prelude.{IfSome, IsTrue, Ok, Some, false, map, pos, ◌-◌, ◌↔◌, ◌≡◌};
 ghost use Rattle.goblin_base.specs.declared.container.Container.TheVariants as class;
 
@@ -40,8 +40,8 @@ pub(crate) fn convert_reloc(r: &Reloc) -> GoblinReloc
 }
 
 // Returns the relocation from C, with an addend or without.
-pub(crate) fn reloc_of(own: &GoblinReloc, is_rela: bool) -> Reloc
-    ensures { result ≡ reloc_of is_rela own.now }
+pub(crate) fn reloc_from_c(own: &GoblinReloc, is_rela: bool) -> Reloc
+    ensures { result ≡ reloc_from_c is_rela own.now }
 {
     Reloc {
         r_offset: own.r_offset,
@@ -67,7 +67,7 @@ fn reloc_ctx(header: &GoblinHeader, is_rela: bool) -> RelocCtx
 impl<'a> GoblinFile<'a> {
     /// Returns the relocations of a range.
     pub fn relocs(&self, range: &GoblinRange, is_rela: bool) -> Result<RelocSection<'a>>
-        ensures { Returns (λ relocs. relocs) result
+        ensures { ReturnsAt (λ relocs. relocs) result
             (relocs_expected self.now.bytes.now self.now.header range.now is_rela) }
     {
         let (offset, size) = (range.offset as usize, range.size as usize);
@@ -103,7 +103,7 @@ fn reloc_inside(
     index: u64,
     ctx: Ctx,
 ) -> Option<GoblinReloc>
-    requires { ctx_of file.now.header ≡ ctx }
+    requires { context_of file.now.header ≡ ctx }
     ensures { IfSome result (λ found.
         reloc_expected file.now.bytes.now file.now.header range.now is_rela index ≡ Ok (Some found)) }
 {
@@ -243,13 +243,13 @@ pub extern "C" fn goblin_put_reloc(
     reloc: &GoblinReloc,
     why: &mut GoblinRefusal,
 ) -> u32
-    ensures { Puts (RelocFits header.now is_rela reloc.now)
-        (reloc_misfit (ctx_of header.now).container is_rela reloc.now)
+    ensures { Puts (RelocFitsTable header.now is_rela reloc.now)
+        (reloc_misfit (context_of header.now).container is_rela reloc.now)
         (reloc_put_expected bytes.old header.now table.now is_rela index reloc.now)
         bytes.old why.old result bytes.new why.new }
 {
     let found = item_at(GoblinFile::of(bytes, header).relocs(table, is_rela), index);
-    let (ctx, record) = (reloc_ctx(header, is_rela), reloc_of(reloc, is_rela));
+    let (ctx, record) = (reloc_ctx(header, is_rela), reloc_from_c(reloc, is_rela));
     let fits = record.fits(ctx) && has_field(reloc, is_rela);
     let unfit = (!fits).then(|| reloc_misfit(reloc, is_rela, ctx.ctx.container));
     put_found(bytes, found, table.offset, index, record, ctx, unfit, why)

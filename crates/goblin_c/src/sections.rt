@@ -1,8 +1,8 @@
 //! Section headers: one, many, how many, by type or name, those that are tables, their bytes, and how one is put.
 ghost use Rattle.goblin_c.specs.Items.{found_item};
 ghost use Rattle.goblin_c.specs.Puts.{Puts};
-ghost use Rattle.goblin_c.specs.Results.{Fills, Returns, Stores, StoresBoth};
-ghost use Rattle.goblin_c.specs.Sections.{SectionFits, is_wanted, names_section_expected, section_by_name_expected, section_by_type_expected, section_converted, section_count_expected, section_expected, section_misfit, section_of, section_put_expected, section_range_expected, sections_expected, sections_from_expected, table_at, table_expected};
+ghost use Rattle.goblin_c.specs.Results.{Fills, ReturnsAt, Stores, StoresBoth};
+ghost use Rattle.goblin_c.specs.Sections.{SectionFits, is_wanted, names_section_expected, section_by_name_expected, section_by_type_expected, section_converted, section_count_expected, section_expected, section_misfit, section_from_c, section_put_expected, section_range_expected, sections_expected, sections_from_expected, table_at, table_expected};
 ghost use Rattle.std.specs.Prelude.{IfSome, Ok, Some, drop, map, position, ◌+◌, ◌-◌, ◌<◌, ◌^◌, ◌≡◌};
 
 use crate::file::{GoblinFile, GoblinHeader};
@@ -50,8 +50,8 @@ pub(crate) fn convert_section(s: &SectionHeader) -> GoblinSection
 }
 
 // Returns the section header from C.
-pub(crate) fn section_of(own: &GoblinSection) -> SectionHeader
-    ensures { result ≡ section_of own.now }
+pub(crate) fn section_from_c(own: &GoblinSection) -> SectionHeader
+    ensures { result ≡ section_from_c own.now }
 {
     SectionHeader {
         sh_name: own.sh_name as usize,
@@ -70,7 +70,7 @@ pub(crate) fn section_of(own: &GoblinSection) -> SectionHeader
 impl<'a> GoblinFile<'a> {
     /// Returns the section headers.
     pub fn sections(&self) -> Result<Table<'a, SectionHeader, Ctx>>
-        ensures { Returns (λ table. table) result (sections_expected self.now.bytes.now self.now.header) }
+        ensures { ReturnsAt (λ table. table) result (sections_expected self.now.bytes.now self.now.header) }
     {
         let header = &self.header;
         let count = usize::from(header.e_shnum);
@@ -238,7 +238,7 @@ fn section_by_name(
     name: &[u8],
     first: u64,
 ) -> Result<Option<(u64, GoblinSection)>>
-    ensures { Returns (λ found. found) result
+    ensures { ReturnsAt (λ found. found) result
         (section_by_name_expected file.now.bytes.now file.now.header names.now name.now first) }
 {
     let sections = file.sections()?;
@@ -339,11 +339,11 @@ pub extern "C" fn goblin_put_section(
     why: &mut GoblinRefusal,
 ) -> u32
     ensures { Puts (SectionFits header.now section.now)
-        (section_misfit (section_of section.now))
+        (section_misfit (section_from_c section.now))
         (section_put_expected bytes.old header.now index section.now) bytes.old why.old result bytes.new why.new }
 {
     let found = item_at(GoblinFile::of(bytes, header).sections(), index);
-    let (ctx, record) = (header.ctx(), section_of(section));
+    let (ctx, record) = (header.ctx(), section_from_c(section));
     let unfit = (!record.fits(ctx)).then(|| section_misfit(&record));
     put_found(bytes, found, header.e_shoff, index, record, ctx, unfit, why)
 }

@@ -1,7 +1,7 @@
 //! Program headers: one, many, how many, their bytes, the offset of an address, and how one is put.
 ghost use Rattle.goblin_c.specs.Puts.{Puts};
-ghost use Rattle.goblin_c.specs.Results.{Fills, Returns, Stores};
-ghost use Rattle.goblin_c.specs.Segments.{SegmentFits, address_to_offset_expected, segment_converted, segment_count_expected, segment_expected, segment_misfit, segment_of, segment_put_expected, segment_range_expected, segments_expected, segments_from_expected};
+ghost use Rattle.goblin_c.specs.Results.{Fills, ReturnsAt, Stores};
+ghost use Rattle.goblin_c.specs.Segments.{SegmentFits, address_to_offset_expected, segment_converted, segment_count_expected, segment_expected, segment_misfit, segment_from_c, segment_put_expected, segment_range_expected, segments_expected, segments_from_expected};
 ghost use Rattle.std.specs.Prelude.{IfSome, Ok, Some, map, ◌-◌, ◌≡◌};
 
 use crate::file::{GoblinFile, GoblinHeader};
@@ -45,8 +45,8 @@ pub(crate) fn convert_segment(s: &ProgramHeader) -> GoblinSegment
 }
 
 // Returns the program header from C.
-pub(crate) fn segment_of(own: &GoblinSegment) -> ProgramHeader
-    ensures { result ≡ segment_of own.now }
+pub(crate) fn segment_from_c(own: &GoblinSegment) -> ProgramHeader
+    ensures { result ≡ segment_from_c own.now }
 {
     ProgramHeader {
         p_type: own.p_type,
@@ -63,7 +63,7 @@ pub(crate) fn segment_of(own: &GoblinSegment) -> ProgramHeader
 impl<'a> GoblinFile<'a> {
     /// Returns the program headers.
     pub fn segments(&self) -> Result<Table<'a, ProgramHeader, Ctx>>
-        ensures { Returns (λ table. table) result (segments_expected self.now.bytes.now self.now.header) }
+        ensures { ReturnsAt (λ table. table) result (segments_expected self.now.bytes.now self.now.header) }
     {
         let (bytes, header) = (self.bytes, &self.header);
         let (ctx, sections) = (header.ctx(), header.e_shoff);
@@ -171,7 +171,7 @@ pub extern "C" fn goblin_segment_range(
 
 // Returns the offset in the file of the byte that is loaded at an address.
 fn address_to_offset(file: &GoblinFile<'_>, address: u64) -> Result<Option<u64>>
-    ensures { Returns (λ found. found) result
+    ensures { ReturnsAt (λ found. found) result
         (address_to_offset_expected file.now.bytes.now file.now.header address) }
 {
     match ProgramHeader::loaded_from(&file.segments()?, address) {
@@ -226,11 +226,11 @@ pub extern "C" fn goblin_put_segment(
     why: &mut GoblinRefusal,
 ) -> u32
     ensures { Puts (SegmentFits header.now segment.now)
-        (segment_misfit (segment_of segment.now))
+        (segment_misfit (segment_from_c segment.now))
         (segment_put_expected bytes.old header.now index segment.now) bytes.old why.old result bytes.new why.new }
 {
     let found = item_at(GoblinFile::of(bytes, header).segments(), index);
-    let (ctx, record) = (header.ctx(), segment_of(segment));
+    let (ctx, record) = (header.ctx(), segment_from_c(segment));
     let unfit = (!record.fits(ctx)).then(|| segment_misfit(&record));
     put_found(bytes, found, header.e_phoff, index, record, ctx, unfit, why)
 }

@@ -1,6 +1,6 @@
 //! Strings: where they lie in the file, and what they are.
 ghost use Rattle.goblin_c.specs.Common.{is_piece, starts_piece};
-ghost use Rattle.goblin_c.specs.Results.{FillsEach, Returns, Stores};
+ghost use Rattle.goblin_c.specs.Results.{FillsEach, ReturnsAt, Stores};
 ghost use Rattle.goblin_c.specs.Strings.{IsCString, closed_len, closed_strings_expected, string_closed_expected, string_expected, string_is_expected, string_starts_expected, string_utf8_expected, strings_expected};
 ghost use Rattle.std.specs.Prelude.{IfOk, IfSome, IsErr, MatchOption, Ok, drop, length, map, take, ◌+◌, ◌≡◌, ◌≤◌};
 
@@ -15,7 +15,7 @@ impl<'a> GoblinFile<'a> {
     /// Returns the bytes of a string table.
     #[tactic(auto, unfolding(goblin_base::specs::Strtab::range_in))]
     pub fn strings(&self, range: &GoblinRange) -> Result<&'a [u8]>
-        ensures given { Returns (λ strings. strings.now) result (strings_expected self.now.bytes.now range.now) }
+        ensures given { ReturnsAt (λ strings. strings.now) result (strings_expected self.now.bytes.now range.now) }
         ensures fits { IfOk result (λ strings. range.now.offset + length strings.now ≤ length self.now.bytes.now) }
     {
         let (offset, size) = (range.offset as usize, range.size as usize);
@@ -50,7 +50,7 @@ pub extern "C" fn goblin_string(
 
 // Returns the range in the file of the string at an offset of a string table.
 fn string_at(file: &GoblinFile<'_>, range: &GoblinRange, offset: u64) -> Result<Option<GoblinRange>>
-    ensures { Returns (λ found. found) result (string_utf8_expected file.now.bytes.now range.now offset) }
+    ensures { ReturnsAt (λ found. found) result (string_utf8_expected file.now.bytes.now range.now offset) }
 {
     let strings = file.strings(range)?;
     match strtab::string_at(strings, 0, offset as usize) {
@@ -152,7 +152,7 @@ fn closed_string_at(
     range: &GoblinRange,
     offset: u64,
 ) -> Result<Option<GoblinRange>>
-    ensures { Returns (λ found. found) result (string_closed_expected file.now.bytes.now range.now offset) }
+    ensures { ReturnsAt (λ found. found) result (string_closed_expected file.now.bytes.now range.now offset) }
 {
     let strings = file.strings(range)?;
     let start = offset as usize;

@@ -1,10 +1,10 @@
 //! Symbols: one, many, how many, by name or address, and how one is put.
-ghost use Rattle.goblin_c.specs.File.{ctx_of};
+ghost use Rattle.goblin_c.specs.File.{context_of};
 ghost use Rattle.goblin_c.specs.Items.{found_item};
 ghost use Rattle.goblin_c.specs.Puts.{Puts};
-ghost use Rattle.goblin_c.specs.Results.{Fills, Returns, Stores, StoresBoth};
+ghost use Rattle.goblin_c.specs.Results.{Fills, ReturnsAt, Stores, StoresBoth};
 ghost use Rattle.goblin_c.specs.Strings.{is_named};
-ghost use Rattle.goblin_c.specs.Symbols.{SymbolFits, symbol_by_address_expected, symbol_by_name_expected, symbol_converted, symbol_count_expected, symbol_expected, symbol_misfit, symbol_of, symbol_put_expected, symbols_expected, symbols_from_expected};
+ghost use Rattle.goblin_c.specs.Symbols.{SymbolFits, symbol_by_address_expected, symbol_by_name_expected, symbol_converted, symbol_count_expected, symbol_expected, symbol_misfit, symbol_from_c, symbol_put_expected, symbols_expected, symbols_from_expected};
 ghost use Rattle.std.specs.Prelude.{IfSome, Ok, Some, drop, map, position, ◌+◌, ◌-◌, ◌<◌, ◌^◌, ◌≡◌};
 
 use crate::file::{GoblinFile, GoblinHeader};
@@ -45,8 +45,8 @@ pub(crate) fn convert_symbol(s: &Sym) -> GoblinSymbol
 }
 
 // Returns the symbol from C.
-pub(crate) fn symbol_of(own: &GoblinSymbol) -> Sym
-    ensures { result ≡ symbol_of own.now }
+pub(crate) fn symbol_from_c(own: &GoblinSymbol) -> Sym
+    ensures { result ≡ symbol_from_c own.now }
 {
     Sym {
         st_name: own.st_name as usize,
@@ -61,7 +61,7 @@ pub(crate) fn symbol_of(own: &GoblinSymbol) -> Sym
 impl<'a> GoblinFile<'a> {
     /// Returns the symbols of a range, without a last one that is cut.
     pub fn symbols(&self, range: &GoblinRange) -> Result<Symtab<'a>>
-        ensures { Returns (λ table. table.symbols) result
+        ensures { ReturnsAt (λ table. table.symbols) result
             (symbols_expected self.now.bytes.now self.now.header range.now) }
     {
         let (offset, size) = (range.offset as usize, range.size as usize);
@@ -95,7 +95,7 @@ fn symbol_inside(
     index: u64,
     ctx: Ctx,
 ) -> Option<GoblinSymbol>
-    requires { ctx_of file.now.header ≡ ctx }
+    requires { context_of file.now.header ≡ ctx }
     ensures { IfSome result (λ found.
         symbol_expected file.now.bytes.now file.now.header range.now index ≡ Ok (Some found)) }
 {
@@ -205,7 +205,7 @@ fn symbol_by_name(
     name: &[u8],
     first: u64,
 ) -> Result<Option<(u64, GoblinSymbol)>>
-    ensures { Returns (λ found. found) result
+    ensures { ReturnsAt (λ found. found) result
         (symbol_by_name_expected file.now.bytes.now file.now.header table.now names.now name.now first) }
 {
     let symbols = file.symbols(table)?;
@@ -240,7 +240,7 @@ fn symbol_by_address(
     table: &GoblinRange,
     address: u64,
 ) -> Result<Option<u64>>
-    ensures { Returns (λ found. found) result
+    ensures { ReturnsAt (λ found. found) result
         (symbol_by_address_expected file.now.bytes.now file.now.header table.now address) }
 {
     let symbols = file.symbols(table)?;
@@ -292,12 +292,12 @@ pub extern "C" fn goblin_put_symbol(
     why: &mut GoblinRefusal,
 ) -> u32
     ensures { Puts (SymbolFits header.now symbol.now)
-        (symbol_misfit (symbol_of symbol.now))
+        (symbol_misfit (symbol_from_c symbol.now))
         (symbol_put_expected bytes.old header.now table.now index symbol.now)
         bytes.old why.old result bytes.new why.new }
 {
     let found = item_at(GoblinFile::of(bytes, header).symbols(table), index);
-    let (ctx, record) = (header.ctx(), symbol_of(symbol));
+    let (ctx, record) = (header.ctx(), symbol_from_c(symbol));
     let unfit = (!record.fits(ctx)).then(|| symbol_misfit(&record));
     put_found(bytes, found, table.offset, index, record, ctx, unfit, why)
 }
