@@ -37,7 +37,7 @@ sections bytes h ctx = grind (arith, passes)
 strings_here : StrictIsPermissive
     → (bytes : List ℕ) (s : Option SectionHeader)
     → Keeps (section_strings Strict bytes s) (section_strings Permissive bytes s)
-strings_here strtabs bytes h2 = grind arith
+strings_here strtabs bytes s = grind arith
 
 strings : StrictIsPermissive → (bytes : List ℕ) (found : List SectionHeader) (index : ℕ)
     → Keeps (strings_at Strict bytes found index) (strings_at Permissive bytes found index)
