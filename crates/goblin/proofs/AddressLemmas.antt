@@ -1,14 +1,13 @@
 -- The symbol that is found for an address is the one of the law, and so is that of the definition.
 --
 -- How near a symbol is makes one number, 0 if it is no candidate (`score`). A search keeps the first symbol with the
--- highest such number (`IsFound`, `one_more`), and that one is what the law says (`found_is`). The definition has what
--- the law says, too (`defined_is`), and the law has one answer only (`one_answer`).
-use Rattle.std.proofs.Common.{◌≡◌, ◌≤◌, ◌<◌, ◌+◌, ◌*◌, ◌&&◌, ◌||◌, not, ℕ, zero, suc, Bool, true, false, ltb, arith}
-use Rattle.std.proofs.Common.{◌==◌, if◌then◌else◌, List, [], ◌∷◌, length, get_or, slice_get, Option, Some, None, rules}
-use Rattle.std.proofs.Common.{inl, inr, refl, sym, ap, subst, ◌∙◌, position}
+-- highest such number (`IsFound`, `one_more`), and that one is what the law says (`found_is`). What the law says is what
+-- the definition finds, too (`at_is`), so the law has one answer only.
+use Rattle.std.proofs.Common.{◌≡◌, ◌≤◌, ◌<◌, ◌+◌, ◌*◌, ◌&&◌, ◌||◌, ℕ, zero, suc, Bool, true, false, ltb, arith, ◌==◌}
+use Rattle.std.proofs.Common.{if◌then◌else◌, List, [], ◌∷◌, length, slice_get, Option, Some, None, rules, inl, inr}
+use Rattle.std.proofs.Common.{refl, sym, ap, subst, ◌∙◌, position}
 use Rattle.std.proofs.lemmas.Bool.{and_parts, and_from, false_from_ne_true, false≢true, eqb-true, eq-eqb}
 use Rattle.std.proofs.lemmas.Bool.Decides.{nat_tests}
-use Rattle.std.proofs.lemmas.List.Elements.{All-from_get_or}
 use Rattle.std.proofs.lemmas.List.Folds.{list_any_at, list_any_none}
 use Rattle.std.proofs.lemmas.Option.{slice_get_within, slice_get-get_or, slice_get_cases, get_or_from_slice_get}
 use Rattle.std.specs.List.{position_or_len}
@@ -42,16 +41,7 @@ module _ (score : Sym → ℕ) (symbols : List Sym) where
   step : (i : ℕ) (s : Sym) (found : Option (ℕ × Sym)) (test : Bool)
       → slice_get symbols i ≡ Some s → test ≡ ltb (top found) (score s) → IsFirst i found
       → IsFirst (i + 1) (if test then Some (i, s) else found)
-  step i s found true got higher so = record {
-    there = λ at e. grind (arith, nat_tests);
-    high = λ k other l g. grind (arith, nat_tests, so.high k other);
-    early = λ at e k other l g. grind (arith, nat_tests, so.high k other);
-  }
-  step i s found false got higher so = record {
-    there = λ at e. let before = so.there at e in (omega (arith, before.0), before.1, before.2);
-    high = λ k other l g. grind (arith, nat_tests, so.high k other);
-    early = so.early;
-  }
+  step i s found test got higher so = grind arith
 
   -- there is one
   found_up_to : (i : ℕ) → i ≤ length symbols → (found : Option (ℕ × Sym)) × IsFirst i found
@@ -86,21 +76,14 @@ position_is passes symbols i s got here first =
 
 no_position : (passes : Sym → Bool) (symbols : List Sym)
     → ((k : ℕ) (s : Sym) → slice_get symbols k ≡ Some s → passes s ≡ true → ⊥) → position passes symbols ≡ None
-no_position passes symbols none =
-    let at = passes_first passes symbols (length symbols) (omega arith) (λ k s g p. absurd (none k s g p))
-    (λ s g. absurd (omega (arith, slice_get_within symbols (length symbols) s g))) in
-    grind (arith, nat_tests)
+no_position passes symbols none = grind (arith, passes_first, slice_get_within)
 
 module _ (test : Sym → Bool) (symbols : List Sym) where
   highest_is : (s : Sym)
       → test s ≡ true
       → ((k : ℕ) (other : Sym) → slice_get symbols k ≡ Some other → test other ≡ true → other.st_value ≤ s.st_value)
       → is_highest test symbols s ≡ true
-  highest_is s passes high =
-      let higher = λ (other : Sym). test other && ltb s.st_value other.st_value in
-      and_from _ _ passes (ap not (list_any_none higher symbols
-      (All-from_get_or (λ x. higher x ≡ false) symbols s
-      (λ k l. grind (arith, nat_tests, high k (get_or symbols k s) (slice_get-get_or symbols k s l))))))
+  highest_is s passes high = grind (arith, list_any_none, slice_get-get_or)
 
   none_higher : (k : ℕ) (s other : Sym)
       → slice_get symbols k ≡ Some other → test other ≡ true → is_highest test symbols s ≡ true
@@ -163,13 +146,7 @@ module _ (address : ℕ) (sections : List SectionHeader) (e_type : ℕ) where
       → slice_get sections s.st_shndx ≡ section → fits s ≡ true → reaches address s ≡ false
       → IsBelowInSection address sections e_type s
   lies_in s None there fit out = absurd (grind (arith, nat_tests))
-  lies_in s (Some section) there fit out = record {
-    below = grind (arith, nat_tests);
-    named = grind (arith, nat_tests);
-    section = section;
-    there = there;
-    has = grind (arith, nat_tests);
-  }
+  lies_in s (Some section) there fit out = grind (arith, nat_tests)
 
   inside : (s : Sym) → contains address s ≡ true → score s ≡ 2 * address + 3 + s.st_value
   inside s c = rw (fits_if s c) (grind (arith, nat_tests))

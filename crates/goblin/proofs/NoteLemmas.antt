@@ -3,10 +3,11 @@
 -- Reading at an offset is reading the rest of the bytes from there on. What holds of the items of a range follows from
 -- one step of their definition (`note_by_note`): at the range's end there is none, and before it there is one, which is
 -- the last if it is a refusal.
+use Rattle.std.proofs.lemmas.Grind.{common_steps}
 use Rattle.std.proofs.Common.{◌≡◌, ◌+◌, ◌-◌, ◌<◌, ◌≤◌, ℕ, min, List, [], ◌∷◌, length, take, drop, Result, Ok, Err, IfOk}
 use Rattle.std.proofs.Common.{refl, ◌∙◌, arith, ◌++◌, get_or, set, sym, ap, add-one, drop-cons}
-use Rattle.std.proofs.lemmas.Bool.{le-leb, lt-leb, lt-ltb, le-ltb}
-use Rattle.std.proofs.lemmas.List.{length-drop, take_all, take-set, drop-set, take-append-drop}
+use Rattle.std.proofs.lemmas.Bool.{le-leb, lt-leb, lt-ltb}
+use Rattle.std.proofs.lemmas.List.{take-set, drop-set, take-append-drop}
 use Rattle.goblin_base.specs.declared.container.Ctx.{Ctx}
 use Rattle.goblin_base.specs.declared.error.Error.{Error}
 use Rattle.goblin_base.specs.Refusal.{Returns, Refusal, bad_offset}
@@ -18,7 +19,6 @@ use Rattle.goblin.specs.Note.{note_items}
 use Rattle.goblin.specs.Notes.{LieWithin, items_left, most_left, most_left_in, spent, after_next, after_next_of_first}
 use Rattle.goblin.specs.NoteLaws.{at_ok, few_notes, note_by_note, notes_advance, places_lie_within}
 use Rattle.std.proofs.Math.Nat.{min_comm}
-use Rattle.std.proofs.lemmas.List.Sums.{sum_by-cons}
 use Rattle.std.specs.List.{flat_map}
 
 -- before the end of the bytes, places are read from the rest
@@ -26,9 +26,7 @@ pub places_at-before : (bytes : List ℕ) (offset : ℕ) (ctx : ℕ × Ctx)
     → offset < length bytes
     → places_at bytes offset ctx ≡ read_places ctx.0 ctx.1.le (take (length bytes - offset) (drop offset bytes))
 unfolding places_at
-places_at-before bytes offset ctx before =
-    let all = take_all (length bytes - offset) (drop offset bytes) (omega (arith, length-drop offset bytes)) in
-    rw (lt-leb (length bytes) offset before, all) refl
+places_at-before bytes offset ctx before = grind (arith, common_steps)
 
 -- from the end of the bytes on there are no places
 pub places_at-past : (bytes : List ℕ) (offset : ℕ) (ctx : ℕ × Ctx)
@@ -55,10 +53,7 @@ pub note_at-read :
     → IsRead answer bytes offset ctx
     → Returns (λ found. (parts_of found.0, found.1.next)) answer (note_at bytes offset ctx)
 unfolding note_at
-note_at-read (Ok found) bytes offset ctx is =
-    let all = take_all (length bytes - offset) (drop offset bytes) (omega (arith, length-drop offset bytes)) in
-    rw (is.places, is.there, all) refl
-note_at-read (Err e) bytes offset ctx is = rw is.places refl
+note_at-read answer bytes offset ctx is = grind (arith, common_steps)
 
 -- its places lie inside the bytes
 pub read-within : (answer : Result (Note × NotePlaces) Error) (bytes : List ℕ) (offset : ℕ) (ctx : ℕ × Ctx)
@@ -140,8 +135,7 @@ set_same xs i x h is = set_is xs i x h ∙ rw (← drop_is xs i x h is) (take-ap
 pub moved : (old now : List NoteDataIterator) (at i : ℕ) (x new : NoteDataIterator)
     → now ≡ old → i < length now → x ≡ get_or now i x → at ≡ i → new ≡ after_next x
     → set now i new ≡ take at old ++ after_next_of_first (drop at old)
-moved old now at i x new same h is there moves =
-    rw (← same, there, moves, drop_is now i x h is) (set_is now i (after_next x) h)
+moved old now at i x new same h is there moves = grind (arith, drop_is, set_is)
 
 -- the first range with an item is the next one
 pub next_is : (old : List NoteDataIterator) (i : ℕ) (x : NoteDataIterator)
@@ -157,12 +151,4 @@ pub record Skipped (old : List NoteDataIterator) (i : ℕ) (x : NoteDataIterator
 
 pub skipped : (old : List NoteDataIterator) (i : ℕ) (x : NoteDataIterator)
     → i < length old → x ≡ get_or old i x → items_left x ≡ [] → Skipped old i x
-skipped old i x h is none =
-    let past = at_end x none in
-    let same : after_next x ≡ x = rw (le-leb x.size x.offset past) refl in
-    record {
-      ranges = rw same (set_same old i x h is);
-      left = rw (drop_is old i x h is, none) refl;
-      most = rw (drop_is old i x h is, sum_by-cons most_left x (drop (i + 1) old)) (omega arith);
-      next = rw (drop_is old i x h is, le-ltb x.offset x.size past) (omega arith);
-    }
+skipped old i x h is none = grind (arith, at_end, set_same, drop_is)

@@ -1,20 +1,12 @@
 -- Which symbol tables and notes are refused: the first test that fails, as definitions have it.
 use Rattle.std.proofs.Common.{◌≡◌, ◌≤◌, ◌⊎◌, ℕ, List, max, length, Ok, Err, refl, arith}
-use Rattle.goblin.specs.Common.{Ctx, Endian, Permissive, Strict, malformed, nat_tests, read_within, room_of-few}
+use Rattle.goblin.specs.Common.{Ctx, Endian, malformed, nat_tests, read_within, room_of-few}
 use Rattle.goblin_base.specs.declared.error.Fault.TheVariants.{NoteAlign}
 use Rattle.goblin.specs.Note.{NotesRefused, note_align, read_places, whole_places}
 use Rattle.goblin.specs.Symtab.{SymtabsRefused}
 
 pub symtabs_refused : (bytes : List ℕ) (offset count : ℕ) (ctx : Ctx) → SymtabsRefused bytes offset count ctx
-symtabs_refused bytes offset count ctx = record {
-  past = λ past. grind (arith, nat_tests);
-  many = λ mode before large. elim (mode) [
-    | Strict ↦ grind (arith, nat_tests)
-    | Permissive ↦ grind (arith, nat_tests)
-  ];
-  long = λ requested is small before long. rw (← is) (grind (arith, nat_tests));
-  fits = λ before fits small. grind (arith, nat_tests);
-}
+symtabs_refused bytes offset count ctx = grind arith
 
 aligned : (alignment : ℕ) → (alignment ≤ 4) ⊎ (alignment ≡ 8) → note_align alignment ≡ Ok (max alignment 4)
 aligned alignment either = grind (arith, nat_tests)

@@ -1,7 +1,7 @@
 -- Laws of notes and of the notes of a range.
-use Rattle.std.proofs.Common.{◌≡◌, ◌+◌, ◌-◌, ◌<◌, ◌≤◌, ℕ, zero, suc, Bool, false, nat_le, List, [], length, ◌⊎◌, max}
+use Rattle.std.proofs.Common.{◌≡◌, ◌+◌, ◌-◌, ◌<◌, ◌≤◌, ℕ, zero, suc, Bool, false, nat_le, List, [], length}
 use Rattle.std.proofs.Common.{take, drop, Result, Ok, Err, IfOk, inl, inr, refl, sym, ap, subst, ◌∙◌, arith}
-use Rattle.goblin.specs.Common.{cases_lt, le-leb, lt-leb, nat_tests, div_ceil, next_multiple_of, Ctx, Endian, malformed}
+use Rattle.goblin.specs.Common.{cases_lt, le-leb, lt-leb, nat_tests, div_ceil, next_multiple_of, Ctx, Endian}
 use Rattle.goblin.specs.Common.{read_within, unless_fault, fits-room_of, room_of_fits, Refusal, refusal_of}
 use Rattle.goblin.specs.Common.{bad_offset}
 use Rattle.goblin.specs.Common.{room_of, ◌>>=◌, refuse_as, refuse_if, Nhdr32, nhdr32_of, nhdr32_size, NotePlaces}

@@ -4,13 +4,12 @@
 -- the laws of fields, the identification because it is the first 16 bytes. A header of either class has them because
 -- widening and narrowing undo each other (`widened_laws`). What bytes are read as a header follows from the laws alone
 -- (`one_header_image`).
-use Rattle.goblin_headers.proofs.Common.{◌≡◌, ◌≤◌, ℕ, List, [], ◌++◌, length, take, refl, sym, ap, ◌∙◌, arith}
-use Rattle.goblin_headers.proofs.Common.{Container, Endian, Field, image_of_fields, values_at, fields_at, total}
+use Rattle.goblin_headers.proofs.Common.{common_steps, ◌≡◌, ◌≤◌, ℕ, List, [], ◌++◌, length, take, refl, sym, ap, ◌∙◌}
+use Rattle.goblin_headers.proofs.Common.{arith, Container, Endian, Field, image_of_fields, values_at, fields_at, total}
 use Rattle.goblin_headers.proofs.Common.{widths_of, values_of, lows_of, Layout, widened, IsBytes, headed, header32}
 use Rattle.goblin_headers.proofs.Common.{header64, header_layout, as32, as64, widened32, widened64, subst}
 use Rattle.std.proofs.Math.Seq.{take-add}
-use Rattle.std.proofs.lemmas.List.{append_assoc, append-nil, length-append, take_all, take_at}
-use Rattle.goblin_base.specs.declared.container.Container.TheVariants as class
+use Rattle.std.proofs.lemmas.List.{append_assoc, append-nil, length-append, take_at}
 use Rattle.goblin_base.specs.FieldLaws.{values_at-image, lows_of-fits, image-fields_at, length-image_of_fields}
 use Rattle.goblin_base.specs.FieldLaws.{IsBytes-image_of_fields, FieldsFit-fields_at}
 use Rattle.goblin_base.specs.Fields.{FieldsFit}
@@ -19,6 +18,7 @@ use Rattle.goblin_base.specs.LayoutLaws.{size_of_fields-is}
 use Rattle.goblin_base.specs.NumberLaws.{IsBytes-append}
 use Rattle.goblin_headers.specs.Header.{HeaderShape, field_widths}
 use Rattle.goblin_headers.specs.HeaderTrips.{HeadersFit, IdentIsWritten, IsOneHeaderImage}
+use Rattle.goblin_base.specs.declared.container.Container.TheVariants as class
 
 -- headers that begin with an identification, and what holds of reading and writing them
 pub record IsHeader {R : Type 0} (ident : R → List ℕ) (l : Layout R) : Type 0 where
@@ -136,17 +136,14 @@ header_laws class.Big order = widened_laws widened64 as64 (λ raw. refl) (λ h. 
 module _ {R : Type 0} {ident : R → List ℕ} {l : Layout R} (laws : IsHeader ident l) where
   -- bytes of a header's size are the image of the header that is read from them
   image_of_read : (bytes : List ℕ) → IsBytes bytes → length bytes ≡ l.size → bytes ≡ l.image (l.read bytes)
-  image_of_read bytes are long =
-      sym (take_all (l.size) bytes (omega arith)) ∙ sym (laws.writes_back bytes are (omega arith))
+  image_of_read bytes are long = grind (arith, common_steps)
 
   reads_alone : (h : R) → length (ident h) ≡ 16 → l.read (l.image h) ≡ l.low h
   reads_alone h long = ap (l.read) (sym (append-nil (l.image h))) ∙ laws.reads_low h [] long
 
   -- a header that is its own low bits was read from its image
   own_low_fits : (h : R) → length (ident h) ≡ 16 → IsBytes (ident h) → l.low h ≡ h → l.Fits h
-  own_low_fits h long are is =
-      let fit = laws.reads_fit (l.image h) (laws.image_bytes h are) (omega arith) in
-      subst (l.Fits) (reads_alone h long ∙ is) fit
+  own_low_fits h long are is = grind (arith, reads_alone)
 
   -- only the low bits are written
   pub image-low : (h : R) → length (ident h) ≡ 16 → IsBytes (ident h) → l.image (l.low h) ≡ l.image h
@@ -157,11 +154,7 @@ module _ {R : Type 0} {ident : R → List ℕ} {l : Layout R} (laws : IsHeader i
 -- the image is the only list of bytes that is read so
 pub one_header_image : {R : Type 0} {ident : R → List ℕ} {layout : Endian → Layout R}
     → ((order : Endian) → IsHeader ident (layout order)) → IsOneHeaderImage ident layout
-one_header_image {layout = layout} all order h bytes long are =
-    let laws = all order in (
-      λ is. rw is (laws.image_bytes h are, laws.length_image h long, reads_alone laws h long),
-      λ so. image_of_read laws bytes so.0 so.1 ∙ ap ((layout order).image) so.2 ∙ image-low laws h long are,
-    )
+one_header_image {layout = layout} all order h bytes long are = grind (arith, reads_alone, image_of_read)
 
 -- the image begins with the identification
 pub ident_is_written : {R : Type 0} {ident : R → List ℕ} {layout : Endian → Layout R}
@@ -172,5 +165,4 @@ ident_is_written {ident = ident} all order h long =
 -- those that fit are those that are their own low bits
 pub headers_fit : {R : Type 0} {ident : R → List ℕ} {layout : Endian → Layout R}
     → ((order : Endian) → IsHeader ident (layout order)) → HeadersFit ident layout
-headers_fit all order =
-    let laws = all order in (laws.reads_fit, λ h long are. (laws.low_fits h, own_low_fits laws h long are))
+headers_fit all order = grind (arith, own_low_fits)

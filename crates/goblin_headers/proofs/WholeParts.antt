@@ -3,15 +3,14 @@
 -- A list is not refused exactly if all its records lie whole in the bytes (`whole_is_listed`, `listed_is_whole`). So a
 -- list that isn't refused is its own whole part, and the whole part of one that is refused has as many records as lie
 -- whole in the bytes, or fewer.
-use Rattle.goblin_headers.proofs.Common.{◌≡◌, ◌<◌, ◌≤◌, ◌+◌, ◌-◌, ◌*◌, ◌/◌, ◌==◌, ℕ, zero, suc, List, [], length, drop}
-use Rattle.goblin_headers.proofs.Common.{codes, Bool, true, false, nat_lt, min, max, Result, Ok, Err, IsOk, refl, sym}
-use Rattle.goblin_headers.proofs.Common.{ap, ◌∙◌, arith, if◌then◌else◌, nat_tests, Ctx, Error, unless_fault}
-use Rattle.goblin_headers.proofs.Common.{fits-room_of, unless_fault-is, room_of, all_fit, SectionHeader, refuse_as}
-use Rattle.goblin_headers.proofs.Common.{refuse_if, le-div_iff_mul-le, records_from, section_header_of}
-use Rattle.goblin_headers.proofs.Common.{section_header_size, section_header_laws, step, found_within, take, IfErr, inl}
-use Rattle.goblin_headers.proofs.Common.{inr, cases_lt, unless_fault-err, not_too_many, too_many}
+use Rattle.goblin_headers.proofs.Common.{rules, ◌≡◌, ◌<◌, ◌≤◌, ◌+◌, ◌-◌, ◌*◌, ◌/◌, ◌==◌, ℕ, zero, suc, List, [], length}
+use Rattle.goblin_headers.proofs.Common.{drop, codes, Bool, true, false, nat_lt, min, max, Result, Ok, Err, IsOk, refl}
+use Rattle.goblin_headers.proofs.Common.{sym, ap, ◌∙◌, arith, if◌then◌else◌, nat_tests, Ctx, Error, unless_fault}
+use Rattle.goblin_headers.proofs.Common.{fits-room_of, unless_fault-is, room_of, all_fit, SectionHeader}
+use Rattle.goblin_headers.proofs.Common.{le-div_iff_mul-le, records_from, section_header_of, section_header_size}
+use Rattle.goblin_headers.proofs.Common.{section_header_laws, step, take, IfErr, not_too_many, too_many}
 use Rattle.goblin_base.specs.Eager.{room_of_each}
-use Rattle.goblin_base.specs.Refusal.{buffer_too_short, misplaced, refusal_of, Refuses}
+use Rattle.goblin_base.specs.Refusal.{buffer_too_short, refusal_of, Refuses}
 use Rattle.goblin_base.specs.Record.{records}
 use Rattle.goblin_headers.specs.declared.program_header.ProgramHeader.{ProgramHeader}
 use Rattle.goblin_headers.specs.declared.whole_part.WholePart.{WholePart}
@@ -21,7 +20,6 @@ use Rattle.goblin_headers.specs.SectionHeaders.{header_count, section_headers_fr
 use Rattle.goblin_headers.specs.WholePart.{IsListOfWhole, SectionsOfWhole, SegmentsOfWhole, WholeIsListed, cut_sections}
 use Rattle.goblin_headers.specs.WholePart.{cut_segments, program_headers_of, sections_part, segment_count}
 use Rattle.goblin_headers.specs.WholePart.{whole_sections, whole_segments}
-use Rattle.goblin_headers.specs.ProgramHeaderLaws.{program_header_laws}
 use Rattle.std.proofs.lemmas.List.{take-append-drop, length-take-le, length-drop}
 use Rattle.goblin_base.specs.declared.scroll.Error.{Error as Misplaced}
 
@@ -73,11 +71,7 @@ pub first_tested : (bytes : List ℕ) (offset count : ℕ) (ctx : Ctx) (e : Erro
     → Err e ≡ count_from bytes offset count ctx
     → section_headers_from_tested bytes offset count ctx ≡ Err (refusal_of e)
 unfolding section_headers_from_tested
-first_tested bytes offset count ctx e is =
-    let size = section_header_size ctx.container in
-    let fault = unless_fault-err (room_of (length bytes) offset size) e
-    (max 1 (count_asked bytes offset count ctx)) is in
-    rw fault.1 (ap (λ (f : Error). Err (refusal_of f)) (sym fault.2))
+first_tested bytes offset count ctx e is = grind arith
 
 pub first_refused : (bytes : List ℕ) (offset count : ℕ) (ctx : Ctx) (e : Error)
     → Err e ≡ count_from bytes offset count ctx → section_headers_from bytes offset count ctx ≡ Err (refusal_of e)
@@ -97,56 +91,36 @@ module _ (bytes : List ℕ) (offset count : ℕ) (ctx : Ctx) (most : ℕ)
   found = unless_fault-is (room_of (length bytes) offset each) most (max 1 asked) is
 
   one : 1 ≤ length bytes / each
-  one =
-      let some = (section_header_laws ctx.container ctx.le).size_positive in
-      let fits = fits-room_of (length bytes) offset each tt found.0 in
-      (le-div_iff_mul-le {k = each} {x = 1} {y = length bytes} some).1 (omega (arith, fits))
+  one = grind (arith, fits-room_of)
 
   -- then only the test of the count is left
   few : most ≤ length bytes / each → section_headers_from_tested bytes offset count ctx ≡ Ok tt
   unfolding section_headers_from_tested
-  few enough =
-      let test : nat_lt (length bytes / each) asked ≡ false = grind (arith, nat_tests) in
-      rw (found.0, test) refl
+  few enough = grind arith
 
   many : length bytes / each < most
       → section_headers_from_tested bytes offset count ctx ≡ Err (buffer_too_short most items)
   unfolding section_headers_from_tested
-  many too =
-      let same : asked ≡ most = omega (arith, found.1, one) in
-      let test : nat_lt (length bytes / each) asked ≡ true = grind (arith, nat_tests) in
-      rw (found.0, test, same) refl
+  many too = grind (arith, one)
 
   -- and the headers are those of the one list
   pub from_is : section_headers_from bytes offset count ctx
       ≡ records_from each (section_header_of ctx.container ctx.le) bytes offset most items
   unfolding section_headers_from
-  from_is =
-      elim (cases_lt (length bytes / each) most) [
-        | inl too ↦ rw (many too)
-            (sym (too_many each each (section_header_of ctx.container ctx.le) bytes offset most items refl too))
-        | inr enough ↦ rw (few enough, ← found.1)
-            (not_too_many each each (section_header_of ctx.container ctx.le) bytes offset most items refl enough)
-      ]
+  from_is = grind (arith, many, too_many, few, not_too_many)
 
   -- a refusal of the tests is the result
   pub all_tested : {X : Type 0} (answer : Result X Error)
       → (length bytes / each < most → Refuses answer (buffer_too_short most items))
       → IfErr (section_headers_from_tested bytes offset count ctx) (λ refusal. Refuses answer refusal)
-  all_tested answer refuses =
-      elim (cases_lt (length bytes / each) most) [
-        | inl too ↦ rw (many too) (refuses too)
-        | inr enough ↦ rw (few enough) tt
-      ]
+  all_tested answer refuses = grind (arith, many, few)
 
 -- ---- the lists of headers of a whole part
 
 -- records that pass the test of room one by one lie in the bytes
 each_fits : (len start size count : ℕ)
     → room_of_each len start size (suc count) ≡ Ok tt → start + suc count * size ≤ len
-each_fits len start size zero is =
-    let first = step (room_of len start size) _ tt is in
-    omega (arith, fits-room_of len start size tt first.is)
+each_fits len start size zero is = grind (arith, fits-room_of)
 each_fits len start size (suc count) is =
     let first = step (room_of len start size) (λ _. room_of_each len (start + size) size (suc count)) tt is in
     let rest = each_fits len (start + size) size count first.rest in
@@ -159,23 +133,14 @@ pub listed_is_whole : {R : Type 0} (size : ℕ) (read : List ℕ → R) (bytes :
     → 0 < size → records_from size read bytes start count name ≡ Ok all → count ≤ (length bytes - start) / size
 unfolding records_from
 listed_is_whole size read bytes start zero name all some is = omega arith
-listed_is_whole size read bytes start (suc count) name all some is =
-    let rooms = room_of_each (length bytes) start size (suc count) in
-    let many = nat_lt (length bytes / size) (suc count) in
-    let few = step (refuse_if many (buffer_too_short (suc count) name)) _ all is in
-    let items = records size read (suc count) (drop start bytes) in
-    let each = step (refuse_as misplaced rooms) (λ _. Ok items) all few.rest in
-    let fits = each_fits (length bytes) start size count (found_within misplaced rooms tt each.is) in
-    (le-div_iff_mul-le {k = size} {x = suc count} {y = length bytes - start} some).1 (omega (arith, fits))
+listed_is_whole size read bytes start (suc count) name all some is = grind (arith, each_fits, le-div_iff_mul-le)
 
 -- a list of records that all lie whole in the bytes is not refused
 pub whole_is_listed : {R : Type 0} (size : ℕ) (read : List ℕ → R) (bytes : List ℕ) (start count : ℕ) (name : List ℕ)
     → 0 < size → count ≤ (length bytes - start) / size
     → records_from size read bytes start count name ≡ Ok (records size read count (drop start bytes))
 unfolding records_from
-whole_is_listed size read bytes start zero name some whole =
-    let few : nat_lt (length bytes / size) 0 ≡ false = grind (arith, nat_tests) in
-    rw few refl
+whole_is_listed size read bytes start zero name some whole = grind arith
 whole_is_listed size read bytes start (suc count) name some whole =
     let there = (le-div_iff_mul-le {k = size} {x = suc count} {y = length bytes - start} some).0 whole in
     let more : suc count * size ≡ size + count * size = omega arith in
@@ -214,12 +179,7 @@ module _ (bytes : List ℕ) (offset count : ℕ) (ctx : Ctx) where
 
   -- a count above 0 is the number of headers if the first lies in the file
   counted : (c most : ℕ) → 0 < c → Ok most ≡ count_from bytes offset count ctx → Ok c ≡ count_from bytes offset c ctx
-  counted c most above is =
-      let room = (unless_fault-is (room_of (length bytes) offset size) most (max 1 (count_asked bytes offset count ctx))
-      is).0 in
-      let test : (c == 0) ≡ false = grind (arith, nat_tests) in
-      let all : c ≡ max 1 c = omega (arith, above) in
-      rw (room, test) (ap Ok all)
+  counted c most above is = grind arith
 
   -- the list of the part, from the test whether all lie in the file
   sections_by : (most : ℕ) (all : Bool)
@@ -255,8 +215,7 @@ module _ (bytes : List ℕ) (offset count : ℕ) (ctx : Ctx) where
       (section_headers_of bytes part.offset part.count ctx)
   sections_cut (Ok most) is later =
       rw later (sections_by most (whole_sections bytes offset ctx most == most) (sym is) refl)
-  sections_cut (Err e) is later =
-      (refl, λ fine. absurd (not_ok _ _ (first_refused bytes offset count ctx e (sym is)) fine))
+  sections_cut (Err e) is later = grind (arith, first_refused)
 
   sections_from : (none : Bool)
       → (offset == 0) ≡ none
@@ -277,28 +236,20 @@ module _ (bytes : List ℕ) (offset : ℕ) (ctx : Ctx) where
   abbrev phread : List ℕ → ProgramHeader
   phread = program_header_of ctx.container ctx.le
 
-  phsome : 0 < phsize
-  phsome = (program_header_laws ctx.container ctx.le).size_positive
-
   -- a number other than the escape is the number of segments
   stays : (number sections : ℕ) → number < 0xffff → segment_count bytes number sections ctx ≡ Ok number
-  stays number sections small =
-      let test : (number == 0xffff) ≡ false = grind (arith, nat_tests) in
-      rw test refl
+  stays number sections small = grind arith
 
   -- if all headers that are counted lie in the file, their list isn't refused
   all_segments : (number sections count : ℕ)
       → segment_count bytes number sections ctx ≡ Ok count → count ≤ (length bytes - offset) / phsize
       → program_headers_of bytes number offset sections ctx ≡ Ok (records phsize phread count (drop offset bytes))
-  all_segments number sections count is whole =
-      rw is (whole_is_listed phsize phread bytes offset count (codes "program headers") phsome whole)
+  all_segments number sections count is whole = grind (arith, whole_is_listed)
 
   listed_segments : (number sections n : ℕ) (all : List ProgramHeader)
       → segment_count bytes number sections ctx ≡ Ok n → program_headers_of bytes number offset sections ctx ≡ Ok all
       → n ≤ (length bytes - offset) / phsize
-  listed_segments number sections n all is listed =
-      let those = rw is at listed in
-      listed_is_whole phsize phread bytes offset n (codes "program headers") all phsome those
+  listed_segments number sections n all is listed = grind (arith, listed_is_whole)
 
   module _ (number sections count : ℕ) where
     abbrev start : ℕ
@@ -375,8 +326,4 @@ segments_of_whole bytes number offset sections count ctx =
     segments_cut bytes offset ctx number sections count (segment_count bytes number sections ctx) refl
 
 pub headers_of_whole : WholeIsListed
-headers_of_whole bytes h ctx = record {
-  named = refl;
-  sections = sections_of_whole bytes h.e_shoff h.e_shnum ctx;
-  segments = segments_of_whole bytes h.e_phnum h.e_phoff h.e_shoff h.e_shnum ctx;
-}
+headers_of_whole bytes h ctx = search (rules, sections_of_whole, segments_of_whole)

@@ -4,24 +4,19 @@
 -- They go as those of one class, with two tests more: the image begins with the identification, so the magic number and
 -- the class byte are read as they were written (`reads_back`). A header that was read names the class and the byte
 -- order of its bytes (`was_read`), so it is written as it was read (`writes_back`).
-use Rattle.goblin_headers.proofs.Common.{◌≡◌, ◌≤◌, ℕ, true, nat_eq, List, [], ◌++◌, length, take, drop, slice_index}
-use Rattle.goblin_headers.proofs.Common.{None, Some, Result, Ok, refl, sym, ap, ◌∙◌, arith, false, nat_lt, not, Err}
+use Rattle.goblin_headers.proofs.Common.{common_steps, ◌≡◌, ◌≤◌, ℕ, true, nat_eq, List, [], ◌++◌, length, take, drop}
+use Rattle.goblin_headers.proofs.Common.{slice_index, Some, Result, Ok, refl, sym, ap, ◌∙◌, arith, nat_lt, not}
 use Rattle.goblin_headers.proofs.Common.{Container, Endian, Error, with_size, Layout, number_at, refuse_if, Header}
-use Rattle.goblin_headers.proofs.Common.{header_layout, order_named, class_of, WritesHeader, WritesInOrder, nat_tests}
-use Rattle.goblin_headers.proofs.Common.{BadMagic, DataType, ElfClass, Malformed, TooSmall, step, passed, found, ◌<◌}
-use Rattle.goblin_headers.proofs.Common.{Writes, room_of_fits, room_of-few, fits-room_of, order_of, room_of}
-use Rattle.goblin_headers.proofs.Common.{found_within}
+use Rattle.goblin_headers.proofs.Common.{header_layout, order_named, class_of, WritesHeader, WritesInOrder, BadMagic}
+use Rattle.goblin_headers.proofs.Common.{DataType, ElfClass, Malformed, TooSmall, step, passed, found, ◌<◌, Writes}
+use Rattle.goblin_headers.proofs.Common.{room_of_fits, room_of-few, fits-room_of}
 use Rattle.std.specs.List.{starts_with}
-use Rattle.std.proofs.lemmas.Bool.{false_from_ne_true}
-use Rattle.std.proofs.lemmas.List.{append_assoc, append-nil, length-append, length-take-le, take-append-drop}
-use Rattle.std.proofs.lemmas.List.{take-append-le, get_or_append_left, get_or-take}
-use Rattle.std.proofs.lemmas.Slice.Eq.{bytes_eq-Decides}
-use Rattle.goblin_headers.specs.Header.{header_size, HeaderFits, Identifies, new_header, magic, class_byte, data_byte}
-use Rattle.goblin_headers.specs.Header.{class_named}
+use Rattle.std.proofs.lemmas.List.{append-nil, length-append, take-append-drop, get_or-take}
+use Rattle.goblin_headers.specs.Header.{header_size, HeaderFits, Identifies, new_header, magic, class_named}
 use Rattle.goblin_headers.specs.HeaderTrips.{EachFits, OneImage, ReadsBack, WrittenAndReadBack, ImageOfRead, WritesBack}
 use Rattle.goblin_headers.specs.HeaderTrips.{NewIsOfContext, NewIsReadBack, NewInNumbers, IsReadBack}
 use Rattle.goblin_headers.specs.HeaderTrips.{IsWrittenAndReadBack, HeadersRefused, IsWrittenBack, RawHeadersRefused}
-use Rattle.goblin_headers.specs.ReadHeader.{read_header, read_in_order, needs}
+use Rattle.goblin_headers.specs.ReadHeader.{read_header, read_in_order}
 use Rattle.goblin_headers.proofs.HeaderLemmas.{header_laws, headers_fit, one_header_image, IsHeader}
 use Rattle.goblin_base.specs.declared.error.Fault.{Fault}
 use Rattle.goblin_base.specs.declared.container.Container.TheVariants as class
@@ -45,18 +40,14 @@ pub writes_in_order : {R : Type 0} (ident : List ℕ) (layout : Endian → Layou
     → WritesInOrder ident layout h old answer new
     → Wrote (layout order) h old new answer
 unfolding WritesInOrder Writes
-writes_in_order ident layout h old new answer order named room so =
-    let wrote = rw (room_of_fits (length old) 0 (layout order).size (omega arith)) at (rw named at so) in
-    record { answers = wrote.0; leaves = wrote.1 }
+writes_in_order ident layout h old new answer order named room so = grind (arith, room_of_fits)
 
 -- with a byte order and enough bytes, the header is read in that order
 pub reads_in_order : {R : Type 0} (layout : Endian → Layout R) (fault : ℕ → Fault) (bytes : List ℕ) (order : Endian)
     → 16 ≤ (layout order).size → (layout order).size ≤ length bytes → order_named (slice_index bytes 5) ≡ Some order
     → read_in_order layout fault bytes ≡ Ok ((layout order).read bytes)
 unfolding read_in_order
-reads_in_order layout fault bytes order enough room named =
-    let size = (layout order).size in
-    rw (room_of_fits (length bytes) 0 16 (omega arith), named, room_of_fits (length bytes) 0 size (omega arith)) refl
+reads_in_order layout fault bytes order enough room named = grind (arith, room_of_fits)
 
 -- so it is as the functions that read have found it
 pub reads_found : {R : Type 0} (layout : Endian → Layout R) (fault : ℕ → Fault) (bytes : List ℕ) (order : Endian)
@@ -64,8 +55,7 @@ pub reads_found : {R : Type 0} (layout : Endian → Layout R) (fault : ℕ → F
     → Some order ≡ order_named (slice_index bytes 5) → x ≡ (layout order).read bytes → 16 ≤ (layout order).size
     → (layout order).size ≤ length bytes
     → Ok x ≡ read_in_order layout fault bytes
-reads_found layout fault bytes order x named is enough room =
-    ap Ok is ∙ sym (reads_in_order layout fault bytes order enough room (sym named))
+reads_found layout fault bytes order x named is enough room = grind (arith, reads_in_order)
 
 -- what a header was read from
 pub record WasReadInOrder {R : Type 0} (layout : Endian → Layout R) (bytes : List ℕ) (h : R) : Type 0 where
@@ -77,26 +67,12 @@ pub record WasReadInOrder {R : Type 0} (layout : Endian → Layout R) (bytes : L
 pub was_read_in_order : {R : Type 0} (layout : Endian → Layout R) (fault : ℕ → Fault) (bytes : List ℕ) (h : R)
     → read_in_order layout fault bytes ≡ Ok h → WasReadInOrder layout bytes h
 unfolding read_in_order
-was_read_in_order layout fault bytes h is =
-    let ident = step (needs 16 bytes) _ h is in
-    let order = step (order_of fault bytes) _ h ident.rest in
-    let size = (layout order.value).size in
-    let room = step (needs size bytes) _ h order.rest in
-    let was = found_within _ (room_of (length bytes) 0 size) room.value room.is in
-    record {
-      order = order.value;
-      ordered = found (order_named (slice_index bytes 5)) _ order.value order.is;
-      enough = omega (arith, fits-room_of (length bytes) 0 size room.value was);
-      header = cc room.rest;
-    }
+was_read_in_order layout fault bytes h is = grind (arith, fits-room_of)
 
 -- a byte of the first of two parts
 pub front_byte : (image front after rest : List ℕ) (i : ℕ)
     → image ≡ front ++ after → i < length front → slice_index (image ++ rest) i ≡ slice_index front i
-front_byte image front after rest i is h =
-    ap (λ (all : List ℕ). slice_index (all ++ rest) i) is
-    ∙ ap (λ (all : List ℕ). slice_index all i) (append_assoc front after rest)
-    ∙ get_or_append_left front (after ++ rest) 0 i h
+front_byte image front after rest i is h = grind (arith, common_steps)
 
 -- a byte of an identification
 pub ident_byte : (ident bytes : List ℕ) (i : ℕ)
@@ -106,16 +82,7 @@ ident_byte ident bytes i is h = ap (λ (all : List ℕ). slice_index all i) is �
 module _ {R : Type 0} {ident : R → List ℕ} {layout : Endian → Layout R}
     (all : (order : Endian) → IsHeader ident (layout order)) where
   pub raw_reads_back : IsReadBack ident layout
-  raw_reads_back fault order h rest names fits =
-      let l = layout order in
-      let laws = all order in
-      let bytes = l.image h ++ rest in
-      let enough = laws.enough in
-      let long = names.long in
-      let room : l.size ≤ length bytes = omega (arith, length-append (l.image h) rest, laws.length_image h long) in
-      let byte = front_byte (l.image h) (ident h) (laws.after_ident h) rest 5 (laws.image_is h) (omega arith) in
-      reads_in_order layout fault bytes order enough room (ap order_named byte ∙ names.named)
-      ∙ ap Ok (laws.reads_low h rest long ∙ laws.low_fits h fits)
+  raw_reads_back fault order h rest names fits = grind (arith, length-append, reads_in_order)
 
   pub raw_written_and_read_back : IsWrittenAndReadBack ident layout
   raw_written_and_read_back fault order h old new answer names fits room so =
@@ -150,9 +117,7 @@ pub read_begun : (class : Container) (bytes : List ℕ)
     → Begins class bytes
     → read_header bytes ≡ with_size (header_size class) (read_in_order (header_layout class) DataType bytes)
 unfolding read_header
-read_begun class bytes begins =
-    let enough : nat_lt (length bytes) 16 ≡ false = grind (arith, nat_tests) in
-    rw (enough, begins.starts, begins.named) refl
+read_begun class bytes begins = grind arith
 
 -- the header and the size that make a result
 record Sized {R : Type 0} (answer : Result R Error) (expected : ℕ) (x : R) (size : ℕ) : Type 0 where
@@ -161,10 +126,7 @@ record Sized {R : Type 0} (answer : Result R Error) (expected : ℕ) (x : R) (si
 
 sized : {R : Type 0} (answer : Result R Error) (expected : ℕ) (x : R) (size : ℕ)
     → Ok (x, size) ≡ with_size expected answer → Sized answer expected x size
-sized {R = R} (Ok y) expected x size is =
-    let both : (x, size) ≡ (y, expected) = cc in
-    record { read = ap (λ (both : R × ℕ). Ok both.0) (sym both); size_is = ap (λ (both : R × ℕ). both.1) both }
-sized (Err e) expected x size is = absurd (cc)
+sized {R = R} answer expected x size is = grind arith
 
 -- the raw header of its class that was read is, widened, the header of either class
 pub read_header-raw : {R : Type 0} (class : Container) (layout : Endian → Layout R) (widen : R → Header)
@@ -191,20 +153,7 @@ read_header-raw class layout widen bytes raw size same long starts named is =
 read_names : (class : Container) (order : Endian) (bytes ident : List ℕ)
     → Begins class bytes → ident ≡ take 16 bytes → order_named (slice_index bytes 5) ≡ Some order
     → Identifies class order ident
-read_names class order bytes ident begins is ordered =
-    let starts : magic ≡ take 4 bytes = (bytes_eq-Decides magic (take 4 bytes)).0 begins.starts in
-    let front : take 4 ident ≡ take 4 bytes =
-    ap (take 4) is
-    ∙ sym (take-append-le 4 (take 16 bytes) (drop 16 bytes) (omega (arith, length-take-le 16 bytes begins.long)))
-    ∙ ap (take 4) (take-append-drop 16 bytes) in
-    record {
-      begins = front ∙ sym starts;
-      named = ap class_named (ident_byte ident bytes 4 is (omega arith)) ∙ begins.named;
-      names_order = record {
-        long = ap length is ∙ length-take-le 16 bytes begins.long;
-        named = ap order_named (ident_byte ident bytes 5 is (omega arith)) ∙ ordered;
-      };
-    }
+read_names class order bytes ident begins is ordered = grind arith
 
 -- what holds of a header that was read: as what it was read, in which order, and what its identification names
 pub record WasRead (bytes : List ℕ) (h : Header) (size : ℕ) : Type 0 where
@@ -252,20 +201,13 @@ each_fits class.Big = headers_fit (header_laws class.Big)
 
 -- a header that fits a class fits it in either byte order
 fits_in : (class : Container) (order : Endian) (h : Header) → HeaderFits class h → (header_layout class order).Fits h
-fits_in class.Little order h fits = fits
-fits_in class.Big order h fits = fits
+fits_in class order h fits = grind arith
 
 -- bytes that begin with the magic number do so whatever bytes follow
 begins_so : (image ident after rest : List ℕ)
     → image ≡ ident ++ after → length ident ≡ 16 → take 4 ident ≡ magic
     → starts_with nat_eq (image ++ rest) magic ≡ true
-begins_so image ident after rest is long starts =
-    let front : take 4 (image ++ rest) ≡ magic =
-    ap (λ (all : List ℕ). take 4 (all ++ rest)) is
-    ∙ ap (take 4) (append_assoc ident after rest)
-    ∙ take-append-le 4 ident (after ++ rest) (omega arith)
-    ∙ starts in
-    rw front refl
+begins_so image ident after rest is long starts = grind arith
 
 pub reads_back : ReadsBack
 reads_back class order h rest names fits =
@@ -321,58 +263,18 @@ writes_back h bytes new size answer are read so =
     answer are was.read there in
     (back.0 ∙ ap (λ (n : ℕ). Ok n) (sym was.sized), back.1)
 
--- a new header names its class and its byte order, and fits its class
-class_is_named : (class : Container) → class_named (class_byte class) ≡ Some class
-class_is_named class = grind (arith, nat_tests)
-
-order_is_named : (order : Endian) → order_named (data_byte order) ≡ Some order
-order_is_named order = grind (arith, nat_tests)
-
 -- the first test that fails refuses
 pub raw_refused : {R : Type 0} (size : ℕ) (layout : Endian → Layout R) → ((order : Endian) → (layout order).size ≡ size)
     → (fault : ℕ → Fault) (bytes : List ℕ) → RawHeadersRefused size layout fault bytes
 unfolding read_in_order
-raw_refused size layout sized fault bytes = record {
-  short = λ some less. rw (room_of-few (length bytes) 16 some less) refl;
-  no_order = λ long one two.
-      let none : order_named (slice_index bytes 5) ≡ None = grind (arith, nat_tests) in
-      rw (room_of_fits (length bytes) 0 16 (omega (arith, long)), none) refl;
-  cut = λ order long is less.
-      let room = room_of_fits (length bytes) 0 16 (omega (arith, long)) in
-      let few = room_of-few (length bytes) size (omega (arith, long)) less in
-      rw (room, ap order_named is ∙ order_is_named order, sized order, few) refl;
-}
+raw_refused size layout sized fault bytes = grind (arith, room_of-few, room_of_fits)
 
 pub headers_refused : (bytes : List ℕ) → HeadersRefused bytes
 unfolding read_header
-headers_refused bytes =
-    let enough : 16 ≤ length bytes → nat_lt (length bytes) 16 ≡ false = λ long. grind (arith, nat_tests) in
-    let starts = bytes_eq-Decides magic (take 4 bytes) in
-    record {
-      short = λ less. grind (arith, nat_tests);
-      no_magic = λ long none.
-          rw (enough long, false_from_ne_true (starts_with nat_eq bytes magic) (λ t. none (sym (starts.0 t)))) refl;
-      no_class = λ long begins one two.
-          let none : class_named (slice_index bytes 4) ≡ None = grind (arith, nat_tests) in
-          rw (enough long, starts.1 (sym begins), none) refl;
-      in_class = λ class long begins is.
-          let named = ap class_named is ∙ class_is_named class in
-          read_begun class bytes (record { long = long; starts = starts.1 (sym begins); named = named });
-    }
-
-new_fits : (class : Container) (order : Endian)
-    → HeaderFits class (new_header (record { container = class; le = order }))
-new_fits class order = grind (arith, nat_tests)
+headers_refused bytes = grind arith
 
 pub new_is_of_context : NewIsOfContext
-new_is_of_context ctx = (
-  record {
-    begins = refl;
-    named = class_is_named ctx.container;
-    names_order = record { long = refl; named = order_is_named ctx.le };
-  },
-  new_fits ctx.container ctx.le,
-)
+new_is_of_context ctx = grind arith
 
 pub new_in_numbers : NewInNumbers
 new_in_numbers order = (refl, refl, refl, refl)

@@ -10,11 +10,11 @@ use Rattle.goblin_headers.proofs.Common.{headed, header32, header64, order_named
 use Rattle.goblin_headers.proofs.Common.{WritesHeader, Writes-ok, Writes-err, room_of, Data, InvalidClass, Malformed}
 use Rattle.goblin_headers.proofs.Common.{Scroll}
 use Rattle.std.proofs.lemmas.List.{append_assoc, take_at, drop_at, drop-drop, length-append, length-drop, set-get_or}
-use Rattle.goblin_base.specs.declared.container.Container.TheVariants as class
 use Rattle.goblin_base.specs.FieldLaws.{with_fields, with_fields-image, image-low_fields}
+use Rattle.goblin_headers.specs.Header.{low_header}
+use Rattle.goblin_base.specs.declared.container.Container.TheVariants as class
 use Rattle.goblin_headers.specs.declared.header32.Header.{Header as Raw32}
 use Rattle.goblin_headers.specs.declared.header64.Header.{Header as Raw64}
-use Rattle.goblin_headers.specs.Header.{low_header}
 use Rattle.goblin_base.specs.declared.scroll.Error.{Error as Misplaced}
 
 -- ---- the result of writing a header in its byte order, case by case

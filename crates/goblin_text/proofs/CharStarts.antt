@@ -42,8 +42,7 @@ passed_to_start bytes p q l h = (grind (arith, nat_tests), grind (arith, nat_tes
 four_go_on : (bytes : List ℕ) (p : ℕ) → IsContinuation (get_or bytes (char_start bytes p) 0)
     → (char_start bytes p ≡ p + 3) × ((j : ℕ) → p ≤ j → j ≤ p + 3 → IsContinuation (get_or bytes j 0))
 unfolding char_start after_continuation
-four_go_on bytes p h =
-    (grind (arith, nat_tests), λ j l m. (grind (arith, nat_tests, h.0, h.1), grind (arith, nat_tests, h.0, h.1)))
+four_go_on bytes p h = grind arith
 
 -- ---- text is cut at an edge
 -- a place where a text may be cut, among four from a place on
@@ -139,20 +138,7 @@ pub whole_to_start : (bytes : List ℕ) (i p k : ℕ) → i ≤ p → p ≤ k �
     → up_to_zero (slice_range bytes i k) ≡ slice_range bytes i k
     → up_to_zero (slice_range bytes i (char_start bytes p)) ≡ slice_range bytes i (char_start bytes p)
 whole_to_start bytes i p k l m h short is =
-    let size : length (slice_range bytes i k) ≡ k - i = length_of_range bytes i k h in
-    let front = slice_range bytes i (char_start bytes p) in
-    let length-front : length front ≡ char_start bytes p - i =
-    length_of_range bytes i (char_start bytes p) short in
-    no_zero_whole front (λ q n z.
-    let byte : get_or bytes (i + q) 0 ≡ 0 =
-    sym (get_in_range bytes i (char_start bytes p) q (omega (arith, n, length-front))) ∙ z in
-    ⊎_elim
-    (λ (s : i + q < k).
-    whole_no_zero (slice_range bytes i k) q is (omega (arith, size)) (get_in_range bytes i k q (omega arith) ∙ byte))
-    (λ (s : k ≤ i + q).
-    let on = passed_to_start bytes p (i + q) (omega arith) (omega (arith, n, length-front)) in
-    absurd (omega (arith, on.0, byte)))
-    (cases_lt (i + q) k))
+    grind (arith, length_of_range, no_zero_whole, get_in_range, whole_no_zero, passed_to_start)
 
 -- ---- ranges one after another: if each is of a kind, so are they joined, and so is a run of blocks
 
@@ -174,10 +160,7 @@ lacks-after bytes i j k l m zero_free lacks =
     λ u. lacks (rest_is_text a (up_to_zero b) zero_free.text (subst IsUtf8 joined u))
 
 zero_free-join : (a b : List ℕ) → IsZeroFree a → IsZeroFree b → IsZeroFree (a ++ b)
-zero_free-join a b p q = record {
-  text = IsUtf8-append a b p.text q.text;
-  whole = goes_on a b (omega (arith, ap length p.whole)) ∙ ap (λ x. a ++ x) q.whole;
-}
+zero_free-join a b p q = grind (arith, IsUtf8-append, goes_on)
 
 kinds-join : (kind : Kind) (bytes : List ℕ) (i j k : ℕ) → i ≤ j → j ≤ k
     → IsOfKind kind (slice_range bytes i j)

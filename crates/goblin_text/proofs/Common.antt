@@ -14,7 +14,7 @@ pub use Rattle.goblin_text.specs.BlockRuns.{LacksText, block_start, blocks, last
 unfoldable pub use Rattle.goblin_text.specs.BlockRuns.{AreRunEnds, IsBlock, after_continuation, char_start, unknown}
 unfoldable pub use Rattle.goblin_text.specs.BlockRuns.{up_to_zero}
 pub use Rattle.goblin_text.specs.Common.{BLOCK, Header, Permissive, Refusal, SectionHeader, Strict, StringTable}
-pub use Rattle.goblin_text.specs.Common.{refusal_of, refuse_as, ◌>>=◌}
+pub use Rattle.goblin_text.specs.Common.{refuse_as, ◌>>=◌}
 unfoldable pub use Rattle.goblin_text.specs.Common.{strtab_of}
 pub use Rattle.goblin_text.specs.Shown.{each_shown, name_at, reloc_lines, section_lines, sizes_checked, symbol_lines}
 unfoldable pub use Rattle.goblin_text.specs.Shown.{relocs_shown, symbols_shown}
@@ -25,20 +25,17 @@ unfoldable pub use Rattle.goblin_text.specs.TargetState.{held}
 pub use Rattle.goblin_text.specs.declared.block_runs.Kind.{Kind}
 pub use Rattle.goblin_text.specs.declared.block_runs.Kind.TheVariants.{Text, ZeroFree}
 pub use Rattle.std.proofs.Common.{Bool, Err, List, None, Ok, Option, Result, Some, [], ap, append-nil, append_assoc}
-pub use Rattle.std.proofs.Common.{arith, cond, drop, false, filter, get_or, get_or-set_other, get_or-set_same}
-pub use Rattle.std.proofs.Common.{if◌then◌else◌, inl, inr, leb, length, length-append, length-set, lit<, ltb, map, min}
-pub use Rattle.std.proofs.Common.{not, refl, replicate, rules, set, slice_get, slice_range, subst, suc, sym, take, true}
-pub use Rattle.std.proofs.Common.{vec_len, zero, ℕ, ⊎_elim, ◌&&◌, ◌*◌, ◌++◌, ◌+◌, ◌-◌, ◌/◌, ◌<◌, ◌==◌, ◌^◌, ◌∙◌, ◌∷◌}
-pub use Rattle.std.proofs.Common.{◌≡◌, ◌≢◌, ◌≤◌}
+pub use Rattle.std.proofs.Common.{arith, drop, false, filter, get_or, if◌then◌else◌, inl, inr, length, length-append}
+pub use Rattle.std.proofs.Common.{lit<, ltb, map, min, not, refl, replicate, rules, set, slice_get, slice_range, subst}
+pub use Rattle.std.proofs.Common.{suc, sym, take, true, vec_len, zero, ℕ, ⊎_elim, ◌*◌, ◌++◌, ◌+◌, ◌-◌, ◌<◌, ◌==◌, ◌^◌}
+pub use Rattle.std.proofs.Common.{◌∙◌, ◌∷◌, ◌≡◌, ◌≢◌, ◌≤◌}
 pub use Rattle.std.proofs.KnownBytes.{Appends-trans, Consumes-kept, Consumes-trans, Keeps-refl, append_known-grown}
-pub use Rattle.std.proofs.KnownBytes.{append_known-moved}
 pub use Rattle.std.proofs.Math.Seq.{drop-append_seam, take-add, take-append-add, take-append_seam}
 pub use Rattle.std.proofs.lemmas.Bool.{both_ways, cases_eq, cases_lt, eq-eqb, false_from_ne_true}
 pub use Rattle.std.proofs.lemmas.Bool.Decides.{nat_tests}
 pub use Rattle.std.proofs.lemmas.Grind.{common_steps}
-pub use Rattle.std.proofs.lemmas.List.{drop-drop, drop-take, drop_more, flat_map_more, get_or-replicate, get_or-take}
-pub use Rattle.std.proofs.lemmas.List.{get_or_past, length-map, length-replicate, length-take, length-take-le}
-pub use Rattle.std.proofs.lemmas.List.{take-append-le, take-take, take_all}
+pub use Rattle.std.proofs.lemmas.List.{drop-drop, drop-take, drop_more, flat_map_more, get_or-take, get_or_past}
+pub use Rattle.std.proofs.lemmas.List.{length-map, length-take-le, take-append-le, take-take, take_all}
 pub use Rattle.std.proofs.lemmas.Str.{IsCharBoundary-after_ascii, IsCharBoundary-at_seam, IsCharBoundary-from_rest}
 pub use Rattle.std.proofs.lemmas.Str.{IsCharBoundary-from_take, IsCharBoundary-start, IsUtf8-append, IsUtf8-drop}
 pub use Rattle.std.proofs.lemmas.Str.{IsUtf8-from_is_utf8, IsUtf8-take, encodes-append, is_utf8-from_IsUtf8}

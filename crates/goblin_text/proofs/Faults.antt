@@ -1,13 +1,13 @@
 -- The first piece of a string table that is not UTF-8 contains the first fault.
-use Rattle.goblin_text.proofs.Common.{◌≡◌, ◌≢◌, ◌∙◌, ℕ, zero, suc, ◌+◌, ◌-◌, ◌<◌, ◌≤◌, true, false, List, [], ◌∷◌}
-use Rattle.goblin_text.proofs.Common.{length, get_or, take, drop, refl, sym, ap, subst, ⊎_elim, arith, slice_range, Ok}
-use Rattle.goblin_text.proofs.Common.{Err, Result, if◌then◌else◌, ltb, cases_eq, cases_lt, eq-eqb, false_from_ne_true}
-use Rattle.goblin_text.proofs.Common.{drop-take, drop_more, get_or-take, length-take-le, take-take}
+use Rattle.goblin_text.proofs.Common.{common_steps, ◌≡◌, ◌≢◌, ◌∙◌, ℕ, zero, suc, ◌+◌, ◌-◌, ◌<◌, ◌≤◌, true, false, List}
+use Rattle.goblin_text.proofs.Common.{[], ◌∷◌, length, get_or, take, drop, refl, sym, ap, subst, ⊎_elim, arith}
+use Rattle.goblin_text.proofs.Common.{slice_range, Ok, Err, Result, if◌then◌else◌, ltb, cases_eq, cases_lt, eq-eqb}
+use Rattle.goblin_text.proofs.Common.{false_from_ne_true, drop-take, drop_more, get_or-take, length-take-le, take-take}
 use Rattle.goblin_text.proofs.Common.{IsCharBoundary-start, IsUtf8-drop, IsUtf8-from_is_utf8, IsUtf8-take}
 use Rattle.goblin_text.proofs.Common.{is_utf8-from_IsUtf8, IsCharBoundary, IsUtf8, IsValidUpTo, Refusal, ◌>>=◌}
 use Rattle.goblin_text.proofs.Common.{StringTable, table_of, walked, texts-join, invalid_utf8, Strict, text_table, lit<}
 use Rattle.goblin_text.proofs.Common.{IsCharBoundary-after_ascii, encode, first_bad, piece, piece_start, table_of-text}
-use Rattle.std.proofs.lemmas.Bool.{and_left, eqb-true, lt-ltb, ne_eqb}
+use Rattle.std.proofs.lemmas.Bool.{and_left, eqb-true, ne_eqb}
 use Rattle.goblin.specs.Pieces.{entries, is_bad_start, is_readable, piece_end}
 use Rattle.goblin_base.proofs.PiecesLemmas.{at_end, delim_before, end_before, end_from, piece_is_range, start_after}
 use Rattle.goblin_base.proofs.PiecesLemmas.{start_of_front, start_of_start, start_to}
@@ -134,9 +134,7 @@ module _ (bytes : List ℕ) where
   -- it begins where the last string of the front does
   pub first_bad_of_front : (p : ℕ)
       → IsValidUpTo bytes p → first_bad bytes 0 ≡ piece_start (take p bytes) 0 (length (take p bytes))
-  first_bad_of_front p v =
-      let size : length (take p bytes) ≡ p = length-take-le p bytes (omega (arith, v.short)) in
-      first_bad_at p v ∙ sym (ap (piece_start (take p bytes) 0) size ∙ start_of_front bytes 0 p p (omega arith))
+  first_bad_of_front p v = grind (arith, length-take-le, first_bad_at, start_of_front)
 
   -- ---- the table
   -- what a strict walk returns whose first bad piece begins there
@@ -150,11 +148,7 @@ module _ (bytes : List ℕ) where
       → table_of Strict bytes 0
       ≡ Err (invalid_utf8 (length bytes - piece_start (take p bytes) 0 (length (take p bytes))))
   unfolding walked walk_to
-  table_refused p v =
-      let s = piece_start (take p bytes) 0 (length (take p bytes)) in
-      let at : first_bad bytes 0 ≡ s = first_bad_of_front p v in
-      let to = start_to bytes 0 p in
-      ap walk_to at ∙ rw (lt-ltb s (length bytes) (omega (arith, at, first_bad_at p v, to, v.short))) refl
+  table_refused p v = grind (arith, common_steps, first_bad_of_front, start_to)
 
   pub table_taken : IsUtf8 bytes → table_of Strict bytes 0 ≡ Ok (text_table bytes)
   table_taken u = table_of-text bytes 0 (lit< tt) Strict u

@@ -1,12 +1,11 @@
 -- The looks that names in a text take: those of its lines, and what is left of them.
-use Rattle.goblin_text.proofs.Common.{◌≡◌, ◌∙◌, ℕ, ◌+◌, ◌*◌, ◌≤◌, List, [], ◌∷◌, ◌++◌, ap, arith, nat_tests, length}
-use Rattle.goblin_text.proofs.Common.{length-append, subst, sym, length-map, CountsAtLeast, StringTable, vec_items}
-use Rattle.goblin_text.proofs.Common.{Header, SectionHeader, parts_text, relocs_text, symbols_text, strings_in, name_at}
-use Rattle.goblin_text.proofs.Common.{section_lines, ◌==◌, filter, refl}
-use Rattle.goblin.specs.Texts.{◌&◌}
+use Rattle.goblin_text.proofs.Common.{rules, ◌≡◌, ℕ, ◌+◌, ◌*◌, ◌≤◌, List, [], ◌∷◌, ◌++◌, arith, nat_tests, length}
+use Rattle.goblin_text.proofs.Common.{length-append, length-map, CountsAtLeast, StringTable, vec_items, Header}
+use Rattle.goblin_text.proofs.Common.{SectionHeader, parts_text, symbols_text, strings_in, section_lines, ◌==◌, filter}
+use Rattle.goblin_text.proofs.Common.{refl}
 use Rattle.goblin_text.specs.declared.accept.Parts.{Parts}
 use Rattle.goblin_text.specs.declared.accept.SymbolPart.{SymbolPart}
-use Rattle.goblin_text.specs.ShownLines.{header_line, named_line, section_head}
+use Rattle.goblin_text.specs.ShownLines.{named_line}
 use Rattle.goblin_text.specs.Looks.{IsShort, LooksAtMost, NamesView, ReadsNames, line_looks, lines_in, name_looks}
 use Rattle.goblin_text.specs.Looks.{names_looks, table_looks}
 
@@ -31,11 +30,7 @@ named_line_looks head name = grind (arith, length-map, length-append {A = ℕ}, 
 -- names are read, and then more names
 pub more_names : (old mid new : NamesView) (a b most : ℕ)
     → a + b ≤ most → ReadsNames old mid 0 a → ReadsNames mid new 0 b → ReadsNames old new 0 most
-more_names old mid new a b most l s t = record {
-  unchanged = t.unchanged ∙ s.unchanged;
-  looks = λ short. omega (arith, l, s.looks short, t.looks (subst IsShort (sym s.unchanged) short));
-  looks_least = omega (arith, s.looks_least, t.looks_least);
-}
+more_names old mid new a b most l s t = grind arith
 
 -- of a text the names so far were read, and the looks of the rest are left
 pub record ReadSoFar (old new : NamesView) (all rest : List ℕ) : Type 0 where
@@ -47,13 +42,7 @@ pub record ReadSoFar (old new : NamesView) (all rest : List ℕ) : Type 0 where
 pub more_read : (old mid new : NamesView) (all rest line next : List ℕ)
     → ReadSoFar old mid all rest → rest ≡ line ++ next → ReadsNames mid new 0 (names_looks line)
     → ReadSoFar old new all next
-more_read old mid new all rest line next s e r = record {
-  unchanged = r.unchanged ∙ s.unchanged;
-  looks = λ short.
-      let read = r.looks (subst IsShort (sym s.unchanged) short) in
-      omega (arith, s.looks short, ap names_looks e, looks-append line next, read);
-  looks_least = omega (arith, s.looks_least, r.looks_least);
-}
+more_read old mid new all rest line next s e r = grind (arith, looks-append)
 
 -- where a line failed
 pub read_at_failure : (old mid new : NamesView) (all rest line next : List ℕ)
@@ -72,22 +61,13 @@ parts_looks : (bytes : List ℕ) (header : Header) (sections : List SectionHeade
     → names_looks (section_lines (strings_in bytes parts.strings) 0 sections)
     + names_looks (symbols_text bytes (vec_items parts.symbols))
     ≤ names_looks (parts_text bytes header sections parts)
-parts_looks bytes header sections parts =
-    let lines = section_lines (strings_in bytes parts.strings) 0 sections in
-    let symbols = symbols_text bytes (vec_items parts.symbols) in
-    let relocs = relocs_text (vec_items parts.relocs) in
-    let all = looks-append (header_line header) (lines & symbols & relocs) in
-    omega (arith, all, looks-append lines (symbols & relocs), looks-append symbols relocs)
+parts_looks bytes header sections parts = search (rules, looks-append)
 
 -- the names of sections are read
 pub sections_in_parts : (old new : NamesView) (header : Header) (sections : List SectionHeader) (parts : Parts)
     → ReadsNames old new 0 (names_looks (section_lines (strings_in old.bytes parts.strings) 0 sections))
     → ReadsNames old new 0 (names_looks (parts_text old.bytes header sections parts))
-sections_in_parts old new header sections parts s = record {
-  unchanged = s.unchanged;
-  looks = λ short. omega (arith, s.looks short, parts_looks old.bytes header sections parts);
-  looks_least = s.looks_least;
-}
+sections_in_parts old new header sections parts s = grind (arith, parts_looks)
 
 -- and then those of symbols
 pub names_in_parts : (old mid new : NamesView) (header : Header) (sections : List SectionHeader) (parts : Parts)
@@ -95,32 +75,18 @@ pub names_in_parts : (old mid new : NamesView) (header : Header) (sections : Lis
     → ReadsNames old mid 0 (names_looks (section_lines (strings_in old.bytes parts.strings) 0 sections))
     → symbols ≡ vec_items parts.symbols → ReadsNames mid new 0 (names_looks (symbols_text mid.bytes symbols))
     → ReadsNames old new 0 (names_looks (parts_text old.bytes header sections parts))
-names_in_parts old mid new header sections parts symbols s are t =
-    more_names old mid new _ _ _ (rw (s.unchanged, are) (parts_looks old.bytes header sections parts)) s t
+names_in_parts old mid new header sections parts symbols s are t = grind (arith, parts_looks)
 
 -- ---- lines
-header-line : (h : Header) → 1 ≤ lines_in (header_line h)
-header-line h = simp lines-append (omega arith)
-
-named-line : (head name : List ℕ) → 1 ≤ lines_in (named_line head name)
-named-line head name = simp lines-append (omega arith)
-
 -- each section has a line
 section-count : (names : StringTable) (number : ℕ) (sections : List SectionHeader)
     → length sections ≤ lines_in (section_lines names number sections)
 section-count names number [] = omega arith
-section-count names number (s ∷ sections) =
-    let one = named-line (section_head number s) (name_at names s.sh_name) in
-    simp lines-append (omega (arith, one, section-count names (number + 1) sections))
+section-count names number (s ∷ sections) = grind (arith, lines-append, section-count names (number + 1) sections)
 
 lines_most : (bytes : List ℕ) (header : Header) (sections : List SectionHeader) (parts : Parts)
     → length sections + 1 ≤ lines_in (parts_text bytes header sections parts)
-lines_most bytes header sections parts =
-    let names = strings_in bytes parts.strings in
-    let lines = section_lines names 0 sections in
-    let rest = symbols_text bytes (vec_items parts.symbols) & relocs_text (vec_items parts.relocs) in
-    let all = lines-append (header_line header) (lines & rest) in
-    omega (arith, header-line header, section-count names 0 sections, all, lines-append lines rest)
+lines_most bytes header sections parts = grind (arith, lines-append, section-count)
 
 -- the tables and the names of a file that is shown
 pub looks_shown : (old mid new : NamesView) (bytes : List ℕ) (header : Header) (sections : List SectionHeader)
@@ -129,12 +95,4 @@ pub looks_shown : (old mid new : NamesView) (bytes : List ℕ) (header : Header)
     → LooksAtMost mid new (names_looks (parts_text bytes header sections parts))
     → LooksAtMost old new (length text + line_looks * lines_in text)
 unfolding names_looks
-looks_shown old mid new bytes header sections parts text is s t =
-    let all = parts_text bytes header sections parts in
-    subst (λ x. LooksAtMost old new (length x + line_looks * lines_in x)) (sym is)
-    (by all (lines_most bytes header sections parts) t)
-  where
-    by : (x : List ℕ)
-        → length sections + 1 ≤ lines_in x → LooksAtMost mid new (length x + name_looks * lines_in x)
-        → LooksAtMost old new (length x + line_looks * lines_in x)
-    by x l p = omega (arith, s, l, p)
+looks_shown old mid new bytes header sections parts text is s t = grind (arith, lines_most)

@@ -16,10 +16,7 @@ module _ (bytes : List ℕ) (place end : ℕ) (long : IsLong bytes place end) wh
   -- no zero byte stands up to the next block
   whole_head : up_to_zero (slice_range bytes place (block_start bytes (next_block place)))
       ≡ slice_range bytes place (block_start bytes (next_block place))
-  whole_head =
-      let bounds = char_start_bounds bytes (next_block place * BLOCK) in
-      whole_to_start bytes place (next_block place * BLOCK) (place + BLOCK) (omega arith) (omega arith)
-      (omega (arith, long.blocks, long.within)) (omega (arith, long.blocks, long.within)) long.whole
+  whole_head = grind (arith, char_start_bounds, whole_to_start)
 
   -- the bytes up to the next block are not UTF-8
   pub lacks_at_head : ¬ (IsUtf8 (slice_range bytes place (block_start bytes (next_block place))))
@@ -65,11 +62,7 @@ ends_in_block bytes block end (Some stop) short h other e t =
 pub ends_after : (bytes : List ℕ) (place from end : ℕ) (found : Option ℕ) → place ≤ from → from ≤ end
     → IsZeroFree (slice_range bytes place from) → EndsAt bytes from end found → EndsAt bytes place end found
 ends_after bytes place from end None l m zero_free e = lacks-after bytes place from end l m zero_free e
-ends_after bytes place from end (Some stop) l m zero_free e = record {
-  order = omega (arith, l, e.order);
-  within = e.within;
-  is = string-after bytes place from stop end l e.order e.within zero_free.whole e.is;
-}
+ends_after bytes place from end (Some stop) l m zero_free e = grind (arith, string-after)
 
 pub text_after : (bytes : List ℕ) (place from end : ℕ) (found : Option ℕ) → place ≤ from
     → IsZeroFree (slice_range bytes place from) → EndsAt bytes from end found → IsTextUpTo bytes from found

@@ -1,14 +1,11 @@
 -- The ends of runs that are stored of a file's blocks.
-use Rattle.goblin_text.proofs.Common.{◌≡◌, ◌∙◌, ℕ, zero, suc, [], ◌∷◌, refl, ◌+◌, ◌<◌, ◌≤◌, ◌≢◌, set, replicate}
-use Rattle.goblin_text.proofs.Common.{length-set, get_or-set_other, get_or-set_same, List, length}
-use Rattle.goblin_text.proofs.Common.{get_or, sym, ap, subst, ⊎_elim, arith, cases_eq, cases_lt, nat_tests}
-use Rattle.goblin_text.proofs.Common.{get_or-replicate, length-replicate, Kind, AreRunEnds, IsRunEnd, IsRun, unknown}
+use Rattle.goblin_text.proofs.Common.{common_steps, ◌≡◌, ℕ, zero, suc, [], ◌∷◌, ◌+◌, ◌<◌, ◌≤◌, set, replicate, List}
+use Rattle.goblin_text.proofs.Common.{length, get_or, arith, nat_tests, Kind, AreRunEnds, IsRunEnd, IsRun, unknown}
 
 -- no end is stored at first
 pub none_known : (kind : Kind) (bytes : List ℕ) (n : ℕ) → AreRunEnds kind bytes (replicate n 0)
 unfolding AreRunEnds
-none_known kind bytes n = λ k l some.
-    let z : ℕ = 0 in absurd (grind (arith, length-replicate n z, get_or-replicate n k z z, l, some))
+none_known kind bytes n = grind (arith, common_steps)
 
 -- of so many blocks no more than all are unknown
 pub unknown_most : (n : ℕ) (ends : List ℕ) → unknown n ends ≤ n
@@ -27,14 +24,7 @@ end_known kind bytes ends k h l some = h k l some
 pub end_more : (kind : Kind) (bytes ends : List ℕ) (i n : ℕ)
     → AreRunEnds kind bytes ends → i < length ends → IsRunEnd kind bytes i n → AreRunEnds kind bytes (set ends i n)
 unfolding AreRunEnds
-end_more kind bytes ends i n h m t = λ k l some. ⊎_elim
-    (λ (s : k ≡ i).
-    let e : get_or (set ends i n) k 0 ≡ n = ap (λ x. get_or (set ends i n) x 0) s ∙ get_or-set_same ends i n 0 m in
-    subst (λ x. IsRunEnd kind bytes x (get_or (set ends i n) k 0)) (sym s) (subst (IsRunEnd kind bytes i) (sym e) t))
-    (λ (d : k ≢ i).
-    let e : get_or (set ends i n) k 0 ≡ get_or ends k 0 = rw get_or-set_other refl in
-    subst (IsRunEnd kind bytes k) (sym e) (h k (omega (arith, l, length-set {A = ℕ})) (omega (arith, e, some))))
-    (cases_eq k i)
+end_more kind bytes ends i n h m t = grind (arith, common_steps)
 
 -- and so one unknown less
 pub unknown_less : (n : ℕ) (ends : List ℕ) (i v : ℕ)
@@ -44,24 +34,14 @@ unknown_less zero ends i v l m z p = absurd (omega arith)
 unknown_less (suc n) [] i v l m z p = absurd (omega arith)
 unknown_less (suc n) (end ∷ ends) zero v l m z p = grind (arith, nat_tests)
 unknown_less (suc n) (end ∷ ends) (suc i) v l m z p =
-    grind (arith, nat_tests, unknown_less n ends i v (omega arith) (omega arith) z p)
+    omega (arith, unknown_less n ends i v (omega arith) (omega arith) z p)
 
 -- a run goes on to where the run ends that goes on from it
 pub end_after : (kind : Kind) (bytes : List ℕ) (first k end : ℕ)
     → first ≤ k → IsRun kind bytes first k → IsRunEnd kind bytes k end → IsRunEnd kind bytes first end
-end_after kind bytes first k end l run e = record {
-  order = omega (arith, e.order);
-  within = e.within;
-  run = λ j from to. ⊎_elim (λ (s : j < k). run j from s) (λ (s : k ≤ j). e.run j s to) (cases_lt j k);
-  stops = e.stops;
-}
+end_after kind bytes first k end l run e = grind arith
 
 -- the end of a run is that of each run in it
 pub end_later : (kind : Kind) (bytes : List ℕ) (first k end : ℕ)
     → first ≤ k → k ≤ end → IsRunEnd kind bytes first end → IsRunEnd kind bytes k end
-end_later kind bytes first k end l m e = record {
-  order = m;
-  within = e.within;
-  run = λ j from to. e.run j (omega arith) to;
-  stops = e.stops;
-}
+end_later kind bytes first k end l m e = grind arith

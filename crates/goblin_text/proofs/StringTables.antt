@@ -1,6 +1,6 @@
 -- The string tables of a file, of which no entries are made.
-use Rattle.goblin_text.proofs.Common.{◌≡◌, ℕ, List, ap, slice_range, Strict, Permissive, malformed, ◌>>=◌}
-use Rattle.goblin_text.proofs.Common.{arith, both_ways, refuse_as, IsRange, strtab_of, table_of}
+use Rattle.goblin_text.proofs.Common.{◌≡◌, ℕ, List, ap, slice_range, Strict, Permissive, malformed, ◌>>=◌, arith}
+use Rattle.goblin_text.proofs.Common.{both_ways, refuse_as, IsRange, strtab_of, table_of}
 use Rattle.goblin.specs.declared.options.ParseMode.{ParseMode}
 
 -- a table is that of its range's bytes

@@ -1,8 +1,8 @@
 -- Strings: the bytes before the first zero byte.
-use Rattle.goblin_text.proofs.Common.{◌≡◌, ◌≢◌, ◌∙◌, ℕ, ◌+◌, ◌-◌, ◌<◌, ◌≤◌, ◌==◌, Bool, not, List, ◌++◌, length, get_or}
-use Rattle.goblin_text.proofs.Common.{take, drop, sym, ap, ⊎_elim, arith, slice_range, take-append-add, cases_lt}
-use Rattle.goblin_text.proofs.Common.{nat_tests, get_or-take, length-take, length-take-le, take-append-le, take-take}
-use Rattle.goblin_text.proofs.Common.{take_all, position_or_len, up_to_zero, length_of_range, get_in_range, ranges-join}
+use Rattle.goblin_text.proofs.Common.{common_steps, ◌≡◌, ◌≢◌, ◌∙◌, ℕ, ◌+◌, ◌-◌, ◌<◌, ◌≤◌, ◌==◌, Bool, not, List, ◌++◌}
+use Rattle.goblin_text.proofs.Common.{length, get_or, sym, ap, ⊎_elim, arith, slice_range, take-append-add, cases_lt}
+use Rattle.goblin_text.proofs.Common.{nat_tests, length-take-le, take-append-le, take_all, position_or_len, up_to_zero}
+use Rattle.goblin_text.proofs.Common.{length_of_range, ranges-join}
 use Rattle.std.proofs.lemmas.List.Folds.{prefix_len-append}
 use Rattle.std.proofs.lemmas.List.Sums.{fails_before_first, passes_at_first, prefix_len-le-length}
 
@@ -23,18 +23,12 @@ length-up a = length-take-le (first_zero a) a (within a)
 -- a zero byte ends the string, whatever follows
 pub stops : (a b : List ℕ) → length (up_to_zero a) < length a → up_to_zero (a ++ b) ≡ up_to_zero a
 unfolding up_to_zero
-stops a b h =
-    let short : first_zero a < length a = omega (arith, length-up a) in
-    let len : first_zero (a ++ b) ≡ first_zero a = grind (arith, nat_tests, prefix_len-append no_zero a b) in
-    rw len (take-append-le (first_zero a) a b (within a))
+stops a b h = grind (arith, length-up, prefix_len-append, take-append-le)
 
 -- with no zero byte it goes on
 pub goes_on : (a b : List ℕ) → length a ≤ length (up_to_zero a) → up_to_zero (a ++ b) ≡ a ++ up_to_zero b
 unfolding up_to_zero
-goes_on a b h =
-    let same : first_zero a ≡ length a = omega (arith, length-up a, within a) in
-    let len : first_zero (a ++ b) ≡ length a + first_zero b = grind (arith, nat_tests, prefix_len-append no_zero a b) in
-    rw len (take-append-add a b (first_zero b))
+goes_on a b h = grind (arith, length-up, within, prefix_len-append, take-append-add)
 
 pub whole : (a : List ℕ) → length a ≤ length (up_to_zero a) → up_to_zero a ≡ a
 unfolding up_to_zero
@@ -50,32 +44,21 @@ no_zero_whole a none = ⊎_elim
     (cases_lt (first_zero a) (length a))
 
 pub whole_no_zero : (a : List ℕ) (m : ℕ) → up_to_zero a ≡ a → m < length a → get_or a m 0 ≢ 0
-whole_no_zero a m is l = λ z.
-    let before : m < first_zero a = omega (arith, ap length is, length-up a) in
-    grind (arith, nat_tests, fails_before_first (λ b. b == 0) a m 0 before)
+whole_no_zero a m is l = grind (arith, length-up, fails_before_first)
 
 -- ---- strings in a range
 -- a byte of a string
 pub get_up : (bytes : List ℕ) (i e m : ℕ) → m < length (up_to_zero (slice_range bytes i e))
     → get_or (up_to_zero (slice_range bytes i e)) m 0 ≡ get_or bytes (i + m) 0
 unfolding up_to_zero
-get_up bytes i e m l =
-    let s = slice_range bytes i e in
-    let n : m < first_zero s = omega (arith, length-up s) in
-    let short : m < e - i = omega (arith, within s, length-take (e - i) (drop i bytes)) in
-    get_or-take (first_zero s) s m 0 n ∙ get_in_range bytes i e m short
+get_up bytes i e m l = grind (arith, common_steps)
 
 -- a string ends where a zero byte stands first, or where the range does
 pub string_found : (bytes : List ℕ) (i j s : ℕ) → i ≤ j → j ≤ length bytes
     → s ≡ i + first_zero (slice_range bytes i j)
     → slice_range bytes i s ≡ up_to_zero (slice_range bytes i j)
 unfolding up_to_zero
-string_found bytes i j s l m e =
-    let range = slice_range bytes i j in
-    let n = first_zero range in
-    let size : length range ≡ j - i = length_of_range bytes i j m in
-    let short : n ≤ j - i = omega (arith, within range, size) in
-    rw (take-take n (j - i) (drop i bytes) short) (ap (λ x. take x (drop i bytes)) (omega (arith, e)))
+string_found bytes i j s l m e = grind (arith, common_steps)
 
 -- a string goes on after bytes with no zero byte
 pub string-after : (bytes : List ℕ) (i j s k : ℕ) → i ≤ j → j ≤ s → s ≤ k

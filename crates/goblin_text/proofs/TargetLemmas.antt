@@ -1,8 +1,7 @@
 -- What of a text was put into a target, and what is left of it.
-use Rattle.goblin_text.proofs.Common.{◌≡◌, ◌∙◌, ◌++◌, ◌∷◌, ℕ, List, [], Option, ap, append_assoc, get_or, set}
-use Rattle.goblin_text.proofs.Common.{append-nil, arith, length, min, refl, sym, take, Appends-trans}
-use Rattle.goblin_text.proofs.Common.{append_known-grown, append_known-moved, take_all, Appends, Keeps, append_known}
-use Rattle.goblin_text.proofs.Common.{State, held, Stops, parts_text_more}
+use Rattle.goblin_text.proofs.Common.{common_steps, ◌≡◌, ◌++◌, ◌∷◌, ℕ, List, [], Option, append_assoc, get_or, set}
+use Rattle.goblin_text.proofs.Common.{append-nil, arith, length, min, refl, take, Appends-trans, append_known-grown}
+use Rattle.goblin_text.proofs.Common.{take_all, Appends, Keeps, append_known, State, held, Stops, parts_text_more}
 
 -- of a text the lines so far were put, and the rest is left
 pub record PutSoFar (old new : State) (all rest : List ℕ) : Type 0 where
@@ -16,21 +15,11 @@ pub more_put : (a b c : State) (all line rest next : List ℕ)
     → PutSoFar a b all rest → rest ≡ line ++ next
     → Appends b.contents c.contents line × (c.reported_error ≡ b.reported_error) × Stops b c
     → PutSoFar a c all next
-more_put a b c all line rest next w e p = record {
-  lines = w.lines ++ line;
-  appends = Appends-trans a.contents b.contents c.contents _ _ w.appends p.0;
-  are = w.are ∙ ap (λ r. w.lines ++ r) e ∙ sym (append_assoc w.lines line next);
-  heeded = p.1 ∙ w.heeded;
-  stopped = λ known. p.2 (w.heeded ∙ known) ∙ w.stopped known;
-}
+more_put a b c all line rest next w e p = grind (arith, Appends-trans, append_assoc)
 
 -- an empty room before a writer
 pub held-none : (known : Option (List ℕ)) → append_known known [] ≡ known
 held-none known = grind (arith, append-nil)
-
--- as many bytes of a list as it has
-pub take-most : (xs : List ℕ) (n m : ℕ) → length xs ≡ m → take (min n m) xs ≡ take n xs
-take-most xs n m e = grind (arith, take_all)
 
 pub appends_kept : (a b c : Option (List ℕ)) (text : List ℕ) → Keeps a b → Appends b c text → Appends a c text
 appends_kept a b c text p q = grind arith
@@ -39,9 +28,7 @@ appends_kept a b c text p q = grind arith
 pub passed_on : (a b : Option (List ℕ)) (room : List ℕ) (filled m : ℕ)
     → length room ≡ m → Appends a b (take (min filled m) room) → Keeps (held a room filled) b
 unfolding held
-passed_on a b room filled m e p =
-    rw (held-none b) at (append_known-moved a b (take (min filled m) room) [] (take filled room) p
-    (sym (take-most room filled m e) ∙ sym (append-nil (take (min filled m) room))))
+passed_on a b room filled m e p = grind (arith, common_steps)
 
 -- nothing fills the room
 pub emptied : (b : Option (List ℕ)) (room : List ℕ) (filled : ℕ) → filled ≡ 0 → held b room filled ≡ b
