@@ -4,7 +4,6 @@ ghost use Rattle.std.specs.List.{position, position_or_len};
 ghost use Rattle.goblin_base.specs.Ascii.{ends_run, lowest_set};
 ghost use Rattle.goblin_base.specs.Strtab.{plain};
 
-use crate::strtab::position;
 use std::simd::prelude::*;
 
 const LANES: usize = 16;
@@ -115,4 +114,11 @@ fn run_end(bytes: &[u8], delim: u8) -> Option<usize>
     ensures { result ≡ position (ends_run delim) bytes.now }
 {
     bytes.iter().position(|b| *b == delim || *b >= 0x80)
+}
+
+// Returns the offset of the first delimiter.
+pub(crate) fn position(bytes: &[u8], delim: u8) -> Option<usize>
+    ensures { result ≡ position (λ b. b == delim) bytes.now }
+{
+    bytes.iter().position(|b| *b == delim)
 }

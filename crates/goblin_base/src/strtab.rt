@@ -87,13 +87,6 @@ pub fn short_piece_len(bytes: &[u8], offset: usize, delim: u8) -> usize
     short_len_before(&bytes[offset..], delim)
 }
 
-// Returns the offset of the first delimiter.
-pub(crate) fn position(bytes: &[u8], delim: u8) -> Option<usize>
-    ensures { result ≡ position (λ b. b == delim) bytes.now }
-{
-    bytes.iter().position(|b| *b == delim)
-}
-
 impl<'a> Strtab<'a> {
     /// Makes the table of all the bytes, without parsing it.
     pub fn new(bytes: &'a [u8], delim: u8) -> Self

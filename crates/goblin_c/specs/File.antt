@@ -58,8 +58,8 @@ header_expected bytes = do
   Ok (Some (header_converted read.0))
 
 -- the header that counts only what lies whole in the file
-abbrev pub whole_header_of : List ℕ → GoblinHeader → GoblinHeader
-whole_header_of bytes h = let part = sections_part bytes h.e_shoff h.e_shnum (context_of h) in record h {
+abbrev pub whole_header_for_c : List ℕ → GoblinHeader → GoblinHeader
+whole_header_for_c bytes h = let part = sections_part bytes h.e_shoff h.e_shnum (context_of h) in record h {
   e_shoff = part.offset;
   e_shnum = part.count;
   e_phnum = segments_part bytes h.e_phnum h.e_phoff h.e_shoff (context_of h);
@@ -128,7 +128,7 @@ ContextIsTheHeaders =
 abbrev pub WholeHeaderIsTheLibrarys : Type 0
 WholeHeaderIsTheLibrarys =
     (bytes : List ℕ) (h : Header) (ctx : Ctx) → HasHeader bytes h → NamesContext h ctx
-    → whole_header_of bytes (header_converted h) ≡ header_converted (library_whole bytes h ctx)
+    → whole_header_for_c bytes (header_converted h) ≡ header_converted (library_whole bytes h ctx)
 
 -- a header that fits and was put is read again
 abbrev pub HeadersAreRead : Type 0

@@ -13,7 +13,7 @@ use Rattle.goblin_c.specs.Segments.{SegmentFits, segment_converted, segment_coun
 use Rattle.goblin_c.specs.Segments.{segment_layout_of, segment_from_c, segment_put_expected, segment_range_expected}
 use Rattle.goblin_c.specs.Symbols.{SymbolFits, symbol_by_name_expected, symbol_converted, symbol_count_expected}
 use Rattle.goblin_c.specs.Symbols.{symbol_expected, symbol_layout_of, symbol_from_c, symbol_put_expected, symbols_expected}
-use Rattle.goblin_c.specs.{File.whole_header_of, Items.GivenFrom, Items.first_item, Numbers.number_put_expected}
+use Rattle.goblin_c.specs.{File.whole_header_for_c, Items.GivenFrom, Items.first_item, Numbers.number_put_expected}
 use Rattle.goblin_c.specs.{Puts.ChangesOnly, Puts.IsUnfit, Results.RefusalAt, Segments.segments_from_expected}
 use Rattle.goblin_c.specs.{Strings.string_expected, Strings.strings_expected, Symbols.symbols_from_expected}
 use Rattle.std.specs.Prelude.{Bool, IsOk, List, None, Ok, Option, Result, Some, length, slice_get, true, ℕ, ◌*◌, ◌+◌}
@@ -27,16 +27,16 @@ KeepsWhatIsRead plain other = IsOk other × (IsOk plain → other ≡ plain)
 -- fields stay
 pub record WholeKeeps (bytes : List ℕ) (h : GoblinHeader) : Type 0 where
   pub section_count :
-      KeepsWhatIsRead (section_count_expected bytes h) (section_count_expected bytes (whole_header_of bytes h))
+      KeepsWhatIsRead (section_count_expected bytes h) (section_count_expected bytes (whole_header_for_c bytes h))
   pub section :
       (index : ℕ)
-      → KeepsWhatIsRead (section_expected bytes h index) (section_expected bytes (whole_header_of bytes h) index)
+      → KeepsWhatIsRead (section_expected bytes h index) (section_expected bytes (whole_header_for_c bytes h) index)
   pub segment_count :
-      KeepsWhatIsRead (segment_count_expected bytes h) (segment_count_expected bytes (whole_header_of bytes h))
+      KeepsWhatIsRead (segment_count_expected bytes h) (segment_count_expected bytes (whole_header_for_c bytes h))
   pub segment :
       (index : ℕ)
-      → KeepsWhatIsRead (segment_expected bytes h index) (segment_expected bytes (whole_header_of bytes h) index)
-  pub others : record (whole_header_of bytes h) { e_shoff = h.e_shoff; e_shnum = h.e_shnum; e_phnum = h.e_phnum } ≡ h
+      → KeepsWhatIsRead (segment_expected bytes h index) (segment_expected bytes (whole_header_for_c bytes h) index)
+  pub others : record (whole_header_for_c bytes h) { e_shoff = h.e_shoff; e_shnum = h.e_shnum; e_phnum = h.e_phnum } ≡ h
 
 abbrev pub WholeHeaderKeeps : Type 0
 WholeHeaderKeeps = (bytes : List ℕ) (h : GoblinHeader) → WholeKeeps bytes h

@@ -1,6 +1,6 @@
 //! The file and its header.
 ghost use Rattle.goblin_c.specs.Common.{header_size, option_map, order_named};
-ghost use Rattle.goblin_c.specs.File.{FitsClass, context_of, header_converted, header_expected, header_misfit, header_from_c, header_put_expected, named_ctx, names_index_for, whole_header_of};
+ghost use Rattle.goblin_c.specs.File.{FitsClass, context_of, header_converted, header_expected, header_misfit, header_from_c, header_put_expected, named_ctx, names_index_for, whole_header_for_c};
 ghost use Rattle.goblin_c.specs.Puts.{Puts};
 ghost use Rattle.goblin_c.specs.Results.{Stores};
 ghost use Rattle.std.specs.Prelude.{IfOk, Some, if◌then◌else◌, length, ◌==◌, ◌≡◌, ◌≤◌};
@@ -174,7 +174,7 @@ pub extern "C" fn goblin_file<'a>(
 /// Stores a copy of a file whose header counts only the section headers and program headers that lie whole in it.
 #[unsafe(no_mangle)]
 pub extern "C" fn goblin_whole_header<'a>(file: &GoblinFile<'a>, whole: &mut GoblinFile<'a>)
-    ensures header { whole.new.header ≡ whole_header_of file.now.bytes.now file.now.header }
+    ensures header { whole.new.header ≡ whole_header_for_c file.now.bytes.now file.now.header }
     ensures bytes { whole.new.bytes.now ≡ file.now.bytes.now }
 {
     let (bytes, header) = (file.bytes, &file.header);

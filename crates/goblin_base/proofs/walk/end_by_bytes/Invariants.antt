@@ -1,6 +1,6 @@
 use Rattle.goblin_base.proofs.Common.{◌≡◌, ℕ, ◌+◌, ◌-◌, ◌<◌, ◌≤◌, ◌↔◌, false, true, eqb, length, get_or, CountsAtLeast}
 use Rattle.goblin_base.proofs.Common.{AreAscii}
-use Rattle.goblin_base.proofs.marks.end_by_bytes.Given as goal
+use Rattle.goblin_base.proofs.walk.end_by_bytes.Given as goal
 
 abbrev pub invariant-loop-end : goal.invariant-loop-end
 invariant-loop-end l = record {

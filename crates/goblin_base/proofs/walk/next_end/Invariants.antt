@@ -2,7 +2,7 @@
 -- Only the bytes from `max marks.until from` of the call on were looked at since: those before were already marked.
 use Rattle.goblin_base.proofs.Common.{◌≡◌, ℕ, ◌+◌, ◌-◌, ◌<◌, ◌≤◌, ◌↔◌, false, true, eqb, length, get_or, max}
 use Rattle.goblin_base.proofs.Common.{CountsAtLeast, AreAscii, HaveMarks}
-use Rattle.goblin_base.proofs.marks.next_end.Given as goal
+use Rattle.goblin_base.proofs.walk.next_end.Given as goal
 
 abbrev pub invariant-loop-at : goal.invariant-loop-at
 invariant-loop-at l = record {

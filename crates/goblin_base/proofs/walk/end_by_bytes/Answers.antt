@@ -1,6 +1,6 @@
 use Rattle.goblin_base.proofs.Common.{◌≡◌, get_or, slice_index, length, sym, ap, ◌∙◌, arith, eq-eqb}
 use Rattle.goblin_base.proofs.PiecesLemmas.{end_is}
-use Rattle.goblin_base.proofs.marks.end_by_bytes.Goals as goal
+use Rattle.goblin_base.proofs.walk.end_by_bytes.Goals as goal
 
 pub returns-then-byte-delim-clause-value : goal.returns-then-byte-delim-clause-value
 returns-then-byte-delim-clause-value c =

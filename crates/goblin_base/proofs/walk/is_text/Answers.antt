@@ -1,5 +1,5 @@
 use Rattle.goblin_base.proofs.MarksLemmas.{low_is_text}
-use Rattle.goblin_base.proofs.marks.is_text.Goals as goal
+use Rattle.goblin_base.proofs.walk.is_text.Goals as goal
 
 pub returns-then-is_ascii-clause-value : goal.returns-then-is_ascii-clause-value
 returns-then-is_ascii-clause-value c =

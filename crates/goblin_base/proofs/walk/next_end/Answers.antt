@@ -5,8 +5,8 @@ use Rattle.goblin_base.proofs.Common.{◌≡◌, ℕ, ◌+◌, ◌-◌, ◌/◌,
 use Rattle.goblin_base.proofs.Common.{lowest_set, AreAscii, AreMarks, piece_end}
 use Rattle.goblin_base.proofs.PiecesLemmas.{end_is}
 use Rattle.goblin_base.proofs.MarksLemmas.{next_delim, no_delim, ascii_more, end_later}
-use Rattle.goblin_base.proofs.marks.next_end.Goals.{then-at-marks+else-len-left, else-at-marks}
-use Rattle.goblin_base.proofs.marks.next_end.Goals as goal
+use Rattle.goblin_base.proofs.walk.next_end.Goals.{then-at-marks+else-len-left, else-at-marks}
+use Rattle.goblin_base.proofs.walk.next_end.Goals as goal
 
 -- no bytes are ASCII
 nothing : (bytes : List ℕ) (at : ℕ) → (true ≡ true) ↔ AreAscii bytes at at
