@@ -52,8 +52,9 @@
 //! # Platforms
 //! The library is made for Linux (and Android) on x86-64 and AArch64, and this crate needs a host of 64 bits. The files
 //! that it reads may be of any machine. It needs Rust 1.63. Without the feature `std`, which is on by default, it needs
-//! only `core` and `alloc`: [`Error`] is then no error of std, and [`strtab::Strtab::get_c_str`] is missing. All types
-//! may be shared and sent between threads, since the library has no state.
+//! only `core` and `alloc`: [`Error`] is then no error of std, and [`strtab::Strtab::get_c_str`] is missing, which
+//! [`strtab::Strtab::get_closed_bytes`] stands for. All types may be shared and sent between threads, since the library
+//! has no state.
 //!
 //! # Coming from goblin
 //! Here each part of the file is read on demand, which can fail, so most of goblin's fields are calls that return a

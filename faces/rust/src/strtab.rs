@@ -54,16 +54,27 @@ impl<'a> Strtab<'a> {
         Ok(range.map(|range| self.file.slice(range)))
     }
 
-    /// Returns the string at an offset, which need not be UTF-8, if a zero byte of the table closes it. Returns `None`
-    /// past the end of the table and if the string ends with the table.
+    /// Returns the bytes of the string at an offset, which need not be UTF-8, if a zero byte of the table closes it.
+    /// Returns `None` past the end of the table and if the string ends with the table.
+    ///
+    /// # Errors
+    /// If the table is not inside the file.
+    #[inline]
+    pub fn get_closed_bytes(&self, offset: usize) -> Result<Option<&'a [u8]>> {
+        let range = sys::goblin_string_closed(&self.file, &self.range, offset as u64)?;
+        Ok(range.map(|range| self.file.slice(range)))
+    }
+
+    /// Returns what [`Strtab::get_closed_bytes`] does, as a string of C with its zero byte.
     ///
     /// ```
     /// # fn main() -> Result<(), Box<dyn std::error::Error>> {
     /// # let bytes = std::fs::read(std::env::current_exe()?)?;
     /// let elf = goblin_rs::Elf::parse(&bytes)?;
     /// let text = elf.section(".text")?.ok_or("no .text")?;
-    /// let name = elf.shdr_strtab()?.get_c_str(text.sh_name)?;
-    /// assert_eq!(name.map(|name| name.to_bytes_with_nul()), Some(&b".text\0"[..]));
+    /// let (names, at) = (elf.shdr_strtab()?, text.sh_name);
+    /// assert_eq!(names.get_closed_bytes(at)?, Some(&b".text"[..]));
+    /// assert_eq!(names.get_c_str(at)?.map(|name| name.to_bytes_with_nul()), Some(&b".text\0"[..]));
     /// # Ok(())
     /// # }
     /// ```
@@ -141,8 +152,8 @@ impl<'a> Strtab<'a> {
     /// # let bytes = std::fs::read(std::env::current_exe()?)?;
     /// let elf = goblin_rs::Elf::parse(&bytes)?;
     /// let (names, text) = (elf.shdr_strtab()?, elf.section(".text")?.ok_or("no .text")?);
-    /// assert!(names.is(text.sh_name, b".text")? && !names.is(text.sh_name, b".te")?);
-    /// assert!(names.starts_with(text.sh_name, b".te")?);
+    /// assert!(names.is_at(text.sh_name, b".text")? && !names.is_at(text.sh_name, b".te")?);
+    /// assert!(names.starts_at(text.sh_name, b".te")?);
     /// # Ok(())
     /// # }
     /// ```
@@ -150,16 +161,16 @@ impl<'a> Strtab<'a> {
     /// # Errors
     /// If the table is not inside the file.
     #[inline]
-    pub fn is(&self, offset: usize, name: &[u8]) -> Result<bool> {
+    pub fn is_at(&self, offset: usize, name: &[u8]) -> Result<bool> {
         sys::goblin_string_is(&self.file, &self.range, offset as u64, name)
     }
 
-    /// Reports whether the string at an offset starts with these bytes, as [`Strtab::is`] does.
+    /// Reports whether the string at an offset starts with these bytes, as [`Strtab::is_at`] does.
     ///
     /// # Errors
     /// If the table is not inside the file.
     #[inline]
-    pub fn starts_with(&self, offset: usize, start: &[u8]) -> Result<bool> {
+    pub fn starts_at(&self, offset: usize, start: &[u8]) -> Result<bool> {
         sys::goblin_string_starts(&self.file, &self.range, offset as u64, start)
     }
 }

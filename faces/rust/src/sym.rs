@@ -85,8 +85,9 @@ pub fn get_type(info: u8) -> &'static str {
 ///     for symbol in symbols.iter().filter(|symbol| symbol.is_function()) {
 ///         println!("{:x} {}", symbol.st_value, symbols.name(&symbol)?.unwrap_or(""));
 ///     }
-///     let main = symbols.find("main")?.and_then(|index| symbols.get(index));
-///     assert!(main.map_or(true, |symbol| symbol.is_function()));
+///     if let Some((index, main)) = symbols.symbol_by_name("main", 0)? {
+///         println!("main is symbol {index}, at {:x}", main.st_value);
+///     }
 /// }
 /// # Ok(())
 /// # }
@@ -144,7 +145,7 @@ impl<'a> Symtab<'a> {
         self.strtab.get_bytes(symbol.st_name)
     }
 
-    /// Returns the index of the symbol of an address. It contains the address: of those with
+    /// Returns the symbol of an address, and its index. It contains the address: of those with
     /// `st_value <= address < st_value + st_size` it is the one with the highest `st_value`, the first of several. If
     /// there is none, a label of size 0 may be there, as assembly has. It counts only in its own section: of the
     /// symbols with `st_value <= address` whose section holds the address, it is the first of size 0 among those with
@@ -158,9 +159,9 @@ impl<'a> Symtab<'a> {
     ///
     /// Each call reads all symbols: for many addresses use [`Symtab::address_map`].
     #[must_use]
-    pub fn at(&self, address: u64) -> Option<usize> {
-        let index = sys::goblin_symbol_by_address(&self.file, &self.header, &self.range, address);
-        made(index).map(|index| index as usize)
+    pub fn symbol_by_address(&self, address: u64) -> Option<(usize, Sym)> {
+        let index = made(sys::goblin_symbol_by_address(&self.file, &self.header, &self.range, address))? as usize;
+        Some((index, self.get(index)?))
     }
 
     // Returns the section of a symbol by its index.
@@ -175,15 +176,7 @@ impl<'a> Symtab<'a> {
         AddressMap::of(*self)
     }
 
-    /// Returns the index of the first symbol with a name: a text or bytes.
-    ///
-    /// # Errors
-    /// If the string table is not inside the file.
-    pub fn find(&self, name: impl AsRef<[u8]>) -> Result<Option<usize>> {
-        Ok(self.symbol_by_name(name, 0)?.map(|(index, _)| index))
-    }
-
-    /// Returns the first symbol with a name, from an index on, and its index.
+    /// Returns the first symbol with a name, which is a text or bytes, from an index on, and its index.
     ///
     /// ```
     /// # fn main() -> Result<(), Box<dyn std::error::Error>> {

@@ -19,7 +19,7 @@ use goblin_rs::sym::Sym;
 use goblin_rs::{header, program_header, section_header, sym, Elf, Result};
 
 mod made;
-use made::{made, Form, FORMS, STRINGS};
+use made::{index, made, Form, FORMS, STRINGS};
 
 /// Returns a file with another number in the header of a section: four bytes at an offset in the 32-bit class, and at
 /// another one in the 64-bit class.
@@ -227,8 +227,8 @@ fn symbols() {
         assert_eq!((first.st_visibility(), first.st_value, first.st_size, first.st_shndx), (2, 0x1020, 0x30, 3));
         let names: Vec<_> = symbols.iter().map(|symbol| symbols.name(&symbol).map_err(|e| e.kind())).collect();
         assert_eq!(names, [Ok(Some("")), Ok(Some("first")), Ok(Some("second")), Ok(Some("été")), Err(NOT_UTF_8)]);
-        assert_eq!(symbols.find("été"), Ok(Some(3)));
-        assert_eq!(symbols.find("t"), Ok(None));
+        assert_eq!(symbols.symbol_by_name("été", 0).map(index), Ok(Some(3)));
+        assert_eq!(symbols.symbol_by_name("t", 0).map(index), Ok(None));
         assert_eq!(symbols.get(5), None);
         assert_eq!(symbols.strtab().get(STRINGS.len()), Ok(None));
         assert!(elf.dynsyms().unwrap().is_none());
@@ -254,7 +254,7 @@ fn linked(file: &[u8]) -> Result<Option<(u32, String)>> {
 fn first_symbol(file: &[u8]) -> Named {
     let symbols = Elf::parse(file).unwrap().syms().unwrap().unwrap();
     let symbol = symbols.get(1).unwrap();
-    (symbols.name(&symbol).map(|name| name.map(String::from)), symbols.find("first"))
+    (symbols.name(&symbol).map(|name| name.map(String::from)), symbols.symbol_by_name("first", 0).map(index))
 }
 
 #[test]
@@ -304,10 +304,10 @@ fn counts_and_bytes() {
         let symbols = elf.syms().unwrap().unwrap();
         assert_eq!((symbols.len(), symbols.is_empty()), (7, false));
         // the labels 5 and 6 have the values 0 and 1, and their section, ".note", holds 48 addresses from 0x6001 on
-        assert_eq!((symbols.at(0), symbols.at(0x101f), symbols.at(0x6000)), (None, None, None));
-        assert_eq!((symbols.at(0x6001), symbols.at(0x6030), symbols.at(0x6031)), (Some(6), Some(6), None));
-        assert_eq!((symbols.at(0x1020), symbols.at(0x104f)), (Some(1), Some(1)));
-        assert_eq!((symbols.at(0x1050), symbols.at(u64::MAX >> 32)), (None, None));
+        let at = |address| index(symbols.symbol_by_address(address));
+        assert_eq!([0, 0x101f, 0x1020, 0x104f, 0x1050].map(at), [None, None, Some(1), Some(1), None]);
+        assert_eq!([0x6000, 0x6001, 0x6030, 0x6031].map(at), [None, Some(6), Some(6), None]);
+        assert_eq!(at(u64::MAX >> 32), None);
         let counts: Vec<_> = elf.shdr_relocs().unwrap().iter().map(|(_, relocs)| relocs.len()).collect();
         assert_eq!(counts, [2, 1]);
         let sections = elf.section_headers().unwrap();
@@ -324,7 +324,7 @@ fn counts_and_bytes() {
         assert_eq!(symbols.strtab().get_bytes(20), Ok(Some(&b"\xff"[..])));
         assert_eq!(symbols.strtab().get_bytes(STRINGS.len()), Ok(None));
         let bytes = symbols.symbol_by_name(b"\xff", 0).unwrap().map(|(index, symbol)| (index, symbol.st_name));
-        assert_eq!((bytes, symbols.find(b"\xc3")), (Some((4, 20)), Ok(None)));
+        assert_eq!((bytes, symbols.symbol_by_name(b"\xc3", 0).map(index)), (Some((4, 20)), Ok(None)));
         let cut = SectionHeader { sh_size: strings.sh_size - 1, ..strings };
         let closed = elf.strtab(&cut).closed().unwrap();
         assert_eq!([7, 20].map(|at| closed.get_bytes(at)), [Ok(Some(&b"second"[..])), Ok(None)]);
@@ -342,11 +342,11 @@ fn counts_and_bytes() {
 
 /// Compares strings of a table of `STRINGS`, and finds them as C strings, and many of them.
 fn compares_strings(names: &Strtab) {
-    assert_eq!((names.is(1, b"first"), names.is(2, b"irst"), names.is(20, b"\xff")), (Ok(true), Ok(true), Ok(true)));
-    assert_eq!((names.is(1, b"firs"), names.is(1, b"first\0")), (Ok(false), Ok(false)));
-    assert_eq!((names.is(STRINGS.len(), b""), names.is(usize::MAX, b"")), (Ok(false), Ok(false)));
-    assert_eq!((names.starts_with(7, b"sec"), names.starts_with(7, b"")), (Ok(true), Ok(true)));
-    assert_eq!((names.starts_with(7, b"seconds"), names.starts_with(6, b"\0")), (Ok(false), Ok(false)));
+    assert_eq!((names.is_at(1, b"first"), names.is_at(2, b"irst"), names.is_at(20, b"\xff")), (Ok(true), Ok(true), Ok(true)));
+    assert_eq!((names.is_at(1, b"firs"), names.is_at(1, b"first\0")), (Ok(false), Ok(false)));
+    assert_eq!((names.is_at(STRINGS.len(), b""), names.is_at(usize::MAX, b"")), (Ok(false), Ok(false)));
+    assert_eq!((names.starts_at(7, b"sec"), names.starts_at(7, b"")), (Ok(true), Ok(true)));
+    assert_eq!((names.starts_at(7, b"seconds"), names.starts_at(6, b"\0")), (Ok(false), Ok(false)));
     let closed = |offset| names.get_c_str(offset).map(|name| name.map(|name| name.to_bytes()));
     assert_eq!((closed(7), closed(20)), (Ok(Some(&b"second"[..])), Ok(Some(&b"\xff"[..]))));
     assert_eq!(closed(STRINGS.len()), Ok(None));
@@ -379,7 +379,7 @@ fn refuses_to_compare_strings_past_the_end() {
         let strings = elf.section_header(3).unwrap().unwrap();
         // (only "first")
         let open = elf.strtab(&SectionHeader { sh_offset: strings.sh_offset + 1, sh_size: 5, ..strings });
-        assert_eq!((open.get_c_str(0), open.is(0, b"first")), (Ok(None), Ok(true)));
+        assert_eq!((open.get_c_str(0), open.is_at(0, b"first")), (Ok(None), Ok(true)));
         let refused = open.get_all_bytes([5, 2]).unwrap_err();
         assert_eq!((refused.kind(), refused.offset()), (Kind::OpenString(2), strings.sh_offset + 3));
         assert_eq!(refused.to_string(), "No zero byte closes the string at offset 2 of its table");
@@ -387,8 +387,8 @@ fn refuses_to_compare_strings_past_the_end() {
         let past = elf.strtab(&SectionHeader { sh_offset: file.len() as u64 - 1, sh_size: 2, ..strings });
         let len = file.len() as u64;
         let wanted = Kind::StrtabRange { size: 2, offset: len - 1, len, overflow: false };
-        assert_eq!(past.is(0, b"").map_err(|e| e.kind()), Err(wanted));
-        assert_eq!(past.starts_with(0, b"").map_err(|e| e.kind()), Err(wanted));
+        assert_eq!(past.is_at(0, b"").map_err(|e| e.kind()), Err(wanted));
+        assert_eq!(past.starts_at(0, b"").map_err(|e| e.kind()), Err(wanted));
         assert_eq!(past.get_c_str(0).map_err(|e| e.kind()), Err(wanted));
         assert_eq!(past.get_all_bytes([0, 1]).map_err(|e| e.kind()), Err(wanted));
         assert_eq!(past.get_all_bytes([]), Ok(vec![]));
@@ -710,7 +710,7 @@ fn symbols_of_one_name() {
         let wanted = [&[at(0)], &[at(5); 5][..], &[at(6)], &[None; 2]].concat();
         assert_eq!(found, wanted);
         assert_eq!((symbols.symbol_by_name("first", 0), symbols.symbol_by_name("first", 2)), (Ok(at(1)), Ok(None)));
-        assert_eq!((symbols.symbol_by_name("", usize::MAX), symbols.find("second")), (Ok(None), Ok(Some(2))));
+        assert_eq!((symbols.symbol_by_name("", usize::MAX), symbols.symbol_by_name("second", 0)), (Ok(None), Ok(at(2))));
     }
 }
 
@@ -748,10 +748,11 @@ fn symbols_by_a_map_of_their_addresses() {
                 _ if more == 0 => None,
                 _ => Some(5 + (address as usize).min(more - 1)),
             };
-            assert_eq!((map.at(address), symbols.at(address)), (wanted, wanted), "{address:#x}");
-            assert_eq!(map.symbol(address), wanted.and_then(|index| symbols.get(index)));
+            let wanted = wanted.and_then(|index| Some((index, symbols.get(index)?)));
+            assert_eq!(map.symbol_by_address(address), wanted, "{address:#x}");
+            assert_eq!(symbols.symbol_by_address(address), wanted, "{address:#x}");
         }
-        assert_eq!(map.clone().at(0x1020), Some(1));
+        assert_eq!(index(map.clone().symbol_by_address(0x1020)), Some(1));
     }
 }
 
@@ -777,34 +778,14 @@ fn a_map_of_many_nested_symbols_takes_no_square_of_their_number() {
     assert!(begin.elapsed().as_secs() < 10);
     for address in [0, 1, count, 2 * count, 3 * count - 1, 3 * count, 4 * count, 9 * count, 12 * count - 1, 12 * count]
     {
-        assert_eq!(map.at(address), symbols.at(address), "{address}");
+        assert_eq!(map.symbol_by_address(address), symbols.symbol_by_address(address), "{address}");
     }
-    assert!(map.at(4 * count - 1).is_some() && map.at(12 * count).is_none());
-}
-
-/// Returns the symbol of an address, by trying all symbols.
-fn expected_at(elf: &Elf<'_>, symbols: &[Sym], address: u64) -> Option<usize> {
-    let counts =
-        |s: &Sym| ((1..0xff00).contains(&s.st_shndx) || s.st_shndx == 0xffff) && [0, 1, 2, 10].contains(&s.st_type());
-    let is_relocatable = elf.header.e_type == 1;
-    let start = |section: &SectionHeader| if is_relocatable { 0 } else { section.sh_addr };
-    let holds = |section: SectionHeader| {
-        u128::from(address) < u128::from(start(&section)) + u128::from(section.sh_size)
-            && start(&section) <= address
-            && (is_relocatable || section.sh_flags & 2 != 0)
-    };
-    let is_held = |s: &Sym| s.st_shndx < 0xff00 && elf.section_header(s.st_shndx).unwrap().map_or(false, holds);
-    let below = || symbols.iter().enumerate().filter(|(_, s)| counts(s) && s.st_value <= address);
-    let containing = || below().filter(|(_, s)| address - s.st_value < s.st_size);
-    let near = || below().filter(|(_, s)| is_held(s));
-    let highest = |value: Option<u64>| move |(_, s): &(usize, &Sym)| Some(s.st_value) == value;
-    let first = containing().find(highest(containing().map(|(_, s)| s.st_value).max()));
-    let label = || near().filter(highest(near().map(|(_, s)| s.st_value).max())).find(|(_, s)| s.st_size == 0);
-    first.or_else(label).map(|(index, _)| index)
+    assert!(map.symbol_by_address(4 * count - 1).is_some() && map.symbol_by_address(12 * count).is_none());
 }
 
 #[test]
-fn maps_of_nested_symbols() {
+fn maps_of_nested_symbols_find_what_the_call_finds() {
+    let mut found = 0;
     for (form, seed) in FORMS.into_iter().flat_map(|form| (1..150u64).map(move |seed| (form, seed))) {
         // each symbol has a value below 24 and a size below 12, mostly, and is mostly of a section and a function
         let mut state = seed.wrapping_mul(0x9e37_79b9_7f4a_7c15);
@@ -839,14 +820,14 @@ fn maps_of_nested_symbols() {
         header::Header { e_type: any(4) as u16, ..header }.put(&mut file).unwrap();
         let elf = Elf::parse(&file).unwrap();
         let symbols = elf.symtab(&section).unwrap();
-        let (map, all) = (symbols.address_map(), symbols.iter().collect::<Vec<_>>());
-        for address in
-            (0..40).chain((0..40).map(|less| u64::MAX - less)).chain((0..40).map(|less| u64::from(u32::MAX) - less))
-        {
-            let wanted = expected_at(&elf, &all, address);
-            assert_eq!((map.at(address), symbols.at(address)), (wanted, wanted), "{address:#x} {all:?}");
+        let map = symbols.address_map();
+        for address in (0..40).flat_map(|i| [i, u64::MAX - i, u64::from(u32::MAX) - i]) {
+            let wanted = symbols.symbol_by_address(address);
+            assert_eq!(map.symbol_by_address(address), wanted, "{address:#x} {:?}", symbols.to_vec());
+            found += usize::from(wanted.is_some());
         }
     }
+    assert!(found > 10000, "{found}");
 }
 
 #[test]

@@ -97,7 +97,7 @@ fn types_can_be_named_shared_and_made() {
     }
     let none = Symtab::default();
     assert_eq!(
-        (none.len(), none.get(0), none.iter().next(), none.find("a"), none.at(0)),
+        (none.len(), none.get(0), none.iter().next(), none.symbol_by_name("a", 0), none.symbol_by_address(0)),
         (0, None, None, Ok(None), None)
     );
     assert_eq!((Note::default().name, NoteBytes::default().desc), ("", &[][..]));

@@ -159,15 +159,12 @@ fn of_symbols() -> Tried {
     let names: Vec<&str> =
         symbols.iter().filter_map(|s| symbols.name(&s).ok().flatten()).filter(|name| !name.is_empty()).collect();
     assert_eq!(names.join(" "), "first second été");
-    assert_eq!(symbols.find("second")?.and_then(|index| symbols.get(index)).map(|s| s.st_value), Some(0x2030));
+    assert_eq!(symbols.symbol_by_name("second", 0)?.map(|(index, s)| (index, s.st_value)), Some((2, 0x2030)));
     assert_eq!(symbols.iter().filter(|s| s.st_shndx == SHN_UNDEF).count(), 3);
     assert!(symbols.iter().any(|s| s.st_shndx == SHN_ABS && s.st_bind() == STB_WEAK && s.st_type() == STT_OBJECT));
     assert_eq!(symbols.iter().filter(|s| s.st_bind() == STB_GLOBAL).map(|s| s.st_type()).max(), Some(STT_FUNC));
     assert_eq!(symbols.iter().find(|s| s.st_visibility() == STV_HIDDEN).map(|s| s.st_value), Some(0x1020));
-    assert_eq!(
-        symbols.at(0x1025).and_then(|index| symbols.get(index)).map(|s| symbols.name(&s)),
-        Some(Ok(Some("first")))
-    );
+    assert_eq!(symbols.symbol_by_address(0x1025).map(|(_, s)| symbols.name(&s)), Some(Ok(Some("first"))));
     let by_address: BTreeMap<u64, Sym> = symbols.iter().map(|s| (s.st_value, s)).collect();
     assert_eq!(by_address.range(..=0x2fff).next_back().map(|(value, _)| *value), Some(0x2030));
     assert_eq!((symbols.len(), symbols.is_empty(), symbols.get(symbols.len())), (5, false, None));

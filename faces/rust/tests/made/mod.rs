@@ -1,4 +1,6 @@
 //! Makes small files of both classes and byte orders.
+// (no test uses all of this)
+#![allow(dead_code)]
 
 /// A class and a byte order.
 #[derive(Clone, Copy, Debug)]
@@ -61,6 +63,11 @@ impl Form {
 const W: usize = 0;
 const SECTION_NAMES: &[u8] = b"\0.note\0.symtab\0.strtab\0.rela\0.rel\0.names\0\xff\0";
 pub const STRINGS: &[u8] = b"\0first\0second\0\xc3\xa9t\xc3\xa9\0\xff\0";
+
+/// Returns the index of an item that was found.
+pub fn index<T>(found: Option<(usize, T)>) -> Option<usize> {
+    found.map(|(index, _)| index)
+}
 
 /// Returns a file with seven sections, two segments and four named symbols, and with a number of unnamed symbols
 /// after these.
