@@ -12,6 +12,7 @@ if ! cargo --version > "$folder/output" 2>&1 || ! rustc --version > "$folder/out
     exit 0
 fi
 quietly cargo test --offline --manifest-path $crate
+python3 faces/rust/generated.py --check
 awk '/^test result: ok\. / { tests += $4 } END { print "the Rust crate passes " tests + 0 " tests"; exit tests < 60 }' "$folder/output"
 # Names that nothing closes take little memory, whatever their number.
 tests=$(find "$folder/target/debug/deps" -name 'files-*[!.]?')

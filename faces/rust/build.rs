@@ -122,7 +122,23 @@ fn warn(folders: &[PathBuf], platform: &str) {
     println!("cargo:warning=in the repository of goblin_c, `make dist TARGET={}` makes that archive", target);
 }
 
+/// Makes src/generated.rs, if this crate is in its repository. Elsewhere it has the file.
+fn generate() {
+    let (here, script) = (here(), "../constants.py");
+    if here.join(script).exists() {
+        let crates = ["headers/src", "records/src", "dynamic/src", "names/stdout"];
+        let sources = crates.iter().map(|source| format!("../../crates/goblin_{}", source));
+        let others = [script, "generated.py", "../other_constants.rs", "../c/goblin.h"];
+        for source in sources.chain(others.map(String::from)) {
+            println!("cargo:rerun-if-changed={}", here.join(source).display());
+        }
+        let ended = Command::new("python3").arg(here.join("generated.py")).status();
+        assert!(ended.map_or(false, |status| status.success()), "src/generated.rs is made by python3, which failed");
+    }
+}
+
 fn main() {
+    generate();
     println!("cargo:rerun-if-env-changed=GOBLIN_C_LIB");
     println!("cargo:rerun-if-env-changed=PKG_CONFIG_PATH");
     println!("cargo:rerun-if-env-changed=PKG_CONFIG_LIBDIR");

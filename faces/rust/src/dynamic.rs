@@ -1,16 +1,26 @@
 //! The dynamic section, and the constants of its entries.
-pub use crate::constants::dynamic::*;
+pub use crate::generated::dynamic::*;
+use crate::generated::{NOT_COUNTED, NOT_LOADED, NO_STRING};
 use crate::elf::Elf;
 use crate::error::{Error, Result};
 use crate::items::made;
 use crate::program_header::{ProgramHeader, PT_INTERP};
-pub use crate::raw::Dyn;
 use crate::reloc::RelocSection;
 use crate::strtab::Strtab;
 use crate::{raw, sys};
 use alloc::{vec, vec::Vec};
 use core::iter::FusedIterator;
 use core::ops::Range;
+
+/// An entry of the dynamic section.
+///
+/// ```
+/// use goblin_rs::dynamic::{Dyn, DF_BIND_NOW, DT_FLAGS};
+///
+/// let entry = Dyn { d_tag: DT_FLAGS, d_val: DF_BIND_NOW };
+/// assert_eq!(entry.d_tag, 30);
+/// ```
+pub use crate::raw::Dyn;
 
 // The number of entries that are read at a time.
 const BATCH: usize = 32;
@@ -68,13 +78,13 @@ impl<'a> Dynamic<'a> {
 
     // Returns the string at an offset, which is the value of a tag.
     fn text(&self, strings: &Strtab<'a>, tag: u64, offset: u64) -> Result<&'a str> {
-        strings.get(offset as usize)?.ok_or_else(|| Error::no_string(tag, offset, self.range.offset))
+        strings.get(offset as usize)?.ok_or_else(|| Error::own(NO_STRING, tag, self.range.offset).second(offset))
     }
 
     // Fails if there are symbols, whose number the section does not have.
     pub(crate) fn has_no_symbols(&self) -> Result<()> {
         let address = self.last(DT_SYMTAB);
-        address.map_or(Ok(()), |address| Err(Error::not_counted(address, self.range.offset)))
+        address.map_or(Ok(()), |address| Err(Error::own(NOT_COUNTED, address, self.range.offset)))
     }
 
     // Returns the value of the last entry with a tag. Of several, goblin and the loader of glibc take that one.
@@ -315,7 +325,7 @@ impl<'a> Elf<'a> {
             _ => return Ok(RelocSection::default()),
         };
         let offset = self.address_to_offset(address)?;
-        let offset = offset.ok_or_else(|| Error::not_loaded(address, dynamic.range.offset))?;
+        let offset = offset.ok_or_else(|| Error::own(NOT_LOADED, address, dynamic.range.offset))?;
         RelocSection::of(self, raw::Range { offset, size }, is_rela)
     }
 }

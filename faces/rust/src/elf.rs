@@ -1,7 +1,8 @@
 //! A file as a whole.
 use crate::dynamic::{Dynamic, DF_1_PIE, DT_FLAGS_1};
-use crate::error::{Error, Result, RELOCATIONS, SYMBOLS};
+use crate::error::{Error, Result};
 use crate::file::File;
+use crate::generated::{ITEM_RELOCATIONS, ITEM_SYMBOLS};
 use crate::header::{Header, ET_DYN, ET_REL};
 use crate::note::{self, AnyNote, NoteBytes, NoteIterator, Notes};
 use crate::part::Part;
@@ -367,7 +368,7 @@ impl<'a> Elf<'a> {
     /// If the section has another type, or the section headers or the symbols are not inside the file.
     pub fn symtab(&self, section: &SectionHeader) -> Result<Symtab<'a>> {
         if ![SHT_SYMTAB, SHT_DYNSYM].contains(&section.sh_type) {
-            return Err(Error::section_type(section, SYMBOLS));
+            return Err(Error::section_type(section, ITEM_SYMBOLS));
         }
         let names = self.linked_section(section)?.unwrap_or_default();
         Symtab::of(self, section.range(), self.strtab(&names))
@@ -401,7 +402,7 @@ impl<'a> Elf<'a> {
     /// If the section has another type, or the relocations are not inside the file.
     pub fn relocs(&self, section: &SectionHeader) -> Result<RelocSection<'a>> {
         if !holds_relocs(section) {
-            return Err(Error::section_type(section, RELOCATIONS));
+            return Err(Error::section_type(section, ITEM_RELOCATIONS));
         }
         RelocSection::of(self, section.range(), section.sh_type == SHT_RELA)
     }

@@ -167,11 +167,12 @@ extern crate alloc;
 extern crate std;
 
 mod address_map;
-mod constants;
 pub mod dynamic;
 pub mod elf;
 pub mod error;
 mod file;
+#[rustfmt::skip]
+mod generated;
 pub mod header;
 pub mod items;
 mod names;
@@ -187,7 +188,7 @@ pub mod sym;
 #[cfg_attr(not(feature = "std"), allow(dead_code))]
 mod sys;
 
-pub use constants::other;
 pub use elf::Elf;
 pub use error::{Error, Kind, Result};
+pub use generated::other;
 pub use part::Part;

@@ -1,4 +1,4 @@
-//! The names of numbers, by the tables that `faces/constants.py` makes of the library's.
+//! The names of numbers, by the tables that are generated of the library's.
 
 /// Returns the name of a number by a table whose lines have the names of their numbers and of those up to the next one.
 pub fn name_of(table: &[(u32, &'static str)], number: u32) -> &'static str {

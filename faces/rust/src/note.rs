@@ -1,6 +1,6 @@
 //! Notes, their constants, and the names of their types.
-use crate::constants::names::{NOTE_TYPE_CORE, NOTE_TYPE_GNU};
-pub use crate::constants::note::*;
+use crate::generated::names::{NOTE_TYPE_CORE, NOTE_TYPE_GNU};
+pub use crate::generated::note::*;
 use crate::elf::Elf;
 use crate::error::{Error, Result};
 use crate::file::File;
@@ -129,7 +129,8 @@ impl<'a> sealed::AnyNote<'a> for Note<'a> {
     }
 
     fn new(file: File<'a>, note: raw::Note) -> Self {
-        Note { n_type: note.n_type, name: file.text(note.name), desc: file.slice(note.desc) }
+        let (name, desc) = ranges(&note);
+        Note { n_type: note.n_type, name: file.text(name), desc: file.slice(desc) }
     }
 }
 
@@ -141,7 +142,7 @@ impl<'a> sealed::AnyNote<'a> for NoteBytes<'a> {
             None => return Ok(None),
         };
         // (the last byte of the name, if it has one, is not in the range, and the note begins with the name's size)
-        note.name.size = match note.name.size {
+        note.name_size = match note.name_size {
             0 => sys::goblin_number(&notes.file, &notes.header, offset, 4)?.unwrap_or(0),
             size => size + 1,
         };
@@ -149,8 +150,15 @@ impl<'a> sealed::AnyNote<'a> for NoteBytes<'a> {
     }
 
     fn new(file: File<'a>, note: raw::Note) -> Self {
-        NoteBytes { n_type: note.n_type, name: file.slice(note.name), desc: file.slice(note.desc) }
+        let (name, desc) = ranges(&note);
+        NoteBytes { n_type: note.n_type, name: file.slice(name), desc: file.slice(desc) }
     }
+}
+
+// Returns the ranges of a note's name and of its descriptor.
+fn ranges(note: &raw::Note) -> (raw::Range, raw::Range) {
+    let raw::Note { name_offset, name_size, desc_offset, desc_size, .. } = *note;
+    (raw::Range { offset: name_offset, size: name_size }, raw::Range { offset: desc_offset, size: desc_size })
 }
 
 /// The notes of a section or a segment.

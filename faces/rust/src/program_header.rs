@@ -1,15 +1,24 @@
 //! Program headers, their constants, and the names of their numbers.
-use crate::constants::names::PT;
-pub use crate::constants::program_header::*;
+use crate::generated::names::PT;
+pub use crate::generated::program_header::*;
 use crate::elf::Elf;
 use crate::error::Result;
 use crate::items::{table, Batches, Items, List};
 use crate::names::name_of;
-pub use crate::raw::ProgramHeader;
 use crate::section_header::{SectionHeader, SectionHeaderIterator, SectionHeaders, SHF_TLS, SHT_NOBITS};
 use crate::{raw, sys};
 use core::iter::FusedIterator;
 use core::ops::Range;
+
+/// A program header.
+///
+/// ```
+/// use goblin_rs::program_header::{ProgramHeader, PF_R, PF_X, PT_LOAD};
+///
+/// let segment = ProgramHeader { p_type: PT_LOAD, p_flags: PF_R | PF_X, ..ProgramHeader::default() };
+/// assert!(segment.is_executable() && !segment.is_write());
+/// ```
+pub use crate::raw::ProgramHeader;
 
 impl ProgramHeader {
     /// Returns the segment's range in the file, inside the file or not. Its end is at most `u64::MAX`.

@@ -1,5 +1,5 @@
 //! Relocations.
-pub use crate::constants::reloc::*;
+pub use crate::generated::reloc::*;
 use crate::elf::Elf;
 use crate::error::Result;
 use crate::file::File;

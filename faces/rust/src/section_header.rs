@@ -1,13 +1,23 @@
 //! Section headers, their constants, and the names of their numbers.
-use crate::constants::names::{SHF, SHT};
-pub use crate::constants::section_header::*;
+use crate::generated::names::{SHF, SHT};
+pub use crate::generated::section_header::*;
 use crate::elf::Elf;
 use crate::error::Result;
 use crate::items::{table, Batches, Items, List};
 use crate::names::name_of;
-pub use crate::raw::SectionHeader;
 use crate::{raw, sys};
 use core::ops::Range;
+
+/// A section header.
+///
+/// ```
+/// use goblin_rs::section_header::{SectionHeader, SHF_ALLOC, SHF_WRITE, SHT_PROGBITS};
+///
+/// let section =
+///     SectionHeader { sh_type: SHT_PROGBITS, sh_flags: SHF_ALLOC | SHF_WRITE, ..SectionHeader::default() };
+/// assert!(section.sh_flags & SHF_ALLOC != 0 && section.is_writable());
+/// ```
+pub use crate::raw::SectionHeader;
 
 impl SectionHeader {
     /// Returns the section's range in the file, inside the file or not, or `None` if its type is `SHT_NOBITS`. For any

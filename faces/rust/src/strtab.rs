@@ -1,6 +1,7 @@
 //! String tables.
 use crate::error::{Error, Result};
 use crate::file::File;
+use crate::generated::OPEN_STRING;
 use crate::{raw, sys};
 use alloc::vec::Vec;
 #[cfg(feature = "std")]
@@ -134,7 +135,7 @@ impl<'a> Strtab<'a> {
             let filled = sys::goblin_strings(&self.file, &self.range, batch, &mut ranges)?;
             let end = self.range.offset.saturating_add(self.range.size);
             if let Some(open) = ranges[..filled].iter().find(|string| string.offset + string.size == end) {
-                return Err(Error::open_string(&self.range, open));
+                return Err(Error::own(OPEN_STRING, open.offset - self.range.offset, open.offset));
             }
             found.extend(ranges[..filled].iter().map(|range| Some(self.file.slice(*range))));
             if filled < batch.len() {

@@ -1,16 +1,26 @@
 //! Symbols, their constants, and the names of their numbers.
 pub use crate::address_map::AddressMap;
-use crate::constants::names::{BIND, TYPE, VISIBILITY};
-pub use crate::constants::sym::*;
+use crate::generated::names::{BIND, TYPE, VISIBILITY};
+pub use crate::generated::sym::*;
 use crate::elf::Elf;
 use crate::error::Result;
 use crate::file::File;
 use crate::items::{made, table, Batches, Items, List};
 use crate::names::name_of;
-pub use crate::raw::Sym;
 use crate::section_header::SectionHeader;
 use crate::strtab::Strtab;
 use crate::{raw, sys};
+
+/// A symbol.
+///
+/// ```
+/// use goblin_rs::section_header::SHN_UNDEF;
+/// use goblin_rs::sym::{Sym, STB_GLOBAL, STT_FUNC};
+///
+/// let symbol = Sym { st_info: STB_GLOBAL << 4 | STT_FUNC, ..Sym::default() };
+/// assert!(symbol.is_function() && symbol.is_import() && symbol.st_shndx == SHN_UNDEF);
+/// ```
+pub use crate::raw::Sym;
 
 impl Sym {
     /// Returns the binding.

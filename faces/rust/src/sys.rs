@@ -4,6 +4,7 @@
 //! writes only its mutable ones, within their lengths. Only the tests compare these declarations with the library's.
 use crate::error::{Error, Result};
 use crate::file::File;
+use crate::generated::VERSION;
 use crate::raw::{self, Dyn, Header, Note, ProgramHeader, Range, Refusal, Reloc, Section, Symbol};
 use crate::section_header::SectionHeader;
 use crate::sym::Sym;
@@ -264,9 +265,6 @@ texts! {
 texts! {
     fn goblin_refusal_to_str(why: &Refusal);
 }
-
-/// The interface that these calls are of: `GOBLIN_VERSION` of `goblin.h`.
-pub const VERSION: u32 = 8;
 
 /// Panics if the library that is linked has another interface. Its calls may take other arguments.
 #[inline]

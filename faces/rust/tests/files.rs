@@ -342,9 +342,12 @@ fn counts_and_bytes() {
 
 /// Compares strings of a table of `STRINGS`, and finds them as C strings, and many of them.
 fn compares_strings(names: &Strtab) {
-    assert_eq!((names.is_at(1, b"first"), names.is_at(2, b"irst"), names.is_at(20, b"\xff")), (Ok(true), Ok(true), Ok(true)));
-    assert_eq!((names.is_at(1, b"firs"), names.is_at(1, b"first\0")), (Ok(false), Ok(false)));
-    assert_eq!((names.is_at(STRINGS.len(), b""), names.is_at(usize::MAX, b"")), (Ok(false), Ok(false)));
+    for (at, name) in [(1, &b"first"[..]), (2, b"irst"), (20, b"\xff")] {
+        assert_eq!(names.is_at(at, name), Ok(true));
+    }
+    for (at, name) in [(1, &b"firs"[..]), (1, b"first\0"), (STRINGS.len(), b""), (usize::MAX, b"")] {
+        assert_eq!(names.is_at(at, name), Ok(false));
+    }
     assert_eq!((names.starts_at(7, b"sec"), names.starts_at(7, b"")), (Ok(true), Ok(true)));
     assert_eq!((names.starts_at(7, b"seconds"), names.starts_at(6, b"\0")), (Ok(false), Ok(false)));
     let closed = |offset| names.get_c_str(offset).map(|name| name.map(|name| name.to_bytes()));
@@ -709,8 +712,10 @@ fn symbols_of_one_name() {
         let at = |index| symbols.get(index).map(|symbol| (index, symbol));
         let wanted = [&[at(0)], &[at(5); 5][..], &[at(6)], &[None; 2]].concat();
         assert_eq!(found, wanted);
-        assert_eq!((symbols.symbol_by_name("first", 0), symbols.symbol_by_name("first", 2)), (Ok(at(1)), Ok(None)));
-        assert_eq!((symbols.symbol_by_name("", usize::MAX), symbols.symbol_by_name("second", 0)), (Ok(None), Ok(at(2))));
+        for (name, first, found) in [("first", 0, at(1)), ("first", 2, None), ("", usize::MAX, None), ("second", 0, at(2))]
+        {
+            assert_eq!(symbols.symbol_by_name(name, first), Ok(found));
+        }
     }
 }
 

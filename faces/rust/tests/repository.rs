@@ -127,7 +127,7 @@ fn with_type_of_field(constant: &str) -> String {
 }
 
 /// What to do if the library's constants have changed since the crate's were made.
-const RUN: &str = "run `python3 faces/constants.py`";
+const RUN: &str = "run `python3 faces/rust/generated.py`";
 
 #[test]
 fn constants_are_the_library_s() {
@@ -137,7 +137,8 @@ fn constants_are_the_library_s() {
     theirs.extend(constants("faces"));
     assert!(theirs.len() >= 416);
     let mut theirs: Vec<_> = theirs.iter().map(|constant| with_type_of_field(constant)).collect();
-    let mut ours = constants("faces/rust/src/constants");
+    let modules = include_str!("../src/generated.rs").split("\npub mod header {").nth(1).unwrap();
+    let mut ours = constants_of(modules.split("\npub mod names {").next().unwrap());
     theirs.sort();
     ours.sort();
     for (ours, theirs) in ours.iter().zip(&theirs) {
@@ -146,17 +147,13 @@ fn constants_are_the_library_s() {
     assert_eq!(ours.len(), theirs.len(), "{RUN}");
 }
 
-/// Returns the lines of a source that declare public types. `raw.rs` declares them by a macro.
+/// Returns the lines of a source that declare public types. Those that are generated are made public elsewhere, and the
+/// types of `raw.rs` and `file.rs` are private to the crate.
 fn declarations<'a>(name: &str, source: &'a str) -> Vec<(usize, &'a str)> {
-    let words = ["pub struct ", "pub enum ", "pub trait "];
-    let records = ["    Header {", "    SectionHeader {", "    ProgramHeader {", "    Sym {", "    Dyn {"];
-    let declares = |line: &str| match name {
-        "raw.rs" => records.contains(&line),
-        // (its type is private to the crate)
-        "file.rs" => false,
-        _ => words.iter().any(|word| line.starts_with(word)),
-    };
-    source.lines().enumerate().filter(|(_, line)| declares(line)).collect()
+    let words = ["pub struct ", "pub enum ", "pub trait ", "pub use crate::raw::", "pub use crate::generated::"];
+    let declares = |line: &str| words.iter().any(|word| line.starts_with(word)) && !line.ends_with("::*;");
+    let is_public = !["raw.rs", "file.rs", "generated.rs"].contains(&name);
+    source.lines().enumerate().filter(|(_, line)| is_public && declares(line)).collect()
 }
 
 #[test]
@@ -174,5 +171,5 @@ fn each_type_has_an_example() {
             found += 1;
         }
     }
-    assert!(found >= 24, "{found} types");
+    assert!(found >= 29, "{found} types");
 }
