@@ -6,7 +6,7 @@ use crate::generated::{ITEM_RELOCATIONS, ITEM_SYMBOLS};
 use crate::header::{Header, ET_DYN, ET_REL};
 use crate::note::{self, AnyNote, NoteBytes, NoteIterator, Notes};
 use crate::part::Part;
-use crate::program_header::{ProgramHeader, ProgramHeaders, SegmentSections};
+use crate::program_header::{ProgramHeader, ProgramHeaders, SectionMap, SegmentSections};
 use crate::reloc::{holds_relocs, RelocSection, RelocSections};
 use crate::section_header::{SectionHeader, SectionHeaders, SHT_DYNSYM, SHT_RELA, SHT_SYMTAB};
 use crate::strtab::Strtab;
@@ -255,13 +255,21 @@ impl<'a> Elf<'a> {
     }
 
     /// Returns the sections of a segment, in the sense of [`ProgramHeader::holds`]. The section header at index 0,
-    /// which means no section, is left out. Each call reads all section headers. For many segments collect these once,
-    /// and call `holds` of each segment.
+    /// which means no section, is left out. Each call reads all section headers: for many segments use
+    /// [`Elf::section_map`].
     ///
     /// # Errors
     /// If the section headers are not inside the file.
     pub fn segment_sections(&self, segment: &ProgramHeader) -> Result<SegmentSections<'a>> {
         Ok(SegmentSections::of(*segment, self.section_headers()?))
+    }
+
+    /// Returns a map of the sections, for those of many segments.
+    ///
+    /// # Errors
+    /// If the section headers are not inside the file.
+    pub fn section_map(&self) -> Result<SectionMap> {
+        Ok(SectionMap::of(self.section_headers()?.iter().skip(1).collect()))
     }
 
     /// Returns the number in `width` bytes at an offset of the file, in the file's byte order. Returns `None` if the

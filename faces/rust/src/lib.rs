@@ -182,6 +182,7 @@ pub mod program_header;
 mod raw;
 pub mod reloc;
 pub mod section_header;
+mod section_map;
 pub mod strtab;
 pub mod sym;
 #[allow(unsafe_code)]

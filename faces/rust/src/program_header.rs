@@ -19,6 +19,7 @@ use core::ops::Range;
 /// assert!(segment.is_executable() && !segment.is_write());
 /// ```
 pub use crate::raw::ProgramHeader;
+pub use crate::section_map::SectionMap;
 
 impl ProgramHeader {
     /// Returns the segment's range in the file, inside the file or not. Its end is at most `u64::MAX`.
@@ -48,20 +49,22 @@ impl ProgramHeader {
     /// This rule is not part of the library. It is tested, and compared with `readelf`, but not proved.
     #[must_use]
     pub fn holds(&self, section: &SectionHeader) -> bool {
-        let has_bytes = section.sh_type != SHT_NOBITS;
-        let first =
-            u64::from(section.sh_size == 0 && self.p_memsz != 0 && [PT_DYNAMIC, PT_NOTE].contains(&self.p_type));
-        let lies_in = |start: u64, from: u64, size: u64| {
-            let before = start.checked_sub(from).filter(|before| *before >= first && (*before < size || size == 0));
-            before.and_then(|before| before.checked_add(section.sh_size)).map_or(false, |end| end <= size)
-        };
-        self.may_hold(section)
-            && (!has_bytes || lies_in(section.sh_offset, self.p_offset, self.p_filesz))
-            && (!section.is_alloc() || lies_in(section.sh_addr, self.p_vaddr, self.p_memsz))
+        self.may_hold(section) && has_bounds(&section.bounds(), &self.least_bounds(section))
     }
 
-    // Reports whether segments of this type hold sections of this kind.
-    fn may_hold(&self, section: &SectionHeader) -> bool {
+    // Returns the least bounds of the sections of a class that the segment holds: their starts and their negative ends,
+    // in the file and in memory.
+    pub(crate) fn least_bounds(&self, section: &SectionHeader) -> [i128; 4] {
+        let is_empty = section.sh_size == 0;
+        let after = is_empty && self.p_memsz != 0 && [PT_DYNAMIC, PT_NOTE].contains(&self.p_type);
+        let starts = [self.p_offset, self.p_vaddr].map(i128::from);
+        let sizes = [self.p_filesz, self.p_memsz].map(|size| i128::from(size) - i128::from(is_empty && size > 0));
+        let first = starts.map(|start| start + i128::from(after));
+        [first[0], -starts[0] - sizes[0], first[1], -starts[1] - sizes[1]]
+    }
+
+    // Reports whether segments of this type hold sections of a class.
+    pub(crate) fn may_hold(&self, section: &SectionHeader) -> bool {
         let is_tls = section.sh_flags & SHF_TLS != 0;
         match self.p_type {
             PT_PHDR => false,
@@ -94,6 +97,11 @@ impl ProgramHeader {
     pub fn is_write(&self) -> bool {
         self.p_flags & PF_W != 0
     }
+}
+
+/// Reports whether each bound of a section is at least what a segment asks for.
+pub(crate) fn has_bounds(bounds: &[i128; 4], least: &[i128; 4]) -> bool {
+    bounds.iter().zip(least).all(|(bound, least)| bound >= least)
 }
 
 /// The program headers of a file.

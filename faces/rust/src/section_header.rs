@@ -62,6 +62,21 @@ impl SectionHeader {
         self.sh_flags & SHF_ALLOC != 0
     }
 
+    /// Returns its start and its negative end in the file, if it has bytes there, and then in memory, if it is loaded.
+    /// What it doesn't have is inside any segment.
+    pub(crate) fn bounds(&self) -> [i128; 4] {
+        let of_file = Some(i128::from(self.sh_offset)).filter(|_| self.sh_type != SHT_NOBITS);
+        let of_memory = Some(i128::from(self.sh_addr)).filter(|_| self.is_alloc());
+        let end = |start: i128| -start - i128::from(self.sh_size);
+        [of_file, of_file.map(end), of_memory, of_memory.map(end)].map(|bound| bound.unwrap_or(i128::MAX))
+    }
+
+    /// Returns what, with the bounds, decides in which segments it is: a number below 16.
+    pub(crate) fn class(&self) -> usize {
+        let parts = [self.sh_flags & SHF_TLS != 0, self.is_alloc(), self.sh_type == SHT_NOBITS, self.sh_size == 0];
+        parts.iter().fold(0, |class, part| 2 * class + usize::from(*part))
+    }
+
     /// Returns its range in the file, which is empty for `SHT_NOBITS`, whatever its size.
     pub(crate) fn range(&self) -> raw::Range {
         match self.sh_type {

@@ -43,6 +43,15 @@ fn with_names_at(form: Form, index: u64) -> Vec<u8> {
     file
 }
 
+/// Returns what returns numbers below others, the same for the same seed.
+fn random(seed: u64) -> impl FnMut(u64) -> u64 {
+    let mut state = seed.wrapping_mul(0x9e37_79b9_7f4a_7c15);
+    move |below| {
+        state = state.wrapping_mul(6_364_136_223_846_793_005).wrapping_add(1_442_695_040_888_963_407);
+        (state >> 33) % below
+    }
+}
+
 fn section(elf: &Elf<'_>, kind: u32) -> SectionHeader {
     elf.section_headers().unwrap().iter().find(|section| section.sh_type == kind).unwrap()
 }
@@ -176,6 +185,76 @@ fn sections_of_the_segments_of_a_file() {
         assert_eq!(names(&everywhere(ProgramHeader { p_type: PT_INTERP, ..load })), all);
         let cut = Elf::parse(&file[..200]).unwrap();
         assert_eq!(cut.segment_sections(&load).err().map(|e| e.kind()), Some(Kind::BadOffset(elf.header.e_shoff)));
+    }
+}
+
+/// Returns a file with these sections.
+fn with_sections(sections: &[SectionHeader]) -> Vec<u8> {
+    let mut file = made(FORMS[0], 0);
+    let (e_shoff, e_shnum) = (file.len() as u64, sections.len() as u16);
+    file.resize(file.len() + 64 * sections.len(), 0);
+    let header = header::Header { e_shoff, e_shnum, ..Elf::parse(&file).unwrap().header };
+    header.put(&mut file).unwrap();
+    for (index, section) in sections.iter().enumerate() {
+        header.put_section_header(&mut file, index, section).unwrap();
+    }
+    file
+}
+
+#[test]
+fn a_map_of_sections_finds_those_that_each_segment_holds() {
+    let (mut any, mut found) = (random(1), 0);
+    // (most numbers are small, and some at the end of what there is)
+    let (starts, sizes) = ([0, 0, 0, 0, 0, 0, 0, 0, u64::MAX - 30], [0, 4, 8, 30, u64::MAX]);
+    let types = [PT_LOAD, PT_TLS, PT_DYNAMIC, PT_NOTE, PT_PHDR, PT_INTERP, PT_GNU_RELRO];
+    for _ in 0..40 {
+        let section = |_| SectionHeader {
+            sh_type: [SHT_PROGBITS, SHT_NOBITS][any(2) as usize],
+            sh_flags: [0, SHF_ALLOC, SHF_ALLOC | SHF_TLS][any(3) as usize],
+            sh_offset: any(30) + starts[any(9) as usize],
+            sh_addr: any(30) + starts[any(9) as usize],
+            sh_size: sizes[any(5) as usize],
+            ..Default::default()
+        };
+        let file = with_sections(&(0..60).map(section).collect::<Vec<_>>());
+        let elf = Elf::parse(&file).unwrap();
+        let map = elf.section_map().unwrap();
+        for _ in 0..60 {
+            let segment = ProgramHeader {
+                p_type: types[any(7) as usize],
+                p_offset: any(30) + starts[any(9) as usize],
+                p_vaddr: any(30) + starts[any(9) as usize],
+                p_filesz: sizes[any(5) as usize],
+                p_memsz: sizes[any(5) as usize],
+                ..Default::default()
+            };
+            let wanted: Vec<_> = elf.segment_sections(&segment).unwrap().collect();
+            found += wanted.len();
+            assert_eq!(map.segment_sections(&segment), wanted, "{segment:?}");
+        }
+    }
+    assert!(found > 1000, "{found}");
+    let cut = with_sections(&[SectionHeader::default()]);
+    assert!(Elf::parse(&cut[..cut.len() - 1]).unwrap().section_map().is_err());
+}
+
+#[test]
+fn a_map_of_many_sections_takes_no_square_of_their_number() {
+    // (each of these is tried for each segment, if not all that decides is in the map: addresses, the emptiness, types)
+    let count = 20_000;
+    let far = |i: u64| if i % 2 == 0 { i } else { 1_000_000 + i };
+    let loaded = SectionHeader { sh_type: SHT_PROGBITS, sh_flags: SHF_ALLOC, sh_size: 1, ..Default::default() };
+    let halves = |i| SectionHeader { sh_offset: far(i), sh_addr: far(i + 1), ..loaded };
+    let empty = |_| SectionHeader { sh_offset: count, sh_addr: count, sh_size: 0, ..loaded };
+    let inside = |i| SectionHeader { sh_offset: i, sh_addr: i, ..loaded };
+    let kinds: [(&dyn Fn(u64) -> SectionHeader, u32); 3] = [(&halves, PT_LOAD), (&empty, PT_LOAD), (&inside, PT_TLS)];
+    for (section, p_type) in kinds {
+        let file = with_sections(&(0..count).map(section).collect::<Vec<_>>());
+        let begin = std::time::Instant::now();
+        let map = Elf::parse(&file).unwrap().section_map().unwrap();
+        let segment = ProgramHeader { p_type, p_filesz: count, p_memsz: count, ..Default::default() };
+        assert!((0..count).all(|_| map.segment_sections(&segment).is_empty()));
+        assert!(begin.elapsed().as_secs() < 5);
     }
 }
 
@@ -793,11 +872,7 @@ fn maps_of_nested_symbols_find_what_the_call_finds() {
     let mut found = 0;
     for (form, seed) in FORMS.into_iter().flat_map(|form| (1..150u64).map(move |seed| (form, seed))) {
         // each symbol has a value below 24 and a size below 12, mostly, and is mostly of a section and a function
-        let mut state = seed.wrapping_mul(0x9e37_79b9_7f4a_7c15);
-        let mut any = |below: u64| {
-            state = state.wrapping_mul(6_364_136_223_846_793_005).wrapping_add(1_442_695_040_888_963_407);
-            (state >> 33) % below
-        };
+        let mut any = random(seed);
         let mut file = made(form, 0);
         let start = file.len() as u64;
         for _ in 0..any(14) {
