@@ -10,7 +10,6 @@ use alloc::vec::Vec;
 /// the library: it is compared with that call, but not proved.
 ///
 /// ```
-/// # fn main() -> Result<(), Box<dyn std::error::Error>> {
 /// # let bytes = std::fs::read(std::env::current_exe()?)?;
 /// let elf = goblin_rs::Elf::parse(&bytes)?;
 /// if let Some(symbols) = elf.syms()? {
@@ -22,8 +21,7 @@ use alloc::vec::Vec;
 ///         assert_eq!(map.symbol_by_address(address), symbols.symbol_by_address(address));
 ///     }
 /// }
-/// # Ok(())
-/// # }
+/// # Ok::<(), Box<dyn std::error::Error>>(())
 /// ```
 #[derive(Clone, Debug)]
 pub struct AddressMap<'a> {

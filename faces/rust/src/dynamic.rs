@@ -28,7 +28,6 @@ const BATCH: usize = 32;
 /// The dynamic section of a file, which says what a program needs of the loader. It is inside the file.
 ///
 /// ```
-/// # fn main() -> Result<(), Box<dyn std::error::Error>> {
 /// # let bytes = std::fs::read(std::env::current_exe()?)?;
 /// use goblin_rs::dynamic::DT_NEEDED;
 ///
@@ -39,8 +38,7 @@ const BATCH: usize = 32;
 ///         println!("{:?}", strings.get(offset as usize)?);
 ///     }
 /// }
-/// # Ok(())
-/// # }
+/// # Ok::<(), Box<dyn std::error::Error>>(())
 /// ```
 #[derive(Clone, Copy, Debug)]
 pub struct Dynamic<'a> {
@@ -57,13 +55,11 @@ impl<'a> Dynamic<'a> {
     /// Returns an iterator over the entries, up to the first one of tag `DT_NULL`.
     ///
     /// ```
-    /// # fn main() -> Result<(), Box<dyn std::error::Error>> {
     /// # let bytes = std::fs::read(std::env::current_exe()?)?;
     /// if let Some(dynamic) = goblin_rs::Elf::parse(&bytes)?.dynamic()? {
     ///     assert!(dynamic.entries().all(|entry| entry.d_tag != goblin_rs::dynamic::DT_NULL));
     /// }
-    /// # Ok(())
-    /// # }
+    /// # Ok::<(), Box<dyn std::error::Error>>(())
     /// ```
     pub fn entries(&self) -> DynIterator<'a> {
         DynIterator { dynamic: *self, batch: [Dyn::default(); BATCH], left: 0..0, next: Some(0) }
@@ -113,7 +109,6 @@ impl<'a> Dynamic<'a> {
 /// An iterator over the entries of a dynamic section.
 ///
 /// ```
-/// # fn main() -> Result<(), Box<dyn std::error::Error>> {
 /// # let bytes = std::fs::read(std::env::current_exe()?)?;
 /// use goblin_rs::dynamic::DynIterator;
 ///
@@ -121,8 +116,7 @@ impl<'a> Dynamic<'a> {
 ///     let entries: DynIterator = dynamic.entries();
 ///     assert!(entries.count() > 0);
 /// }
-/// # Ok(())
-/// # }
+/// # Ok::<(), Box<dyn std::error::Error>>(())
 /// ```
 #[derive(Clone, Debug)]
 #[must_use = "iterators are lazy and do nothing unless consumed"]
@@ -155,7 +149,6 @@ impl FusedIterator for DynIterator<'_> {}
 /// An iterator over the values of the entries of a dynamic section with a tag.
 ///
 /// ```
-/// # fn main() -> Result<(), Box<dyn std::error::Error>> {
 /// # let bytes = std::fs::read(std::env::current_exe()?)?;
 /// use goblin_rs::dynamic::{DynValues, DT_NEEDED};
 ///
@@ -163,8 +156,7 @@ impl FusedIterator for DynIterator<'_> {}
 ///     let offsets: DynValues = dynamic.values(DT_NEEDED);
 ///     println!("{} libraries", offsets.count());
 /// }
-/// # Ok(())
-/// # }
+/// # Ok::<(), Box<dyn std::error::Error>>(())
 /// ```
 #[derive(Clone, Debug)]
 #[must_use = "iterators are lazy and do nothing unless consumed"]
@@ -206,15 +198,13 @@ impl<'a> Elf<'a> {
     /// these entries. They have addends if the value of `DT_PLTREL` is `DT_RELA`.
     ///
     /// ```
-    /// # fn main() -> Result<(), Box<dyn std::error::Error>> {
     /// # let bytes = std::fs::read(std::env::current_exe()?)?;
     /// let elf = goblin_rs::Elf::parse(&bytes)?;
     /// let symbols = elf.dynsyms()?.unwrap_or_default();
     /// for reloc in elf.pltrelocs()? {
     ///     assert!(symbols.get(reloc.r_sym).is_some());
     /// }
-    /// # Ok(())
-    /// # }
+    /// # Ok::<(), Box<dyn std::error::Error>>(())
     /// ```
     ///
     /// # Errors
@@ -234,14 +224,12 @@ impl<'a> Elf<'a> {
     /// Returns the names of the libraries that are needed (`DT_NEEDED`), in order.
     ///
     /// ```
-    /// # fn main() -> Result<(), Box<dyn std::error::Error>> {
     /// # let bytes = std::fs::read(std::env::current_exe()?)?;
     /// let elf = goblin_rs::Elf::parse(&bytes)?;
     /// for library in elf.libraries()? {
     ///     println!("needs {library}");
     /// }
-    /// # Ok(())
-    /// # }
+    /// # Ok::<(), Box<dyn std::error::Error>>(())
     /// ```
     ///
     /// # Errors

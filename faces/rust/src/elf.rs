@@ -16,7 +16,6 @@ use crate::sys;
 /// A file in memory, with its header. Everything else is read on demand.
 ///
 /// ```
-/// # fn main() -> Result<(), Box<dyn std::error::Error>> {
 /// # let bytes = std::fs::read(std::env::current_exe()?)?;
 /// let elf = goblin_rs::Elf::parse(&bytes)?;
 /// println!("entry {:#x}", elf.entry());
@@ -24,8 +23,7 @@ use crate::sys;
 ///     let code = elf.section_data(&text)?.unwrap_or(&[]);
 ///     assert_eq!(code.len() as u64, text.sh_size);
 /// }
-/// # Ok(())
-/// # }
+/// # Ok::<(), Box<dyn std::error::Error>>(())
 /// ```
 #[derive(Clone, Copy, Debug)]
 pub struct Elf<'a> {
@@ -65,7 +63,6 @@ impl<'a> Elf<'a> {
     /// Of a file with more headers the first 65,535 section headers and 65,534 program headers are counted.
     ///
     /// ```
-    /// # fn main() -> Result<(), Box<dyn std::error::Error>> {
     /// # let bytes = std::fs::read(std::env::current_exe()?)?;
     /// use goblin_rs::Elf;
     ///
@@ -75,8 +72,7 @@ impl<'a> Elf<'a> {
     /// assert!(cut.section_headers().is_err());
     /// assert_eq!(cut.whole().section_headers()?.len(), 1);
     /// assert_eq!(cut.whole().program_headers()?, elf.program_headers()?);
-    /// # Ok(())
-    /// # }
+    /// # Ok::<(), Box<dyn std::error::Error>>(())
     /// ```
     #[must_use]
     pub fn whole(&self) -> Self {
@@ -171,7 +167,6 @@ impl<'a> Elf<'a> {
     /// Returns the index and the header of the first section with a name, from an index on.
     ///
     /// ```
-    /// # fn main() -> Result<(), Box<dyn std::error::Error>> {
     /// # let bytes = std::fs::read(std::env::current_exe()?)?;
     /// let elf = goblin_rs::Elf::parse(&bytes)?;
     /// let mut size = 0;
@@ -181,8 +176,7 @@ impl<'a> Elf<'a> {
     ///     first = index + 1;
     /// }
     /// assert_eq!(size, 0); // (only object files have groups)
-    /// # Ok(())
-    /// # }
+    /// # Ok::<(), Box<dyn std::error::Error>>(())
     /// ```
     ///
     /// # Errors
@@ -229,15 +223,13 @@ impl<'a> Elf<'a> {
     /// start at the end of the file or past it. Returns `None` only where those calls do.
     ///
     /// ```
-    /// # fn main() -> Result<(), Box<dyn std::error::Error>> {
     /// # let bytes = std::fs::read(std::env::current_exe()?)?;
     /// let text = goblin_rs::Elf::parse(&bytes)?.section(".text")?.ok_or("no .text")?;
     /// // the file ends after 16 bytes of the section
     /// let cut = goblin_rs::Elf::parse(&bytes[..text.sh_offset as usize + 16])?;
     /// assert!(cut.section_data(&text).is_err());
     /// assert_eq!(cut.readable_data(&text).map(|data| data.len()), Some(16));
-    /// # Ok(())
-    /// # }
+    /// # Ok::<(), Box<dyn std::error::Error>>(())
     /// ```
     pub fn readable_data(&self, part: &impl Part) -> Option<&'a [u8]> {
         let found = part.found(self.file);
@@ -286,14 +278,12 @@ impl<'a> Elf<'a> {
     /// 1, 2, 4 or 8.
     ///
     /// ```
-    /// # fn main() -> Result<(), Box<dyn std::error::Error>> {
     /// # let bytes = std::fs::read(std::env::current_exe()?)?;
     /// let elf = goblin_rs::Elf::parse(&bytes)?;
     /// let text = elf.section(".text")?.ok_or("no .text")?;
     /// assert_eq!(elf.number_in(&text, 2, 4)?, elf.number(text.sh_offset + 2, 4)?);
     /// assert!(elf.number_in(&text, text.sh_size - 3, 4).is_err());
-    /// # Ok(())
-    /// # }
+    /// # Ok::<(), Box<dyn std::error::Error>>(())
     /// ```
     ///
     /// # Errors
@@ -308,13 +298,11 @@ impl<'a> Elf<'a> {
     /// `p_vaddr <= address < p_vaddr + p_filesz`.
     ///
     /// ```
-    /// # fn main() -> Result<(), Box<dyn std::error::Error>> {
     /// # let bytes = std::fs::read(std::env::current_exe()?)?;
     /// let elf = goblin_rs::Elf::parse(&bytes)?;
     /// let text = elf.section(".text")?.ok_or("no .text")?;
     /// assert_eq!(elf.address_to_offset(text.sh_addr)?, Some(text.sh_offset));
-    /// # Ok(())
-    /// # }
+    /// # Ok::<(), Box<dyn std::error::Error>>(())
     /// ```
     ///
     /// # Errors
@@ -443,15 +431,13 @@ impl<'a> Elf<'a> {
     /// the section or the segment. If one is damaged, [`Elf::readable_notes_bytes`] returns those before it.
     ///
     /// ```
-    /// # fn main() -> Result<(), Box<dyn std::error::Error>> {
     /// # let bytes = std::fs::read(std::env::current_exe()?)?;
     /// let elf = goblin_rs::Elf::parse(&bytes)?;
     /// if let Some(section) = elf.section(".note.gnu.build-id")? {
     ///     let notes = elf.notes_bytes(&section)?;
     ///     assert!(notes.iter().all(|note| note.name == b"GNU\0"));
     /// }
-    /// # Ok(())
-    /// # }
+    /// # Ok::<(), Box<dyn std::error::Error>>(())
     /// ```
     ///
     /// # Errors
@@ -490,13 +476,11 @@ impl<'a> Elf<'a> {
     /// 65,536 of their notes, these sections and their notes.
     ///
     /// ```
-    /// # fn main() -> Result<(), Box<dyn std::error::Error>> {
     /// # let bytes = std::fs::read(std::env::current_exe()?)?;
     /// let elf = goblin_rs::Elf::parse(&bytes)?;
     /// let hex: String = elf.build_id()?.unwrap_or(&[]).iter().map(|byte| format!("{byte:02x}")).collect();
     /// # assert!(hex.len() < 129);
-    /// # Ok(())
-    /// # }
+    /// # Ok::<(), Box<dyn std::error::Error>>(())
     /// ```
     ///
     /// # Errors

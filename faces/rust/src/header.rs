@@ -47,7 +47,6 @@ impl Header {
 /// use goblin_rs::section_header::SHF_WRITE;
 /// use goblin_rs::Elf;
 ///
-/// # fn main() -> Result<(), Box<dyn std::error::Error>> {
 /// # let mut bytes = std::fs::read(std::env::current_exe()?)?;
 /// let elf = Elf::parse(&bytes)?;
 /// let (header, found) = (elf.header, elf.section_by_name(".text", 0)?);
@@ -55,8 +54,7 @@ impl Header {
 /// section.sh_flags |= SHF_WRITE;
 /// header.put_section_header(&mut bytes, index, &section)?;
 /// assert_eq!(Elf::parse(&bytes)?.section_header(index)?, Some(section));
-/// # Ok(())
-/// # }
+/// # Ok::<(), Box<dyn std::error::Error>>(())
 /// ```
 impl Header {
     /// Writes this header at the start of a file's bytes, in the class and byte order that it names. Writes the magic

@@ -4,7 +4,6 @@
 //! values: no iterator adaptor can drop an error.
 //!
 //! ```
-//! # fn main() -> Result<(), Box<dyn std::error::Error>> {
 //! # let bytes = std::fs::read(std::env::current_exe()?)?;
 //! let elf = goblin_rs::Elf::parse(&bytes)?;
 //! let sections = elf.section_headers()?;
@@ -12,8 +11,7 @@
 //! // half of the file has no section headers, so there is no list
 //! let cut = goblin_rs::Elf::parse(&bytes[..bytes.len() / 2])?;
 //! assert!(cut.section_headers().is_err());
-//! # Ok(())
-//! # }
+//! # Ok::<(), Box<dyn std::error::Error>>(())
 //! ```
 use crate::error::{Error, Result};
 use core::iter::FusedIterator;
@@ -32,13 +30,11 @@ const BACK: u64 = 16;
 /// fn each_second<L: List>(items: Items<L>) -> Vec<L::Item> {
 ///     items.step_by(2).collect()
 /// }
-/// # fn main() -> Result<(), Box<dyn std::error::Error>> {
 /// # let bytes = std::fs::read(std::env::current_exe()?)?;
 /// let elf = goblin_rs::Elf::parse(&bytes)?;
 /// let segments = elf.program_headers()?;
 /// assert_eq!(each_second(segments.iter()).len(), (segments.len() + 1) / 2);
-/// # Ok(())
-/// # }
+/// # Ok::<(), Box<dyn std::error::Error>>(())
 /// ```
 ///
 /// ```compile_fail
@@ -182,15 +178,13 @@ pub(crate) use {list, table};
 /// An iterator over the items of a list, from both ends. It reads several items at a time.
 ///
 /// ```
-/// # fn main() -> Result<(), Box<dyn std::error::Error>> {
 /// # let bytes = std::fs::read(std::env::current_exe()?)?;
 /// let elf = goblin_rs::Elf::parse(&bytes)?;
 /// let mut sections = elf.section_headers()?.iter();
 /// let (first, left) = (sections.next(), sections.len());
 /// assert_eq!(first, elf.section_header(0)?);
 /// assert_eq!(sections.next_back(), elf.section_header(left)?);
-/// # Ok(())
-/// # }
+/// # Ok::<(), Box<dyn std::error::Error>>(())
 /// ```
 #[derive(Clone)]
 #[must_use = "iterators are lazy and do nothing unless consumed"]

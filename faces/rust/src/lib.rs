@@ -5,15 +5,13 @@
 //! of goblin's fields and calls.
 //!
 //! ```
-//! # fn main() -> Result<(), Box<dyn std::error::Error>> {
 //! # let path = std::env::current_exe()?;
 //! let bytes = std::fs::read(path)?;
 //! let elf = goblin_rs::Elf::parse(&bytes)?;
 //! for section in elf.section_headers()? {
 //!     println!("{:#x} {}", section.sh_offset, elf.section_name(&section)?.unwrap_or(""));
 //! }
-//! # Ok(())
-//! # }
+//! # Ok::<(), Box<dyn std::error::Error>>(())
 //! ```
 //!
 //! # Lists
@@ -97,7 +95,6 @@
 //! These lines, the comments, work with goblin, each before what to write instead:
 //!
 //! ```
-//! # fn main() -> Result<(), Box<dyn std::error::Error>> {
 //! # let path = std::env::current_exe()?;
 //! # let bytes = std::fs::read(path)?;
 //! use goblin_rs::note::NoteBytes;
@@ -156,8 +153,7 @@
 //!     Err(Kind::BadMagic(magic)) => assert_eq!(magic.to_le_bytes(), *b"no file "),
 //!     other => panic!("{other:?}"),
 //! }
-//! # Ok(())
-//! # }
+//! # Ok::<(), Box<dyn std::error::Error>>(())
 //! ```
 #![no_std]
 #![deny(missing_docs, unsafe_code)]

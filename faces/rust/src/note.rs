@@ -91,15 +91,13 @@ impl<'a> NoteBytes<'a> {
 /// fn last<'a, N: AnyNote<'a>>(notes: Notes<'a, N>) -> Option<N> {
 ///     notes.iter().last()
 /// }
-/// # fn main() -> Result<(), Box<dyn std::error::Error>> {
 /// # let bytes = std::fs::read(std::env::current_exe()?)?;
 /// let elf = goblin_rs::Elf::parse(&bytes)?;
 /// if let Some(section) = elf.section(".note.gnu.build-id")? {
 ///     let (note, as_bytes) = (last(elf.notes(&section)?), last(elf.notes_bytes(&section)?));
 ///     assert_eq!(note.map(|note| note.desc), as_bytes.map(|note| note.desc));
 /// }
-/// # Ok(())
-/// # }
+/// # Ok::<(), Box<dyn std::error::Error>>(())
 /// ```
 pub trait AnyNote<'a>: Copy + sealed::AnyNote<'a> {}
 
@@ -164,7 +162,6 @@ fn ranges(note: &raw::Note) -> (raw::Range, raw::Range) {
 /// The notes of a section or a segment.
 ///
 /// ```
-/// # fn main() -> Result<(), Box<dyn std::error::Error>> {
 /// # let bytes = std::fs::read(std::env::current_exe()?)?;
 /// let elf = goblin_rs::Elf::parse(&bytes)?;
 /// use goblin_rs::note::NT_GNU_BUILD_ID;
@@ -173,8 +170,7 @@ fn ranges(note: &raw::Note) -> (raw::Range, raw::Range) {
 ///     let build_id = elf.notes(&section)?.iter().find(|note| note.n_type == NT_GNU_BUILD_ID);
 ///     assert!(build_id.map_or(false, |note| !note.desc.is_empty()));
 /// }
-/// # Ok(())
-/// # }
+/// # Ok::<(), Box<dyn std::error::Error>>(())
 /// ```
 #[derive(Clone, Copy, Debug)]
 pub struct Notes<'a, N = Note<'a>> {
@@ -213,15 +209,13 @@ list!(Notes<N: AnyNote> of N, by NoteDataIterator<'a, N>, "note", "notes");
 /// An iterator over the notes of a section or a segment.
 ///
 /// ```
-/// # fn main() -> Result<(), Box<dyn std::error::Error>> {
 /// # let bytes = std::fs::read(std::env::current_exe()?)?;
 /// let elf = goblin_rs::Elf::parse(&bytes)?;
 /// let section = elf.section(".note.gnu.build-id")?.unwrap_or_default();
 /// let mut notes = elf.notes(&section)?.iter();
 /// let left = notes.len();
 /// assert_eq!(notes.next().is_some(), left > 0);
-/// # Ok(())
-/// # }
+/// # Ok::<(), Box<dyn std::error::Error>>(())
 /// ```
 #[derive(Clone, Debug)]
 #[must_use = "iterators are lazy and do nothing unless consumed"]
@@ -267,14 +261,12 @@ enum Holders<'a> {
 /// An iterator over the notes of all segments of type `PT_NOTE`, or of all sections of type `SHT_NOTE`.
 ///
 /// ```
-/// # fn main() -> Result<(), Box<dyn std::error::Error>> {
 /// # let bytes = std::fs::read(std::env::current_exe()?)?;
 /// let elf = goblin_rs::Elf::parse(&bytes)?;
 /// for note in elf.iter_note_headers()? {
 ///     println!("{:?} {}: {} bytes", note.text(), note.type_to_str(), note.desc.len());
 /// }
-/// # Ok(())
-/// # }
+/// # Ok::<(), Box<dyn std::error::Error>>(())
 /// ```
 #[derive(Clone, Debug)]
 #[must_use = "iterators are lazy and do nothing unless consumed"]

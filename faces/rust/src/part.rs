@@ -10,7 +10,6 @@ use crate::sys;
 /// this. Only these two have it.
 ///
 /// ```
-/// # fn main() -> Result<(), Box<dyn std::error::Error>> {
 /// # let bytes = std::fs::read(std::env::current_exe()?)?;
 /// use goblin_rs::{Elf, Part};
 ///
@@ -21,8 +20,7 @@ use crate::sys;
 /// let elf = Elf::parse(&bytes)?;
 /// let text = elf.section(".text")?.ok_or("no .text")?;
 /// assert_eq!(first_word(&elf, &text)?, elf.number(text.sh_offset, 4)?);
-/// # Ok(())
-/// # }
+/// # Ok::<(), Box<dyn std::error::Error>>(())
 /// ```
 pub trait Part: sealed::Part {}
 

@@ -107,7 +107,6 @@ pub(crate) fn has_bounds(bounds: &[i128; 4], least: &[i128; 4]) -> bool {
 /// The program headers of a file.
 ///
 /// ```
-/// # fn main() -> Result<(), Box<dyn std::error::Error>> {
 /// # let bytes = std::fs::read(std::env::current_exe()?)?;
 /// let elf = goblin_rs::Elf::parse(&bytes)?;
 /// use goblin_rs::program_header::PT_LOAD;
@@ -115,8 +114,7 @@ pub(crate) fn has_bounds(bounds: &[i128; 4], least: &[i128; 4]) -> bool {
 /// let loaded: u64 =
 ///     elf.program_headers()?.iter().filter(|segment| segment.p_type == PT_LOAD).map(|segment| segment.p_memsz).sum();
 /// assert!(loaded > 0);
-/// # Ok(())
-/// # }
+/// # Ok::<(), Box<dyn std::error::Error>>(())
 /// ```
 #[derive(Clone, Copy, Debug)]
 pub struct ProgramHeaders<'a> {
@@ -170,7 +168,6 @@ impl Batches<ProgramHeader> for ProgramHeaders<'_> {
 /// An iterator over the sections of a segment, from both ends.
 ///
 /// ```
-/// # fn main() -> Result<(), Box<dyn std::error::Error>> {
 /// # let bytes = std::fs::read(std::env::current_exe()?)?;
 /// use goblin_rs::program_header::{SegmentSections, PT_LOAD};
 ///
@@ -178,8 +175,7 @@ impl Batches<ProgramHeader> for ProgramHeaders<'_> {
 /// let loaded = elf.program_headers()?.iter().find(|segment| segment.p_type == PT_LOAD).ok_or("no segment")?;
 /// let sections: SegmentSections = elf.segment_sections(&loaded)?;
 /// assert!(sections.count() > 0);
-/// # Ok(())
-/// # }
+/// # Ok::<(), Box<dyn std::error::Error>>(())
 /// ```
 #[derive(Clone, Debug)]
 #[must_use = "iterators are lazy and do nothing unless consumed"]

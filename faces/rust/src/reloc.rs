@@ -39,7 +39,6 @@ impl Reloc {
 /// The relocations of a section.
 ///
 /// ```
-/// # fn main() -> Result<(), Box<dyn std::error::Error>> {
 /// # let bytes = std::fs::read(std::env::current_exe()?)?;
 /// let elf = goblin_rs::Elf::parse(&bytes)?;
 /// use goblin_rs::section_header::SHT_RELA;
@@ -48,8 +47,7 @@ impl Reloc {
 ///     let relocs = elf.relocs(&section)?;
 ///     assert!(relocs.iter().all(|reloc| reloc.r_addend.is_some()));
 /// }
-/// # Ok(())
-/// # }
+/// # Ok::<(), Box<dyn std::error::Error>>(())
 /// ```
 #[derive(Clone, Copy, Debug, Default)]
 pub struct RelocSection<'a> {
@@ -115,7 +113,6 @@ impl Batches<Reloc> for RelocSection<'_> {
 /// The relocation sections of a file, each with the index of its section. Each is inside the file.
 ///
 /// ```
-/// # fn main() -> Result<(), Box<dyn std::error::Error>> {
 /// # let bytes = std::fs::read(std::env::current_exe()?)?;
 /// let elf = goblin_rs::Elf::parse(&bytes)?;
 /// let sections = elf.section_headers()?;
@@ -123,8 +120,7 @@ impl Batches<Reloc> for RelocSection<'_> {
 ///     let section = sections.get(index).unwrap_or_default();
 ///     println!("{}: {} relocations", elf.section_name(&section)?.unwrap_or(""), relocs.len());
 /// }
-/// # Ok(())
-/// # }
+/// # Ok::<(), Box<dyn std::error::Error>>(())
 /// ```
 #[derive(Clone, Copy, Debug)]
 pub struct RelocSections<'a> {
@@ -155,14 +151,12 @@ pub(crate) fn holds_relocs(header: &SectionHeader) -> bool {
 /// An iterator over the relocation sections of a file, each with the index of its section, from both ends.
 ///
 /// ```
-/// # fn main() -> Result<(), Box<dyn std::error::Error>> {
 /// # let bytes = std::fs::read(std::env::current_exe()?)?;
 /// let elf = goblin_rs::Elf::parse(&bytes)?;
 /// let mut all = elf.shdr_relocs()?.iter();
 /// let left = all.len();
 /// assert_eq!(all.next_back().is_some(), left > 0);
-/// # Ok(())
-/// # }
+/// # Ok::<(), Box<dyn std::error::Error>>(())
 /// ```
 #[derive(Clone, Debug)]
 #[must_use = "iterators are lazy and do nothing unless consumed"]

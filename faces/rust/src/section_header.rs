@@ -89,15 +89,13 @@ impl SectionHeader {
 /// The section headers of a file.
 ///
 /// ```
-/// # fn main() -> Result<(), Box<dyn std::error::Error>> {
 /// # let bytes = std::fs::read(std::env::current_exe()?)?;
 /// let elf = goblin_rs::Elf::parse(&bytes)?;
 /// let names = elf.shdr_strtab()?;
 /// for section in elf.section_headers()? {
 ///     println!("{:#x} {}", section.sh_offset, names.get(section.sh_name)?.unwrap_or(""));
 /// }
-/// # Ok(())
-/// # }
+/// # Ok::<(), Box<dyn std::error::Error>>(())
 /// ```
 #[derive(Clone, Copy, Debug)]
 pub struct SectionHeaders<'a> {

@@ -10,13 +10,11 @@ use std::ffi::CStr;
 /// A string table: a range of the file.
 ///
 /// ```
-/// # fn main() -> Result<(), Box<dyn std::error::Error>> {
 /// # let bytes = std::fs::read(std::env::current_exe()?)?;
 /// let elf = goblin_rs::Elf::parse(&bytes)?;
 /// let names = elf.shdr_strtab()?;
 /// assert_eq!(names.get(0)?, Some(""));
-/// # Ok(())
-/// # }
+/// # Ok::<(), Box<dyn std::error::Error>>(())
 /// ```
 #[derive(Clone, Copy, Debug, Default)]
 pub struct Strtab<'a> {
@@ -37,14 +35,12 @@ impl<'a> Strtab<'a> {
     /// Returns the bytes of the string at an offset, which need not be UTF-8, or `None` past the end of the table.
     ///
     /// ```
-    /// # fn main() -> Result<(), Box<dyn std::error::Error>> {
     /// # let bytes = std::fs::read(std::env::current_exe()?)?;
     /// let elf = goblin_rs::Elf::parse(&bytes)?;
     /// let names = elf.shdr_strtab()?;
     /// let text = elf.section(".text")?.ok_or("no .text")?;
     /// assert_eq!(names.get_bytes(text.sh_name)?, Some(&b".text"[..]));
-    /// # Ok(())
-    /// # }
+    /// # Ok::<(), Box<dyn std::error::Error>>(())
     /// ```
     ///
     /// # Errors
@@ -69,15 +65,13 @@ impl<'a> Strtab<'a> {
     /// Returns what [`Strtab::get_closed_bytes`] does, as a string of C with its zero byte.
     ///
     /// ```
-    /// # fn main() -> Result<(), Box<dyn std::error::Error>> {
     /// # let bytes = std::fs::read(std::env::current_exe()?)?;
     /// let elf = goblin_rs::Elf::parse(&bytes)?;
     /// let text = elf.section(".text")?.ok_or("no .text")?;
     /// let (names, at) = (elf.shdr_strtab()?, text.sh_name);
     /// assert_eq!(names.get_closed_bytes(at)?, Some(&b".text"[..]));
     /// assert_eq!(names.get_c_str(at)?.map(|name| name.to_bytes_with_nul()), Some(&b".text\0"[..]));
-    /// # Ok(())
-    /// # }
+    /// # Ok::<(), Box<dyn std::error::Error>>(())
     /// ```
     ///
     /// # Errors
@@ -92,13 +86,11 @@ impl<'a> Strtab<'a> {
     /// closes.
     ///
     /// ```
-    /// # fn main() -> Result<(), Box<dyn std::error::Error>> {
     /// # let bytes = std::fs::read(std::env::current_exe()?)?;
     /// let elf = goblin_rs::Elf::parse(&bytes)?;
     /// let text = elf.section(".text")?.ok_or("no .text")?;
     /// assert_eq!(elf.shdr_strtab()?.closed()?.get(text.sh_name)?, Some(".text"));
-    /// # Ok(())
-    /// # }
+    /// # Ok::<(), Box<dyn std::error::Error>>(())
     /// ```
     ///
     /// # Errors
@@ -112,15 +104,13 @@ impl<'a> Strtab<'a> {
     /// for up to 64 strings, and again after an offset past its end.
     ///
     /// ```
-    /// # fn main() -> Result<(), Box<dyn std::error::Error>> {
     /// # let bytes = std::fs::read(std::env::current_exe()?)?;
     /// let elf = goblin_rs::Elf::parse(&bytes)?;
     /// let sections = elf.section_headers()?;
     /// let names = elf.shdr_strtab()?.get_all_bytes(sections.iter().map(|section| section.sh_name))?;
     /// assert_eq!(names.len(), sections.len());
     /// assert!(names.contains(&Some(&b".text"[..])));
-    /// # Ok(())
-    /// # }
+    /// # Ok::<(), Box<dyn std::error::Error>>(())
     /// ```
     ///
     /// # Errors
@@ -149,14 +139,12 @@ impl<'a> Strtab<'a> {
     /// there is none. It reads no more of the string than `name` has, and one byte.
     ///
     /// ```
-    /// # fn main() -> Result<(), Box<dyn std::error::Error>> {
     /// # let bytes = std::fs::read(std::env::current_exe()?)?;
     /// let elf = goblin_rs::Elf::parse(&bytes)?;
     /// let (names, text) = (elf.shdr_strtab()?, elf.section(".text")?.ok_or("no .text")?);
     /// assert!(names.is_at(text.sh_name, b".text")? && !names.is_at(text.sh_name, b".te")?);
     /// assert!(names.starts_at(text.sh_name, b".te")?);
-    /// # Ok(())
-    /// # }
+    /// # Ok::<(), Box<dyn std::error::Error>>(())
     /// ```
     ///
     /// # Errors

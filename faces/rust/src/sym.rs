@@ -88,7 +88,6 @@ pub fn get_type(info: u8) -> &'static str {
 /// A symbol table, with the string table of its names.
 ///
 /// ```
-/// # fn main() -> Result<(), Box<dyn std::error::Error>> {
 /// # let bytes = std::fs::read(std::env::current_exe()?)?;
 /// let elf = goblin_rs::Elf::parse(&bytes)?;
 /// if let Some(symbols) = elf.syms()? {
@@ -99,8 +98,7 @@ pub fn get_type(info: u8) -> &'static str {
 ///         println!("main is symbol {index}, at {:x}", main.st_value);
 ///     }
 /// }
-/// # Ok(())
-/// # }
+/// # Ok::<(), Box<dyn std::error::Error>>(())
 /// ```
 #[derive(Clone, Copy, Debug)]
 pub struct Symtab<'a> {
@@ -189,7 +187,6 @@ impl<'a> Symtab<'a> {
     /// Returns the first symbol with a name, which is a text or bytes, from an index on, and its index.
     ///
     /// ```
-    /// # fn main() -> Result<(), Box<dyn std::error::Error>> {
     /// # let bytes = std::fs::read(std::env::current_exe()?)?;
     /// # let elf = goblin_rs::Elf::parse(&bytes)?;
     /// # if let Some(symbols) = elf.syms()? {
@@ -199,8 +196,7 @@ impl<'a> Symtab<'a> {
     ///     first = index + 1;
     /// }
     /// # }
-    /// # Ok(())
-    /// # }
+    /// # Ok::<(), Box<dyn std::error::Error>>(())
     /// ```
     ///
     /// # Errors
