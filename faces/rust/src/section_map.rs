@@ -63,17 +63,17 @@ impl SectionMap {
     }
 }
 
-// Puts the middle one by a bound between those below it and those above it, and these in the same way by the next bound.
-// Returns the highest bounds.
-fn arrange(nodes: &mut [Node], by: usize) -> [i128; 4] {
-    if nodes.is_empty() {
-        return [i128::MIN; 4];
+// Puts the middle one by a bound between those below it and those above it, and arranges these by the next bound.
+fn arrange(nodes: &mut [Node], by: usize) {
+    nodes.sort_unstable_by_key(|node| node.bounds[by]);
+    let (below, others) = nodes.split_at_mut(nodes.len() / 2);
+    if let Some((node, above)) = others.split_first_mut() {
+        for side in [below, above] {
+            arrange(side, (by + 1) % 4);
+            let highest = side.get(side.len() / 2).map_or(node.highest, |top| top.highest);
+            node.highest.iter_mut().zip(highest).for_each(|(one, other)| *one = other.max(*one));
+        }
     }
-    let (below, node, above) = nodes.select_nth_unstable_by_key(nodes.len() / 2, |node| node.bounds[by]);
-    for highest in [arrange(below, (by + 1) % 4), arrange(above, (by + 1) % 4)] {
-        node.highest.iter_mut().zip(highest).for_each(|(one, other)| *one = other.max(*one));
-    }
-    node.highest
 }
 
 // Finds the sections that have these bounds or higher ones.
