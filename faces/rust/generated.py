@@ -88,17 +88,21 @@ def constant_of(constant):
 
 
 def modules():
-    text = ''
+    text, paths = '', []
     for record, crate, _, content in constants.RECORDS:
-        body = constants.listed(constants.constants_of(record, crate), constant_of, '// {}')
+        listed = constants.constants_of(record, crate)
+        paths += [(record, record, constant.name) for constant in listed]
+        body = constants.listed(listed, constant_of, '// {}')
         for bits in constants.CLASSES:
             more = constants.constants_of_class(record, crate, bits)
+            paths += [(f'{record}{bits}', f'{record}::{record}{bits}', constant.name) for constant in more]
             used = set(re.findall(r'\b[A-Z]\w+', ' '.join(constant.value for constant in more))) - {constant.name for constant in more}
             use = ''.join(f'use super::{name};\n' for name in sorted(used))
             own = (use + constants.listed(more, constant_of, '// {}')).lstrip('\n')
             body += f'\n/// What the {bits}-bit class has of its own.\npub mod {record}{bits} {{\n{indented(own)}}}\n' if more else ''
         text += f'\n/// {content}.\npub mod {record} {{\n' + indented(body.lstrip('\n')) + '}\n'
-    return text
+    rows = ''.join(f'    ("{module}::{name}", &{path}::{name}),\n' for module, path, name in paths)
+    return f'{text}\n#[cfg(test)]\npub static ALL: &[(&str, &(dyn core::fmt::Debug + Sync))] = &[\n{rows}];\n'
 
 
 def names():
@@ -210,13 +214,31 @@ def refusals():
                           ''.join(f'{number} => Some(Item::{camel(name)}),\n' for name, number in items) + '_ => None,\n', 'Option<Item>'))
 
 
+def calls():
+    """The calls that goblin.h declares."""
+    types = {'uint64_t': 'u64', 'uint32_t': 'u32', 'uint16_t': 'u16', 'uint8_t': 'u8', 'size_t': 'usize', 'void': 'core::ffi::c_void',
+             'goblin_layout_t': 'core::ffi::c_void', 'goblin_file_t': 'raw::File'}
+    types.update((f'goblin_{name}_t', f'raw::{of_rust}') for name, of_rust in STRUCTS.items())
+
+    def argument(declared):
+        constant, kind, pointer, name = re.fullmatch(r'(const )?(\w+) (\*?)(\w+)', ' '.join(declared.split())).groups()
+        return f'{name}{"_" * (name == "type")}: {("*const " if constant else "*mut ") if pointer else ""}{types.get(kind, kind)}'
+
+    text = ''
+    for result, name, arguments in re.findall(r'^(\w+) (goblin_\w+)\(([^)]*)\)[^;)]*(?:\(\(.*\)\))?;', constants.read(constants.HEADER), re.M):
+        taken = '' if arguments == 'void' else ', '.join(map(argument, arguments.split(',')))
+        text += f'pub fn {name}({taken}){"" if result == "void" else f" -> {types.get(result, result)}"};\n'
+    return ('\n/// The calls that `goblin.h` declares.\n#[allow(dead_code)]\npub mod calls {\n    use crate::raw;\n    extern "C" {\n'
+            f'{indented(indented(text))}    }}\n}}\n')
+
+
 def rust_file():
     return f"""//! What this crate has of the library's constants and names, and of goblin.h.
 // Made by faces/rust/generated.py: do not edit.
 
 /// The interface that the calls are of: `GOBLIN_VERSION` of `goblin.h`.
 pub const VERSION: u32 = {constants.interface()};
-{modules()}{names()}{records()}{refusals()}"""
+{modules()}{names()}{records()}{refusals()}{calls()}"""
 
 
 def main(arguments):

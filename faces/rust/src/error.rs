@@ -194,15 +194,8 @@ mod tests {
 
     #[test]
     fn items_are_the_library_s() {
-        let items = [
-            Item::InvalidUtf8,
-            Item::SectionHeaders,
-            Item::ProgramHeaders,
-            Item::NoteHeader,
-            Item::NoteName,
-            Item::NoteDesc,
-            Item::Addend,
-        ];
+        use Item::*;
+        let items = [InvalidUtf8, SectionHeaders, ProgramHeaders, NoteHeader, NoteName, NoteDesc, Addend];
         for number in 0..1000 {
             // (whatever the kind)
             for kind in [3, 100] {
