@@ -5,9 +5,9 @@ use crate::sym::{Sym, Symtab, STT_FUNC, STT_GNU_IFUNC, STT_NOTYPE, STT_OBJECT};
 use alloc::collections::BinaryHeap;
 use alloc::vec::Vec;
 
-/// A sorted map of the addresses of a symbol table, for many searches. It finds what [`Symtab::symbol_by_address`] does,
-/// in a time that grows with the logarithm of the number of symbols. It is sorted by Rust's own sort, and is not part of
-/// the library: it is compared with that call, but not proved.
+/// A sorted map of the addresses of a symbol table, for many searches. It finds what [`Symtab::symbol_by_address`]
+/// does, in a time that grows with the logarithm of the number of symbols. It is sorted by Rust's own sort, and is not
+/// part of the library: it is compared with that call, but not proved.
 ///
 /// ```
 /// # let bytes = std::fs::read(std::env::current_exe()?)?;

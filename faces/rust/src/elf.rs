@@ -5,13 +5,14 @@ use crate::file::File;
 use crate::generated::{ITEM_RELOCATIONS, ITEM_SYMBOLS};
 use crate::header::{Header, ET_DYN, ET_REL};
 use crate::note::{self, AnyNote, NoteBytes, NoteIterator, Notes};
-use crate::part::Part;
+use crate::part::{Part, Ranged};
 use crate::program_header::{ProgramHeader, ProgramHeaders, SectionMap, SegmentSections};
-use crate::reloc::{holds_relocs, RelocSection, RelocSections};
+use crate::reloc::{holds_relocs, RelocSection};
 use crate::section_header::{SectionHeader, SectionHeaders, SHT_DYNSYM, SHT_RELA, SHT_SYMTAB};
 use crate::strtab::Strtab;
 use crate::sym::Symtab;
 use crate::sys;
+use alloc::vec::Vec;
 
 /// A file in memory, with its header. Everything else is read on demand.
 ///
@@ -181,11 +182,7 @@ impl<'a> Elf<'a> {
     ///
     /// # Errors
     /// If the section headers or their names are not inside the file.
-    pub fn section_by_name(
-        &self,
-        name: impl AsRef<[u8]>,
-        first: usize,
-    ) -> Result<Option<(usize, SectionHeader)>> {
+    pub fn section_by_name(&self, name: impl AsRef<[u8]>, first: usize) -> Result<Option<(usize, SectionHeader)>> {
         let names = self.shdr_strtab()?.range;
         let found = sys::goblin_section_by_name(&self.file, &self.header, &names, name.as_ref(), first as u64)?;
         Ok(found.map(|(index, section)| (index as usize, section)))
@@ -406,10 +403,20 @@ impl<'a> Elf<'a> {
     /// Returns all relocation sections, each with the index of its section. If one is damaged, [`Elf::relocs`] reads
     /// the others.
     ///
+    /// ```
+    /// # let bytes = std::fs::read(std::env::current_exe()?)?;
+    /// let elf = goblin_rs::Elf::parse(&bytes)?;
+    /// for (index, relocs) in elf.shdr_relocs()? {
+    ///     println!("section {index}: {} relocations", relocs.len());
+    /// }
+    /// # Ok::<(), Box<dyn std::error::Error>>(())
+    /// ```
+    ///
     /// # Errors
     /// If the section headers or the relocations of any section are not inside the file.
-    pub fn shdr_relocs(&self) -> Result<RelocSections<'a>> {
-        RelocSections::of(*self)
+    pub fn shdr_relocs(&self) -> Result<Vec<(usize, RelocSection<'a>)>> {
+        let sections = self.section_headers()?.iter().enumerate().filter(|(_, section)| holds_relocs(section));
+        sections.map(|(index, section)| Ok((index, self.relocs(&section)?))).collect()
     }
 
     /// Returns the notes of a section or a segment. If one is damaged, [`Elf::readable_notes`] returns those before it.

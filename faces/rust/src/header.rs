@@ -4,7 +4,7 @@ use crate::generated::names::{CLASS, ET, MACHINE};
 use crate::generated::{INTEGER_FIT, ITEM_ADDEND, ITEM_RELOCATIONS, ITEM_SYMBOLS, NO_ITEM, NUMBER_WIDTH};
 use crate::error::{Error, Result};
 use crate::names::name_of;
-use crate::part::Part;
+use crate::part::{Part, Ranged};
 use crate::program_header::ProgramHeader;
 use crate::reloc::{holds_relocs, Reloc};
 use crate::section_header::{section_header32, section_header64, SectionHeader, SHT_DYNSYM, SHT_RELA, SHT_SYMTAB};

@@ -43,12 +43,6 @@ const BACK: u64 = 16;
 /// struct Mine;
 /// impl List for Mine {
 ///     type Item = u8;
-/// #     type Raw = u8;
-/// #     type Batch = [u8; 32];
-/// #     fn batch() -> [u8; 32] { [0; 32] }
-/// #     fn count(&self) -> u64 { 0 }
-/// #     fn read(&self, _: u64) -> goblin_rs::Result<Option<u8>> { Ok(None) }
-/// #     fn fill(&self, _: u64, _: &mut [u8]) -> goblin_rs::Result<Option<u64>> { Ok(None) }
 /// }
 /// ```
 pub trait List: Copy + Batches<<Self as List>::Item> {
@@ -60,7 +54,8 @@ pub trait List: Copy + Batches<<Self as List>::Item> {
 mod sealed {
     use crate::error::Result;
 
-    pub trait Batches<Item> {
+    /// What the macro `table` says of a list.
+    pub trait Table {
         /// An item as the library writes it.
         type Raw: Copy;
         /// An array of some items.
@@ -71,7 +66,9 @@ mod sealed {
 
         /// Returns the number of items, which was read when the list was made.
         fn count(&self) -> u64;
+    }
 
+    pub trait Batches<Item>: Table {
         /// Returns the item that the library wrote.
         fn item(&self, raw: Self::Raw) -> Item;
 
@@ -82,7 +79,7 @@ mod sealed {
         fn fill(&self, first: u64, items: &mut [Self::Raw]) -> Result<Option<u64>>;
     }
 }
-pub(crate) use sealed::Batches;
+pub(crate) use sealed::{Batches, Table};
 
 /// Returns what the library read of a list that was made. This is no error: by its contracts the library refuses a list
 /// at every index or at none, and the bytes have not changed.
@@ -149,10 +146,27 @@ macro_rules! list {
     };
 }
 
-// The methods of a list whose items have indices.
+// The methods of a list whose items have indices. The library writes so many of them at a time.
 macro_rules! table {
-    ($list:ident of $item:ty, $one:literal, $more:literal) => {
+    ($list:ident of $item:ty, $one:literal, $more:literal, [$raw:ty; $len:literal]) => {
         $crate::items::list!($list of $item, by $crate::items::Items<$list<'a>>, $one, $more);
+
+        impl $crate::items::List for $list<'_> {
+            type Item = $item;
+        }
+
+        impl $crate::items::Table for $list<'_> {
+            type Raw = $raw;
+            type Batch = [$raw; $len];
+
+            fn batch() -> Self::Batch {
+                [Default::default(); $len]
+            }
+
+            fn count(&self) -> u64 {
+                self.count
+            }
+        }
 
         impl $list<'_> {
             #[doc = concat!("Returns the ", $one, " at an index, or `None` past the end.")]
@@ -222,11 +236,7 @@ impl<L: List> Items<L> {
         let in_batch = start..start + (indices.end - indices.start);
         let items = &mut self.batch.as_mut()[in_batch.start as usize..in_batch.end as usize];
         let filled = made(self.list.fill(indices.start, items));
-        assert_eq!(
-            filled,
-            Some(items.len() as u64),
-            "the library must fill an array that the list has enough items for"
-        );
+        assert_eq!(filled, Some(items.len() as u64), "the list has enough items for the array");
         in_batch
     }
 

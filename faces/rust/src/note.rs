@@ -7,8 +7,8 @@ use crate::file::File;
 use crate::items::{list, made};
 use crate::names::name_of;
 use crate::part::Part;
-use crate::program_header::{ProgramHeaders, PT_NOTE};
-use crate::section_header::{SectionHeaders, SHT_NOTE};
+use crate::program_header::PT_NOTE;
+use crate::section_header::SHT_NOTE;
 use crate::{raw, sys};
 use core::iter::FusedIterator;
 use core::marker::PhantomData;
@@ -251,12 +251,8 @@ impl<'a, N: AnyNote<'a>> ExactSizeIterator for NoteDataIterator<'a, N> {}
 
 impl<'a, N: AnyNote<'a>> FusedIterator for NoteDataIterator<'a, N> {}
 
-// The headers of what holds notes.
-#[derive(Clone, Copy, Debug)]
-enum Holders<'a> {
-    Segments(ProgramHeaders<'a>),
-    Sections(SectionHeaders<'a>),
-}
+// Returns the notes of the segment or the section at an index, if there is one, and if it is of notes.
+type Holder<'a> = fn(Elf<'a>, usize) -> Option<Option<Result<Notes<'a, NoteBytes<'a>>>>>;
 
 /// An iterator over the notes of all segments of type `PT_NOTE`, or of all sections of type `SHT_NOTE`.
 ///
@@ -272,7 +268,7 @@ enum Holders<'a> {
 #[must_use = "iterators are lazy and do nothing unless consumed"]
 pub struct NoteIterator<'a> {
     elf: Elf<'a>,
-    holders: Holders<'a>,
+    holder: Holder<'a>,
     // The index of the next header.
     next: usize,
     // The notes of the last segment or section of notes before it.
@@ -282,15 +278,21 @@ pub struct NoteIterator<'a> {
 
 impl<'a> NoteIterator<'a> {
     pub(crate) fn of_segments(elf: Elf<'a>) -> Result<Self> {
-        Self::of(elf, Holders::Segments(elf.program_headers()?))
+        elf.program_headers()?;
+        Self::of(elf, |elf, index| {
+            made(elf.program_header(index)).map(|h| (h.p_type == PT_NOTE).then(|| elf.notes_bytes(&h)))
+        })
     }
 
     pub(crate) fn of_sections(elf: Elf<'a>) -> Result<Self> {
-        Self::of(elf, Holders::Sections(elf.section_headers()?))
+        elf.section_headers()?;
+        Self::of(elf, |elf, index| {
+            made(elf.section_header(index)).map(|h| (h.sh_type == SHT_NOTE).then(|| elf.notes_bytes(&h)))
+        })
     }
 
-    fn of(elf: Elf<'a>, holders: Holders<'a>) -> Result<Self> {
-        let mut all = NoteIterator { elf, holders, next: 0, notes: None, left: 0 };
+    fn of(elf: Elf<'a>, holder: Holder<'a>) -> Result<Self> {
+        let mut all = NoteIterator { elf, holder, next: 0, notes: None, left: 0 };
         let mut counted = all.clone();
         while let Some(notes) = counted.next_notes() {
             all.left += notes?.len();
@@ -301,11 +303,7 @@ impl<'a> NoteIterator<'a> {
     // Returns the notes of the next segment or section of notes.
     fn next_notes(&mut self) -> Option<Result<Notes<'a, NoteBytes<'a>>>> {
         loop {
-            let (elf, index) = (&self.elf, self.next);
-            let notes = match &self.holders {
-                Holders::Segments(all) => all.get(index).map(|h| (h.p_type == PT_NOTE).then(|| elf.notes_bytes(&h))),
-                Holders::Sections(all) => all.get(index).map(|h| (h.sh_type == SHT_NOTE).then(|| elf.notes_bytes(&h))),
-            }?;
+            let notes = (self.holder)(self.elf, self.next)?;
             self.next += 1;
             if notes.is_some() {
                 return notes;

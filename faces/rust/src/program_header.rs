@@ -3,10 +3,10 @@ use crate::generated::names::PT;
 pub use crate::generated::program_header::*;
 use crate::elf::Elf;
 use crate::error::Result;
-use crate::items::{table, Batches, Items, List};
+use crate::items::{table, Batches, Items};
 use crate::names::name_of;
 use crate::section_header::{SectionHeader, SectionHeaderIterator, SectionHeaders, SHF_TLS, SHT_NOBITS};
-use crate::{raw, sys};
+use crate::sys;
 use core::iter::FusedIterator;
 use core::ops::Range;
 
@@ -75,11 +75,6 @@ impl ProgramHeader {
         }
     }
 
-    /// Returns its range in the file, inside the file or not.
-    pub(crate) fn range(&self) -> raw::Range {
-        raw::Range { offset: self.p_offset, size: self.p_filesz }
-    }
-
     /// Reports whether the segment may be executed.
     #[must_use]
     pub fn is_executable(&self) -> bool {
@@ -132,24 +127,9 @@ impl<'a> ProgramHeaders<'a> {
     }
 }
 
-table!(ProgramHeaders of ProgramHeader, "program header", "program headers");
-
-impl List for ProgramHeaders<'_> {
-    type Item = ProgramHeader;
-}
+table!(ProgramHeaders of ProgramHeader, "program header", "program headers", [ProgramHeader; 32]);
 
 impl Batches<ProgramHeader> for ProgramHeaders<'_> {
-    type Raw = ProgramHeader;
-    type Batch = [ProgramHeader; 32];
-
-    fn batch() -> Self::Batch {
-        [Default::default(); 32]
-    }
-
-    fn count(&self) -> u64 {
-        self.count
-    }
-
     #[inline]
     fn item(&self, segment: ProgramHeader) -> ProgramHeader {
         segment

@@ -3,7 +3,7 @@ use crate::generated::names::{SHF, SHT};
 pub use crate::generated::section_header::*;
 use crate::elf::Elf;
 use crate::error::Result;
-use crate::items::{table, Batches, Items, List};
+use crate::items::{table, Batches, Items};
 use crate::names::name_of;
 use crate::{raw, sys};
 use core::ops::Range;
@@ -76,14 +76,6 @@ impl SectionHeader {
         let parts = [self.sh_flags & SHF_TLS != 0, self.is_alloc(), self.sh_type == SHT_NOBITS, self.sh_size == 0];
         parts.iter().fold(0, |class, part| 2 * class + usize::from(*part))
     }
-
-    /// Returns its range in the file, which is empty for `SHT_NOBITS`, whatever its size.
-    pub(crate) fn range(&self) -> raw::Range {
-        match self.sh_type {
-            SHT_NOBITS => raw::Range::default(),
-            _ => raw::Range { offset: self.sh_offset, size: self.sh_size },
-        }
-    }
 }
 
 /// The section headers of a file.
@@ -113,24 +105,9 @@ impl<'a> SectionHeaders<'a> {
     }
 }
 
-table!(SectionHeaders of SectionHeader, "section header", "section headers");
-
-impl List for SectionHeaders<'_> {
-    type Item = SectionHeader;
-}
+table!(SectionHeaders of SectionHeader, "section header", "section headers", [raw::Section; 32]);
 
 impl Batches<SectionHeader> for SectionHeaders<'_> {
-    type Raw = raw::Section;
-    type Batch = [raw::Section; 32];
-
-    fn batch() -> Self::Batch {
-        [Default::default(); 32]
-    }
-
-    fn count(&self) -> u64 {
-        self.count
-    }
-
     #[inline]
     fn item(&self, section: raw::Section) -> SectionHeader {
         section.into()

@@ -5,7 +5,7 @@ pub use crate::generated::sym::*;
 use crate::elf::Elf;
 use crate::error::Result;
 use crate::file::File;
-use crate::items::{made, table, Batches, Items, List};
+use crate::items::{made, table, Batches, Items};
 use crate::names::name_of;
 use crate::section_header::SectionHeader;
 use crate::strtab::Strtab;
@@ -208,24 +208,9 @@ impl<'a> Symtab<'a> {
     }
 }
 
-table!(Symtab of Sym, "symbol", "symbols");
-
-impl List for Symtab<'_> {
-    type Item = Sym;
-}
+table!(Symtab of Sym, "symbol", "symbols", [raw::Symbol; 64]);
 
 impl Batches<Sym> for Symtab<'_> {
-    type Raw = raw::Symbol;
-    type Batch = [raw::Symbol; 64];
-
-    fn batch() -> Self::Batch {
-        [Default::default(); 64]
-    }
-
-    fn count(&self) -> u64 {
-        self.count
-    }
-
     #[inline]
     fn item(&self, symbol: raw::Symbol) -> Sym {
         symbol.into()
