@@ -26,6 +26,10 @@
 //! whose names begin with `readable_` never fail: they return what is left of notes, or of the bytes of a section or a
 //! segment. The example `truncated` shows them.
 //!
+//! A separate debug file, as `objcopy --only-keep-debug` makes it, has the header of the dynamic section, but not its
+//! bytes. If the header still has its size, the calls that read it fail: [`Elf::dynamic`], [`Elf::dynsyms`],
+//! [`Elf::libraries`] and its like. [`Elf::section`], [`Elf::syms`] and [`Elf::build_id`] read such a file.
+//!
 //! # Notes
 //! [`Elf::iter_note_headers`] returns the notes of segments: those that are loaded, and all of a core file. Others are
 //! in sections alone, as the GNU build ID of a program in Go may be: [`Elf::iter_note_sections`] returns them, unless
@@ -49,7 +53,8 @@
 //!
 //! # Platforms
 //! The library is made for Linux (and Android) on x86-64 and AArch64, and this crate needs a host of 64 bits. The files
-//! that it reads may be of any machine. It needs Rust 1.63. Without the feature `std`, which is on by default, it needs
+//! that it reads may be of any machine. It needs Rust 1.63. There is no public repository yet, and no registry that has
+//! it: `make dist` of its sources makes the crate. Without the feature `std`, which is on by default, it needs
 //! only `core` and `alloc`: [`Error`] is then no error of std, and [`strtab::Strtab::get_c_str`] is missing, which
 //! [`strtab::Strtab::get_closed_bytes`] stands for. All types may be shared and sent between threads, since the library
 //! has no state.
@@ -60,7 +65,12 @@
 //!
 //! The symbols of `dynsyms` are those of the section of type `SHT_DYNSYM`. goblin counts those at `DT_SYMTAB` by
 //! `DT_GNU_HASH`, or else by `DT_HASH`, and at least up to the highest index in a relocation. Without such a section
-//! they are refused here. A name of the dynamic section that can't be read is an error; goblin leaves it out.
+//! they are refused here, so a program that goes on without them writes `elf.dynsyms().ok().flatten()`. A name of the
+//! dynamic section that can't be read is an error; goblin leaves it out.
+//!
+//! goblin has no searches. Here [`Elf::section`], [`Elf::section_by_name`] and [`Elf::section_by_type`] find a section,
+//! and the calls of [`sym::Symtab`] that begin with `symbol_by_` a symbol, by its name or an address.
+//! [`Elf::linked_section`] is the section that `sh_link` names, and [`Elf::address_to_offset`] finds a loaded byte.
 //!
 //! |field of goblin's `Elf`|here|
 //! |---|---|
