@@ -20,7 +20,7 @@ NAME = 'faces/rust/src/generated.rs'
 STRUCTS = {'refusal': 'Refusal', 'range': 'Range', 'header': 'Header', 'section': 'Section', 'segment': 'ProgramHeader', 'symbol': 'Symbol',
            'reloc': 'Reloc', 'note': 'Note', 'dyn': 'Dyn'}
 PUBLIC = {'section': ('SectionHeader', {'sh_name': 'usize'}), 'symbol': ('Sym', {'st_name': 'usize', 'st_shndx': 'usize'})}
-SIZES = {field: 'Its size: see the field before it.' for field in ('sh_size', 'p_filesz')}
+SIZES = {'sh_size': 'Its size: see `sh_offset`.', 'p_filesz': 'Its size in the file: see `p_offset`.'}
 TYPES = {'Q': 'u64', 'q': 'i64', 'I': 'u32', 'H': 'u16', 'B': 'u8'}
 # The numbers of a kind that have names, with their types if these are not u64.
 NUMBERS = {'TOO_BIG': 'size len', 'BAD_INPUT': 'size', 'SYMTAB_OFFSET': 'offset len', 'SYMTAB_PAST': 'requested available',

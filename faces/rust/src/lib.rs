@@ -192,7 +192,6 @@ mod section_map;
 pub mod strtab;
 pub mod sym;
 #[allow(unsafe_code)]
-#[cfg_attr(not(feature = "std"), allow(dead_code))]
 mod sys;
 
 pub use elf::Elf;
