@@ -376,9 +376,10 @@ fn compares_strings(names: &Strtab) {
     }
     assert_eq!((names.starts_at(7, b"sec"), names.starts_at(7, b"")), (Ok(true), Ok(true)));
     assert_eq!((names.starts_at(7, b"seconds"), names.starts_at(6, b"\0")), (Ok(false), Ok(false)));
-    let closed = |offset| names.get_c_str(offset).map(|name| name.map(|name| name.to_bytes()));
-    assert_eq!((closed(7), closed(20)), (Ok(Some(&b"second"[..])), Ok(Some(&b"\xff"[..]))));
-    assert_eq!(closed(STRINGS.len()), Ok(None));
+    for (at, name) in [(7, Some(&b"second"[..])), (20, Some(b"\xff")), (STRINGS.len(), None)] {
+        assert_eq!(names.get_closed_bytes(at), Ok(name));
+        assert_eq!(names.get_c_str(at).map(|found| found.map(|found| found.to_bytes())), Ok(name));
+    }
     assert_eq!(names.closed().and_then(|all| all.get_bytes(20)), Ok(Some(&b"\xff"[..])));
     // (with offsets past the end, and without, so that all are read of each 64)
     for offsets in [STRINGS.len() + 1, STRINGS.len()].map(|count| (0..200).map(move |index| index % count)) {
@@ -406,7 +407,8 @@ fn refuses_to_compare_strings_past_the_end() {
         let strings = section_at(&elf, 3);
         // (only "first")
         let open = elf.strtab(&SectionHeader { sh_offset: strings.sh_offset + 1, sh_size: 5, ..strings });
-        assert_eq!((open.get_c_str(0), open.is_at(0, b"first")), (Ok(None), Ok(true)));
+        assert_eq!((open.get_c_str(0), open.get_closed_bytes(0)), (Ok(None), Ok(None)));
+        assert_eq!(open.is_at(0, b"first"), Ok(true));
         let refused = open.get_all_bytes([5, 2]).unwrap_err();
         assert_eq!((refused.kind(), refused.offset()), (Kind::OpenString(2), strings.sh_offset + 3));
         assert_eq!(refused.to_string(), "No zero byte closes the string at offset 2 of its table");
@@ -417,6 +419,7 @@ fn refuses_to_compare_strings_past_the_end() {
         assert_eq!(past.is_at(0, b"").map_err(|e| e.kind()), Err(wanted));
         assert_eq!(past.starts_at(0, b"").map_err(|e| e.kind()), Err(wanted));
         assert_eq!(past.get_c_str(0).map_err(|e| e.kind()), Err(wanted));
+        assert_eq!(past.get_closed_bytes(0).map_err(|e| e.kind()), Err(wanted));
         assert_eq!(past.get_all_bytes([0, 1]).map_err(|e| e.kind()), Err(wanted));
         assert_eq!(past.get_all_bytes([]), Ok(vec![]));
     });
